@@ -1,0 +1,6 @@
+pub mod Sets
+pub mod Padding
+pub mod Partition
+pub mod Text
+pub mod Number
+pub mod Endpoint

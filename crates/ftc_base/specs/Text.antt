@@ -1,0 +1,56 @@
+-- A text as lines, a line as words, and what a word says.
+use Rattle.std.specs.Prelude.{◌≡◌, ◌≢◌, ◌⊎◌, ◌≤◌, ◌<◌, ◌+◌, ◌*◌, ◌-◌, ℕ, suc, Bool, true, false, ◌||◌, ◌&&◌, ◌==◌, not, nat_le, List, [], ◌∷◌, length, slice_get, slice_index, slice_range, All, Some, Result, Ok, Err, if◌then◌else◌}
+use Rattle.std.specs.List.{list_all, onto_first}
+use Rattle.ftc_base.specs.declared.lexer.Line.{Line}
+use Rattle.ftc_base.specs.declared.lexer.Word.{Word}
+use Rattle.ftc_base.specs.declared.lexer.Lexical.{Lexical}
+use Rattle.ftc_base.specs.declared.lexer.Lexical.TheVariants.{NotNumber, TooLarge}
+
+-- a line ends at a line feed or at the text's end, and a text that ends with a line feed has no further line
+abbrev pub lines_of : List ℕ → List (List ℕ)
+lines_of [] = []
+lines_of (b ∷ bs) = if b == 10 then [] ∷ lines_of bs else onto_first b (lines_of bs)
+
+-- space, tab or carriage return
+abbrev pub is_blank : ℕ → Bool
+is_blank b = b == 32 || b == 9 || b == 13
+
+-- a letter that stands before bs, whose words are ws
+abbrev pub begin_word : ℕ → List ℕ → List (List ℕ) → List (List ℕ)
+begin_word b [] ws = (b ∷ []) ∷ ws
+begin_word b (c ∷ bs) ws = if is_blank c then (b ∷ []) ∷ ws else onto_first b ws
+
+-- words are separated by one or more blanks
+abbrev pub words_of : List ℕ → List (List ℕ)
+words_of [] = []
+words_of (b ∷ bs) = if is_blank b then words_of bs else begin_word b bs (words_of bs)
+
+-- from `from` up to the first line feed, or to the end of the text
+pub record IsLine (text : List ℕ) (from : ℕ) (line : Line) : Type 0 where
+  pub start : line.start ≡ from
+  pub ordered : line.start ≤ line.end
+  pub within : line.end ≤ length text
+  pub no_feed : All (λ b. b ≢ 10) (slice_range text line.start line.end)
+  pub ended : ((slice_get text line.end ≡ Some 10) × (line.next ≡ line.end + 1)) ⊎ ((line.end ≡ length text) × (line.next ≡ length text))
+
+-- the first bytes at or after `from` that are no blanks, with a blank or the end behind them
+pub record IsWord (line : List ℕ) (from : ℕ) (word : Word) : Type 0 where
+  pub after : from ≤ word.start
+  pub not_empty : word.start < word.end
+  pub within : word.end ≤ length line
+  pub blanks : All (λ b. is_blank b ≡ true) (slice_range line from word.start)
+  pub letters : All (λ b. is_blank b ≡ false) (slice_range line word.start word.end)
+  pub ended : word.end < length line → is_blank (slice_index line word.end) ≡ true
+
+-- how many bytes stand before the first line feed, before the first blank, before the first letter
+abbrev pub line_length : List ℕ → ℕ
+line_length [] = 0
+line_length (b ∷ bs) = if b == 10 then 0 else suc (line_length bs)
+
+abbrev pub letters_length : List ℕ → ℕ
+letters_length [] = 0
+letters_length (b ∷ bs) = if is_blank b then 0 else suc (letters_length bs)
+
+abbrev pub blanks_length : List ℕ → ℕ
+blanks_length [] = 0
+blanks_length (b ∷ bs) = if is_blank b then suc (blanks_length bs) else 0

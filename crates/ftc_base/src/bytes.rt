@@ -1,0 +1,74 @@
+//! Bytes that can grow.
+
+ghost use Rattle.std.specs.Prelude.{◌≡◌, ◌++◌, [], length, IfOk, OnOk, OnErr, ◌==◌};
+
+use crate::items::Items;
+use crate::refusal::NoMemory;
+use std::alloc::Global;
+use std::marker::Model;
+
+/// A list of bytes.
+#[derive(Debug, Drop)]
+pub struct Bytes {
+    buffer: Vec<u8>,
+}
+
+/// Lines of a text, each without its line feed.
+pub type Lines = Items<Bytes>;
+
+impl Model for Bytes {
+    ghost use Rattle.std.specs.Prelude.{ℕ, List};
+
+    ghost Value = { List ℕ };
+
+    ghost view = { λ bytes. bytes.buffer.items };
+}
+
+impl Bytes {
+    /// No bytes yet.
+    pub fn new(alloc: Global) -> Bytes
+        ensures { result ≡ [] }
+    {
+        Bytes {
+            buffer: Vec::new(alloc),
+        }
+    }
+
+    /// The bytes.
+    pub fn as_slice(&self) -> &[u8]
+        ensures { result.now ≡ self.now }
+    {
+        self.buffer.as_slice()
+    }
+
+    /// How many bytes there are.
+    pub fn len(&self) -> usize
+        ensures { result ≡ length self.now }
+    {
+        self.buffer.len()
+    }
+
+    /// Whether there is no byte.
+    pub fn is_empty(&self) -> bool
+        ensures { result ≡ (length self.now == 0) }
+    {
+        self.buffer.is_empty()
+    }
+
+    /// Adds the piece at the end.
+    pub fn append(&mut self, piece: &[u8]) -> Result<(), NoMemory>
+        ensures ok { OnOk result (self.new ≡ self.old ++ piece.now) }
+        ensures err { OnErr result (self.new ≡ self.old) }
+    {
+        self.buffer.extend_from_slice(piece)?;
+        Ok(())
+    }
+
+    /// The same bytes once more.
+    pub fn copy(&self) -> Result<Bytes, NoMemory>
+        ensures { IfOk result (λ copy. copy ≡ self.now) }
+    {
+        let buffer = self.buffer.clone()?;
+        Ok(Bytes { buffer })
+    }
+}

@@ -1,0 +1,49 @@
+//! The limits of a chain and of its texts. Each is the greatest number that is accepted.
+
+/// Servers of a chain.
+pub const MOST_SERVERS: u8 = 16;
+
+/// Partitions of a middlebox's keys.
+pub const MOST_PARTITIONS: u8 = 64;
+
+/// Slots in which a server runs packet transactions.
+pub const MOST_SLOTS: u8 = 64;
+
+/// The slot in which a run on one thread makes its visits.
+pub const FINISHING_SLOT: u8 = 63;
+
+/// Worker threads.
+pub const MOST_THREADS: u8 = 32;
+
+/// Bytes of a key, which has at least one.
+pub const MOST_KEY_BYTES: usize = 16;
+
+/// Bytes of a value.
+pub const MOST_VALUE_BYTES: usize = 16;
+
+/// Reads of one transaction.
+pub const MOST_READS: usize = 8;
+
+/// Writes of one transaction.
+pub const MOST_WRITES: usize = 8;
+
+/// Records of a capture.
+pub const MOST_RECORDS: usize = 100_000;
+
+/// Captured bytes of one record.
+pub const MOST_CAPTURED: usize = 262_144;
+
+/// Bytes of a capture.
+pub const MOST_CAPTURE_BYTES: usize = 67_108_864;
+
+/// Bytes of a script.
+pub const MOST_SCRIPT_BYTES: usize = 1_048_576;
+
+/// Lines of a firewall.
+pub const MOST_FIREWALL_LINES: usize = 64;
+
+/// Backends of a balancer.
+pub const MOST_BACKENDS: usize = 16;
+
+/// Groups of a monitor.
+pub const MOST_MONITOR_GROUPS: u16 = 256;
