@@ -1,5 +1,5 @@
 -- The address or the net that a word spells.
-use Rattle.std.specs.Prelude.{◌+◌, ◌*◌, ◌-◌, ◌/◌, ◌^◌, ◌==◌, ℕ, Bool, List, [], ◌∷◌, Option, Some, None, Result, Ok, Err, if◌then◌else◌, codes}
+use Rattle.std.specs.Prelude.{◌≡◌, ◌≤◌, ◌+◌, ◌*◌, ◌-◌, ◌/◌, ◌^◌, ◌==◌, ℕ, Bool, List, [], ◌∷◌, Option, Some, None, Result, Ok, Err, if◌then◌else◌, codes}
 use Rattle.std.specs.List.{slice_split}
 use Rattle.std.specs.Str.{bytes_eq}
 use Rattle.ftc_base.specs.Number.{number_of}
@@ -41,6 +41,12 @@ net_in parts = Err NotAddress
 -- an address, a slash and a number up to 32; `any` is the net of all addresses
 abbrev pub net_of : List ℕ → Result Net Lexical
 net_of word = if bytes_eq word (codes "any") then Ok (record { base = 0; length = 0 }) else net_in (parts_of 47 word)
+
+-- a net that a text can spell: a length of at most 32 bits, and no bit of the base below it
+pub record IsNet (net : Net) : Type 0 where
+  pub length : net.length ≤ 32
+  pub address : net.base ≤ 4294967295
+  pub cleared : base_of net.base net.length ≡ net.base
 
 -- an address is in a net where it has the net's bits up to the length
 abbrev pub contains : Net → ℕ → Bool
