@@ -1,0 +1,127 @@
+//! A desk over real files. It tells no content.
+
+ghost use Rattle.std.specs.Prelude.{◌≡◌, ◌≤◌, None, Err, OnErr};
+ghost use Rattle.ftc_outside.specs.Desk.{Rose};
+
+use crate::desk::{Desk, DeskError};
+use ftc_base::Bytes;
+use std::alloc::Global;
+use std::fs::OpenOptions;
+use std::io::{Read, Write};
+use std::rt::Files;
+
+/// The greatest file that is fetched, in bytes.
+const MOST_FETCHED: usize = 1_073_741_824;
+
+/// How much is read at once.
+const PIECE: usize = 65_536;
+
+/// Files of the system, by their paths. It tells no content: nothing is proved of what a real file
+/// holds.
+#[derive(Drop)]
+pub struct FileDesk<R: Files + Print + Drop> {
+    rt: R,
+    faults: u64,
+}
+
+/// All that the file has, or None where it can't be read or has too much.
+fn read_all<F: Read>(alloc: Global, file: &mut F) -> Result<Option<Bytes>, DeskError>
+    ensures memory { OnErr result (result ≡ Err DeskError.NoMemory) }
+{
+    let mut bytes = Bytes::new(alloc);
+    let mut buffer = [0u8; PIECE];
+    for _ in 0..u64::MAX {
+        let Ok(count) = file.read(&mut buffer) else {
+            return Ok(None);
+        };
+        if count == 0 {
+            return Ok(Some(bytes));
+        }
+        bytes.append(&buffer[..count])?;
+        if bytes.len() > MOST_FETCHED {
+            return Ok(None);
+        }
+    }
+    Ok(None)
+}
+
+/// Writes all of the piece, and tells whether it could.
+fn write_piece<W: Write>(file: &mut W, piece: &[u8]) -> bool {
+    let mut rest = piece;
+    while !rest.is_empty() {
+        match file.write(rest) {
+            Ok(count) if count > 0 => rest = rest.split_at(count).1,
+            _ => return false,
+        }
+    }
+    true
+}
+
+/// Prints all of the piece, and tells whether it could.
+fn print_piece<R: Print>(rt: &R, piece: &[u8]) -> bool {
+    let mut rest = piece;
+    while !rest.is_empty() {
+        match rt.write_some(rest) {
+            Ok(count) if count > 0 => rest = rest.split_at(count).1,
+            _ => return false,
+        }
+    }
+    true
+}
+
+impl<R: Files + Print + Drop> FileDesk<R> {
+    pub fn new(rt: R) -> FileDesk<R> {
+        FileDesk { rt, faults: 0 }
+    }
+
+    fn fail(&mut self) -> DeskError
+        ensures same { result ≡ DeskError.Failed }
+        ensures count { self.old.faults ≤ self.new.faults }
+        ensures rose { Rose self.old.faults self.new.faults }
+    {
+        self.faults = self.faults.saturating_add(1);
+        DeskError::Failed
+    }
+}
+
+impl<R: Files + Print + Drop> Desk for FileDesk<R> {
+    ghost tells = { λ _. ⊥ };
+
+    ghost file = { λ _ _. None };
+
+    ghost faults = { λ desk. desk.faults };
+
+    fn fetch(&mut self, alloc: Global, name: &str) -> Result<Bytes, DeskError> {
+        let Ok(mut file) = OpenOptions::new().read(true).open(&self.rt, name) else {
+            return Err(self.fail());
+        };
+        match read_all(alloc, &mut file)? {
+            Some(bytes) => Ok(bytes),
+            None => Err(self.fail()),
+        }
+    }
+
+    fn make(&mut self, _alloc: Global, name: &str) -> Result<(), DeskError> {
+        match OpenOptions::new()
+            .write(true)
+            .create(true)
+            .truncate(true)
+            .open(&self.rt, name)
+        {
+            Ok(_) => Ok(()),
+            Err(_) => Err(self.fail()),
+        }
+    }
+
+    fn append(&mut self, _alloc: Global, name: &str, bytes: &[u8]) -> Result<(), DeskError> {
+        let done = if name == "-" {
+            print_piece(&self.rt, bytes)
+        } else {
+            match OpenOptions::new().append(true).open(&self.rt, name) {
+                Ok(mut file) => write_piece(&mut file, bytes),
+                Err(_) => false,
+            }
+        };
+        if done { Ok(()) } else { Err(self.fail()) }
+    }
+}

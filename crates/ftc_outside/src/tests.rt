@@ -1,0 +1,78 @@
+use crate::{Desk, DeskError, FailingDesk, FileDesk, MemoryDesk};
+use std::fs;
+use std::process;
+use std::test::Fail;
+
+#[test]
+fn a_desk_in_memory_keeps_files_by_name(rt: HostRuntime) -> Result<(), Fail> {
+    let alloc = rt.alloc();
+    let mut desk = MemoryDesk::new(alloc);
+    desk.put("a", b"one")?;
+    desk.make(alloc, "b")?;
+    desk.append(alloc, "b", b"tw")?;
+    desk.append(alloc, "b", b"o")?;
+    desk.append(alloc, "-", b"shown")?;
+    assert_eq!(rt; desk.fetch(alloc, "a")?.as_slice(), b"one".as_slice());
+    assert_eq!(rt; desk.get("b"), Some(b"two".as_slice()));
+    assert_eq!(rt; desk.get("-"), Some(b"shown".as_slice()));
+    desk.make(alloc, "b")?;
+    assert_eq!(rt; desk.get("b"), Some(b"".as_slice()));
+    match desk.fetch(alloc, "c") {
+        Err(DeskError::Failed) => {}
+        _ => assert!(rt; false, "there is no c"),
+    }
+    match desk.append(alloc, "c", b"x") {
+        Err(DeskError::Failed) => {}
+        _ => assert!(rt; false, "there is no c to add to"),
+    }
+    assert_eq!(rt; desk.get("c"), None);
+    Ok(())
+}
+
+#[test]
+fn the_listed_calls_fail_and_change_nothing(rt: HostRuntime) -> Result<(), Fail> {
+    let alloc = rt.alloc();
+    let mut inner = MemoryDesk::new(alloc);
+    inner.put("a", b"one")?;
+    let mut desk = FailingDesk::new(alloc, inner, &[1, 3])?;
+    assert!(rt; desk.fetch(alloc, "a").is_ok());
+    assert!(rt; desk.make(alloc, "a").is_err());
+    assert_eq!(rt; desk.inner().get("a"), Some(b"one".as_slice()));
+    assert!(rt; desk.append(alloc, "a", b"!").is_ok());
+    assert!(rt; desk.append(alloc, "a", b"?").is_err());
+    assert!(rt; desk.append(alloc, "a", b"!").is_ok());
+    assert_eq!(rt; desk.inner().get("a"), Some(b"one!!".as_slice()));
+    Ok(())
+}
+
+#[test]
+fn a_real_file_is_made_and_added_to_and_fetched(rt: HostRuntime) -> Result<(), Fail> {
+    let alloc = rt.alloc();
+    let id = process::id(rt.process());
+    let name = format!(in alloc; "/tmp/ftc-desk-test-{id}")?;
+    let mut desk = FileDesk::new(&rt);
+    match desk.fetch(alloc, name.as_str()) {
+        Err(DeskError::Failed) => {}
+        _ => assert!(rt; false, "the file is not there yet"),
+    }
+    desk.make(alloc, name.as_str())?;
+    desk.append(alloc, name.as_str(), b"ab")?;
+    desk.append(alloc, name.as_str(), b"c")?;
+    let bytes = desk.fetch(alloc, name.as_str())?;
+    assert_eq!(rt; bytes.as_slice(), b"abc".as_slice());
+    desk.make(alloc, name.as_str())?;
+    assert!(rt; desk.fetch(alloc, name.as_str())?.is_empty());
+    fs::remove_file(&rt, name.as_str())?;
+    match desk.append(alloc, name.as_str(), b"d") {
+        Err(DeskError::Failed) => {}
+        _ => assert!(rt; false, "the file is gone"),
+    }
+    Ok(())
+}
+
+#[test]
+fn standard_output_needs_no_make(rt: HostRuntime) -> Result<(), Fail> {
+    let mut desk = FileDesk::new(&rt);
+    desk.append(rt.alloc(), "-", b"a line on standard output\n")?;
+    Ok(())
+}
