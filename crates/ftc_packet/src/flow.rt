@@ -1,7 +1,7 @@
 // The flow that a packet belongs to.
 
 ghost use Rattle.std.specs.Prelude.{◌≡◌, ◌≤◌, ◌↔◌, length, MatchOption, IsTrue};
-ghost use Rattle.ftc_packet.specs.Flow.{IsFlow, flow_found, flow_in, is_flow as flow_test};
+ghost use Rattle.ftc_packet.specs.Flow.{IsFlow, flow_found, flow_in};
 
 use crate::layout::{
     DESTINATION_PORT, ETHERTYPE, ETHERTYPE_IPV4, IPV4_DESTINATION, IPV4_FRAGMENT, IPV4_OPTIONS,
@@ -27,8 +27,7 @@ const FRAGMENT_BITS: u16 = 0x3fff;
 
 /// Whether the packet is a flow packet.
 pub(crate) fn is_flow(bytes: &[u8]) -> bool
-    ensures computed { result ≡ flow_test bytes.now }
-    ensures exact { IsTrue result ↔ IsFlow bytes.now }
+    ensures { IsTrue result ↔ IsFlow bytes.now }
 {
     if bytes.len() < IPV4_OPTIONS {
         return false;
@@ -46,7 +45,7 @@ pub(crate) fn is_flow(bytes: &[u8]) -> bool
 ///
 /// A flow packet is an IPv4 datagram on Ethernet that is no fragment and carries TCP or UDP, captured at least up to the
 /// end of the transport header's fixed part. The IPv4 total length isn't examined.
-#[tactic(auto, unfolding(crate::specs::Flow::flow_in, crate::specs::Flow::flow_found))]
+#[tactic(auto, unfolding(crate::specs::Flow::flow_in))]
 pub fn flow_of(bytes: &[u8]) -> Option<Flow>
     ensures computed { result ≡ flow_found bytes.now }
     ensures exact { MatchOption result (¬ IsFlow bytes.now) (λ flow. IsFlow bytes.now × (flow ≡ flow_in bytes.now)) }

@@ -72,6 +72,7 @@ pub(crate) fn put_word(bytes: &mut [u8], at: usize, word: u16)
 }
 
 /// Where the transport header begins: behind the IPv4 header with its options.
+#[tactic(auto, unfolding(crate::specs::Layout::transport_start))]
 pub(crate) fn transport_start(bytes: &[u8]) -> usize
     requires { IPV4_OPTIONS ≤ length bytes.now }
     ensures start { result ≡ start_of_transport bytes.now }
