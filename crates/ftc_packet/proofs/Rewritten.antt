@@ -1,52 +1,55 @@
-use Rattle.std.proofs.Common.{◌≡◌, ℕ, ◌+◌, ◌-◌, ◌/◌, ◌%◌, ◌<◌, ◌≤◌, List, length, get_or, set, drop, arith, inl, inr, ap, ◌∙◌, refl}
-use Rattle.std.specs.List.{slice_range}
+-- The five words that a rewrite writes, and what the packet holds afterwards.
+use Rattle.std.proofs.Common.{◌≡◌, ℕ, ◌+◌, ◌*◌, ◌/◌, ◌%◌, ◌<◌, ◌≤◌, ◌⊎◌, List, length, get_or, set, drop, arith, inl, inr, ap, ◌∙◌}
 use Rattle.std.proofs.lemmas.Bool.{cases_lt}
 use Rattle.std.proofs.lemmas.List.{get_or_past, get_or-take, get_or-drop, length-take, get_or-set_same, get_or-set_other, length-set}
 use Rattle.ftc_packet.specs.Layout.{word_at, with_word}
 use Rattle.ftc_packet.proofs.WordEdits.{Apart, part, part-with_word_in, part-with_word_low, part-with_word_high, length-with_word, get-with_word_apart, word_at-with_word_apart}
-use Rattle.ftc_packet.proofs.ListUpdates.{AreBytes}
-
-pub AreBytes-part : (a n : ℕ) (xs : List ℕ) → AreBytes xs → AreBytes (part a n xs)
-AreBytes-part a n xs h i = elim (cases_lt i n) [
-  | inl p ↦ omega (arith, get_or-take n (drop a xs) i 0 p, get_or-drop a xs i 0, h (a + i))
-  | inr p ↦ omega (arith, get_or_past (part a n xs) i 0 (omega (arith, length-take n (drop a xs))))
-]
-
--- a range as a part
-pub range-part : (xs : List ℕ) (a b : ℕ) → slice_range xs a b ≡ part a (b - a) xs
-range-part xs a b = refl
 
 pub word_at-with_word_same : (xs : List ℕ) (a v : ℕ) → a + 1 < length xs → word_at (with_word xs a v) a ≡ v
 unfolding word_at with_word
 word_at-with_word_same xs a v h =
-    let one = get_or-set_other (set xs a (v / 256)) (a + 1) a (v % 256) 0 (omega arith) in
-    let two = get_or-set_same xs a (v / 256) 0 (omega arith) in
-    let three = get_or-set_same (set xs a (v / 256)) (a + 1) (v % 256) 0 (omega (arith, length-set xs a (v / 256))) in
-    omega (arith, one, two, three)
+    let kept = get_or-set_other (set xs a (v / 256)) (a + 1) a (v % 256) 0 (omega arith) in
+    let high = get_or-set_same xs a (v / 256) 0 (omega arith) in
+    let low = get_or-set_same (set xs a (v / 256)) (a + 1) (v % 256) 0 (omega (arith, length-set xs a (v / 256))) in
+    omega (arith, kept, high, low)
 
--- The five words that a rewrite writes: an address at the header's place i, the header's checksum, a port and a checksum behind the place t.
-unfoldable pub five : List ℕ → ℕ → ℕ → ℕ → ℕ → ℕ → ℕ → ℕ → ℕ → ℕ → List ℕ
-five bs i n₁ n₂ c t j n₃ k w =
+-- In the IPv4 header, which begins at 14, the words n₁ and n₂ at its place i and the checksum c; in the transport header,
+-- which begins at t, the word n₃ at its place j and the checksum w at its place k.
+unfoldable pub rewritten : List ℕ → ℕ → ℕ → ℕ → ℕ → ℕ → ℕ → ℕ → ℕ → ℕ → List ℕ
+rewritten bs i n₁ n₂ c t j n₃ k w =
     with_word (with_word (with_word (with_word (with_word bs (14 + i) n₁) (14 + (i + 2)) n₂) (14 + 10) c) (t + j) n₃) (t + k) w
 
-pub length-five : (bs : List ℕ) (i n₁ n₂ c t j n₃ k w : ℕ) → length (five bs i n₁ n₂ c t j n₃ k w) ≡ length bs
-unfolding five
-length-five bs i n₁ n₂ c t j n₃ k w = simp length-with_word
+pub length-rewritten : (bs : List ℕ) (i n₁ n₂ c t j n₃ k w : ℕ) → length (rewritten bs i n₁ n₂ c t j n₃ k w) ≡ length bs
+unfolding rewritten
+length-rewritten bs i n₁ n₂ c t j n₃ k w = simp length-with_word
 
-pub get-five : (bs : List ℕ) (i n₁ n₂ c t j n₃ k w e : ℕ) → 12 ≤ i → 34 ≤ t → e < 24 → get_or (five bs i n₁ n₂ c t j n₃ k w) e 0 ≡ get_or bs e 0
-unfolding five
-get-five bs i n₁ n₂ c t j n₃ k w e hi ht he =
+-- A byte that none of the words holds.
+pub get-rewritten_apart : (bs : List ℕ) (i n₁ n₂ c t j n₃ k w e : ℕ) →
+    (e < 14 + i) ⊎ (14 + i + 4 ≤ e) → (e < 24) ⊎ (26 ≤ e) → (e < t + j) ⊎ (t + j + 2 ≤ e) → (e < t + k) ⊎ (t + k + 2 ≤ e) →
+    get_or (rewritten bs i n₁ n₂ c t j n₃ k w) e 0 ≡ get_or bs e 0
+unfolding rewritten
+get-rewritten_apart bs i n₁ n₂ c t j n₃ k w e address header port checksum =
     let b₁ = with_word bs (14 + i) n₁ in
     let b₂ = with_word b₁ (14 + (i + 2)) n₂ in
     let b₃ = with_word b₂ (14 + 10) c in
     let b₄ = with_word b₃ (t + j) n₃ in
-    get-with_word_apart b₄ (t + k) w e (omega arith) (omega arith) ∙ get-with_word_apart b₃ (t + j) n₃ e (omega arith) (omega arith)
-    ∙ get-with_word_apart b₂ (14 + 10) c e (omega arith) (omega arith) ∙ get-with_word_apart b₁ (14 + (i + 2)) n₂ e (omega arith) (omega arith)
+    get-with_word_apart b₄ (t + k) w e (omega arith) (omega arith)
+    ∙ get-with_word_apart b₃ (t + j) n₃ e (omega arith) (omega arith)
+    ∙ get-with_word_apart b₂ (14 + 10) c e (omega arith) (omega arith)
+    ∙ get-with_word_apart b₁ (14 + (i + 2)) n₂ e (omega arith) (omega arith)
     ∙ get-with_word_apart bs (14 + i) n₁ e (omega arith) (omega arith)
 
-pub header-five : (bs : List ℕ) (i n₁ n₂ c t j n₃ k w n : ℕ) → t ≡ 14 + n → 20 ≤ n → i ≤ 16 → part 14 n (five bs i n₁ n₂ c t j n₃ k w) ≡ with_word (with_word (with_word (part 14 n bs) i n₁) (i + 2) n₂) 10 c
-unfolding five
-header-five bs i n₁ n₂ c t j n₃ k w n et hn hi =
+-- The bytes in front of the IPv4 checksum.
+pub get-rewritten_front : (bs : List ℕ) (i n₁ n₂ c t j n₃ k w e : ℕ) → 12 ≤ i → 34 ≤ t → e < 24 →
+    get_or (rewritten bs i n₁ n₂ c t j n₃ k w) e 0 ≡ get_or bs e 0
+get-rewritten_front bs i n₁ n₂ c t j n₃ k w e hi ht he =
+    get-rewritten_apart bs i n₁ n₂ c t j n₃ k w e (inl (omega arith)) (inl he) (inl (omega arith)) (inl (omega arith))
+
+-- The IPv4 header, which has n bytes.
+pub part-rewritten_header : (bs : List ℕ) (i n₁ n₂ c t j n₃ k w n : ℕ) → t ≡ 14 + n → 20 ≤ n → i ≤ 16 →
+    part 14 n (rewritten bs i n₁ n₂ c t j n₃ k w) ≡ with_word (with_word (with_word (part 14 n bs) i n₁) (i + 2) n₂) 10 c
+unfolding rewritten
+part-rewritten_header bs i n₁ n₂ c t j n₃ k w n et hn hi =
     let b₁ = with_word bs (14 + i) n₁ in
     let b₂ = with_word b₁ (14 + (i + 2)) n₂ in
     let b₃ = with_word b₂ (14 + 10) c in
@@ -60,9 +63,11 @@ header-five bs i n₁ n₂ c t j n₃ k w n et hn hi =
     let p₁ = part-with_word_in 14 n bs i n₁ (omega arith) in
     p₅ ∙ p₄ ∙ p₃ ∙ ap (λ l. with_word l 10 c) (p₂ ∙ ap (λ l. with_word l (i + 2) n₂) p₁)
 
-pub segment-five : (bs : List ℕ) (i n₁ n₂ c t j n₃ k w n : ℕ) → 34 ≤ t → i ≤ 16 → j + 1 < n → k + 1 < n → part t n (five bs i n₁ n₂ c t j n₃ k w) ≡ with_word (with_word (part t n bs) j n₃) k w
-unfolding five
-segment-five bs i n₁ n₂ c t j n₃ k w n ht hi hj hk =
+-- The segment, which has n bytes.
+pub part-rewritten_segment : (bs : List ℕ) (i n₁ n₂ c t j n₃ k w n : ℕ) → 34 ≤ t → i ≤ 16 → j + 1 < n → k + 1 < n →
+    part t n (rewritten bs i n₁ n₂ c t j n₃ k w) ≡ with_word (with_word (part t n bs) j n₃) k w
+unfolding rewritten
+part-rewritten_segment bs i n₁ n₂ c t j n₃ k w n ht hi hj hk =
     let b₁ = with_word bs (14 + i) n₁ in
     let b₂ = with_word b₁ (14 + (i + 2)) n₂ in
     let b₃ = with_word b₂ (14 + 10) c in
@@ -74,42 +79,73 @@ segment-five bs i n₁ n₂ c t j n₃ k w n ht hi hj hk =
     let p₁ = part-with_word_low t n bs (14 + i) n₁ (omega arith) in
     p₅ ∙ ap (λ l. with_word l k w) (p₄ ∙ ap (λ l. with_word l j n₃) (p₃ ∙ p₂ ∙ p₁))
 
--- the words of the two addresses
-pub low-five : (bs : List ℕ) (i n₁ n₂ c t j n₃ k w e : ℕ) → 34 ≤ t → e + 1 < 34 → Apart e 24 → Apart e (14 + i) → Apart e (14 + (i + 2)) → word_at (five bs i n₁ n₂ c t j n₃ k w) e ≡ word_at bs e
-unfolding five
-low-five bs i n₁ n₂ c t j n₃ k w e ht he hc h₁ h₂ =
-    let b₁ = with_word bs (14 + i) n₁ in
-    let b₂ = with_word b₁ (14 + (i + 2)) n₂ in
-    let b₃ = with_word b₂ (14 + 10) c in
-    let b₄ = with_word b₃ (t + j) n₃ in
-    word_at-with_word_apart b₄ (t + k) w e (inl (omega arith)) ∙ word_at-with_word_apart b₃ (t + j) n₃ e (inl (omega arith)) ∙ word_at-with_word_apart b₂ (14 + 10) c e hc
-    ∙ word_at-with_word_apart b₁ (14 + (i + 2)) n₂ e h₂ ∙ word_at-with_word_apart bs (14 + i) n₁ e h₁
+-- A word that lies apart from n bytes, and its two bytes.
+first_apart : (e x n : ℕ) → (e + 1 < x) ⊎ (x + n ≤ e) → (e < x) ⊎ (x + n ≤ e)
+first_apart e x n (inl below) = inl (omega arith)
+first_apart e x n (inr above) = inr above
 
-pub first-five : (bs : List ℕ) (i n₁ n₂ c t j n₃ k w : ℕ) → 34 ≤ t → t ≤ length bs → 12 ≤ i → i ≤ 16 → word_at (five bs i n₁ n₂ c t j n₃ k w) (14 + i) ≡ n₁
-unfolding five
-first-five bs i n₁ n₂ c t j n₃ k w ht hl hi hm =
+second_apart : (e x n : ℕ) → (e + 1 < x) ⊎ (x + n ≤ e) → (e + 1 < x) ⊎ (x + n ≤ e + 1)
+second_apart e x n (inl below) = inl below
+second_apart e x n (inr above) = inr (omega arith)
+
+-- A word that none of the five meets.
+pub word_at-rewritten_apart : (bs : List ℕ) (i n₁ n₂ c t j n₃ k w e : ℕ) →
+    (e + 1 < 14 + i) ⊎ (14 + i + 4 ≤ e) → (e + 1 < 24) ⊎ (26 ≤ e) →
+    (e + 1 < t + j) ⊎ (t + j + 2 ≤ e) → (e + 1 < t + k) ⊎ (t + k + 2 ≤ e) →
+    word_at (rewritten bs i n₁ n₂ c t j n₃ k w) e ≡ word_at bs e
+unfolding word_at
+word_at-rewritten_apart bs i n₁ n₂ c t j n₃ k w e address header port checksum =
+    let high = get-rewritten_apart bs i n₁ n₂ c t j n₃ k w e (first_apart e (14 + i) 4 address)
+    (first_apart e 24 2 header) (first_apart e (t + j) 2 port) (first_apart e (t + k) 2 checksum) in
+    let low = get-rewritten_apart bs i n₁ n₂ c t j n₃ k w (e + 1) (second_apart e (14 + i) 4 address)
+    (second_apart e 24 2 header) (second_apart e (t + j) 2 port) (second_apart e (t + k) 2 checksum) in
+    omega (arith, high, low)
+
+-- The high word of the address.
+pub word_at-rewritten_high : (bs : List ℕ) (i n₁ n₂ c t j n₃ k w : ℕ) → 34 ≤ t → t ≤ length bs → 12 ≤ i → i ≤ 16 →
+    word_at (rewritten bs i n₁ n₂ c t j n₃ k w) (14 + i) ≡ n₁
+unfolding rewritten
+word_at-rewritten_high bs i n₁ n₂ c t j n₃ k w ht hl hi hm =
     let b₁ = with_word bs (14 + i) n₁ in
     let b₂ = with_word b₁ (14 + (i + 2)) n₂ in
     let b₃ = with_word b₂ (14 + 10) c in
     let b₄ = with_word b₃ (t + j) n₃ in
     let e = 14 + i in
-    word_at-with_word_apart b₄ (t + k) w e (inl (omega arith)) ∙ word_at-with_word_apart b₃ (t + j) n₃ e (inl (omega arith)) ∙ word_at-with_word_apart b₂ (14 + 10) c e (inr (omega arith))
+    word_at-with_word_apart b₄ (t + k) w e (inl (omega arith)) ∙ word_at-with_word_apart b₃ (t + j) n₃ e (inl (omega arith))
+    ∙ word_at-with_word_apart b₂ (14 + 10) c e (inr (omega arith))
     ∙ word_at-with_word_apart b₁ (14 + (i + 2)) n₂ e (inl (omega arith)) ∙ word_at-with_word_same bs e n₁ (omega arith)
 
-pub second-five : (bs : List ℕ) (i n₁ n₂ c t j n₃ k w : ℕ) → 34 ≤ t → t ≤ length bs → 12 ≤ i → i ≤ 16 → word_at (five bs i n₁ n₂ c t j n₃ k w) (14 + (i + 2)) ≡ n₂
-unfolding five
-second-five bs i n₁ n₂ c t j n₃ k w ht hl hi hm =
+-- The low word of the address.
+pub word_at-rewritten_low : (bs : List ℕ) (i n₁ n₂ c t j n₃ k w : ℕ) → 34 ≤ t → t ≤ length bs → 12 ≤ i → i ≤ 16 →
+    word_at (rewritten bs i n₁ n₂ c t j n₃ k w) (14 + (i + 2)) ≡ n₂
+unfolding rewritten
+word_at-rewritten_low bs i n₁ n₂ c t j n₃ k w ht hl hi hm =
     let b₁ = with_word bs (14 + i) n₁ in
     let b₂ = with_word b₁ (14 + (i + 2)) n₂ in
     let b₃ = with_word b₂ (14 + 10) c in
     let b₄ = with_word b₃ (t + j) n₃ in
     let e = 14 + (i + 2) in
-    word_at-with_word_apart b₄ (t + k) w e (inl (omega arith)) ∙ word_at-with_word_apart b₃ (t + j) n₃ e (inl (omega arith)) ∙ word_at-with_word_apart b₂ (14 + 10) c e (inr (omega arith))
+    word_at-with_word_apart b₄ (t + k) w e (inl (omega arith)) ∙ word_at-with_word_apart b₃ (t + j) n₃ e (inl (omega arith))
+    ∙ word_at-with_word_apart b₂ (14 + 10) c e (inr (omega arith))
     ∙ word_at-with_word_same b₁ e n₂ (omega (arith, length-with_word bs (14 + i) n₁))
 
-pub last-five : (bs : List ℕ) (i n₁ n₂ c t j n₃ k w : ℕ) → t + k + 1 < length bs → word_at (five bs i n₁ n₂ c t j n₃ k w) (t + k) ≡ w
-unfolding five
-last-five bs i n₁ n₂ c t j n₃ k w h =
+-- The port.
+pub word_at-rewritten_port : (bs : List ℕ) (i n₁ n₂ c t j n₃ k w : ℕ) → j + 1 < k → t + k ≤ length bs →
+    word_at (rewritten bs i n₁ n₂ c t j n₃ k w) (t + j) ≡ n₃
+unfolding rewritten
+word_at-rewritten_port bs i n₁ n₂ c t j n₃ k w jk hl =
+    let b₁ = with_word bs (14 + i) n₁ in
+    let b₂ = with_word b₁ (14 + (i + 2)) n₂ in
+    let b₃ = with_word b₂ (14 + 10) c in
+    let b₄ = with_word b₃ (t + j) n₃ in
+    let long : length b₃ ≡ length bs = simp length-with_word in
+    word_at-with_word_apart b₄ (t + k) w (t + j) (inl (omega arith)) ∙ word_at-with_word_same b₃ (t + j) n₃ (omega arith)
+
+-- The transport checksum.
+pub word_at-rewritten_checksum : (bs : List ℕ) (i n₁ n₂ c t j n₃ k w : ℕ) → t + k + 1 < length bs →
+    word_at (rewritten bs i n₁ n₂ c t j n₃ k w) (t + k) ≡ w
+unfolding rewritten
+word_at-rewritten_checksum bs i n₁ n₂ c t j n₃ k w h =
     let b₁ = with_word bs (14 + i) n₁ in
     let b₂ = with_word b₁ (14 + (i + 2)) n₂ in
     let b₃ = with_word b₂ (14 + 10) c in

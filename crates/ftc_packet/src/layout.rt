@@ -1,7 +1,7 @@
 // Where the fields of a packet stand, and its words of 16 bits.
 
 ghost use Rattle.std.specs.Prelude.{◌≡◌, ◌+◌, ◌<◌, ◌≤◌, length};
-ghost use Rattle.ftc_packet.specs.Layout.{address_at as address_of, checksum_place as place_of_checksum, fixed_header as length_of_fixed_header, transport_start as start_of_transport, with_word, word_at as word_of};
+ghost use Rattle.ftc_packet.specs.Layout.{address_at as address_of, checksum_place as place_of_checksum, datagram_end as end_of_datagram, fixed_header as length_of_fixed_header, transport_start as start_of_transport, with_word, word_at as word_of};
 
 use byteorder::{BigEndian, ByteOrder};
 
@@ -80,6 +80,15 @@ pub(crate) fn transport_start(bytes: &[u8]) -> usize
     ensures most { result ≤ 74 }
 {
     ETHERNET_HEADER + 4 * usize::from(bytes[IPV4_VERSION] & 0x0f)
+}
+
+/// Where the datagram ends by its IPv4 total length.
+pub(crate) fn datagram_end(bytes: &[u8]) -> usize
+    requires { IPV4_OPTIONS ≤ length bytes.now }
+    ensures end { result ≡ end_of_datagram bytes.now }
+    ensures most { result ≤ ETHERNET_HEADER + 0xffff }
+{
+    ETHERNET_HEADER + usize::from(word_at(bytes, IPV4_TOTAL_LENGTH))
 }
 
 /// The length of the fixed part of the transport header of TCP or UDP.

@@ -6,13 +6,6 @@ ghost use Rattle.ftc_packet.specs.Sum.{ones_complement, updated_checksum, words}
 /// The sum of words that hold a right checksum: zero in one's complement.
 pub(crate) const RIGHT: u16 = 0xffff;
 
-/// A word that a rewrite changes.
-#[derive(Clone, Copy)]
-pub(crate) struct Change {
-    pub(crate) before: u16,
-    pub(crate) after: u16,
-}
-
 /// The sum of two words: a carry out is added at the low end.
 #[tactic(auto, unfolding(crate::specs::Sum::ones_complement))]
 pub(crate) fn add(left: u16, right: u16) -> u16
@@ -41,12 +34,12 @@ pub(crate) fn add_words(start: u16, bytes: &[u8]) -> u16
 /// The checksum once a word under it has changed, by equation 3 of RFC 1624. A word that stays leaves the checksum as it
 /// was.
 #[tactic(auto, unfolding(crate::specs::Sum::updated_checksum))]
-pub(crate) fn updated(checksum: u16, change: Change) -> u16
-    ensures { result ≡ updated_checksum checksum change.before change.after }
+pub(crate) fn updated(checksum: u16, before: u16, after: u16) -> u16
+    ensures { result ≡ updated_checksum checksum before after }
 {
-    if change.before == change.after {
+    if before == after {
         checksum
     } else {
-        !add(add(!checksum, !change.before), change.after)
+        !add(add(!checksum, !before), after)
     }
 }
