@@ -1,5 +1,5 @@
 -- The test of a flow packet computes what the definition says.
-use Rattle.std.proofs.Common.{◌≡◌, ◌+◌, ◌≤◌, List, ℕ, Bool, true, false, Some, None, arith, refl, ap}
+use Rattle.std.proofs.Common.{◌≡◌, List, ℕ, Bool, true, false, Some, None, arith, refl}
 use Rattle.std.proofs.lemmas.Bool.Decides.{nat_tests}
 use Rattle.std.specs.Prelude.{MatchOption}
 use Rattle.ftc_packet.specs.Flow.{IsFlow, flow_found, flow_in, is_flow}

@@ -1,5 +1,5 @@
 -- The law of updated checksums over lists of bytes.
-use Rattle.std.proofs.Common.{◌≡◌, ℕ, ◌+◌, ◌-◌, ◌*◌, ◌/◌, ◌%◌, ◌<◌, ◌≤◌, List, length, get_or, arith, ◌∙◌}
+use Rattle.std.proofs.Common.{◌≡◌, ℕ, ◌+◌, ◌%◌, ◌<◌, ◌≤◌, List, length, get_or, arith, ◌∙◌}
 use Rattle.ftc_packet.specs.Layout.{word_at, with_word}
 use Rattle.ftc_packet.specs.Sum.{ones_complement, updated_checksum}
 use Rattle.ftc_packet.proofs.Numbers.{right_along, three_updates, two_updates}

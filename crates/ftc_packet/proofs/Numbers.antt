@@ -29,7 +29,7 @@ pub ones_complement-add : (a b : ℕ) → ones_complement (ones_complement a + b
 ones_complement-add a b = elim (cases_eq a 0) [
   | inl zero_a ↦ let none : ones_complement 0 ≡ 0 = unfold ones_complement in refl in rw (zero_a, none) refl
   | inr positive ↦ sym (ones_complement_same (a + b) (ones_complement a + b) ((a - 1) / 65535)
-    (omega (arith, ones_complement-split a)) (omega (arith, ones_complement_least a (omega arith))))
+      (omega (arith, ones_complement-split a)) (omega (arith, ones_complement_least a (omega arith))))
 ]
 
 -- A multiple of 65535 above 0 is right.

@@ -1,8 +1,8 @@
 -- A rewritten flow packet: what it is, what it names, and which bytes stay.
-use Rattle.std.proofs.Common.{◌≡◌, ℕ, ◌+◌, ◌*◌, ◌/◌, ◌%◌, ◌<◌, ◌≤◌, ◌⊎◌, List, length, get_or, arith, inl, inr, subst, sym, ap, ◌∙◌, refl}
+use Rattle.std.proofs.Common.{◌≡◌, ℕ, ◌+◌, ◌*◌, ◌/◌, ◌%◌, ◌<◌, ◌≤◌, ◌⊎◌, List, length, get_or, arith, inl, inr, subst, ap, ◌∙◌, refl}
 use Rattle.ftc_packet.specs.declared.rewrite.End.{End}
 use Rattle.ftc_packet.specs.declared.rewrite.End.TheVariants.{Source, Destination}
-use Rattle.ftc_packet.specs.Layout.{checksum_place, fixed_header, protocol_of, transport_start, word_at, with_word}
+use Rattle.ftc_packet.specs.Layout.{checksum_place, fixed_header, protocol_of, transport_start, word_at}
 use Rattle.ftc_packet.specs.Flow.{IsFlow, flow_in}
 use Rattle.ftc_packet.specs.Check.{IsWhole}
 use Rattle.ftc_packet.specs.Rewrite.{IsBeyondEnd, address_place, new_header_checksum, new_transport_checksum, port_place, with_end}

@@ -1,9 +1,9 @@
 -- The sums of a packet, as sums of weighted bytes.
-use Rattle.std.proofs.Common.{◌≡◌, ℕ, ◌+◌, ◌-◌, ◌*◌, ◌/◌, ◌%◌, ◌<◌, ◌≤◌, List, [], ◌∷◌, ◌++◌, sum, length, get_or, arith, sym, ap, ◌∙◌, refl}
+use Rattle.std.proofs.Common.{◌≡◌, ℕ, ◌+◌, ◌-◌, ◌/◌, ◌%◌, ◌≤◌, List, [], ◌∷◌, ◌++◌, sum, length, get_or, arith, sym, ap, ◌∙◌, refl}
 use Rattle.std.specs.List.{slice_range}
 use Rattle.std.proofs.lemmas.List.{length-append}
 use Rattle.ftc_packet.specs.Sum.{ones_complement, words}
-use Rattle.ftc_packet.specs.Layout.{datagram_end, protocol_of, transport_start, word_at}
+use Rattle.ftc_packet.specs.Layout.{datagram_end, transport_start, word_at}
 use Rattle.ftc_packet.specs.Check.{header_sum, ipv4_header, pseudo_header, segment, segment_length, transport_sum}
 use Rattle.ftc_packet.proofs.Numbers.{ones_complement-add}
 use Rattle.ftc_packet.proofs.Weights.{weight, weighted, weighted-append, weighted_like, sum-words}

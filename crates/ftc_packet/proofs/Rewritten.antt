@@ -1,9 +1,8 @@
 -- The five words that a rewrite writes, and what the packet holds afterwards.
-use Rattle.std.proofs.Common.{◌≡◌, ℕ, ◌+◌, ◌*◌, ◌/◌, ◌%◌, ◌<◌, ◌≤◌, ◌⊎◌, List, length, get_or, set, drop, arith, inl, inr, ap, ◌∙◌}
-use Rattle.std.proofs.lemmas.Bool.{cases_lt}
-use Rattle.std.proofs.lemmas.List.{get_or_past, get_or-take, get_or-drop, length-take, get_or-set_same, get_or-set_other, length-set}
+use Rattle.std.proofs.Common.{◌≡◌, ℕ, ◌+◌, ◌/◌, ◌%◌, ◌<◌, ◌≤◌, ◌⊎◌, List, length, get_or, set, arith, inl, inr, ap, ◌∙◌}
+use Rattle.std.proofs.lemmas.List.{get_or-set_same, get_or-set_other, length-set}
 use Rattle.ftc_packet.specs.Layout.{word_at, with_word}
-use Rattle.ftc_packet.proofs.WordEdits.{Apart, part, part-with_word_in, part-with_word_low, part-with_word_high, length-with_word, get-with_word_apart, word_at-with_word_apart}
+use Rattle.ftc_packet.proofs.WordEdits.{part, part-with_word_in, part-with_word_low, part-with_word_high, length-with_word, get-with_word_apart, word_at-with_word_apart}
 
 pub word_at-with_word_same : (xs : List ℕ) (a v : ℕ) → a + 1 < length xs → word_at (with_word xs a v) a ≡ v
 unfolding word_at with_word

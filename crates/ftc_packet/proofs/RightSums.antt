@@ -1,5 +1,5 @@
 -- Why a rewrite keeps right sums right.
-use Rattle.std.proofs.Common.{◌≡◌, ℕ, ◌+◌, ◌-◌, ◌*◌, ◌/◌, ◌%◌, ◌<◌, ◌≤◌, ◌⊎◌, List, length, get_or, drop, arith, inl, inr, sym, ap, ◌∙◌, refl}
+use Rattle.std.proofs.Common.{◌≡◌, ℕ, ◌+◌, ◌-◌, ◌/◌, ◌%◌, ◌<◌, ◌≤◌, ◌⊎◌, List, length, get_or, drop, arith, inl, inr, sym, ap, ◌∙◌, refl}
 use Rattle.std.proofs.lemmas.Bool.Decides.{nat_tests}
 use Rattle.std.proofs.lemmas.List.{get_or-take, get_or-drop}
 use Rattle.ftc_packet.specs.declared.rewrite.End.{End}
@@ -7,7 +7,7 @@ use Rattle.ftc_packet.specs.declared.rewrite.End.TheVariants.{Source, Destinatio
 use Rattle.ftc_packet.specs.Sum.{ones_complement, updated_checksum}
 use Rattle.ftc_packet.specs.Layout.{AreBytes, checksum_place, datagram_end, protocol_of, transport_start, word_at, with_word}
 use Rattle.ftc_packet.specs.Flow.{IsFlow}
-use Rattle.ftc_packet.specs.Check.{AreSumsRight, HasNoChecksum, IsRight, IsWhole, header_sum, transport_sum}
+use Rattle.ftc_packet.specs.Check.{HasNoChecksum, IsRight, IsWhole, header_sum, transport_sum}
 use Rattle.ftc_packet.specs.Rewrite.{new_header_checksum, new_transport_checksum, port_place, with_end, written_checksum}
 use Rattle.ftc_packet.proofs.Numbers.{right_along, right_with_full}
 use Rattle.ftc_packet.proofs.Weights.{weighted}
@@ -230,8 +230,8 @@ packet_stays_right bs end n₁ n₂ c n₃ w fit header transport right =
         transport = elim (written_cases (protocol_of bs) old (transport_update bs end n₁ n₂ n₃)) [
           | inl none ↦ inr (HasNoChecksum-packet bs end n₁ n₂ c n₃ w flow none.0 (transport ∙ none.2))
           | inr has ↦ inl (transport_stays_right bs end n₁ n₂ c n₃ w fit flow right.whole
-            (elim has.1 [ inl same ↦ inl (transport ∙ same) | inr zeros ↦ inr (zeros.0, transport ∙ zeros.1) ])
-            (has_checksum bs right.sums.transport has.0))
+              (elim has.1 [ inl same ↦ inl (transport ∙ same) | inr zeros ↦ inr (zeros.0, transport ∙ zeros.1) ])
+              (has_checksum bs right.sums.transport has.0))
         ];
       };
     }

@@ -5,8 +5,7 @@ ghost use Rattle.ftc_packet.specs.Laws.{FlowsAreFound, UpdatesRecompute, Updates
 /// A flow is found exactly in a flow packet, and it is the flow that the packet's fields name.
 pub fn law_of_flows()
     ensures { FlowsAreFound }
-{
-}
+{}
 
 /// A checksum that is updated for one changed word, by equation 3 of RFC 1624, is right where it was right before, and it
 /// is the checksum that a sum of all words gives, up to the two zeros of one's complement.
@@ -17,5 +16,4 @@ pub fn law_of_flows()
 pub fn law_of_updates()
     ensures stay_right { UpdatesStayRight }
     ensures recompute { UpdatesRecompute }
-{
-}
+{}

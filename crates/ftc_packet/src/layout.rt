@@ -95,7 +95,11 @@ pub(crate) fn datagram_end(bytes: &[u8]) -> usize
 pub(crate) fn fixed_header(protocol: u8) -> usize
     ensures { result ≡ length_of_fixed_header protocol }
 {
-    if protocol == TCP { TCP_HEADER } else { UDP_HEADER }
+    if protocol == TCP {
+        TCP_HEADER
+    } else {
+        UDP_HEADER
+    }
 }
 
 /// Where the checksum stands in the transport header of TCP or UDP.
@@ -103,5 +107,9 @@ pub(crate) fn checksum_place(protocol: u8) -> usize
     ensures place { result ≡ place_of_checksum protocol }
     ensures most { result ≤ TCP_CHECKSUM }
 {
-    if protocol == TCP { TCP_CHECKSUM } else { UDP_CHECKSUM }
+    if protocol == TCP {
+        TCP_CHECKSUM
+    } else {
+        UDP_CHECKSUM
+    }
 }

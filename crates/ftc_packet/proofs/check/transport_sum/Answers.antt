@@ -1,5 +1,4 @@
-use Rattle.std.proofs.Common.{◌≡◌, ◌-◌, ◌+◌, arith}
-use Rattle.ftc_packet.specs.Layout.{datagram_end}
+use Rattle.std.proofs.Common.{◌-◌, arith}
 use Rattle.ftc_packet.proofs.PacketSums.{transport_sum-running}
 use Rattle.ftc_packet.proofs.check.transport_sum.Goals as goal
 

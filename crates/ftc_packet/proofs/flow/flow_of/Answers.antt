@@ -1,5 +1,5 @@
-use Rattle.std.proofs.Common.{sym, ◌∙◌, rules}
-use Rattle.ftc_packet.specs.Flow.{IsFlow, flow_found, flow_in}
+use Rattle.std.proofs.Common.{sym, rules}
+use Rattle.ftc_packet.specs.Flow.{IsFlow, flow_in}
 use Rattle.ftc_packet.proofs.FlowsFound.{flow_found-none, flow_found-some}
 use Rattle.ftc_packet.proofs.flow.flow_of.Goals as goal
 

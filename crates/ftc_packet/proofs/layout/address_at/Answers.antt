@@ -1,4 +1,4 @@
-use Rattle.std.proofs.Common.{◌∙◌, arith}
+use Rattle.std.proofs.Common.{◌∙◌}
 use Rattle.ftc_packet.proofs.WordSlices.{big_number-address_at}
 use Rattle.ftc_packet.proofs.layout.address_at.Goals as goal
 

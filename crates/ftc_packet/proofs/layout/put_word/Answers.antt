@@ -1,4 +1,4 @@
-use Rattle.std.proofs.Common.{◌∙◌, arith}
+use Rattle.std.proofs.Common.{arith}
 use Rattle.ftc_packet.proofs.WordSlices.{put_mid-with_word}
 use Rattle.ftc_packet.proofs.layout.put_word.Goals as goal
 

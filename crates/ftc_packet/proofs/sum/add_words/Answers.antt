@@ -5,7 +5,7 @@ use Rattle.ftc_packet.proofs.sum.add_words.Goals as goal
 pub loop-rest-preserved : goal.loop-rest-preserved
 loop-rest-preserved c = (
   sum_more c.loop-rest.sum c.add-sum.result c.from_be_bytes.result c.loop-rest.rest.now
-  (omega arith) (omega arith) c.add-sum.ensures ∙ c.loop-rest.invariant.0,
+      (omega arith) (omega arith) c.add-sum.ensures ∙ c.loop-rest.invariant.0,
   omega arith,
 )
 
