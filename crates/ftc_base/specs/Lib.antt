@@ -4,3 +4,4 @@ pub mod Partition
 pub mod Text
 pub mod Number
 pub mod Endpoint
+pub mod Ask

@@ -1,2 +1,5 @@
+pub mod Ask
 pub mod Bounds
 pub mod Chain
+pub mod Change
+pub mod Monitor
