@@ -1,12 +1,12 @@
 -- The rule of a balancer.
-use Rattle.std.specs.Prelude.{ℕ, Bool, ◌+◌, ◌%◌, ◌==◌, ◌&&◌, nat_lt, List, [], ◌∷◌, ◌++◌, length, Option, Some, None, if◌then◌else◌, codes, true, false, slice_index}
+use Rattle.std.specs.Prelude.{ℕ, Bool, ◌+◌, ◌%◌, ◌==◌, ◌&&◌, nat_lt, List, [], ◌∷◌, ◌++◌, length, Option, Some, None, if◌then◌else◌, codes, true, false, slice_index, unwrap_or}
 use Rattle.std.specs.List.{list_any}
 use Rattle.std.specs.Int.{w16, w32, to_be_bytes, from_be_bytes}
 use Rattle.ftc_base.specs.declared.ask.Answer.{Answer}
 use Rattle.ftc_base.specs.declared.ask.Ask.{Ask}
 use Rattle.ftc_base.specs.declared.ask.Ask.TheVariants.{Read}
 use Rattle.ftc_base.specs.declared.ask.Change.TheVariants.{Source, Destination}
-use Rattle.ftc_base.specs.Ask.{forward, forward_changed, put}
+use Rattle.ftc_base.specs.Ask.{number_in, forward, forward_changed, put}
 use Rattle.ftc_packet.specs.declared.flow.Flow.{Flow}
 use Rattle.ftc_balance.specs.declared.rule.BalanceRule.{BalanceRule}
 
@@ -18,19 +18,11 @@ client_key protocol address port = codes "c" ++ protocol ∷ (to_be_bytes w32 ad
 abbrev pub turn_key : List ℕ
 turn_key = codes "t"
 
--- the address that a value says, where it has 32 bits
-abbrev pub address_in : Option (List ℕ) → Option ℕ
-address_in None = None
-address_in (Some value) = if length value == 4 then Some (from_be_bytes w32 value) else None
-
--- the number that a value of 32 bits says, and 0 where there is none
-abbrev pub number_in : Option (List ℕ) → ℕ
-number_in None = 0
-number_in (Some value) = if length value == 4 then from_be_bytes w32 value else 0
-
--- the index of the backend whose turn it is; one that no backend has counts as 0
+-- The index of the backend whose turn it is; an index that no backend has counts as 0, and so does none.
 abbrev pub turn_in : ℕ → Option (List ℕ) → ℕ
-turn_in count value = if nat_lt (number_in value) count then number_in value else 0
+turn_in count value =
+    let index = unwrap_or (number_in w32 value) 0 in
+    if nat_lt index count then index else 0
 
 -- A client without a backend gets the one whose turn it is.
 abbrev pub new_client : BalanceRule → Flow → List Answer → Ask
@@ -51,7 +43,7 @@ known_or_not rule flow None answers = new_client rule flow answers
 -- A packet of a client.
 abbrev pub from_client : BalanceRule → Flow → List Answer → Ask
 from_client rule flow [] = Read (client_key flow.protocol flow.source flow.source_port) true
-from_client rule flow (backend ∷ answers) = known_or_not rule flow (address_in backend.value) answers
+from_client rule flow (backend ∷ answers) = known_or_not rule flow (number_in w32 backend.value) answers
 
 -- A reply of the client's own backend comes from the balancer's address and port.
 abbrev pub replied : BalanceRule → Flow → Option ℕ → Ask
@@ -62,7 +54,7 @@ replied rule flow (Some backend) =
 -- A packet from a backend's address and the balanced port.
 abbrev pub from_backend : BalanceRule → Flow → List Answer → Ask
 from_backend rule flow [] = Read (client_key flow.protocol flow.destination flow.destination_port) false
-from_backend rule flow (backend ∷ answers) = replied rule flow (address_in backend.value)
+from_backend rule flow (backend ∷ answers) = replied rule flow (number_in w32 backend.value)
 
 -- What a balancer asks next of a flow's packet.
 abbrev pub balance_ask : BalanceRule → Flow → List Answer → Ask

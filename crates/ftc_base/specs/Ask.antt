@@ -1,5 +1,6 @@
--- What a rule asks, by short names.
-use Rattle.std.specs.Prelude.{List, [], ℕ, Option, Some}
+-- What a rule asks, by short names, and what an answered value says as a number.
+use Rattle.std.specs.Prelude.{ℕ, ◌==◌, List, [], length, Option, Some, None, if◌then◌else◌}
+use Rattle.std.specs.Int.{Width, byte_len, from_be_bytes}
 use Rattle.ftc_base.specs.declared.ask.Write.{Write}
 use Rattle.ftc_base.specs.declared.ask.Change.{Change}
 use Rattle.ftc_base.specs.declared.ask.Change.TheVariants.{Keep}
@@ -27,3 +28,8 @@ forward_changed writes change = finish writes (Forward change)
 -- the packet is dropped, and nothing is written
 abbrev pub filter_out : Ask
 filter_out = finish [] Filter
+
+-- the number that an answered value says, where it has just so many bits
+abbrev pub number_in : Width → Option (List ℕ) → Option ℕ
+number_in width None = None
+number_in width (Some value) = if length value == byte_len width then Some (from_be_bytes width value) else None

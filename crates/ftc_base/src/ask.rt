@@ -1,5 +1,8 @@
 //! What a middlebox rule asks for and decides.
 
+ghost use Rattle.std.specs.Prelude.{◌≡◌, [], ◌∷◌};
+ghost use Rattle.std.specs.Int.{w16, w32, w64};
+
 use crate::key::{Key, Value};
 use crate::limits::{MOST_READS, MOST_WRITES};
 use arrayvec::ArrayVec;
@@ -59,4 +62,88 @@ pub enum Ask {
     Read { key: Key, change: bool },
     /// Nothing more.
     Finish(Finish),
+}
+
+impl Write {
+    ghost use Rattle.ftc_base.specs.Ask.{put};
+
+    /// A value that is put at a key.
+    pub fn put(key: Key, value: Value) -> Write
+        ensures { result ≡ put key value }
+    {
+        Write {
+            key,
+            value: Some(value),
+        }
+    }
+}
+
+impl Answer {
+    ghost use Rattle.ftc_base.specs.Ask.{number_in};
+
+    /// The number that the value says, where it has 16 bits. The high byte is the first.
+    pub fn as_u16(&self) -> Option<u16>
+        ensures { result ≡ number_in w16 self.now.value }
+    {
+        match self.value?.as_slice() {
+            [a, b] => Some(u16::from_be_bytes([*a, *b])),
+            _ => None,
+        }
+    }
+
+    /// The number that the value says, where it has 32 bits. The high byte is the first.
+    pub fn as_u32(&self) -> Option<u32>
+        ensures { result ≡ number_in w32 self.now.value }
+    {
+        match self.value?.as_slice() {
+            [a, b, c, d] => Some(u32::from_be_bytes([*a, *b, *c, *d])),
+            _ => None,
+        }
+    }
+
+    /// The number that the value says, where it has 64 bits. The high byte is the first.
+    pub fn as_u64(&self) -> Option<u64>
+        ensures { result ≡ number_in w64 self.now.value }
+    {
+        match self.value?.as_slice() {
+            [a, b, c, d, e, f, g, h] => {
+                Some(u64::from_be_bytes([*a, *b, *c, *d, *e, *f, *g, *h]))
+            }
+            _ => None,
+        }
+    }
+}
+
+impl Ask {
+    ghost use Rattle.ftc_base.specs.Ask.{finish, forward, forward_changed, filter_out};
+
+    /// The packet goes on as it is, and nothing is written.
+    pub fn keep() -> Ask
+        ensures { result ≡ forward [] }
+    {
+        Ask::Finish(Finish {
+            writes: Writes::new(),
+            verdict: Verdict::Forward(Change::Keep),
+        })
+    }
+
+    /// The packet goes on, rewritten, and nothing is written.
+    pub fn rewrite(change: Change) -> Ask
+        ensures { result ≡ forward_changed [] change }
+    {
+        Ask::Finish(Finish {
+            writes: Writes::new(),
+            verdict: Verdict::Forward(change),
+        })
+    }
+
+    /// The packet is dropped, and nothing is written.
+    pub fn filter() -> Ask
+        ensures { result ≡ filter_out }
+    {
+        Ask::Finish(Finish {
+            writes: Writes::new(),
+            verdict: Verdict::Filter,
+        })
+    }
 }

@@ -34,6 +34,20 @@ impl Bytes {
         }
     }
 
+    /// The bytes of a vector, which are not copied.
+    pub fn from_vec(buffer: Vec<u8>) -> Bytes
+        ensures { result ≡ buffer.items }
+    {
+        Bytes { buffer }
+    }
+
+    /// The bytes as a vector. They are not copied.
+    pub fn into_vec(self) -> Vec<u8>
+        ensures { result.items ≡ self }
+    {
+        self.buffer
+    }
+
     /// The bytes.
     pub fn as_slice(&self) -> &[u8]
         ensures { result.now ≡ self.now }

@@ -80,6 +80,16 @@ impl<T> Items<T> {
         Ok(())
     }
 
+    /// The same items once more.
+    pub fn copy(&self, alloc: Global) -> Result<Items<T>, NoMemory>
+    where
+        T: Copy,
+        ensures { IfOk result (λ copy. copy ≡ self.now) }
+    {
+        let held = Vec::from_slice(alloc, self.held.as_slice())?;
+        Ok(Items { held })
+    }
+
     /// The item at a place, from 0.
     pub fn at(&self, place: usize) -> &T
         requires { place < length self.now }

@@ -1,6 +1,7 @@
 //! Keys and values of a middlebox's store, which hold their bytes in place.
 
 ghost use Rattle.std.specs.Prelude.{◌≡◌, ◌≤◌, ◌↔◌, [], length, IsSome, IfSome, nat_eq};
+ghost use Rattle.std.specs.Int.{to_be_bytes, w16, w32, w64};
 ghost use Rattle.std.proofs.Common.{rules};
 ghost use Rattle.std.specs.Cmp.{partial_order_from_own_ties};
 ghost use Rattle.std.specs.Cmp.Lexicographic.{pointwise, slice_cmp};
@@ -151,12 +152,7 @@ impl Value {
         if bytes.len() > MOST_VALUE_BYTES {
             return None;
         }
-        let mut held = [0; MOST_VALUE_BYTES];
-        held[..bytes.len()].copy_from_slice(bytes);
-        Some(Value {
-            bytes: held,
-            len: bytes.len() as u8,
-        })
+        Some(Value::of_front(bytes))
     }
 
     /// Its bytes.
@@ -165,6 +161,49 @@ impl Value {
         ensures within { length result.now ≤ MOST_VALUE_BYTES }
     {
         &self.bytes[..self.len as usize]
+    }
+}
+
+impl Value {
+    /// The value of no bytes.
+    pub fn empty() -> Value
+        ensures { result ≡ [] }
+    {
+        Value::of_front(&[])
+    }
+
+    /// The number in 16 bits, the high byte first.
+    pub fn from_u16(number: u16) -> Value
+        ensures { result ≡ to_be_bytes w16 number }
+    {
+        Value::of_front(&number.to_be_bytes())
+    }
+
+    /// The number in 32 bits, the high byte first.
+    pub fn from_u32(number: u32) -> Value
+        ensures { result ≡ to_be_bytes w32 number }
+    {
+        Value::of_front(&number.to_be_bytes())
+    }
+
+    /// The number in 64 bits, the high byte first.
+    pub fn from_u64(number: u64) -> Value
+        ensures { result ≡ to_be_bytes w64 number }
+    {
+        Value::of_front(&number.to_be_bytes())
+    }
+
+    /// The value of bytes that are few enough.
+    fn of_front(bytes: &[u8]) -> Value
+        requires { length bytes.now ≤ MOST_VALUE_BYTES }
+        ensures { result ≡ bytes.now }
+    {
+        let mut held = [0; MOST_VALUE_BYTES];
+        held[..bytes.len()].copy_from_slice(bytes);
+        Value {
+            bytes: held,
+            len: bytes.len() as u8,
+        }
     }
 }
 

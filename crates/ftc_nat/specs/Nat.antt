@@ -1,11 +1,11 @@
 -- The rule of a translator.
-use Rattle.std.specs.Prelude.{ℕ, ◌+◌, ◌==◌, ◌&&◌, nat_lt, not, List, [], ◌∷◌, ◌++◌, length, Option, Some, None, if◌then◌else◌, codes, true, false, take, drop, Bool}
+use Rattle.std.specs.Prelude.{ℕ, ◌+◌, ◌==◌, ◌&&◌, nat_lt, not, List, [], ◌∷◌, ◌++◌, length, Option, Some, None, if◌then◌else◌, codes, true, false, take, drop, Bool, unwrap_or}
 use Rattle.std.specs.Int.{w16, w32, to_be_bytes, from_be_bytes}
 use Rattle.ftc_base.specs.declared.ask.Answer.{Answer}
 use Rattle.ftc_base.specs.declared.ask.Ask.{Ask}
 use Rattle.ftc_base.specs.declared.ask.Ask.TheVariants.{Read}
 use Rattle.ftc_base.specs.declared.ask.Change.TheVariants.{Source, Destination}
-use Rattle.ftc_base.specs.Ask.{forward, forward_changed, filter_out, put}
+use Rattle.ftc_base.specs.Ask.{number_in, forward, forward_changed, filter_out, put}
 use Rattle.ftc_base.specs.Endpoint.{contains}
 use Rattle.ftc_packet.specs.declared.flow.Flow.{Flow}
 use Rattle.ftc_nat.specs.declared.rule.NatRule.{NatRule}
@@ -26,16 +26,6 @@ next_port_key = codes "n"
 abbrev pub inside_key : ℕ → ℕ → List ℕ
 inside_key protocol port = codes "r" ++ protocol ∷ to_be_bytes w16 port
 
--- the port that a value says, where it has 16 bits
-abbrev pub port_in : Option (List ℕ) → Option ℕ
-port_in None = None
-port_in (Some value) = if length value == 2 then Some (from_be_bytes w16 value) else None
-
--- the next port that a value says, and the first port where there is no value of 32 bits
-abbrev pub next_port_in : ℕ → Option (List ℕ) → ℕ
-next_port_in first None = first
-next_port_in first (Some value) = if length value == 4 then from_be_bytes w32 value else first
-
 -- A flow that leaves the inside net.
 abbrev pub leaves : NatRule → Flow → Bool
 leaves rule flow = contains rule.inside flow.source && not (contains rule.inside flow.destination)
@@ -51,12 +41,13 @@ drawing rule flow port (reverse ∷ answers) =
         ∷ [])
     (Source rule.outside port)
 
--- An endpoint without an outside port draws the next one, unless the last has been drawn.
+-- An endpoint without an outside port draws the next one, which is the first where none is written yet, unless the last
+-- has been drawn.
 abbrev pub unknown : NatRule → Flow → List Answer → Ask
 unknown rule flow [] = Read next_port_key true
 unknown rule flow (next ∷ answers) =
-    if nat_lt rule.last (next_port_in rule.first next.value) then filter_out
-    else drawing rule flow (next_port_in rule.first next.value) answers
+    let port = unwrap_or (number_in w32 next.value) rule.first in
+    if nat_lt rule.last port then filter_out else drawing rule flow port answers
 
 -- What is known of an endpoint's outside port.
 abbrev pub known_or_not : NatRule → Flow → Option ℕ → List Answer → Ask
@@ -66,7 +57,7 @@ known_or_not rule flow None answers = unknown rule flow answers
 -- A packet from inside to outside.
 abbrev pub outgoing : NatRule → Flow → List Answer → Ask
 outgoing rule flow [] = Read (outside_port_key flow.protocol flow.source flow.source_port) true
-outgoing rule flow (port ∷ answers) = known_or_not rule flow (port_in port.value) answers
+outgoing rule flow (port ∷ answers) = known_or_not rule flow (number_in w16 port.value) answers
 
 -- To the inside endpoint that a value of 48 bits says; dropped where there is none.
 abbrev pub to_inside : Option (List ℕ) → Ask
