@@ -1,8 +1,16 @@
 //! The rules of a chain's middleboxes.
 #![tactic(auto)]
 
+mod asking;
+mod change;
+mod monitor;
 mod rule;
 mod spec;
 
-pub use rule::{Rule, Rules};
+pub use asking::ask;
+pub use change::change_packet;
+pub use rule::{Rule, Rules, copy_rules};
 pub use spec::ChainSpec;
+
+#[cfg(test)]
+mod tests;
