@@ -2,6 +2,7 @@
 
 ghost use Rattle.std.specs.Prelude.{◌≡◌};
 ghost use Rattle.ftc_mbox.specs.Ask.{ask, ask_of_flow};
+ghost use Rattle.ftc_mbox.specs.Change.{CanFollow};
 
 use crate::monitor;
 use crate::rule::Rule;
@@ -24,7 +25,9 @@ fn ask_of_flow(rule: &Rule, flow: &Flow, answers: &Answers) -> Ask
 /// What a rule asks next of a packet, after these answers. A packet of no flow goes on unread.
 #[tactic(auto, unfolding(crate::specs::Ask::ask))]
 pub fn ask(rule: &Rule, packet: &[u8], answers: &Answers) -> Ask
-    ensures { result ≡ ask rule.now packet.now answers.now.items }
+    ensures asked { result ≡ ask rule.now packet.now answers.now.items }
+    // Only a flow packet is rewritten.
+    ensures rewrites { CanFollow packet.now result }
 {
     match flow_of(packet) {
         Some(flow) => ask_of_flow(rule, &flow, answers),
