@@ -1,0 +1,5 @@
+pub mod Words
+pub mod Take
+pub mod Place
+pub mod Serial
+pub mod Trace

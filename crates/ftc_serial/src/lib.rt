@@ -1,0 +1,15 @@
+//! The serial chain: the same middleboxes, one visit at a time, with nothing replicated. What the
+//! replicated chain does is judged by it.
+#![tactic(auto)]
+
+mod position;
+mod serial;
+mod step;
+mod visit;
+
+pub use position::Place;
+pub use serial::{NotWaiting, Serial};
+pub use step::{Step, Trace};
+
+#[cfg(test)]
+mod tests;
