@@ -3,7 +3,8 @@ use Rattle.std.proofs.Common.{◌≡◌, ◌≤◌, ◌+◌, ◌*◌, ◌/◌, �
 use Rattle.byteorder.specs.Endian.{big_number, little_number, big_bytes, little_bytes}
 use Rattle.std.proofs.lemmas.List.{drop_at}
 use Rattle.byteorder.specs.Numbers.{big_number-reads_back, little_number-reads_back}
-use Rattle.ftc_pcap.specs.Grammar.{number_bytes, number_of, head_bytes, captured_length}
+use Rattle.ftc_pcap.specs.Grammar.{number_bytes, number_of, head_bytes, record_bytes, captured_length}
+use Rattle.ftc_pcap.specs.declared.packets.Packet.{Packet}
 
 four_cells : (w x y z a b c d : ℕ) → w ≡ a → x ≡ b → y ≡ c → z ≡ d → w ∷ x ∷ y ∷ z ∷ [] ≡ a ∷ b ∷ c ∷ d ∷ []
 four_cells w x y z a b c d hw hx hy hz = λ i. hw i ∷ hx i ∷ hy i ∷ hz i ∷ []
@@ -54,9 +55,22 @@ number_front big a b x y small_a small_b same = record {
 }
 
 -- the captured length of a head is its third number
+pub captured_length_third : (big : Bool) (s f c : ℕ) (after : List ℕ) → c < 2 ^ 32 → captured_length big (number_bytes big s ++ (number_bytes big f ++ (number_bytes big c ++ after))) ≡ c
+captured_length_third big s f c after small =
+    let behind = number_bytes big c ++ after in
+    let eight : length (number_bytes big s ++ number_bytes big f) ≡ 8 = simp (length-append, length_number_bytes) in
+    ap (λ (bytes : List ℕ). number_of big (drop 8 bytes)) (sym (append_assoc (number_bytes big s) (number_bytes big f) behind)) ∙ ap (number_of big) (drop_at (number_bytes big s ++ number_bytes big f) behind 8 eight) ∙ number_of_bytes big c after small
+
 pub captured_length_head : (big : Bool) (s f c o : ℕ) (after : List ℕ) → c < 2 ^ 32 → captured_length big (head_bytes big s f c o ++ after) ≡ c
 captured_length_head big s f c o after small =
-    let behind = number_bytes big c ++ (number_bytes big o ++ after) in
-    let parts : head_bytes big s f c o ++ after ≡ (number_bytes big s ++ number_bytes big f) ++ behind = simp append_assoc in
-    let eight : length (number_bytes big s ++ number_bytes big f) ≡ 8 = simp (length-append, length_number_bytes) in
-    ap (λ (bytes : List ℕ). number_of big (drop 8 bytes)) parts ∙ ap (number_of big) (drop_at (number_bytes big s ++ number_bytes big f) behind 8 eight) ∙ number_of_bytes big c (number_bytes big o ++ after) small
+    let parts : head_bytes big s f c o ++ after ≡ number_bytes big s ++ (number_bytes big f ++ (number_bytes big c ++ (number_bytes big o ++ after))) = simp append_assoc in
+    ap (captured_length big) parts ∙ captured_length_third big s f c (number_bytes big o ++ after) small
+
+-- the same, of bytes that were split number by number
+pub captured_length_split : (big : Bool) (s f c : ℕ) (bytes one two three : List ℕ) → c < 2 ^ 32 → bytes ≡ number_bytes big s ++ one → one ≡ number_bytes big f ++ two → two ≡ number_bytes big c ++ three → c ≡ captured_length big bytes
+captured_length_split big s f c bytes one two three small first second third =
+    rw (first, second, third) (sym (captured_length_third big s f c three small))
+
+-- the length of a record, and of what is behind it
+pub length_record : (big : Bool) (p : Packet) (after : List ℕ) → length (record_bytes big p ++ after) ≡ 16 + length p.bytes + length after
+length_record big p after = simp (length-append, length_number_bytes) (omega arith)

@@ -21,7 +21,7 @@ fn split_header(alloc: Global, text: &[u8]) -> Result<(Capture, &[u8]), CaptureC
     if text.len() > MOST_CAPTURE_BYTES {
         return Err(CaptureCause::TooBig);
     }
-    let (front, rest) = text.split_at(text.len().min(HEADER_BYTES));
+    let (front, rest) = text.split_at(HEADER_BYTES.min(text.len()));
     let big = header_order(front)?;
     let mut header = [0; HEADER_BYTES];
     header.copy_from_slice(front);
