@@ -6,7 +6,8 @@ use Rattle.std.proofs.lemmas.List.{take_at}
 use Rattle.ftc_base.specs.declared.limits.TheConstants.{MOST_RECORDS, MOST_CAPTURED, MOST_CAPTURE_BYTES}
 use Rattle.ftc_base.specs.declared.refusal.Refuse.{Refuse}
 use Rattle.ftc_base.specs.declared.refusal.Refuse.TheVariants.{Bad, NoMemory}
-use Rattle.ftc_pcap.specs.Grammar.{head_bytes, record_bytes, capture_bytes, captured_length, header_cause, front_cause, record_cause, IsHeader, IsPacket, IsCapture, RefusesRecord, Refuses, placed_at}
+use Rattle.ftc_pcap.specs.Grammar.{head_bytes, record_bytes, capture_bytes, captured_length, header_cause, front_cause, record_cause, IsHeader, IsPacket, IsCapture, Refuses}
+use Rattle.ftc_pcap.specs.Placing.{RefusesRecord, placed_at}
 use Rattle.ftc_pcap.specs.declared.capture.Capture.{Capture}
 use Rattle.ftc_pcap.specs.declared.capture.CaptureCause.{CaptureCause}
 use Rattle.ftc_pcap.specs.declared.packets.Packet.{Packet}
@@ -46,7 +47,7 @@ no_front_fault text big header rest right parts size =
 pub no_record_fault : (big : Bool) (count : ℕ) (p : Packet) (after : List ℕ) → IsPacket p → count < MOST_RECORDS → record_cause big count (record_bytes big p ++ after) ≡ None
 no_record_fault big count p after packet few =
     let captured : captured_length big (record_bytes big p ++ after) ≡ length p.bytes =
-        ap (captured_length big) (append_assoc (head_bytes big p.seconds p.fraction (length p.bytes) p.original) p.bytes after) ∙ captured_length_head big p.seconds p.fraction (length p.bytes) p.original (p.bytes ++ after) (omega (arith, packet.captured)) in
+    ap (captured_length big) (append_assoc (head_bytes big p.seconds p.fraction (length p.bytes) p.original) p.bytes after) ∙ captured_length_head big p.seconds p.fraction (length p.bytes) p.original (p.bytes ++ after) (omega (arith, packet.captured)) in
     let size = length_record big p after in
     let within = packet.captured in
     rw (lt-leb MOST_RECORDS count few, le-ltb (length (record_bytes big p ++ after)) 16 (omega arith), captured, le-ltb MOST_CAPTURED (length p.bytes) within, le-ltb (length (record_bytes big p ++ after)) (16 + length p.bytes) (omega arith)) refl

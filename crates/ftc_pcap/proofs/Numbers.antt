@@ -1,6 +1,6 @@
 -- Numbers and their bytes, in either order.
 use Rattle.std.proofs.Common.{◌≡◌, ◌≤◌, ◌+◌, ◌*◌, ◌/◌, ◌%◌, ◌<◌, ◌^◌, ℕ, Bool, true, false, List, [], ◌∷◌, ◌++◌, length, take, drop, slice_index, refl, sym, ap, ◌∙◌, append_assoc, length-append, arith}
-use Rattle.byteorder.specs.Endian.{big_number, little_number, big_bytes, little_bytes}
+use Rattle.byteorder.specs.Endian.{big_number, little_number}
 use Rattle.std.proofs.lemmas.List.{drop_at}
 use Rattle.byteorder.specs.Numbers.{big_number-reads_back, little_number-reads_back}
 use Rattle.ftc_pcap.specs.Grammar.{number_bytes, number_of, head_bytes, record_bytes, captured_length}

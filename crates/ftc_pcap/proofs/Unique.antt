@@ -1,10 +1,10 @@
 -- Bytes are read in one way.
-use Rattle.std.proofs.Common.{◌≡◌, ◌≤◌, ◌<◌, ◌+◌, ◌++◌, ◌∙◌, ◌⊎◌, ℕ, Bool, Some, List, [], ◌∷◌, length, take, drop, refl, sym, ap, inl, inr, length-append, append_assoc, zero-add, arith}
+use Rattle.std.proofs.Common.{◌≡◌, ◌≤◌, ◌<◌, ◌+◌, ◌++◌, ◌∙◌, ◌⊎◌, ℕ, Bool, Some, List, [], ◌∷◌, length, take, drop, refl, sym, ap, inl, inr, append_assoc, zero-add, arith}
 use Rattle.std.specs.Prelude.{None}
 use Rattle.std.specs.List.{AllByRecursion}
 use Rattle.std.proofs.lemmas.List.{take_at, drop_at, append-nil}
 use Rattle.ftc_base.specs.declared.limits.TheConstants.{MOST_RECORDS}
-use Rattle.ftc_pcap.specs.Grammar.{number_bytes, head_bytes, record_bytes, records, capture_bytes, magic_order, record_cause, front_cause, IsPacket, IsCapture, HasRecordFault, Spells, IsFault}
+use Rattle.ftc_pcap.specs.Grammar.{record_bytes, records, capture_bytes, magic_order, record_cause, front_cause, IsPacket, IsCapture, HasRecordFault, Spells, IsFault}
 use Rattle.ftc_pcap.specs.declared.capture.Capture.{Capture}
 use Rattle.ftc_pcap.specs.declared.capture.CaptureCause.{CaptureCause}
 use Rattle.ftc_pcap.specs.declared.capture.CaptureFault.{CaptureFault}

@@ -132,13 +132,3 @@ IsFault text fault = ((front_cause text ≡ Some fault.cause) × (fault.at ≡ 0
 abbrev pub Refuses : List ℕ → Refuse CaptureFault → Type 0
 Refuses text (Bad fault) = IsFault text fault
 Refuses text NoMemory = Unit {0}
-
--- a refusal of the record at the front of the bytes, behind so many others
-abbrev pub RefusesRecord : Bool → ℕ → List ℕ → Refuse CaptureCause → Type 0
-RefusesRecord big count bytes (Bad cause) = record_cause big count bytes ≡ Some cause
-RefusesRecord big count bytes NoMemory = Unit {0}
-
--- the same refusal, at that byte of the text
-abbrev pub placed_at : ℕ → Refuse CaptureCause → Refuse CaptureFault
-placed_at at (Bad cause) = Bad (record { at = at; cause = cause })
-placed_at at NoMemory = NoMemory

@@ -17,6 +17,7 @@ const NANOSECONDS: u32 = 0xa1b2_3c4d;
 
 /// The version that is read, 2.4.
 const MAJOR: u16 = 2;
+
 const MINOR: u16 = 4;
 
 /// The link type of Ethernet frames.

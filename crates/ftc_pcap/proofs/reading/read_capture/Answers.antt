@@ -1,4 +1,4 @@
-use Rattle.std.proofs.Common.{◌<◌, ◌≡◌, ◌-◌, length, arith, refl}
+use Rattle.std.proofs.Common.{◌<◌, length, arith, refl}
 use Rattle.std.proofs.lemmas.Grind.{common_steps}
 use Rattle.ftc_pcap.proofs.Faults.{refused}
 use Rattle.ftc_pcap.proofs.reading.read_capture.Goals as goal
