@@ -1,5 +1,5 @@
 -- What one word of a chain text says, and which cause it has where it says nothing.
-use Rattle.std.specs.Prelude.{ℕ, ◌+◌, Bool, false, ◌&&◌, ◌||◌, ◌==◌, nat_le, List, [], ◌∷◌, Result, Ok, Err, if◌then◌else◌, codes}
+use Rattle.std.specs.Prelude.{ℕ, ◌≤◌, Bool, false, ◌&&◌, ◌||◌, ◌==◌, nat_le, List, [], ◌∷◌, Result, Ok, Err, if◌then◌else◌, codes}
 use Rattle.std.specs.List.{before_first, after_first, list_any}
 use Rattle.std.specs.Str.{bytes_eq}
 use Rattle.ftc_base.specs.Number.{number_of}
@@ -57,6 +57,10 @@ number_from_to least most word = do
 abbrev pub as_address : {A : Type 0} → Result A Lexical → Result A ChainCause
 as_address (Ok value) = Ok value
 as_address (Err fault) = Err BadAddress
+
+-- an address has 32 bits
+abbrev pub IsAddress : ℕ → Type 0
+IsAddress address = address ≤ MOST_NUMBER
 
 abbrev pub address_word : List ℕ → Result ℕ ChainCause
 address_word word = as_address (address_of word)

@@ -8,7 +8,8 @@ ghost use Rattle.ftc_conf.specs.Forms.{protocol_of, fire_line_of};
 use crate::fault::ChainCause;
 use crate::ports::ports_word;
 use crate::values::net_word;
-use crate::words::{is_same, next_word, no_words};
+use crate::words::{is_same, next_word};
+use ftc_base::split_word;
 use ftc_firewall::FireLine;
 
 /// TCP has the number 6 and UDP the number 17 (RFC 790). Both of them are None.
@@ -37,7 +38,9 @@ pub fn fire_line(allow: bool, line: &[u8]) -> Result<FireLine, ChainCause>
     let (source_word, rest) = next_word(rest)?;
     let (destination_word, rest) = next_word(rest)?;
     let (ports, rest) = next_word(rest)?;
-    no_words(rest)?;
+    if let Some(_) = split_word(rest) {
+        return Err(ChainCause::WordCount);
+    }
     let protocol = protocol(protocol_word)?;
     let source = net_word(source_word)?;
     let destination = net_word(destination_word)?;

@@ -8,7 +8,8 @@ ghost use Rattle.ftc_conf.specs.Forms.{nat_of};
 use crate::fault::ChainCause;
 use crate::ports::dashed_ports;
 use crate::values::{address_word, net_word};
-use crate::words::{fixed, next_word, no_words};
+use crate::words::{fixed, next_word};
+use ftc_base::split_word;
 use ftc_nat::NatRule;
 
 /// The words `inside NET outside ADDRESS ports A-B`.
@@ -22,7 +23,9 @@ pub fn nat(line: &[u8]) -> Result<NatRule, ChainCause>
     let (address, rest) = next_word(rest)?;
     let (ports_word, rest) = next_word(rest)?;
     let (ports, rest) = next_word(rest)?;
-    no_words(rest)?;
+    if let Some(_) = split_word(rest) {
+        return Err(ChainCause::WordCount);
+    }
     fixed(b"inside", inside_word)?;
     let inside = net_word(net)?;
     fixed(b"outside", outside_word)?;

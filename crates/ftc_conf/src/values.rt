@@ -1,6 +1,6 @@
 //! Numbers, addresses and nets, as words or parts of words.
 
-ghost use Rattle.std.specs.Prelude.{◌≡◌, ◌≤◌, ◌==◌, IfOk};
+ghost use Rattle.std.specs.Prelude.{◌≡◌, ◌≤◌, ◌==◌, length, IfOk};
 ghost use Rattle.std.specs.List.{position_or_len};
 ghost use Rattle.ftc_base.specs.Endpoint.{IsNet};
 ghost use Rattle.ftc_conf.specs.Words.{number_word, number_from_to, address_word, net_word, part_before, part_behind, has_byte};
