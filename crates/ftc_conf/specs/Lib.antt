@@ -2,3 +2,4 @@ pub mod Words
 pub mod Forms
 pub mod Draft
 pub mod Grammar
+pub mod Plain
