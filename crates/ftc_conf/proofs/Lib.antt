@@ -1,0 +1,4 @@
+pub mod Nets
+pub mod Rooms
+pub mod Letters
+pub mod Spelled

@@ -1,0 +1,24 @@
+//! The reader of chain texts.
+#![tactic(auto)]
+
+mod adding;
+mod balance;
+mod draft;
+mod fault;
+mod finish;
+mod firewall;
+mod forms;
+pub mod limits;
+mod lines;
+mod nat;
+mod ports;
+mod reader;
+mod statement;
+mod values;
+mod words;
+
+pub use fault::{ChainCause, ChainFault};
+pub use reader::read_chain;
+
+#[cfg(test)]
+mod tests;
