@@ -1,6 +1,6 @@
 //! A list that can grow.
 
-ghost use Rattle.std.specs.Prelude.{◌≡◌, ◌<◌, ◌++◌, [], ◌∷◌, length, OnOk, OnErr, IfOk, slice_get, Some, ◌==◌};
+ghost use Rattle.std.specs.Prelude.{◌≡◌, ◌<◌, ◌++◌, [], ◌∷◌, length, OnOk, OnErr, IfOk, IfErr, slice_get, Some, ◌==◌};
 
 use crate::refusal::NoMemory;
 use std::alloc::Global;
@@ -78,6 +78,18 @@ impl<T> Items<T> {
     {
         self.held.push(item)?;
         Ok(())
+    }
+
+    /// Adds an item at the end, or gives it back.
+    pub fn give(&mut self, item: T) -> Result<(), T>
+        ensures ok { OnOk result (self.new ≡ self.old ++ item ∷ []) }
+        ensures err { OnErr result (self.new ≡ self.old) }
+        ensures back { IfErr result (λ back. back ≡ item) }
+    {
+        match self.held.push(item) {
+            Ok(()) => Ok(()),
+            Err(refused) => Err(refused.value),
+        }
     }
 
     /// The same items once more.

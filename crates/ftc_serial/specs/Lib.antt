@@ -3,3 +3,8 @@ pub mod Take
 pub mod Place
 pub mod Serial
 pub mod Trace
+pub mod Held
+pub mod Packets
+pub mod Contents
+pub mod Waiting
+pub mod Refused

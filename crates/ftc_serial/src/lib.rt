@@ -2,6 +2,8 @@
 //! replicated chain does is judged by it.
 #![tactic(auto)]
 
+mod advance;
+mod opening;
 mod position;
 mod serial;
 mod step;

@@ -1,5 +1,18 @@
 //! The serial chain.
 
+ghost use Rattle.std.specs.Prelude.{◌≡◌, ◌<◌, ◌≤◌, ◌↔◌, length, OnOk, OnErr, IfOk, Some, None, IsSome, option_map};
+ghost use Rattle.ftc_serial.specs.Refused.{IfBad};
+
+use crate::advance::{has_passed, released_bytes, visited, waits};
+use crate::opening::{empty_stores, first_positions};
+use crate::position::{Place, Position, place_of};
+use ftc_base::limits::MOST_WRITES;
+use ftc_base::{Items, NoMemory, PacketNo, Refuse, Released, ReleasedList, ServerId};
+use ftc_mbox::{ChainSpec, Rules, copy_rules};
+use ftc_pcap::Packets;
+use ftc_store::Store;
+use std::alloc::Global;
+use std::mem;
 use thiserror::Error;
 
 /// The packet doesn't wait for that middlebox, or hasn't passed all of them.
@@ -7,4 +20,118 @@ use thiserror::Error;
 #[error("the packet does not wait for that")]
 pub struct NotWaiting;
 
-pub struct Serial;
+/// A serial chain: what each middlebox has, where each packet is, and what was released.
+#[derive(Drop)]
+pub struct Serial {
+    rules: Rules,
+    stores: Vec<Store>,
+    positions: Vec<Position>,
+    released: ReleasedList,
+    ghost one_store_each: { length stores.items ≡ length rules },
+    ghost few: { length rules ≤ 16 },
+}
+
+impl Serial {
+    ghost use Rattle.ftc_serial.specs.Serial.{opening, serial_step};
+    ghost use Rattle.ftc_serial.specs.Held.{rules_of, state_of};
+    ghost use Rattle.ftc_serial.specs.Packets.{bytes_of};
+    ghost use Rattle.ftc_serial.specs.Place.{place_of};
+    ghost use Rattle.ftc_serial.specs.declared.step.Step.TheVariants as step;
+
+    /// The chain at its start: every store is empty, and each packet waits for the first middlebox.
+    pub fn new(alloc: Global, spec: &ChainSpec, packets: &Packets) -> Result<Serial, NoMemory>
+        ensures rules { IfOk result (λ serial. rules_of serial ≡ spec.now.rules) }
+        ensures opening { IfOk result (λ serial. state_of serial ≡ opening (bytes_of packets.now)) }
+    {
+        let rules = copy_rules(alloc, spec.rules())?;
+        let stores = empty_stores(alloc, rules.len(), spec.partitions())?;
+        let positions = first_positions(alloc, packets)?;
+        Ok(Serial {
+            rules,
+            stores,
+            positions,
+            released: Items::new(alloc),
+        })
+    }
+
+    /// How many middleboxes there are.
+    pub fn servers(&self) -> usize
+        ensures same { result ≡ length (rules_of self.now) }
+        ensures few { result ≤ 16 }
+    {
+        self.rules.len()
+    }
+
+    /// The packet goes through the middlebox of that server. It is refused exactly where the packet
+    /// doesn't wait for it. A refused call leaves the chain as it was.
+    pub fn visit(&mut self, server: ServerId, packet: PacketNo) -> Result<(), Refuse<NotWaiting>>
+        ensures made { OnOk result (serial_step (rules_of self.old) (state_of self.old) (step.Visit server packet) ≡ Some (state_of self.new)) }
+        ensures refused { IfBad result (serial_step (rules_of self.old) (state_of self.old) (step.Visit server packet) ≡ None) }
+        ensures err { OnErr result (state_of self.new ≡ state_of self.old) }
+        ensures rules { rules_of self.new ≡ rules_of self.old }
+    {
+        let place = packet as usize;
+        let middlebox = usize::from(server.number());
+        if middlebox >= self.stores.len() || !waits(&self.positions, place, server) {
+            return Err(Refuse::Bad(NotWaiting));
+        }
+        self.stores[middlebox].reserve(MOST_WRITES)?;
+        let position = mem::replace(&mut self.positions[place], Position::Released);
+        let rule = self.rules.at(middlebox);
+        let next = visited(
+            position,
+            server,
+            self.rules.len(),
+            rule,
+            &mut self.stores[middlebox],
+        );
+        self.positions[place] = next;
+        Ok(())
+    }
+
+    /// The packet, which has passed all middleboxes, leaves the chain. It is refused exactly where it
+    /// hasn't. A refused call leaves the chain as it was.
+    pub fn release(&mut self, packet: PacketNo) -> Result<(), Refuse<NotWaiting>>
+        ensures made { OnOk result (serial_step (rules_of self.old) (state_of self.old) (step.Release packet) ≡ Some (state_of self.new)) }
+        ensures refused { IfBad result (serial_step (rules_of self.old) (state_of self.old) (step.Release packet) ≡ None) }
+        ensures err { OnErr result (state_of self.new ≡ state_of self.old) }
+        ensures rules { rules_of self.new ≡ rules_of self.old }
+    {
+        let place = packet as usize;
+        if !has_passed(&self.positions, place) {
+            return Err(Refuse::Bad(NotWaiting));
+        }
+        let position = mem::replace(&mut self.positions[place], Position::Released);
+        let bytes = released_bytes(position);
+        match self.released.give(Released { packet, bytes }) {
+            Ok(()) => Ok(()),
+            Err(Released { bytes, .. }) => {
+                self.positions[place] = Position::Passed { bytes };
+                Err(Refuse::NoMemory)
+            }
+        }
+    }
+
+    /// The store of a server's middlebox.
+    pub fn store(&self, server: ServerId) -> &Store
+        requires { server < length (rules_of self.now) }
+        ensures { result.now.content ≡ (state_of self.now).maps server }
+    {
+        &self.stores[usize::from(server.number())]
+    }
+
+    /// Where a packet is.
+    pub fn place(&self, packet: PacketNo) -> Place
+        requires { IsSome ((state_of self.now).place packet) }
+        ensures { Some result ≡ option_map place_of ((state_of self.now).place packet) }
+    {
+        place_of(&self.positions[packet as usize])
+    }
+
+    /// The released packets, in the order of their release.
+    pub fn released(&self) -> &ReleasedList
+        ensures { result.now ≡ (state_of self.now).released }
+    {
+        &self.released
+    }
+}

@@ -1,0 +1,6 @@
+-- The bytes of a capture's packets.
+use Rattle.std.specs.Prelude.{ℕ, List, map}
+use Rattle.ftc_pcap.specs.declared.packets.Packet.{Packet}
+
+abbrev pub bytes_of : List Packet → List (List ℕ)
+bytes_of packets = map (λ packet. packet.bytes) packets
