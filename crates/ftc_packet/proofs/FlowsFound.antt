@@ -24,7 +24,8 @@ by_test bytes true passes = rw passes (IsFlow-from bytes passes, refl)
 by_test bytes false fails = rw fails (λ flow. cc (fails, is_flow-true bytes flow))
 
 -- A flow is found exactly in a flow packet, and it is the one that its fields name.
-pub flows_are_found : (bytes : List ℕ) → MatchOption (flow_found bytes) (¬ IsFlow bytes) (λ flow. IsFlow bytes × (flow ≡ flow_in bytes))
+pub flows_are_found : (bytes : List ℕ) →
+    MatchOption (flow_found bytes) (¬ IsFlow bytes) (λ flow. IsFlow bytes × (flow ≡ flow_in bytes))
 flows_are_found bytes = by_test bytes (is_flow bytes) refl
 
 -- None is found in every other packet.

@@ -43,7 +43,8 @@ right_gives n e = omega (arith, ones_complement-split n)
 
 -- The complement of a word, added to what an update takes off and puts in, keeps the whole a multiple of 65535. The
 -- quotients of the update's two sums, q and r, say which one.
-multiple-update : (rest checksum before after first second k q r : ℕ) → checksum ≤ 65535 → before ≤ 65535 → second ≤ 65535 →
+multiple-update : (rest checksum before after first second k q r : ℕ) → checksum ≤ 65535 → before ≤ 65535 →
+    second ≤ 65535 →
     rest + checksum + before ≡ 65535 * (k + 1) → first + 65535 * q ≡ (65535 - checksum) + (65535 - before) →
     second + 65535 * r ≡ first + after → rest + (65535 - second) + after ≡ 65535 * (k + q + r)
 multiple-update rest checksum before after first second k q r hc hb hs whole e f = omega arith
@@ -62,7 +63,8 @@ changed_update rest checksum before after u =
     (ones_complement_most (first + after)) (right_gives _ u.right) (ones_complement-split taken) (ones_complement-split (first + after)) in
     right_from _ (k + q + r) multiple (omega (arith, u.rest_above_zero))
 
-updated_checksum-same : (checksum before after : ℕ) → before ≡ after → updated_checksum checksum before after ≡ checksum
+updated_checksum-same : (checksum before after : ℕ) → before ≡ after →
+    updated_checksum checksum before after ≡ checksum
 unfolding updated_checksum
 updated_checksum-same checksum before after e = grind (arith, nat_tests)
 
@@ -71,7 +73,8 @@ updated_checksum-changed : (checksum before after : ℕ) → before ≢ after �
 unfolding updated_checksum
 updated_checksum-changed checksum before after e = grind (arith, nat_tests)
 
-pub updated_checksum_most : (checksum before after : ℕ) → checksum ≤ 65535 → updated_checksum checksum before after ≤ 65535
+pub updated_checksum_most : (checksum before after : ℕ) → checksum ≤ 65535 →
+    updated_checksum checksum before after ≤ 65535
 unfolding updated_checksum
 updated_checksum_most checksum before after h = grind (arith, nat_tests)
 

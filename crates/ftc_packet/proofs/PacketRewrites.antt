@@ -18,7 +18,8 @@ address_place-header Source = refl
 address_place-header Destination = refl
 
 -- The places of the two ends.
-pub end_places : (end : End) → ((header_place end ≡ 12) × (port_place end ≡ 0)) ⊎ ((header_place end ≡ 16) × (port_place end ≡ 2))
+pub end_places : (end : End) →
+    ((header_place end ≡ 12) × (port_place end ≡ 0)) ⊎ ((header_place end ≡ 16) × (port_place end ≡ 2))
 end_places Source = inl (refl, refl)
 end_places Destination = inr (refl, refl)
 
@@ -104,7 +105,8 @@ IsFlow-with_end bs end address port flow =
     (new_header_checksum bs end address) port (new_transport_checksum bs end address port) flow)
 
 -- It is still whole.
-pub IsWhole-packet : (bs : List ℕ) (end : End) (n₁ n₂ c n₃ w : ℕ) → IsFlow bs → IsWhole bs → IsWhole (packet bs end n₁ n₂ c n₃ w)
+pub IsWhole-packet : (bs : List ℕ) (end : End) (n₁ n₂ c n₃ w : ℕ) → IsFlow bs → IsWhole bs →
+    IsWhole (packet bs end n₁ n₂ c n₃ w)
 IsWhole-packet bs end n₁ n₂ c n₃ w flow whole =
     let long = length-packet bs end n₁ n₂ c n₃ w in
     let start = transport_start-packet bs end n₁ n₂ c n₃ w flow in
@@ -125,7 +127,8 @@ others_stay bs end address port k beyond =
 
 -- The fields of a flow, read one by one.
 flow_in-fields : (b : List ℕ) (p h₁ h₂ sp d₁ d₂ dp t : ℕ) → transport_start b ≡ t → get_or b 23 0 ≡ p →
-    word_at b 26 ≡ h₁ → word_at b 28 ≡ h₂ → word_at b (t + 0) ≡ sp → word_at b 30 ≡ d₁ → word_at b 32 ≡ d₂ → word_at b (t + 2) ≡ dp →
+    word_at b 26 ≡ h₁ → word_at b 28 ≡ h₂ → word_at b (t + 0) ≡ sp → word_at b 30 ≡ d₁ → word_at b 32 ≡ d₂ →
+    word_at b (t + 2) ≡ dp →
     flow_in b ≡ record { protocol = p; source = 65536 * h₁ + h₂; source_port = sp; destination = 65536 * d₁ + d₂; destination_port = dp }
 unfolding flow_in
 flow_in-fields b p h₁ h₂ sp d₁ d₂ dp t e₁ e₂ e₃ e₄ e₅ e₆ e₇ e₈ = rw (e₁, e₂, e₃, e₄, e₅, e₆, e₇, e₈) refl

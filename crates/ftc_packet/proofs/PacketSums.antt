@@ -40,7 +40,8 @@ abbrev pub plain_sum : List ℕ → ℕ → ℕ → ℕ
 plain_sum xs t n = addresses xs + get_or xs 23 0 + n + weighted 0 (part t n xs)
 
 -- The segment has n bytes from t on.
-pub transport_sum-weighted : (xs : List ℕ) (t n : ℕ) → 34 ≤ length xs → transport_start xs ≡ t → datagram_end xs ≡ t + n →
+pub transport_sum-weighted : (xs : List ℕ) (t n : ℕ) → 34 ≤ length xs → transport_start xs ≡ t →
+    datagram_end xs ≡ t + n →
     transport_sum xs ≡ ones_complement (plain_sum xs t n)
 unfolding transport_sum pseudo_header segment
 transport_sum-weighted xs t n long start end =
@@ -73,7 +74,8 @@ running_sum a p n s =
     ∙ ones_complement-add (a + p + n) s
 
 -- The sum of the pseudo header, and from there that of the segment.
-pub transport_sum-running : (xs : List ℕ) (t n : ℕ) → 34 ≤ length xs → transport_start xs ≡ t → datagram_end xs ≡ t + n →
+pub transport_sum-running : (xs : List ℕ) (t n : ℕ) → 34 ≤ length xs → transport_start xs ≡ t →
+    datagram_end xs ≡ t + n →
     ones_complement (ones_complement (ones_complement (ones_complement (0 + sum (words (part 26 8 xs))) + get_or xs 23 0) + n)
     + sum (words (part t n xs))) ≡ transport_sum xs
 transport_sum-running xs t n long start end =

@@ -18,13 +18,15 @@ unfoldable pub rewritten : List ℕ → ℕ → ℕ → ℕ → ℕ → ℕ → 
 rewritten bs i n₁ n₂ c t j n₃ k w =
     with_word (with_word (with_word (with_word (with_word bs (14 + i) n₁) (14 + (i + 2)) n₂) (14 + 10) c) (t + j) n₃) (t + k) w
 
-pub length-rewritten : (bs : List ℕ) (i n₁ n₂ c t j n₃ k w : ℕ) → length (rewritten bs i n₁ n₂ c t j n₃ k w) ≡ length bs
+pub length-rewritten : (bs : List ℕ) (i n₁ n₂ c t j n₃ k w : ℕ) →
+    length (rewritten bs i n₁ n₂ c t j n₃ k w) ≡ length bs
 unfolding rewritten
 length-rewritten bs i n₁ n₂ c t j n₃ k w = simp length-with_word
 
 -- A byte that none of the words holds.
 pub get-rewritten_apart : (bs : List ℕ) (i n₁ n₂ c t j n₃ k w e : ℕ) →
-    (e < 14 + i) ⊎ (14 + i + 4 ≤ e) → (e < 24) ⊎ (26 ≤ e) → (e < t + j) ⊎ (t + j + 2 ≤ e) → (e < t + k) ⊎ (t + k + 2 ≤ e) →
+    (e < 14 + i) ⊎ (14 + i + 4 ≤ e) → (e < 24) ⊎ (26 ≤ e) → (e < t + j) ⊎ (t + j + 2 ≤ e) →
+    (e < t + k) ⊎ (t + k + 2 ≤ e) →
     get_or (rewritten bs i n₁ n₂ c t j n₃ k w) e 0 ≡ get_or bs e 0
 unfolding rewritten
 get-rewritten_apart bs i n₁ n₂ c t j n₃ k w e address header port checksum =

@@ -54,7 +54,8 @@ transport_update bs end n₁ n₂ n₃ =
     (word_at bs (transport_start bs + port_place end)) n₃
 
 -- The update of the IPv4 header, which has n bytes.
-header_updates : (bs : List ℕ) (end : End) (n₁ n₂ n : ℕ) → AreWords bs end → 20 ≤ n → 14 + n ≤ length bs → 0 < get_or bs 14 0 →
+header_updates : (bs : List ℕ) (end : End) (n₁ n₂ n : ℕ) → AreWords bs end → 20 ≤ n → 14 + n ≤ length bs →
+    0 < get_or bs 14 0 →
     ones_complement (weighted 0 (part 14 n bs)) ≡ 65535 →
     ones_complement (weighted 0 (with_word (with_word (with_word (part 14 n bs) (header_place end) n₁) (header_place end + 2) n₂) 10 (header_update bs end n₁ n₂))) ≡ 65535
 header_updates bs end n₁ n₂ n fit hn hl above right =
@@ -94,7 +95,8 @@ segment_updates bs end p n₁ n₂ n₃ n fit flow above hk hl right =
 
 -- A checksum of 0 may be 65535 instead.
 either_zero : (xs : List ℕ) (q k w x : ℕ) → k % 2 ≡ 0 → k + 1 < length xs → (w ≡ x) ⊎ ((x ≡ 0) × (w ≡ 65535)) →
-    ones_complement (q + weighted 0 (with_word xs k x)) ≡ 65535 → ones_complement (q + weighted 0 (with_word xs k w)) ≡ 65535
+    ones_complement (q + weighted 0 (with_word xs k x)) ≡ 65535 →
+    ones_complement (q + weighted 0 (with_word xs k w)) ≡ 65535
 either_zero xs q k w x ek hk (inl same) right = rw same right
 either_zero xs q k w x ek hk (inr zeros) right =
     let none = with_word-sum xs k 0 ek hk in
@@ -110,7 +112,8 @@ written_cases : (protocol before after : ℕ) →
 written_cases protocol before after = grind (arith, nat_tests)
 
 -- The IPv4 checksum stays right.
-header_stays_right : (bs : List ℕ) (end : End) (n₁ n₂ c n₃ w : ℕ) → AreWords bs end → IsFlow bs → c ≡ header_update bs end n₁ n₂ →
+header_stays_right : (bs : List ℕ) (end : End) (n₁ n₂ c n₃ w : ℕ) → AreWords bs end → IsFlow bs →
+    c ≡ header_update bs end n₁ n₂ →
     header_sum bs ≡ 65535 → header_sum (packet bs end n₁ n₂ c n₃ w) ≡ 65535
 unfolding packet
 header_stays_right bs end n₁ n₂ c n₃ w fit flow is right =
@@ -210,7 +213,8 @@ HasNoChecksum-packet bs end n₁ n₂ c n₃ w flow udp none =
 
 -- A packet that has a transport checksum has a right one.
 has_checksum : (bs : List ℕ) → (transport_sum bs ≡ 65535) ⊎ HasNoChecksum bs →
-    (protocol_of bs ≡ 17 → word_at bs (transport_start bs + checksum_place (protocol_of bs)) ≡ 0 → ⊥) → transport_sum bs ≡ 65535
+    (protocol_of bs ≡ 17 → word_at bs (transport_start bs + checksum_place (protocol_of bs)) ≡ 0 → ⊥) →
+    transport_sum bs ≡ 65535
 has_checksum bs (inl right) has = right
 has_checksum bs (inr none) has =
     absurd (has none.udp (ap (λ (p : ℕ). word_at bs (transport_start bs + checksum_place p)) none.udp ∙ none.zero))
@@ -237,7 +241,8 @@ packet_stays_right bs end n₁ n₂ c n₃ w fit header transport right =
     }
 
 -- THE LAW of a rewrite: a right packet stays right.
-pub with_end_stays_right : (bs : List ℕ) (end : End) (address port : ℕ) → AreBytes bs → IsRight bs → IsRight (with_end bs end address port)
+pub with_end_stays_right : (bs : List ℕ) (end : End) (address port : ℕ) → AreBytes bs → IsRight bs →
+    IsRight (with_end bs end address port)
 unfolding new_header_checksum new_transport_checksum
 with_end_stays_right bs Source address port bytes right =
     rw (with_end-packet bs Source address port) (packet_stays_right bs Source (address / 65536) (address % 65536)

@@ -33,7 +33,8 @@ sum_last before word (a ∷ []) h e = ap (λ (n : ℕ). ones_complement (before 
 sum_last before word (a ∷ b ∷ rest) h e = absurd (omega arith)
 
 -- No byte is left.
-pub sum_done : (before : ℕ) (xs : List ℕ) → length xs ≡ 0 → before ≤ 65535 → before ≡ ones_complement (before + sum (words xs))
+pub sum_done : (before : ℕ) (xs : List ℕ) → length xs ≡ 0 → before ≤ 65535 →
+    before ≡ ones_complement (before + sum (words xs))
 unfolding words
 sum_done before [] h most =
     let none : before + 0 ≡ before = omega arith in

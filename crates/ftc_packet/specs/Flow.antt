@@ -1,7 +1,7 @@
 -- Flow packets, and the flow that each names.
 use Rattle.std.specs.Prelude.{◌≡◌, ℕ, ◌+◌, ◌/◌, ◌%◌, ◌≤◌, ◌⊎◌, ◌&&◌, ◌||◌, ◌==◌, nat_le, Bool, Option, Some, None, if◌then◌else◌, List, length}
 use Rattle.ftc_packet.specs.declared.flow.Flow.{Flow}
-use Rattle.ftc_packet.specs.declared.layout.TheConstants.{ETHERTYPE, ETHERTYPE_IPV4, IPV4_FRAGMENT, IPV4_OPTIONS, IPV4_SOURCE, IPV4_DESTINATION, TCP, UDP, SOURCE_PORT, DESTINATION_PORT}
+use Rattle.ftc_packet.specs.declared.layout.TheConstants.{ETHERTYPE, ETHERTYPE_IPV4, IPV4, IPV4_FRAGMENT, IPV4_HEADER_WORDS, IPV4_OPTIONS, IPV4_SOURCE, IPV4_DESTINATION, TCP, UDP, SOURCE_PORT, DESTINATION_PORT}
 use Rattle.ftc_packet.specs.Layout.{word_at, address_at, version_of, header_words, protocol_of, transport_start, fixed_header}
 
 -- The flag that more fragments follow: of the 16 bits that hold it, bit 13.
@@ -16,8 +16,8 @@ fragment_offset bytes = word_at bytes IPV4_FRAGMENT % 0x2000
 pub record IsFlow (bytes : List ℕ) : Type 0 where
   pub captured : IPV4_OPTIONS ≤ length bytes
   pub ethertype : word_at bytes ETHERTYPE ≡ ETHERTYPE_IPV4
-  pub version : version_of bytes ≡ 4
-  pub header_length : 5 ≤ header_words bytes
+  pub version : version_of bytes ≡ IPV4
+  pub header_length : IPV4_HEADER_WORDS ≤ header_words bytes
   pub header_captured : transport_start bytes ≤ length bytes
   pub last_fragment : more_fragments bytes ≡ 0
   pub first_fragment : fragment_offset bytes ≡ 0
@@ -29,8 +29,8 @@ unfoldable pub is_flow : List ℕ → Bool
 is_flow bytes =
     nat_le IPV4_OPTIONS (length bytes)
     && word_at bytes ETHERTYPE == ETHERTYPE_IPV4
-    && version_of bytes == 4
-    && nat_le 5 (header_words bytes)
+    && version_of bytes == IPV4
+    && nat_le IPV4_HEADER_WORDS (header_words bytes)
     && more_fragments bytes == 0
     && fragment_offset bytes == 0
     && (protocol_of bytes == TCP || protocol_of bytes == UDP)

@@ -5,7 +5,8 @@ use Rattle.ftc_packet.specs.Sum.{ones_complement, updated_checksum, checksum_of}
 
 -- A flow is found exactly in a flow packet, and it is the one that its fields name.
 abbrev pub FlowsAreFound : Type 0
-FlowsAreFound = (bytes : List ℕ) → MatchOption (flow_found bytes) (¬ IsFlow bytes) (λ flow. IsFlow bytes × (flow ≡ flow_in bytes))
+FlowsAreFound = (bytes : List ℕ) →
+    MatchOption (flow_found bytes) (¬ IsFlow bytes) (λ flow. IsFlow bytes × (flow ≡ flow_in bytes))
 
 -- Words of which one changes have a right checksum: `rest` is the plain sum of those that stay, of which one isn't 0.
 pub record IsUpdate (rest checksum before : ℕ) : Type 0 where

@@ -1,5 +1,5 @@
 -- What a flow packet becomes once one end of its flow has another address and port.
-use Rattle.std.specs.Prelude.{ℕ, ◌+◌, ◌/◌, ◌%◌, ◌<◌, ◌≤◌, ◌⊎◌, ◌&&◌, ◌==◌, List, if◌then◌else◌}
+use Rattle.std.specs.Prelude.{◌≡◌, ℕ, ◌+◌, ◌/◌, ◌%◌, ◌<◌, ◌≤◌, ◌⊎◌, ◌&&◌, ◌==◌, List, if◌then◌else◌, slice_index}
 use Rattle.ftc_packet.specs.declared.layout.TheConstants.{IPV4_CHECKSUM, IPV4_SOURCE, IPV4_DESTINATION, SOURCE_PORT, DESTINATION_PORT, UDP}
 use Rattle.ftc_packet.specs.declared.rewrite.End.{End}
 use Rattle.ftc_packet.specs.declared.rewrite.End.TheVariants.{Source, Destination}
@@ -74,10 +74,14 @@ pub record IsBeyondEnd (bytes : List ℕ) (end : End) (k : ℕ) : Type 0 where
   pub port : IsOutside (transport_start bytes + port_place end) 2 k
   pub transport_checksum : IsOutside (transport_start bytes + checksum_place (protocol_of bytes)) 2 k
 
--- The place k holds nothing that a rewrite of the source changes.
-abbrev pub IsBeyondSource : List ℕ → ℕ → Type 0
-IsBeyondSource bytes k = IsBeyondEnd bytes Source k
+-- Every byte beyond the end and the checksums is as it was.
+abbrev pub ChangesOnlyEnd : End → List ℕ → List ℕ → Type 0
+ChangesOnlyEnd end old new = (k : ℕ) → IsBeyondEnd old end k → slice_index new k ≡ slice_index old k
 
--- The place k holds nothing that a rewrite of the destination changes.
-abbrev pub IsBeyondDestination : List ℕ → ℕ → Type 0
-IsBeyondDestination bytes k = IsBeyondEnd bytes Destination k
+-- Every byte is as it was but those of the source's address and port and of the checksums.
+abbrev pub ChangesOnlySource : List ℕ → List ℕ → Type 0
+ChangesOnlySource old new = ChangesOnlyEnd Source old new
+
+-- Every byte is as it was but those of the destination's address and port and of the checksums.
+abbrev pub ChangesOnlyDestination : List ℕ → List ℕ → Type 0
+ChangesOnlyDestination old new = ChangesOnlyEnd Destination old new

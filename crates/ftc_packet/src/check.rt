@@ -11,16 +11,17 @@ use crate::layout::{
 };
 use crate::sum::{RIGHT, add, add_words};
 
-/// Whether both checksums of a flow packet are right, or None where it is no flow packet or the capture doesn't hold the
-/// whole datagram.
+/// Whether both checksums of a flow packet are right, or None where it is no flow packet or the
+/// capture doesn't hold the whole datagram.
 ///
-/// The datagram's length is the IPv4 total length, also in the pseudo header of UDP, whose own length field isn't
-/// examined. UDP with the checksum 0 has none (RFC 768), which counts as right.
+/// The datagram's length is the IPv4 total length, also in the pseudo header of UDP, whose own
+/// length field isn't examined. UDP with the checksum 0 has none (RFC 768), which counts as right.
 pub fn sums_right(bytes: &[u8]) -> Option<bool>
     ensures right { (result ≡ Some true) ↔ IsRight bytes.now }
     ensures exact { MatchOption result
         (¬ (IsFlow bytes.now × IsWhole bytes.now))
-        (λ right. IsFlow bytes.now × IsWhole bytes.now × (IsTrue right ↔ AreSumsRight bytes.now)) }
+        (λ right. IsFlow bytes.now × IsWhole bytes.now
+        × (IsTrue right ↔ AreSumsRight bytes.now)) }
 {
     if !is_flow(bytes) || !is_whole(bytes) {
         return None;
@@ -50,7 +51,8 @@ fn header_right(bytes: &[u8]) -> bool
 fn transport_right(bytes: &[u8]) -> bool
     requires flow { IsFlow bytes.now }
     requires whole { IsWhole bytes.now }
-    ensures { IsTrue result ↔ ((sum_of_transport bytes.now ≡ RIGHT) ⊎ HasNoChecksum bytes.now) }
+    ensures { IsTrue result ↔
+        ((sum_of_transport bytes.now ≡ RIGHT) ⊎ HasNoChecksum bytes.now) }
 {
     transport_sum(bytes) == RIGHT
         || (bytes[IPV4_PROTOCOL] == UDP

@@ -4,9 +4,9 @@ ghost use Rattle.std.specs.Prelude.{◌≡◌, ◌≤◌, ◌↔◌, length, Mat
 ghost use Rattle.ftc_packet.specs.Flow.{IsFlow, flow_found, flow_in};
 
 use crate::layout::{
-    DESTINATION_PORT, ETHERTYPE, ETHERTYPE_IPV4, IPV4_DESTINATION, IPV4_FRAGMENT, IPV4_OPTIONS,
-    IPV4_PROTOCOL, IPV4_SOURCE, IPV4_VERSION, SOURCE_PORT, TCP, UDP, address_at, fixed_header,
-    transport_start, word_at,
+    DESTINATION_PORT, ETHERTYPE, ETHERTYPE_IPV4, IPV4, IPV4_DESTINATION, IPV4_FRAGMENT,
+    IPV4_HEADER_WORDS, IPV4_OPTIONS, IPV4_PROTOCOL, IPV4_SOURCE, IPV4_VERSION, SOURCE_PORT, TCP,
+    UDP, address_at, fixed_header, transport_start, word_at,
 };
 
 /// The two ends of a packet's flow, and its protocol.
@@ -34,8 +34,8 @@ pub(crate) fn is_flow(bytes: &[u8]) -> bool
     }
     let protocol = bytes[IPV4_PROTOCOL];
     word_at(bytes, ETHERTYPE) == ETHERTYPE_IPV4
-        && bytes[IPV4_VERSION] >> 4 == 4
-        && bytes[IPV4_VERSION] & 0x0f >= 5
+        && bytes[IPV4_VERSION] >> 4 == IPV4
+        && bytes[IPV4_VERSION] & 0x0f >= IPV4_HEADER_WORDS
         && word_at(bytes, IPV4_FRAGMENT) & FRAGMENT_BITS == 0
         && (protocol == TCP || protocol == UDP)
         && transport_start(bytes) + fixed_header(protocol) <= bytes.len()
@@ -43,12 +43,15 @@ pub(crate) fn is_flow(bytes: &[u8]) -> bool
 
 /// The flow of a flow packet, and None for every other packet.
 ///
-/// A flow packet is an IPv4 datagram on Ethernet that is no fragment and carries TCP or UDP, captured at least up to the
-/// end of the transport header's fixed part. The IPv4 total length isn't examined.
+/// A flow packet is an IPv4 datagram on Ethernet that is no fragment and carries TCP or UDP,
+/// captured at least up to the end of the transport header's fixed part. The IPv4 total length
+/// isn't examined.
 #[tactic(auto, unfolding(crate::specs::Flow::flow_in))]
 pub fn flow_of(bytes: &[u8]) -> Option<Flow>
     ensures computed { result ≡ flow_found bytes.now }
-    ensures exact { MatchOption result (¬ IsFlow bytes.now) (λ flow. IsFlow bytes.now × (flow ≡ flow_in bytes.now)) }
+    ensures exact { MatchOption result
+        (¬ IsFlow bytes.now)
+        (λ flow. IsFlow bytes.now × (flow ≡ flow_in bytes.now)) }
 {
     if !is_flow(bytes) {
         return None;

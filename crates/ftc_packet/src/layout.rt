@@ -1,6 +1,6 @@
 // Where the fields of a packet stand, and its words of 16 bits.
 
-ghost use Rattle.std.specs.Prelude.{◌≡◌, ◌+◌, ◌<◌, ◌≤◌, length};
+ghost use Rattle.std.specs.Prelude.{◌≡◌, ◌+◌, ◌*◌, ◌<◌, ◌≤◌, length};
 ghost use Rattle.ftc_packet.specs.Layout.{address_at as address_of, checksum_place as place_of_checksum, datagram_end as end_of_datagram, fixed_header as length_of_fixed_header, transport_start as start_of_transport, with_word, word_at as word_of};
 
 use byteorder::{BigEndian, ByteOrder};
@@ -12,7 +12,8 @@ pub(crate) const ETHERTYPE_IPV4: u16 = 0x0800;
 /// The length of an Ethernet header, behind which the IPv4 header begins.
 pub(crate) const ETHERNET_HEADER: usize = 14;
 
-/// The version in the high 4 bits, and the header's length in words of 32 bits in the low 4 (RFC 791).
+/// The version in the high 4 bits, and in the low 4 how many words of 32 bits the header has
+/// (RFC 791).
 pub(crate) const IPV4_VERSION: usize = ETHERNET_HEADER;
 /// The length of the datagram with its IPv4 header, in 16 bits.
 pub(crate) const IPV4_TOTAL_LENGTH: usize = ETHERNET_HEADER + 2;
@@ -28,6 +29,11 @@ pub(crate) const IPV4_SOURCE: usize = ETHERNET_HEADER + 12;
 pub(crate) const IPV4_DESTINATION: usize = ETHERNET_HEADER + 16;
 /// The options, behind the fixed part of the IPv4 header.
 pub(crate) const IPV4_OPTIONS: usize = ETHERNET_HEADER + 20;
+
+/// The version of IPv4.
+pub(crate) const IPV4: u8 = 4;
+/// How many words of 32 bits an IPv4 header has without options.
+pub(crate) const IPV4_HEADER_WORDS: u8 = 5;
 
 /// The protocol number of TCP.
 pub(crate) const TCP: u8 = 6;
@@ -77,7 +83,7 @@ pub(crate) fn transport_start(bytes: &[u8]) -> usize
     requires { IPV4_OPTIONS ≤ length bytes.now }
     ensures start { result ≡ start_of_transport bytes.now }
     ensures least { ETHERNET_HEADER ≤ result }
-    ensures most { result ≤ 74 }
+    ensures most { result ≤ ETHERNET_HEADER + 4 * 15 }
 {
     ETHERNET_HEADER + 4 * usize::from(bytes[IPV4_VERSION] & 0x0f)
 }

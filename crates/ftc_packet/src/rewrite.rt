@@ -1,10 +1,10 @@
 // Another address and port for one end of a packet's flow.
 
-ghost use Rattle.std.specs.Prelude.{◌≡◌, ◌+◌, ◌/◌, ◌%◌, ◌<◌, ℕ, length, slice_index};
+ghost use Rattle.std.specs.Prelude.{◌≡◌, ◌+◌, ◌/◌, ◌%◌, ◌<◌, length};
 ghost use Rattle.ftc_packet.specs.Check.{IsRight};
 ghost use Rattle.ftc_packet.specs.Flow.{IsFlow, flow_in};
 ghost use Rattle.ftc_packet.specs.Layout.{AreBytes};
-ghost use Rattle.ftc_packet.specs.Rewrite.{IsBeyondDestination, IsBeyondSource, address_place as place_of_address, new_header_checksum as header_checksum_of, new_transport_checksum as transport_checksum_of, port_place as place_of_port, updated_for_address as checksum_for_address, with_address, with_destination, with_end, with_source, written_checksum as checksum_written};
+ghost use Rattle.ftc_packet.specs.Rewrite.{ChangesOnlyDestination, ChangesOnlySource, address_place as place_of_address, new_header_checksum as header_checksum_of, new_transport_checksum as transport_checksum_of, port_place as place_of_port, updated_for_address as checksum_for_address, with_address, with_destination, with_end, with_source, written_checksum as checksum_written};
 
 use crate::layout::{
     DESTINATION_PORT, IPV4_CHECKSUM, IPV4_DESTINATION, IPV4_PROTOCOL, IPV4_SOURCE, SOURCE_PORT,
@@ -21,14 +21,15 @@ enum End {
 
 /// Gives a flow packet another source address and port, and updates both checksums for them.
 ///
-/// A UDP checksum of 0, which says that there is none, stays 0, and one that would become 0 is written as `0xffff`
-/// (RFC 768).
+/// A UDP checksum of 0, which says that there is none, stays 0, and one that would become 0 is
+/// written as `0xffff` (RFC 768).
 pub fn set_source(bytes: &mut [u8], address: u32, port: u16)
     requires { IsFlow bytes.old }
     ensures same { bytes.new ≡ with_source bytes.old address port }
     ensures flow { IsFlow bytes.new }
-    ensures named { flow_in bytes.new ≡ record (flow_in bytes.old) { source = address; source_port = port } }
-    ensures others { (k : ℕ) → IsBeyondSource bytes.old k → slice_index bytes.new k ≡ slice_index bytes.old k }
+    ensures named { flow_in bytes.new ≡
+        record (flow_in bytes.old) { source = address; source_port = port } }
+    ensures others { ChangesOnlySource bytes.old bytes.new }
     ensures right { IsRight bytes.old → IsRight bytes.new }
 {
     set_end(bytes, End::Source, address, port);
@@ -36,19 +37,21 @@ pub fn set_source(bytes: &mut [u8], address: u32, port: u16)
 
 /// Gives a flow packet another destination address and port, and updates both checksums for them.
 ///
-/// A UDP checksum of 0, which says that there is none, stays 0, and one that would become 0 is written as `0xffff`
-/// (RFC 768).
+/// A UDP checksum of 0, which says that there is none, stays 0, and one that would become 0 is
+/// written as `0xffff` (RFC 768).
 pub fn set_destination(bytes: &mut [u8], address: u32, port: u16)
     requires { IsFlow bytes.old }
     ensures same { bytes.new ≡ with_destination bytes.old address port }
     ensures flow { IsFlow bytes.new }
-    ensures named { flow_in bytes.new ≡ record (flow_in bytes.old) { destination = address; destination_port = port } }
-    ensures others { (k : ℕ) → IsBeyondDestination bytes.old k → slice_index bytes.new k ≡ slice_index bytes.old k }
+    ensures named { flow_in bytes.new ≡
+        record (flow_in bytes.old) { destination = address; destination_port = port } }
+    ensures others { ChangesOnlyDestination bytes.old bytes.new }
     ensures right { IsRight bytes.old → IsRight bytes.new }
 {
     set_end(bytes, End::Destination, address, port);
 }
 
+/// Gives an end of a flow packet another address and port, and updates both checksums for them.
 #[tactic(auto, unfolding(crate::specs::Rewrite::with_end))]
 fn set_end(bytes: &mut [u8], end: End, address: u32, port: u16)
     requires { IsFlow bytes.old }

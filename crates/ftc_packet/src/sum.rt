@@ -15,7 +15,7 @@ pub(crate) fn add(left: u16, right: u16) -> u16
     sum + u16::from(carry)
 }
 
-/// The sum of `start` and the big-endian words of `bytes`, of which a zero byte pads an odd last one.
+/// The sum of `start` and the big-endian words of `bytes`. A zero byte pads an odd last byte.
 pub(crate) fn add_words(start: u16, bytes: &[u8]) -> u16
     ensures { result ≡ ones_complement (start + sum (words bytes.now)) }
 {
@@ -31,8 +31,8 @@ pub(crate) fn add_words(start: u16, bytes: &[u8]) -> u16
     }
 }
 
-/// The checksum once a word under it has changed, by equation 3 of RFC 1624. A word that stays leaves the checksum as it
-/// was.
+/// The checksum once a word under it has changed, by equation 3 of RFC 1624. A word that stays
+/// leaves the checksum as it was.
 #[tactic(auto, unfolding(crate::specs::Sum::updated_checksum))]
 pub(crate) fn updated(checksum: u16, before: u16, after: u16) -> u16
     ensures { result ≡ updated_checksum checksum before after }
