@@ -15,9 +15,10 @@ const MICROSECONDS: u32 = 0xa1b2_c3d4;
 /// The magic number of a capture whose stamps are in nanoseconds.
 const NANOSECONDS: u32 = 0xa1b2_3c4d;
 
-/// The version that is read, 2.4.
+/// The major version that is read.
 const MAJOR: u16 = 2;
 
+/// The minor version that is read.
 const MINOR: u16 = 4;
 
 /// The link type of Ethernet frames.

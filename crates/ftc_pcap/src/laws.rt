@@ -1,10 +1,15 @@
 //! What holds of captures and their texts.
 
-ghost use Rattle.std.specs.Prelude.{List, ℕ, ◌≡◌, ◌≤◌, length};
-ghost use Rattle.ftc_pcap.specs.Grammar.{IsCapture, capture_bytes, Spells, IsFault};
+ghost use Rattle.std.specs.Prelude.{Bool, List, ℕ, ◌≡◌, ◌≤◌, ◌<◌, ◌^◌, ◌++◌, length};
+ghost use Rattle.ftc_pcap.specs.Grammar.{number_bytes, number_of, IsCapture, capture_bytes, Spells, IsFault};
 
 use crate::capture::{Capture, CaptureFault};
 use ftc_base::limits::MOST_CAPTURE_BYTES;
+
+/// The four bytes of a number are that number, whatever follows them.
+pub fn one_number()
+    ensures { (big : Bool) (number : ℕ) (rest : List ℕ) → number < 2 ^ 32 → number_of big (number_bytes big number ++ rest) ≡ number }
+{}
 
 /// A text is at most one capture.
 pub fn one_reading()

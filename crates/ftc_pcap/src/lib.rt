@@ -12,7 +12,7 @@ mod reading;
 mod writing;
 
 pub use capture::{Capture, CaptureCause, CaptureFault};
-pub use laws::{one_fault, one_reading, round_trip};
+pub use laws::{one_fault, one_number, one_reading, round_trip};
 pub use packets::{Packet, Packets};
 pub use reading::read_capture;
 pub use writing::{write_header, write_packet};
