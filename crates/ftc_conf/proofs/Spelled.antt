@@ -27,7 +27,7 @@ own = numerals_by_fold _ (search rules) decimal_from (search rules)
 pub digits : (n : ℕ) → n ≤ 4294967295 → AllByRecursion IsDigit (decimal n)
 digits n small = digits_decimal own n (omega arith)
 
-some_digit : (n : ℕ) → n ≤ 4294967295 → 1 ≤ length (decimal n)
+pub some_digit : (n : ℕ) → n ≤ 4294967295 → 1 ≤ length (decimal n)
 some_digit n small = let some = decimal_nonempty n (omega arith) in omega arith
 
 leading_zero : (n : ℕ) → n ≤ 4294967295 → get_or (decimal n) 0 0 ≡ 48 → length (decimal n) ≡ 1
@@ -72,7 +72,7 @@ IsAddressByte b = ((b == 47) ≡ false) × (46 ≤ b) × (b ≤ 57)
 digit-address : (b : ℕ) → IsDigit b → IsAddressByte b
 digit-address b digit = (grind (arith, nat_tests), omega arith, omega arith)
 
-all-join : (P : ℕ → Type 0) (separator : ℕ) (parts : List (List ℕ)) → P separator → AllByRecursion (AllByRecursion P) parts → AllByRecursion P (join_with_byte separator parts)
+pub all-join : (P : ℕ → Type 0) (separator : ℕ) (parts : List (List ℕ)) → P separator → AllByRecursion (AllByRecursion P) parts → AllByRecursion P (join_with_byte separator parts)
 all-join P separator [] sep all = tt
 all-join P separator (part ∷ []) sep all = all.0
 all-join P separator (part ∷ next ∷ parts) sep all =
@@ -92,7 +92,7 @@ address_bytes address small =
     all-join IsAddressByte 46 (octets address) (refl, omega arith, omega arith)
         (all-weaker (AllByRecursion IsDigit) (AllByRecursion IsAddressByte) (octets address) (λ part. all-weaker IsDigit IsAddressByte part digit-address) (digits_of_octets address small))
 
-longer : (part rest : List ℕ) → 1 ≤ length part → 1 ≤ length (part ++ rest)
+pub longer : (part rest : List ℕ) → 1 ≤ length part → 1 ≤ length (part ++ rest)
 longer part rest some = omega (arith, length-append part rest)
 
 pub some_address : (address : ℕ) → address ≤ 4294967295 → 1 ≤ length (address_text address)
