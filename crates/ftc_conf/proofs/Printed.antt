@@ -1,21 +1,20 @@
 -- Printed lines read as what they print, each by its form.
-use Rattle.std.proofs.Common.{◌≡◌, ◌≤◌, ◌<◌, ℕ, ◌+◌, ◌-◌, Bool, true, false, List, [], ◌∷◌, ◌++◌, length, refl, ap, ◌∙◌, sym, arith, rules, cond, Ok, Err, Result, length-append, inl, inr}
-use Rattle.std.specs.Prelude.{◌==◌, ◌&&◌, not, nat_le, nat_lt, codes, decimal, map, Option, Some, None, ◌⊎◌}
+use Rattle.std.proofs.Common.{◌≡◌, ◌≤◌, ◌<◌, ℕ, ◌+◌, Bool, true, false, List, [], ◌∷◌, ◌++◌, length, refl, ap, ◌∙◌, arith, Ok, length-append, inl, inr}
+use Rattle.std.specs.Prelude.{◌==◌, ◌&&◌, nat_le, nat_lt, codes, decimal, map, Option, Some, None, ◌⊎◌}
 use Rattle.std.specs.List.{AllByRecursion, list_all, join_with_byte}
 use Rattle.std.proofs.lemmas.List.{append_assoc, append-nil}
 use Rattle.std.proofs.lemmas.Bool.Decides.{nat_tests}
-use Rattle.ftc_base.specs.declared.limits.TheConstants.{MOST_PARTITIONS, MOST_MONITOR_GROUPS, MOST_BACKENDS}
+use Rattle.ftc_base.specs.declared.limits.TheConstants.{MOST_BACKENDS}
 use Rattle.ftc_base.specs.declared.network.Net.{Net}
-use Rattle.ftc_base.specs.Endpoint.{parts_of, contains, IsNet}
+use Rattle.ftc_base.specs.Endpoint.{IsNet}
 use Rattle.ftc_nat.specs.declared.rule.NatRule.{NatRule}
 use Rattle.ftc_nat.specs.Bounds.{IsNatRule}
 use Rattle.ftc_firewall.specs.declared.rule.FireLine.{FireLine}
 use Rattle.ftc_firewall.specs.Bounds.{IsFireLine}
 use Rattle.ftc_balance.specs.declared.rule.BalanceRule.{BalanceRule}
 use Rattle.ftc_balance.specs.Bounds.{IsBalanceRule}
-use Rattle.ftc_conf.specs.declared.limits.TheConstants.{MOST_WRITTEN_FAILURES, MOST_PORT}
-use Rattle.ftc_conf.specs.Words.{part_before, part_behind}
-use Rattle.ftc_conf.specs.Forms.{failures_of, partitions_of, monitor_of, nat_of, protocol_of, fire_line_of, with_backend, with_backends, backends_of, balance_of}
+use Rattle.ftc_conf.specs.declared.limits.TheConstants.{MOST_PORT}
+use Rattle.ftc_conf.specs.Forms.{nat_of, protocol_of, fire_line_of, with_backend, with_backends, backends_of, balance_of}
 use Rattle.ftc_conf.specs.Plain.{address_text, net_text, ports_text, protocol_text, decision_text, nat_words, fire_line_words, balance_words}
 use Rattle.ftc_conf.proofs.Letters.{IsLetter, IsPlainWord, all-append, all-weaker, Without, parts_of-join, part_before-part, part_behind-part}
 use Rattle.ftc_conf.proofs.Spelled.{IsDigit, digits, some_digit, longer, IsAddressByte, all-join, address_bytes, some_address, net_bytes, ports_bytes, number_from_to-decimal, address_word-text, net_word-text, dashed_ports-text, ports_word-text}
@@ -61,9 +60,22 @@ plain_ports first last small low = record {
 
 -- `nat`
 pub plain_nat : (rule : NatRule) → IsNatRule rule → AllByRecursion IsPlainWord (nat_words rule)
-plain_nat rule bounds =
-    (plain (codes "nat") refl, (plain (codes "inside") refl, (plain_net rule.inside bounds.inside, (plain (codes "outside") refl, (plain_address rule.outside bounds.outside,
-    (plain (codes "ports") refl, (plain_ports rule.first rule.last (let low = bounds.ordered in let high = bounds.last in omega arith) bounds.last, tt)))))))
+plain_nat rule bounds = (
+  plain (codes "nat") refl,
+  (
+    plain (codes "inside") refl,
+    (
+      plain_net rule.inside bounds.inside,
+      (
+        plain (codes "outside") refl,
+        (
+          plain_address rule.outside bounds.outside,
+          (plain (codes "ports") refl, (plain_ports rule.first rule.last (let low = bounds.ordered in let high = bounds.last in omega arith) bounds.last, tt)),
+        ),
+      ),
+    ),
+  ),
+)
 
 pub nat_of-words : (rule : NatRule) → IsNatRule rule → nat_of (codes "inside" ∷ net_text rule.inside ∷ codes "outside" ∷ address_text rule.outside ∷ codes "ports" ∷ ports_text rule.first rule.last ∷ []) ≡ Ok rule
 nat_of-words rule bounds =
@@ -85,9 +97,19 @@ plain_decision true = plain (codes "allow") refl
 plain_decision false = plain (codes "deny") refl
 
 pub plain_fire_line : (line : FireLine) → IsFireLine line → AllByRecursion IsPlainWord (fire_line_words line)
-plain_fire_line line bounds =
-    (plain_decision line.allow, (plain_protocol line.protocol bounds.protocol, (plain_net line.source bounds.source, (plain_net line.destination bounds.destination,
-    (plain_ports line.low line.high (let low = bounds.ordered in let high = bounds.high in omega arith) bounds.high, tt)))))
+plain_fire_line line bounds = (
+  plain_decision line.allow,
+  (
+    plain_protocol line.protocol bounds.protocol,
+    (
+      plain_net line.source bounds.source,
+      (
+        plain_net line.destination bounds.destination,
+        (plain_ports line.low line.high (let low = bounds.ordered in let high = bounds.high in omega arith) bounds.high, tt),
+      ),
+    ),
+  ),
+)
 
 pub fire_line_of-words : (line : FireLine) → IsFireLine line → fire_line_of line.allow (protocol_text line.protocol ∷ net_text line.source ∷ net_text line.destination ∷ ports_text line.low line.high ∷ []) ≡ Ok line
 fire_line_of-words line bounds =

@@ -1,14 +1,14 @@
 -- The plain text of a chain reads as that chain.
-use Rattle.std.proofs.Common.{◌≡◌, ◌≤◌, ◌<◌, ℕ, ◌+◌, Bool, true, false, nat_lt, List, [], ◌∷◌, ◌++◌, length, refl, ap, ◌∙◌, sym, arith, rules, Option, Some, None, Ok, Err, Result, length-append, append-nil}
-use Rattle.std.specs.Prelude.{◌==◌, nat_le, codes, decimal, map}
-use Rattle.std.specs.List.{AllByRecursion, list_all, join_with_byte, flat_map}
+use Rattle.std.proofs.Common.{◌≡◌, ◌≤◌, ◌<◌, ℕ, ◌+◌, Bool, true, false, nat_lt, List, [], ◌∷◌, ◌++◌, length, refl, ap, ◌∙◌, sym, arith, rules, Option, Some, None, Ok, Result, length-append, append-nil}
+use Rattle.std.specs.Prelude.{nat_le, codes, decimal, map}
+use Rattle.std.specs.List.{AllByRecursion, join_with_byte, flat_map}
 use Rattle.std.proofs.lemmas.List.{append_assoc}
 use Rattle.std.proofs.lemmas.Bool.Decides.{nat_tests}
-use Rattle.ftc_base.specs.Text.{lines_of, words_of}
+use Rattle.ftc_base.specs.Text.{lines_of}
 use Rattle.ftc_base.specs.declared.limits.TheConstants.{MOST_SERVERS, MOST_PARTITIONS, MOST_MONITOR_GROUPS, MOST_FIREWALL_LINES}
 use Rattle.ftc_firewall.specs.declared.rule.FireLine.{FireLine}
 use Rattle.ftc_firewall.specs.declared.rule.FirewallRule.{FirewallRule}
-use Rattle.ftc_firewall.specs.Bounds.{IsFireLine, IsFirewallRule}
+use Rattle.ftc_firewall.specs.Bounds.{IsFireLine}
 use Rattle.ftc_nat.specs.declared.rule.NatRule.{NatRule}
 use Rattle.ftc_nat.specs.Bounds.{IsNatRule}
 use Rattle.ftc_balance.specs.declared.rule.BalanceRule.{BalanceRule}
@@ -26,10 +26,9 @@ use Rattle.ftc_conf.specs.declared.statement.Statement.{Statement}
 use Rattle.ftc_conf.specs.declared.statement.Statement.TheVariants as said
 use Rattle.ftc_conf.specs.declared.draft.Failures.{Failures}
 use Rattle.ftc_conf.specs.declared.draft.Draft.{Draft}
-use Rattle.ftc_conf.specs.Words.{◌>>=◌, is_text_byte, is_comment}
-use Rattle.ftc_conf.specs.Forms.{failures_of, partitions_of, monitor_of, nat_of, fire_line_of, balance_of}
-use Rattle.ftc_conf.specs.Draft.{no_lines, last_firewall, servers, with_statement}
-use Rattle.ftc_conf.specs.Grammar.{form_of, room_for, middlebox_room, said_in, middlebox_line, words_in, statement_of, line_step, finish, placed, chain_from, chain_of}
+use Rattle.ftc_conf.specs.Words.{◌>>=◌, is_comment}
+use Rattle.ftc_conf.specs.Draft.{no_lines, last_firewall, with_statement}
+use Rattle.ftc_conf.specs.Grammar.{form_of, room_for, middlebox_room, said_in, middlebox_line, words_in, line_step, finish, placed, chain_from, chain_of}
 use Rattle.ftc_conf.specs.Plain.{address_text, net_text, ports_text, decision_text, protocol_text, nat_words, fire_line_words, balance_words, rule_lines, chain_lines, text_of_lines, plain_text}
 use Rattle.ftc_conf.proofs.Letters.{IsPlainWord, all-append, are_text, lines_of-line, words_of-join, line_bytes-join}
 use Rattle.ftc_conf.proofs.Spelled.{number_from_to-decimal}
@@ -118,10 +117,10 @@ fire_line_step : (failures : Failures) (partitions : ℕ) (rules : List Rule) (t
     → line_step (standing failures partitions rules (Some (record { lines = taken }))) place (line_of_words (fire_line_words line)) ≡ Ok (standing failures partitions rules (Some (record { lines = taken ++ line ∷ [] })))
 fire_line_step failures partitions rules taken place line few bounds =
     let said_so : said_in (form.FireLine line.allow) (fire_line_tail line) ≡ Ok (said.FireLine line) =
-        ap (λ (r : Result FireLine ChainCause). r >>= λ found. Ok (said.FireLine found)) (fire_line_of-words line bounds) in
+    ap (λ (r : Result FireLine ChainCause). r >>= λ found. Ok (said.FireLine found)) (fire_line_of-words line bounds) in
     let free : room_for (standing failures partitions rules (Some (record { lines = taken }))) (form.FireLine line.allow) ≡ Ok tt = rw (has_room (length taken) MOST_FIREWALL_LINES few) refl in
     step_of (standing failures partitions rules (Some (record { lines = taken }))) place (decision_text line.allow) (fire_line_tail line) (said.FireLine line) (plain_fire_line line bounds) (no_comment line.allow)
-        (middlebox_said (standing failures partitions rules (Some (record { lines = taken }))) (decision_text line.allow) (fire_line_tail line) (form.FireLine line.allow) (said.FireLine line) (decision_form failures partitions rules (record { lines = taken }) line.allow) free said_so)
+    (middlebox_said (standing failures partitions rules (Some (record { lines = taken }))) (decision_text line.allow) (fire_line_tail line) (form.FireLine line.allow) (said.FireLine line) (decision_form failures partitions rules (record { lines = taken }) line.allow) free said_so)
 
 -- equal drafts at equal places go on alike
 alike : (failures : Failures) (partitions : ℕ) (rules : List Rule) (taken other : List FireLine) (place there : ℕ) (lines : List (List ℕ)) → taken ≡ other → place ≡ there
@@ -158,7 +157,7 @@ one_line : (failures : Failures) (partitions : ℕ) (done rules : List Rule) (fi
     → chain_from (Ok (standing failures partitions done firewall)) place (line ∷ lines) ≡ told failures partitions (all_rules done firewall ++ server ∷ rules)
 one_line failures partitions done rules firewall place server line lines step later =
     let joined : all_rules (all_rules done firewall ++ server ∷ []) None ++ rules ≡ all_rules done firewall ++ server ∷ rules =
-        rw append-nil (append_assoc (all_rules done firewall) (server ∷ []) rules) in
+    rw append-nil (append_assoc (all_rules done firewall) (server ∷ []) rules) in
     step_on (standing failures partitions done firewall) (standing failures partitions (all_rules done firewall ++ server ∷ []) None) place line lines step ∙ later ∙ ap (told failures partitions) joined
 
 one_more : (done : List Rule) (server : Rule) → length (all_rules (done ++ server ∷ []) None) ≡ length done + 1
@@ -172,19 +171,19 @@ rules_again [] failures partitions done firewall place all few enough most =
 rules_again (rule.Pass ∷ rules) failures partitions done firewall place all few enough most =
     let count = one_more (all_rules done firewall) rule.Pass in
     one_line failures partitions done rules firewall place rule.Pass (line_of_words (codes "pass" ∷ [])) (map line_of_words (flat_map rule_lines rules)) (pass_step failures partitions done firewall place (omega arith))
-        (rules_again rules failures partitions (all_rules done firewall ++ rule.Pass ∷ []) None (place + 1) all.1 (omega arith) (omega arith) most)
+    (rules_again rules failures partitions (all_rules done firewall ++ rule.Pass ∷ []) None (place + 1) all.1 (omega arith) (omega arith) most)
 rules_again (rule.Monitor groups ∷ rules) failures partitions done firewall place all few enough most =
     let count = one_more (all_rules done firewall) (rule.Monitor groups) in
     one_line failures partitions done rules firewall place (rule.Monitor groups) (line_of_words (codes "monitor" ∷ decimal groups ∷ [])) (map line_of_words (flat_map rule_lines rules)) (monitor_step failures partitions done firewall place (omega arith) groups all.0.0 all.0.1)
-        (rules_again rules failures partitions (all_rules done firewall ++ rule.Monitor groups ∷ []) None (place + 1) all.1 (omega arith) (omega arith) most)
+    (rules_again rules failures partitions (all_rules done firewall ++ rule.Monitor groups ∷ []) None (place + 1) all.1 (omega arith) (omega arith) most)
 rules_again (rule.Nat nat ∷ rules) failures partitions done firewall place all few enough most =
     let count = one_more (all_rules done firewall) (rule.Nat nat) in
     one_line failures partitions done rules firewall place (rule.Nat nat) (line_of_words (nat_words nat)) (map line_of_words (flat_map rule_lines rules)) (nat_step failures partitions done firewall place (omega arith) nat all.0)
-        (rules_again rules failures partitions (all_rules done firewall ++ rule.Nat nat ∷ []) None (place + 1) all.1 (omega arith) (omega arith) most)
+    (rules_again rules failures partitions (all_rules done firewall ++ rule.Nat nat ∷ []) None (place + 1) all.1 (omega arith) (omega arith) most)
 rules_again (rule.Balance balance ∷ rules) failures partitions done firewall place all few enough most =
     let count = one_more (all_rules done firewall) (rule.Balance balance) in
     one_line failures partitions done rules firewall place (rule.Balance balance) (line_of_words (balance_words balance)) (map line_of_words (flat_map rule_lines rules)) (balance_step failures partitions done firewall place (omega arith) balance all.0)
-        (rules_again rules failures partitions (all_rules done firewall ++ rule.Balance balance ∷ []) None (place + 1) all.1 (omega arith) (omega arith) most)
+    (rules_again rules failures partitions (all_rules done firewall ++ rule.Balance balance ∷ []) None (place + 1) all.1 (omega arith) (omega arith) most)
 rules_again (rule.Firewall firewall' ∷ rules) failures partitions done firewall place all few enough most =
     let count : length (all_rules (all_rules done firewall) (Some firewall')) ≡ length (all_rules done firewall) + 1 = length-append (all_rules done firewall) (rule.Firewall firewall' ∷ []) in
     let tail = flat_map rule_lines rules in
@@ -220,12 +219,12 @@ plain_chain chain bounds =
 failures_step : (failures : ℕ) → failures ≤ MOST_WRITTEN_FAILURES → line_step no_lines 1 (line_of_words (codes "f" ∷ decimal failures ∷ [])) ≡ Ok (with_statement no_lines 1 (said.Failures failures))
 failures_step failures most =
     step_of no_lines 1 (codes "f") (decimal failures ∷ []) (said.Failures failures) (plain (codes "f") refl, (plain_number failures (omega arith), tt)) refl
-        (rw (number_from_to-decimal 0 MOST_WRITTEN_FAILURES failures (omega arith) most (omega arith)) refl)
+    (rw (number_from_to-decimal 0 MOST_WRITTEN_FAILURES failures (omega arith) most (omega arith)) refl)
 
 partitions_step : (failures partitions : ℕ) → 1 ≤ partitions → partitions ≤ MOST_PARTITIONS → line_step (with_statement no_lines 1 (said.Failures failures)) 2 (line_of_words (codes "partitions" ∷ decimal partitions ∷ [])) ≡ Ok (standing (record { number = failures; line = 1 }) partitions [] None)
 partitions_step failures partitions some most =
     step_of (with_statement no_lines 1 (said.Failures failures)) 2 (codes "partitions") (decimal partitions ∷ []) (said.Partitions partitions) (plain (codes "partitions") refl, (plain_number partitions (omega arith), tt)) refl
-        (rw (number_from_to-decimal 1 MOST_PARTITIONS partitions some most (omega arith)) refl)
+    (rw (number_from_to-decimal 1 MOST_PARTITIONS partitions some most (omega arith)) refl)
 
 pub reads_back : (chain : Chain) → IsChain chain → chain.failures ≤ MOST_FAILURES → chain_of (plain_text chain) ≡ Ok chain
 reads_back chain bounds most =
