@@ -1,12 +1,11 @@
 -- Texts of printed words: their lines, words and parts are found again.
-use Rattle.std.proofs.Common.{◌≡◌, ◌≤◌, ◌<◌, ℕ, suc, ◌+◌, Bool, true, false, List, [], ◌∷◌, ◌++◌, length, take, drop, refl, ap, ◌∙◌, sym, arith, rules, cond, add-one}
-use Rattle.std.specs.Prelude.{◌==◌, ⊤}
-use Rattle.std.specs.List.{AllByRecursion, list_all, list_any, join_with_byte, onto_first, before_first, after_first, position_or_len}
+use Rattle.std.proofs.Common.{◌≡◌, ◌≤◌, ℕ, ◌+◌, true, false, List, [], ◌∷◌, ◌++◌, length, take, drop, refl, ap, ◌∙◌, arith, add-one}
+use Rattle.std.specs.Prelude.{◌==◌}
+use Rattle.std.specs.List.{AllByRecursion, list_all, join_with_byte, onto_first, position_or_len}
 use Rattle.std.proofs.lemmas.Bool.Decides.{nat_tests}
 use Rattle.ftc_base.specs.Text.{is_blank, lines_of, words_of, begin_word}
 use Rattle.ftc_base.specs.Endpoint.{parts_of}
 use Rattle.ftc_conf.specs.Words.{is_text_byte, part_before, part_behind, has_byte}
-use Rattle.ftc_conf.specs.Plain.{text_of_lines}
 
 -- a byte of a word, and a byte of a line
 abbrev pub IsLetter : ℕ → Type 0

@@ -1,13 +1,13 @@
 -- A net that is read has its bounds.
-use Rattle.std.proofs.Common.{◌≡◌, ◌≤◌, ◌<◌, ◌+◌, ◌*◌, ◌-◌, ◌/◌, ◌^◌, ℕ, Bool, true, false, List, [], ◌∷◌, Result, Ok, Err, refl, ap, sym, cond, arith, rules}
-use Rattle.std.specs.Prelude.{codes, IfOk, nat_le, ⊤}
+use Rattle.std.proofs.Common.{◌≡◌, ◌≤◌, ◌<◌, ◌+◌, ◌*◌, ◌-◌, ◌/◌, ◌^◌, ℕ, Bool, true, false, List, [], ◌∷◌, Result, Ok, Err, refl, ap, cond, arith, rules}
+use Rattle.std.specs.Prelude.{codes, IfOk, nat_le}
 use Rattle.std.proofs.Math.Nat.{mul-div_cancel, div-mul-le_self}
 use Rattle.std.specs.Str.{bytes_eq}
 use Rattle.ftc_base.specs.declared.lexer.Lexical.{Lexical}
-use Rattle.ftc_base.specs.declared.lexer.Lexical.TheVariants.{NotNumber, TooLarge, NotAddress}
+use Rattle.ftc_base.specs.declared.lexer.Lexical.TheVariants.{NotNumber, TooLarge}
 use Rattle.ftc_base.specs.declared.network.Net.{Net}
 use Rattle.ftc_base.specs.Number.{number_of, is_numeral, decimal_from}
-use Rattle.ftc_base.specs.Endpoint.{parts_of, with_octet, address_in, address_of, base_of, with_length, net_in, net_of, IsNet}
+use Rattle.ftc_base.specs.Endpoint.{parts_of, with_octet, address_in, address_of, with_length, net_in, net_of, IsNet}
 
 -- what is read is at most this
 abbrev AtMost : Result ℕ Lexical → ℕ → Type 0

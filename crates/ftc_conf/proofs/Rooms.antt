@@ -1,6 +1,6 @@
 -- A line for which there is room says something for which there is room.
 use Rattle.std.proofs.Common.{◌≡◌, ◌<◌, ℕ, Bool, true, false, nat_lt, List, length, Option, Some, None, Result, Ok, Err, refl, subst, rules, IfOk}
-use Rattle.std.specs.Prelude.{⊤, IfSome, ◌==◌}
+use Rattle.std.specs.Prelude.{IfSome, ◌==◌}
 use Rattle.ftc_base.specs.declared.limits.TheConstants.{MOST_SERVERS, MOST_FIREWALL_LINES}
 use Rattle.ftc_base.specs.declared.refusal.Refuse.{Refuse}
 use Rattle.ftc_firewall.specs.declared.rule.FirewallRule.{FirewallRule}

@@ -1,22 +1,20 @@
 -- Printed numbers, addresses, nets and ports read as what they print.
-use Rattle.std.proofs.Common.{◌≡◌, ◌≢◌, ◌≤◌, ◌<◌, ℕ, zero, suc, ◌+◌, ◌*◌, ◌-◌, ◌/◌, ◌%◌, ◌^◌, Bool, true, false, List, [], ◌∷◌, ◌++◌, length, get_or, refl, ap, ◌∙◌, sym, arith, rules, cond, Ok, Err, Result, length-append}
-use Rattle.std.specs.Prelude.{◌==◌, nat_le, codes, decimal, Option, Some, None, ◌⊎◌, ⊤}
-use Rattle.std.proofs.Common.{inl, inr}
+use Rattle.std.proofs.Common.{◌≡◌, ◌≤◌, ℕ, zero, suc, ◌+◌, ◌*◌, ◌/◌, ◌%◌, true, false, List, [], ◌∷◌, ◌++◌, length, get_or, refl, ap, ◌∙◌, arith, rules, Ok, length-append}
+use Rattle.std.specs.Prelude.{◌==◌, nat_le, codes, decimal}
 use Rattle.std.specs.List.{AllByRecursion, list_all, join_with_byte}
 use Rattle.std.specs.Str.{bytes_eq}
 use Rattle.std.proofs.Math.Nat.{div-div-eq-div-mul}
 use Rattle.std.proofs.lemmas.Bool.Decides.{nat_tests}
 use Rattle.std.proofs.lemmas.Fmt.{digits_decimal, decimal_digit, first_decimal, decimal_nonempty}
 use Rattle.std.proofs.lemmas.Str.Parse.{IsNumeralModel, numerals_by_fold}
-use Rattle.ftc_base.specs.declared.lexer.Lexical.{Lexical}
 use Rattle.ftc_base.specs.declared.network.Net.{Net}
 use Rattle.ftc_base.specs.Number.{number_of, is_numeral, is_digit, decimal_from}
-use Rattle.ftc_base.specs.Endpoint.{parts_of, with_octet, address_in, address_of, base_of, with_length, net_in, net_of, IsNet}
+use Rattle.ftc_base.specs.Endpoint.{parts_of, address_in, address_of, net_in, net_of, IsNet}
 use Rattle.ftc_base.proofs.ReadAgain.{read_again}
 use Rattle.ftc_conf.specs.declared.limits.TheConstants.{MOST_NUMBER, MOST_PORT}
 use Rattle.ftc_conf.specs.Words.{number_word, number_from_to, address_word, net_word, ports_between, dashed_ports, ports_word}
 use Rattle.ftc_conf.specs.Plain.{address_text, net_text, ports_text}
-use Rattle.ftc_conf.proofs.Letters.{IsLetter, IsPlainWord, all-append, all-weaker, Without, parts_of-part, parts_of-last, parts_of-join, part_before-part, part_behind-part, has_byte-part}
+use Rattle.ftc_conf.proofs.Letters.{all-append, all-weaker, Without, parts_of-part, parts_of-last, parts_of-join, part_before-part, part_behind-part, has_byte-part}
 
 abbrev pub IsDigit : ℕ → Type 0
 IsDigit b = (48 ≤ b) × (b ≤ 57)
@@ -27,7 +25,7 @@ own = numerals_by_fold _ (search rules) decimal_from (search rules)
 pub digits : (n : ℕ) → n ≤ 4294967295 → AllByRecursion IsDigit (decimal n)
 digits n small = digits_decimal own n (omega arith)
 
-some_digit : (n : ℕ) → n ≤ 4294967295 → 1 ≤ length (decimal n)
+pub some_digit : (n : ℕ) → n ≤ 4294967295 → 1 ≤ length (decimal n)
 some_digit n small = let some = decimal_nonempty n (omega arith) in omega arith
 
 leading_zero : (n : ℕ) → n ≤ 4294967295 → get_or (decimal n) 0 0 ≡ 48 → length (decimal n) ≡ 1
@@ -72,7 +70,7 @@ IsAddressByte b = ((b == 47) ≡ false) × (46 ≤ b) × (b ≤ 57)
 digit-address : (b : ℕ) → IsDigit b → IsAddressByte b
 digit-address b digit = (grind (arith, nat_tests), omega arith, omega arith)
 
-all-join : (P : ℕ → Type 0) (separator : ℕ) (parts : List (List ℕ)) → P separator → AllByRecursion (AllByRecursion P) parts → AllByRecursion P (join_with_byte separator parts)
+pub all-join : (P : ℕ → Type 0) (separator : ℕ) (parts : List (List ℕ)) → P separator → AllByRecursion (AllByRecursion P) parts → AllByRecursion P (join_with_byte separator parts)
 all-join P separator [] sep all = tt
 all-join P separator (part ∷ []) sep all = all.0
 all-join P separator (part ∷ next ∷ parts) sep all =
@@ -90,9 +88,9 @@ pub address_bytes : (address : ℕ) → address ≤ 4294967295 → AllByRecursio
 unfolding octets
 address_bytes address small =
     all-join IsAddressByte 46 (octets address) (refl, omega arith, omega arith)
-        (all-weaker (AllByRecursion IsDigit) (AllByRecursion IsAddressByte) (octets address) (λ part. all-weaker IsDigit IsAddressByte part digit-address) (digits_of_octets address small))
+    (all-weaker (AllByRecursion IsDigit) (AllByRecursion IsAddressByte) (octets address) (λ part. all-weaker IsDigit IsAddressByte part digit-address) (digits_of_octets address small))
 
-longer : (part rest : List ℕ) → 1 ≤ length part → 1 ≤ length (part ++ rest)
+pub longer : (part rest : List ℕ) → 1 ≤ length part → 1 ≤ length (part ++ rest)
 longer part rest some = omega (arith, length-append part rest)
 
 pub some_address : (address : ℕ) → address ≤ 4294967295 → 1 ≤ length (address_text address)
@@ -105,7 +103,7 @@ parts_of-address : (address : ℕ) → address ≤ 4294967295 → parts_of 46 (a
 unfolding octets
 parts_of-address address small =
     parts_of-join 46 (decimal (address / 16777216)) (decimal (address / 65536 % 256) ∷ decimal (address / 256 % 256) ∷ decimal (address % 256) ∷ []) refl
-        (all-weaker (AllByRecursion IsDigit) (Without 46) (octets address) (λ part. all-weaker IsDigit (λ b. (b == 46) ≡ false) part digit-dot) (digits_of_octets address small))
+    (all-weaker (AllByRecursion IsDigit) (Without 46) (octets address) (λ part. all-weaker IsDigit (λ b. (b == 46) ≡ false) part digit-dot) (digits_of_octets address small))
 
 whole_address : (address : ℕ) → 256 * (256 * (256 * (256 * 0 + address / 16777216) + address / 65536 % 256) + address / 256 % 256) + address % 256 ≡ address
 whole_address address =
@@ -116,11 +114,13 @@ whole_address address =
 address_in-octets : (address : ℕ) → address ≤ 4294967295 → address_in (octets address) ≡ Ok address
 unfolding octets
 address_in-octets address small =
-    rw (number_of-decimal (address / 16777216) 255 (omega arith) (omega arith),
-        number_of-decimal (address / 65536 % 256) 255 (omega arith) (omega arith),
-        number_of-decimal (address / 256 % 256) 255 (omega arith) (omega arith),
-        number_of-decimal (address % 256) 255 (omega arith) (omega arith))
-        (ap (λ (n : ℕ). Ok n) (whole_address address))
+    rw (
+      number_of-decimal (address / 16777216) 255 (omega arith) (omega arith),
+      number_of-decimal (address / 65536 % 256) 255 (omega arith) (omega arith),
+      number_of-decimal (address / 256 % 256) 255 (omega arith) (omega arith),
+      number_of-decimal (address % 256) 255 (omega arith) (omega arith),
+    )
+    (ap (λ (n : ℕ). Ok n) (whole_address address))
 
 pub address_of-text : (address : ℕ) → address ≤ 4294967295 → address_of (address_text address) ≡ Ok address
 address_of-text address small = ap address_in (parts_of-address address small) ∙ address_in-octets address small
@@ -154,8 +154,8 @@ parts_of-net net bounds =
 pub net_bytes : (net : Net) → IsNet net → AllByRecursion (λ b. (46 ≤ b) × (b ≤ 57)) (net_text net)
 net_bytes net bounds =
     all-append (λ b. (46 ≤ b) × (b ≤ 57)) (address_text net.base) (47 ∷ decimal net.length)
-        (all-weaker IsAddressByte (λ b. (46 ≤ b) × (b ≤ 57)) (address_text net.base) (λ b byte. (byte.1, byte.2)) (address_bytes net.base bounds.address))
-        ((omega arith, omega arith), all-weaker IsDigit (λ b. (46 ≤ b) × (b ≤ 57)) (decimal net.length) (λ b digit. (omega arith, digit.1)) (digits net.length (omega arith)))
+    (all-weaker IsAddressByte (λ b. (46 ≤ b) × (b ≤ 57)) (address_text net.base) (λ b byte. (byte.1, byte.2)) (address_bytes net.base bounds.address))
+    ((omega arith, omega arith), all-weaker IsDigit (λ b. (46 ≤ b) × (b ≤ 57)) (decimal net.length) (λ b digit. (omega arith, digit.1)) (digits net.length (omega arith)))
 
 pub net_of-text : (net : Net) → IsNet net → net_of (net_text net) ≡ Ok net
 net_of-text net bounds =
@@ -180,13 +180,13 @@ no_dash n small = all-weaker IsDigit (λ b. (b == 45) ≡ false) (decimal n) dig
 pub dashed_ports-text : (least first last : ℕ) → least ≤ first → first ≤ last → last ≤ 65535 → dashed_ports least (ports_text first last) ≡ Ok (record { first = first; last = last })
 dashed_ports-text least first last low ordered high =
     rw (part_before-part 45 (decimal first) (decimal last) refl (no_dash first (omega arith)), part_behind-part 45 (decimal first) (decimal last) refl (no_dash first (omega arith)))
-        (ports_between-decimal least first last low ordered high)
+    (ports_between-decimal least first last low ordered high)
 
 pub ports_bytes : (first last : ℕ) → first ≤ 65535 → last ≤ 65535 → AllByRecursion (λ b. (45 ≤ b) × (b ≤ 57)) (ports_text first last)
 ports_bytes first last small low =
     all-append (λ b. (45 ≤ b) × (b ≤ 57)) (decimal first) (45 ∷ decimal last)
-        (all-weaker IsDigit (λ b. (45 ≤ b) × (b ≤ 57)) (decimal first) (λ b digit. (omega arith, digit.1)) (digits first (omega arith)))
-        ((omega arith, omega arith), all-weaker IsDigit (λ b. (45 ≤ b) × (b ≤ 57)) (decimal last) (λ b digit. (omega arith, digit.1)) (digits last (omega arith)))
+    (all-weaker IsDigit (λ b. (45 ≤ b) × (b ≤ 57)) (decimal first) (λ b digit. (omega arith, digit.1)) (digits first (omega arith)))
+    ((omega arith, omega arith), all-weaker IsDigit (λ b. (45 ≤ b) × (b ≤ 57)) (decimal last) (λ b digit. (omega arith, digit.1)) (digits last (omega arith)))
 
 pub ports_word-text : (first last : ℕ) → first ≤ last → last ≤ 65535 → ports_word (ports_text first last) ≡ Ok (record { first = first; last = last })
 ports_word-text first last ordered high =

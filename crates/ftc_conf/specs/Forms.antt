@@ -1,5 +1,5 @@
 -- The forms of lines, each with its tests from left to right.
-use Rattle.std.specs.Prelude.{ℕ, ◌+◌, Bool, true, false, not, ◌==◌, nat_le, List, [], ◌∷◌, ◌++◌, length, Option, Some, None, Result, Ok, Err, if◌then◌else◌, codes}
+use Rattle.std.specs.Prelude.{ℕ, Bool, not, nat_le, List, [], ◌∷◌, ◌++◌, length, Option, Some, None, Result, Ok, Err, if◌then◌else◌, codes}
 use Rattle.std.specs.Str.{bytes_eq}
 use Rattle.ftc_base.specs.Endpoint.{parts_of, contains}
 use Rattle.ftc_base.specs.declared.limits.TheConstants.{MOST_PARTITIONS, MOST_MONITOR_GROUPS, MOST_BACKENDS}
@@ -9,7 +9,7 @@ use Rattle.ftc_balance.specs.declared.rule.BalanceRule.{BalanceRule}
 use Rattle.ftc_conf.specs.declared.limits.TheConstants.{MOST_WRITTEN_FAILURES, MOST_PORT}
 use Rattle.ftc_conf.specs.declared.fault.ChainCause.{ChainCause}
 use Rattle.ftc_conf.specs.declared.fault.ChainCause.TheVariants.{UnknownWord, WordCount, BadRange, TooManyItems}
-use Rattle.ftc_conf.specs.Words.{◌>>=◌, ◌>>◌, unless, fixed, number_word, number_from_to, address_word, net_word, part_before, part_behind, dashed_ports, ports_word}
+use Rattle.ftc_conf.specs.Words.{◌>>=◌, ◌>>◌, unless, fixed, number_from_to, address_word, net_word, part_before, part_behind, dashed_ports, ports_word}
 
 -- each form speaks of the words behind the first word of its line
 

@@ -1,5 +1,5 @@
 -- Which chain a text spells, or the first fault of a text that spells none.
-use Rattle.std.specs.Prelude.{ℕ, ◌≡◌, ◌+◌, ⊤, Bool, true, false, not, ◌||◌, ◌&&◌, ◌==◌, nat_le, nat_lt, List, [], ◌∷◌, length, Option, Some, None, Result, Ok, Err, if◌then◌else◌, codes}
+use Rattle.std.specs.Prelude.{ℕ, ◌≡◌, ◌+◌, ⊤, Bool, true, false, not, ◌||◌, ◌==◌, nat_le, nat_lt, List, [], ◌∷◌, length, Option, Some, None, Result, Ok, Err, if◌then◌else◌, codes}
 use Rattle.std.specs.List.{list_all}
 use Rattle.std.specs.Str.{bytes_eq}
 use Rattle.ftc_base.specs.Text.{words_of, lines_of}
@@ -19,7 +19,7 @@ use Rattle.ftc_conf.specs.declared.statement.Statement.{Statement}
 use Rattle.ftc_conf.specs.declared.statement.Statement.TheVariants as said
 use Rattle.ftc_conf.specs.declared.draft.Failures.{Failures}
 use Rattle.ftc_conf.specs.declared.draft.Draft.{Draft}
-use Rattle.ftc_conf.specs.Words.{◌>>=◌, ◌>>◌, unless, fixed, is_text_byte, is_comment}
+use Rattle.ftc_conf.specs.Words.{◌>>=◌, ◌>>◌, unless, is_text_byte, is_comment}
 use Rattle.ftc_conf.specs.Forms.{no_words, failures_of, partitions_of, monitor_of, nat_of, fire_line_of, balance_of}
 use Rattle.ftc_conf.specs.Draft.{no_lines, servers, with_statement}
 

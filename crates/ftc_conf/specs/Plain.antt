@@ -1,15 +1,13 @@
 -- A plain text of each chain.
-use Rattle.std.specs.Prelude.{ℕ, ◌≡◌, ◌≤◌, ◌/◌, ◌%◌, Bool, ◌==◌, List, [], ◌∷◌, ◌++◌, map, Option, Some, None, Result, Ok, if◌then◌else◌, codes, decimal}
+use Rattle.std.specs.Prelude.{ℕ, ◌/◌, ◌%◌, Bool, ◌==◌, List, [], ◌∷◌, ◌++◌, map, Option, Some, None, if◌then◌else◌, codes, decimal}
 use Rattle.std.specs.List.{join_with_byte, flat_map}
 use Rattle.ftc_base.specs.declared.network.Net.{Net}
 use Rattle.ftc_nat.specs.declared.rule.NatRule.{NatRule}
 use Rattle.ftc_firewall.specs.declared.rule.FireLine.{FireLine}
 use Rattle.ftc_balance.specs.declared.rule.BalanceRule.{BalanceRule}
-use Rattle.ftc_mbox.specs.Chain.{Chain, IsChain}
+use Rattle.ftc_mbox.specs.Chain.{Chain}
 use Rattle.ftc_mbox.specs.declared.rule.Rule.{Rule}
 use Rattle.ftc_mbox.specs.declared.rule.Rule.TheVariants.{Pass, Monitor, Nat, Firewall, Balance}
-use Rattle.ftc_conf.specs.declared.limits.TheConstants.{MOST_FAILURES}
-use Rattle.ftc_conf.specs.Grammar.{chain_of}
 
 -- the four bytes of an address, from the highest on, with dots between them
 abbrev pub address_text : ℕ → List ℕ
@@ -55,7 +53,3 @@ text_of_lines (words ∷ lines) = join_with_byte 32 words ++ 10 ∷ text_of_line
 
 abbrev pub plain_text : Chain → List ℕ
 plain_text chain = text_of_lines (chain_lines chain)
-
--- the plain text of a chain reads as that chain
-abbrev pub ReadsBack : Type 0
-ReadsBack = (chain : Chain) → IsChain chain → chain.failures ≤ MOST_FAILURES → chain_of (plain_text chain) ≡ Ok chain

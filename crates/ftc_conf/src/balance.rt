@@ -13,7 +13,7 @@ use crate::fault::ChainCause;
 use crate::limits::MOST_PORT;
 use crate::values::{address_word, cut, number_from_to};
 use crate::words::{fixed, next_word};
-use ftc_balance::{BalanceRule, Backends};
+use ftc_balance::{Backends, BalanceRule};
 use ftc_base::limits::MOST_BACKENDS;
 use ftc_base::{Refuse, split_part, split_word};
 use std::alloc::Global;

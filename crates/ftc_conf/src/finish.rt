@@ -22,7 +22,12 @@ pub fn fault_at(line: u64, cause: ChainCause) -> Refuse<ChainFault>
 
 /// The chain, where some server is no spare one, and more servers stand in the text than may be down
 /// at once.
-fn complete_chain(failures: Failures, partitions: u8, draft: Draft, place: u64) -> Result<ChainSpec, Refuse<ChainFault>>
+fn complete_chain(
+    failures: Failures,
+    partitions: u8,
+    draft: Draft,
+    place: u64,
+) -> Result<ChainSpec, Refuse<ChainFault>>
     requires bounds { IsDraft draft }
     requires some_partition { 1 ≤ partitions }
     requires partitions { partitions ≤ MOST_PARTITIONS }

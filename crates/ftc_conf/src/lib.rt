@@ -11,6 +11,7 @@ mod forms;
 pub mod limits;
 mod lines;
 mod nat;
+mod plain;
 mod ports;
 mod reader;
 mod statement;
@@ -18,6 +19,7 @@ mod values;
 mod words;
 
 pub use fault::{ChainCause, ChainFault};
+pub use plain::reads_back;
 pub use reader::read_chain;
 
 #[cfg(test)]

@@ -101,7 +101,12 @@ fn partitions_line(first: &[u8], line: &[u8]) -> Result<Statement, ChainCause>
 }
 
 /// What the words of a middlebox line say, of which `first` is the first.
-fn middlebox_line(alloc: Global, draft: &Draft, first: &[u8], line: &[u8]) -> Result<Statement, Refuse<ChainCause>>
+fn middlebox_line(
+    alloc: Global,
+    draft: &Draft,
+    first: &[u8],
+    line: &[u8],
+) -> Result<Statement, Refuse<ChainCause>>
     requires { length (servers draft.now) ≤ MOST_SERVERS }
     ensures value { IsReading result (middlebox_line draft.now first.now (words_of line.now)) }
     ensures bounds { IfOk result IsStatement }
@@ -113,7 +118,11 @@ fn middlebox_line(alloc: Global, draft: &Draft, first: &[u8], line: &[u8]) -> Re
 }
 
 /// What the next line says.
-pub fn statement_of(alloc: Global, draft: &Draft, line: &[u8]) -> Result<Statement, Refuse<ChainCause>>
+pub fn statement_of(
+    alloc: Global,
+    draft: &Draft,
+    line: &[u8],
+) -> Result<Statement, Refuse<ChainCause>>
     requires { length (servers draft.now) ≤ MOST_SERVERS }
     ensures value { IsReading result (statement_of draft.now line.now) }
     ensures bounds { IfOk result IsStatement }

@@ -11,9 +11,7 @@ pub enum Form {
     Nat,
     Firewall,
     /// `allow` or `deny`.
-    FireLine {
-        allow: bool,
-    },
+    FireLine { allow: bool },
     Balance,
     Spare,
 }

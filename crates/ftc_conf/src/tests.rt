@@ -1,15 +1,16 @@
 //! Chain texts with the answers that they have to get.
 
+mod every_kind;
+
 use super::*;
-use ftc_base::{Net, Refuse};
-use ftc_firewall::FireLine;
-use ftc_mbox::Rule;
-use ftc_nat::NatRule;
-use std::alloc::Global;
+use ftc_base::Refuse;
+use std::alloc::{AllocError, Global};
 use std::test::Fail;
 
-/// The line and the cause's number of a text that is refused, and None for a chain. Memory that is
-/// refused counts as line 0.
+/// A text and what is wrong with it: the line and the number of the cause.
+type Case = (&'static str, Option<(u64, u8)>);
+
+/// What is wrong with a text. Memory that is refused counts as line 0.
 fn fault_of(alloc: Global, text: &[u8]) -> Option<(u64, u8)> {
     match read_chain(alloc, text) {
         Ok(_) => None,
@@ -18,128 +19,156 @@ fn fault_of(alloc: Global, text: &[u8]) -> Option<(u64, u8)> {
     }
 }
 
-#[test]
-fn first_lines(rt: HostRuntime) {
-    let alloc = rt.alloc();
-    assert_eq!(rt; fault_of(alloc, b""), Some((1, 2)));
-    assert_eq!(rt; fault_of(alloc, b"\n# only this\n \t\r\n"), Some((4, 2)));
-    assert_eq!(rt; fault_of(alloc, b"f 0\n"), Some((2, 3)));
-    assert_eq!(rt; fault_of(alloc, b"partitions 4\nf 0\n"), Some((1, 2)));
-    assert_eq!(rt; fault_of(alloc, b"f 0\npass\n"), Some((2, 3)));
-    assert_eq!(rt; fault_of(alloc, b"f 0 0\n"), Some((1, 5)));
-    assert_eq!(rt; fault_of(alloc, b"f x\n"), Some((1, 6)));
-    assert_eq!(rt; fault_of(alloc, b"f 4294967296\n"), Some((1, 6)));
-    assert_eq!(rt; fault_of(alloc, b"f 16\n"), Some((1, 8)));
-    assert_eq!(rt; fault_of(alloc, b"f 0\npartitions 0\n"), Some((2, 8)));
-    assert_eq!(rt; fault_of(alloc, b"f 0\npartitions 65\n"), Some((2, 8)));
-    assert_eq!(rt; fault_of(alloc, b"f 0\npartitions 64\npass"), None);
+/// What is wrong with a text of the lines `f 0` and `partitions 4` and these.
+fn fault_behind(alloc: Global, lines: &[u8]) -> Result<Option<(u64, u8)>, AllocError> {
+    let mut text = b"f 0\npartitions 4\n".to_vec(alloc)?;
+    text.extend_from_slice(lines)?;
+    Ok(fault_of(alloc, text.as_slice()))
 }
 
-#[test]
-fn bytes_and_words(rt: HostRuntime) {
-    let alloc = rt.alloc();
-    assert_eq!(rt; fault_of(alloc, b"f 0\npartitions 4\npass \x07\n"), Some((3, 1)));
-    assert_eq!(rt; fault_of(alloc, b"f 0\npartitions 4\npass\n\n  # \x07\xc3\n\t\r\n"), None);
-    assert_eq!(rt; fault_of(alloc, b"f 0\npartitions 4\nPASS\n"), Some((3, 4)));
-    assert_eq!(rt; fault_of(alloc, b"f 0\npartitions 4\npass\nallow tcp any any any\n"), Some((4, 4)));
-    assert_eq!(rt; fault_of(alloc, b"f 0\npartitions 4\npass pass\n"), Some((3, 5)));
-}
+const WHOLE_TEXTS: [Case; 16] = [
+    ("", Some((1, 2))),
+    ("\n# only this\n \t\r\n", Some((4, 2))),
+    ("f 0\n", Some((2, 3))),
+    ("partitions 4\nf 0\n", Some((1, 2))),
+    ("f 0\npass\n", Some((2, 3))),
+    ("f 0 0\n", Some((1, 5))),
+    ("f x\n", Some((1, 6))),
+    ("f 4294967296\n", Some((1, 6))),
+    ("f 16\n", Some((1, 8))),
+    ("f 0\npartitions 0\n", Some((2, 8))),
+    ("f 0\npartitions 65\n", Some((2, 8))),
+    ("f 0\npartitions 64\npass", None),
+    ("f 1\npartitions 4\nmonitor 8\n", Some((1, 11))),
+    ("# f\nf 2\npartitions 4\npass\npass\n", Some((2, 11))),
+    ("f 1\npartitions 4\nspare\n", Some((4, 12))),
+    ("f 1\npartitions 4\nspare\nnat\n", Some((4, 13))),
+];
 
 #[test]
-fn monitors(rt: HostRuntime) {
-    let alloc = rt.alloc();
-    assert_eq!(rt; fault_of(alloc, b"f 0\npartitions 4\nmonitor 256\n"), None);
-    assert_eq!(rt; fault_of(alloc, b"f 0\npartitions 4\nmonitor 257\n"), Some((3, 8)));
-    assert_eq!(rt; fault_of(alloc, b"f 0\npartitions 4\nmonitor 0\n"), Some((3, 8)));
-    assert_eq!(rt; fault_of(alloc, b"f 0\npartitions 4\nmonitor 01\n"), Some((3, 6)));
-    assert_eq!(rt; fault_of(alloc, b"f 0\npartitions 4\nmonitor\n"), Some((3, 5)));
-}
-
-#[test]
-fn servers(rt: HostRuntime) {
-    let alloc = rt.alloc();
-    assert_eq!(rt; fault_of(alloc, b"f 1\npartitions 4\nmonitor 8\n"), Some((1, 11)));
-    assert_eq!(rt; fault_of(alloc, b"# two\nf 2\npartitions 4\npass\npass\n"), Some((2, 11)));
-    assert_eq!(rt; fault_of(alloc, b"f 1\npartitions 4\nspare\n"), Some((4, 12)));
-    assert_eq!(rt; fault_of(alloc, b"f 0\npartitions 4\nspare\nmonitor 8\n"), Some((4, 13)));
-    assert_eq!(rt; fault_of(alloc, b"f 0\npartitions 4\nspare\n"), Some((4, 12)));
-    assert_eq!(rt; fault_of(alloc, b"f 0\npartitions 4\n"), Some((3, 12)));
-    assert_eq!(rt; fault_of(alloc, b"f 0\npartitions 4\nspare\nmonitor x y\n"), Some((4, 13)));
-    assert_eq!(rt; fault_of(alloc, b"f 0\npartitions 4\npass\npass\npass\npass\npass\npass\npass\npass\npass\npass\npass\npass\npass\npass\npass\npass\npass\n"), Some((19, 9)));
-    assert_eq!(rt; fault_of(alloc, b"f 0\npartitions 4\npass\npass\npass\npass\npass\npass\npass\npass\npass\npass\npass\npass\npass\npass\npass\nspare\n"), None);
-}
-
-#[test]
-fn translators(rt: HostRuntime) {
-    let alloc = rt.alloc();
-    assert_eq!(rt; fault_of(alloc, b"f 0\npartitions 4\nnat inside 10.0.0.0/8 outside 203.0.113.5 ports 20000:20009\n"), Some((3, 6)));
-    assert_eq!(rt; fault_of(alloc, b"f 0\npartitions 4\nnat inside 10.0.0.0/8 outside 203.0.113.5 ports 70000-x\n"), Some((3, 6)));
-    assert_eq!(rt; fault_of(alloc, b"f 0\npartitions 4\nnat inside 10.0.0.0/8 outside 203.0.113.5 ports 0-x\n"), Some((3, 8)));
-    assert_eq!(rt; fault_of(alloc, b"f 0\npartitions 4\nnat inside 10.0.0.0/8 outside 203.0.113.5 ports 5-4\n"), Some((3, 8)));
-    assert_eq!(rt; fault_of(alloc, b"f 0\npartitions 4\nnat inside 10.0.0.0/8 outside 203.0.113.5 ports 5\n"), Some((3, 6)));
-    assert_eq!(rt; fault_of(alloc, b"f 0\npartitions 4\nnat inside 10.0.0.0/8 outside 10.0.0.5 poets 5\n"), Some((3, 8)));
-    assert_eq!(rt; fault_of(alloc, b"f 0\npartitions 4\nnat inside 10.0.0.0/33 outwards 10.0.0.5 poets 5\n"), Some((3, 7)));
-    assert_eq!(rt; fault_of(alloc, b"f 0\npartitions 4\nnat inside 10.0.0.0/8 outwards 10.0.0.5 poets 5\n"), Some((3, 4)));
-    assert_eq!(rt; fault_of(alloc, b"f 0\npartitions 4\nnat inside 10.0.0.0/8 outside 203.0.113.5 ports 1-65535\n"), None);
-    assert_eq!(rt; fault_of(alloc, b"f 0\npartitions 4\nnat inside 10.0.0.0/8 outside 203.0.113.5 ports 1-65536\n"), Some((3, 8)));
-}
-
-#[test]
-fn balancers(rt: HostRuntime) {
-    let alloc = rt.alloc();
-    assert_eq!(rt; fault_of(alloc, b"f 0\npartitions 4\nbalance 1.2.3.4 to 1.2.3.5\n"), Some((3, 6)));
-    assert_eq!(rt; fault_of(alloc, b"f 0\npartitions 4\nbalance 1.2.3:80 at 1.2.3.5\n"), Some((3, 7)));
-    assert_eq!(rt; fault_of(alloc, b"f 0\npartitions 4\nbalance 1.2.3.4:65536 at 1.2.3.5\n"), Some((3, 8)));
-    assert_eq!(rt; fault_of(alloc, b"f 0\npartitions 4\nbalance 1.2.3.4:80 at 1.2.3.5\n"), Some((3, 4)));
-    assert_eq!(rt; fault_of(alloc, b"f 0\npartitions 4\nbalance 1.2.3.4:80 to 1.2.3.5,\n"), Some((3, 7)));
-    assert_eq!(rt; fault_of(alloc, b"f 0\npartitions 4\nbalance 1.2.3.4:0 to 1.1.1.1,1.1.1.2,1.1.1.3,1.1.1.4,1.1.1.5,1.1.1.6,1.1.1.7,1.1.1.8,1.1.1.9,1.1.1.10,1.1.1.11,1.1.1.12,1.1.1.13,1.1.1.14,1.1.1.15,1.1.1.16\n"), None);
-    assert_eq!(rt; fault_of(alloc, b"f 0\npartitions 4\nbalance 1.2.3.4:0 to 1.1.1.1,1.1.1.2,1.1.1.3,1.1.1.4,1.1.1.5,1.1.1.6,1.1.1.7,1.1.1.8,1.1.1.9,1.1.1.10,1.1.1.11,1.1.1.12,1.1.1.13,1.1.1.14,1.1.1.15,1.1.1.16,x\n"), Some((3, 10)));
-}
-
-#[test]
-fn firewalls(rt: HostRuntime) -> Result<(), Fail> {
-    let alloc = rt.alloc();
-    assert_eq!(rt; fault_of(alloc, b"f 0\npartitions 4\nfirewall\nallow icmp any any any\n"), Some((4, 4)));
-    assert_eq!(rt; fault_of(alloc, b"f 0\npartitions 4\nfirewall\n# open\n\ndeny tcp any 1.2.3 7-x\n"), Some((6, 7)));
-    assert_eq!(rt; fault_of(alloc, b"f 0\npartitions 4\nfirewall\ndeny tcp any 1.2.3.4/32 7-x\n"), Some((4, 6)));
-    assert_eq!(rt; fault_of(alloc, b"f 0\npartitions 4\nfirewall\ndeny tcp any 1.2.3.4/32 7-6\n"), Some((4, 8)));
-    assert_eq!(rt; fault_of(alloc, b"f 0\npartitions 4\nfirewall\ndeny tcp any 1.2.3.4/32 65536\n"), Some((4, 8)));
-    assert_eq!(rt; fault_of(alloc, b"f 0\npartitions 4\nfirewall\npass\nallow any any any any\n"), Some((5, 4)));
-    let mut text = b"f 0\npartitions 4\nfirewall\n".to_vec(alloc)?;
-    for _ in 0..64 {
-        text.extend_from_slice(b"allow any any any any\n")?;
+fn whole_texts(rt: HostRuntime) {
+    for (text, wanted) in WHOLE_TEXTS {
+        assert_eq!(rt; fault_of(rt.alloc(), text.as_bytes()), wanted, "{text}");
     }
-    assert_eq!(rt; fault_of(alloc, text.as_slice()), None);
-    text.extend_from_slice(b"deny\n")?;
-    assert_eq!(rt; fault_of(alloc, text.as_slice()), Some((68, 10)));
+}
+
+const MIDDLEBOXES: [Case; 40] = [
+    ("pass \x07", Some((3, 1))),
+    ("pass\n\n  # \x07\n\t\r", None),
+    ("PASS", Some((3, 4))),
+    ("pass pass", Some((3, 5))),
+    ("", Some((3, 12))),
+    ("spare\nmonitor 8", Some((4, 13))),
+    ("spare", Some((4, 12))),
+    ("spare\nmonitor x y", Some((4, 13))),
+    ("monitor 256", None),
+    ("monitor 257", Some((3, 8))),
+    ("monitor 0", Some((3, 8))),
+    ("monitor 01", Some((3, 6))),
+    ("monitor", Some((3, 5))),
+    (
+        "nat inside 10.0.0.0/8 outside 1.1.1.1 ports 20000:20009",
+        Some((3, 6)),
+    ),
+    (
+        "nat inside 10.0.0.0/8 outside 1.1.1.1 ports 70000-x",
+        Some((3, 6)),
+    ),
+    (
+        "nat inside 10.0.0.0/8 outside 1.1.1.1 ports 0-x",
+        Some((3, 8)),
+    ),
+    (
+        "nat inside 10.0.0.0/8 outside 1.1.1.1 ports 5-4",
+        Some((3, 8)),
+    ),
+    (
+        "nat inside 10.0.0.0/8 outside 1.1.1.1 ports 5",
+        Some((3, 6)),
+    ),
+    ("nat inside 10.0.0.0/8 outside 1.1.1.1 ports 1-65535", None),
+    (
+        "nat inside 10.0.0.0/8 outside 1.1.1.1 ports 1-65536",
+        Some((3, 8)),
+    ),
+    (
+        "nat inside 10.0.0.0/8 outside 10.0.0.5 port 5-4",
+        Some((3, 8)),
+    ),
+    ("nat inside 10.0.0.0/33 at 10.0.0.5 ports 5-4", Some((3, 7))),
+    ("nat inside 10.0.0.0/8 at 10.0.0.5 ports 5-4", Some((3, 4))),
+    ("pass\nallow tcp any any any", Some((4, 4))),
+    ("firewall\npass\nallow any any any any", Some((5, 4))),
+    ("firewall\nallow icmp any any any", Some((4, 4))),
+    ("firewall\n# open\n\ndeny tcp any 1.2.3 7-x", Some((6, 7))),
+    ("firewall\ndeny tcp any 1.2.3.4/32 7-x", Some((4, 6))),
+    ("firewall\ndeny tcp any 1.2.3.4/32 7-6", Some((4, 8))),
+    ("firewall\ndeny tcp any 1.2.3.4/32 65536", Some((4, 8))),
+    ("firewall\ndeny tcp any 1.2.3.4/32 0", None),
+    ("balance 1.2.3.4 to 1.2.3.5", Some((3, 6))),
+    ("balance 1.2.3:80 at 1.2.3.5", Some((3, 7))),
+    ("balance 1.2.3.4:65536 at 1.2.3.5", Some((3, 8))),
+    ("balance 1.2.3.4:80 at 1.2.3.5", Some((3, 4))),
+    ("balance 1.2.3.4:80 to 1.2.3.5,", Some((3, 7))),
+    ("balance 1.2.3.4:80 to 1.2.3.5, 1.2.3.6", Some((3, 5))),
+    ("balance 1.2.3.4:0 to 1.2.3.5", None),
+    ("balance 1.2.3.4: to 1.2.3.5", Some((3, 6))),
+    ("balance 1.2.3.4:80:80 to 1.2.3.5", Some((3, 6))),
+];
+
+#[test]
+fn middleboxes(rt: HostRuntime) -> Result<(), Fail> {
+    for (lines, wanted) in MIDDLEBOXES {
+        assert_eq!(rt;
+            fault_behind(rt.alloc(), lines.as_bytes())?,
+            wanted,
+            "{lines}"
+        );
+    }
     Ok(())
 }
 
-const EVERY_KIND: &[u8] = b"# every kind\nf 0\npartitions 16\n\
-    nat inside 10.1.2.3/8 outside 203.0.113.5 ports 20000-59999\n\
-    firewall\nallow udp any 198.51.100.10/32 80\n# between\ndeny any 10.0.0.0/8 1.2.0.0/16 7-9\n\
-    balance 198.51.100.10:80 to 192.0.2.1,192.0.2.2\nmonitor 16\npass\nspare\n";
+#[test]
+fn a_comment_may_hold_any_byte(rt: HostRuntime) -> Result<(), Fail> {
+    let lines = b"# \xc3\xff\npass\n";
+    assert_eq!(rt; fault_behind(rt.alloc(), lines)?, None);
+    assert_eq!(rt; fault_behind(rt.alloc(), b"pass \xc3\n")?, Some((3, 1)));
+    Ok(())
+}
 
 #[test]
-fn every_kind(rt: HostRuntime) -> Result<(), Fail> {
-    let chain = read_chain(rt.alloc(), EVERY_KIND).ok().ok_or("refused")?;
-    assert_eq!(rt; chain.failures(), 0);
-    assert_eq!(rt; chain.partitions(), 16);
-    let rules = chain.rules();
-    assert_eq!(rt; rules.len(), 6);
-    let Rule::Nat(nat) = rules.at(0) else {
-        return Err("no translator".into());
-    };
-    let ten = Net {
-        base: 0x0a00_0000,
-        length: 8,
-    };
-    let wanted = NatRule {
-        inside: ten,
-        outside: 0xcb00_7105,
-        first: 20_000,
-        last: 59_999,
-    };
-    assert_eq!(rt; *nat, wanted);
+fn seventeen_servers(rt: HostRuntime) -> Result<(), Fail> {
+    let mut lines = b"".to_vec(rt.alloc())?;
+    for _ in 0..15 {
+        lines.extend_from_slice(b"pass\n")?;
+    }
+    lines.extend_from_slice(b"spare\n")?;
+    assert_eq!(rt; fault_behind(rt.alloc(), lines.as_slice())?, None);
+    lines.extend_from_slice(b"spare 8\n")?;
+    assert_eq!(rt; fault_behind(rt.alloc(), lines.as_slice())?, Some((19, 9)));
+    Ok(())
+}
+
+#[test]
+fn sixty_five_firewall_lines(rt: HostRuntime) -> Result<(), Fail> {
+    let mut lines = b"firewall\n".to_vec(rt.alloc())?;
+    for _ in 0..64 {
+        lines.extend_from_slice(b"allow any any any any\n")?;
+    }
+    assert_eq!(rt; fault_behind(rt.alloc(), lines.as_slice())?, None);
+    lines.extend_from_slice(b"deny\n")?;
+    assert_eq!(rt; fault_behind(rt.alloc(), lines.as_slice())?, Some((68, 10)));
+    Ok(())
+}
+
+#[test]
+fn seventeen_backends(rt: HostRuntime) -> Result<(), Fail> {
+    let mut line = b"balance 1.2.3.4:80 to 1.1.1.1".to_vec(rt.alloc())?;
+    for _ in 0..15 {
+        line.extend_from_slice(b",1.1.1.1")?;
+    }
+    assert_eq!(rt; fault_behind(rt.alloc(), line.as_slice())?, None);
+    line.extend_from_slice(b",x")?;
+    assert_eq!(rt; fault_behind(rt.alloc(), line.as_slice())?, Some((3, 10)));
     Ok(())
 }
