@@ -8,3 +8,4 @@ pub mod Packets
 pub mod Contents
 pub mod Waiting
 pub mod Refused
+pub mod Drive

@@ -1,0 +1,110 @@
+-- How a run ends: its status, and what the files hold then, on a desk that tells its files.
+use Rattle.std.specs.Prelude.{◌≡◌, ◌≢◌, ◌⊎◌, ℕ, List, [], length, Some, Ok, Err}
+use Rattle.ftc_outside.specs.Desk.{Files, SameFiles}
+use Rattle.ftc_pcap.specs.Grammar.{Spells, IsFault}
+use Rattle.ftc_pcap.specs.declared.capture.Capture.{Capture}
+use Rattle.ftc_pcap.specs.declared.capture.CaptureCause.{CaptureCause}
+use Rattle.ftc_journal.specs.declared.event.Event.{Event}
+use Rattle.ftc_journal.specs.Text.{spelling}
+use Rattle.ftc_mbox.specs.Chain.{Chain}
+use Rattle.ftc_conf.specs.Grammar.{chain_of}
+use Rattle.ftc_conf.specs.declared.fault.ChainCause.{ChainCause}
+use Rattle.ftc_serial.specs.Serial.{State}
+use Rattle.ftc_serial.specs.Packets.{bytes_of}
+use Rattle.ftc_serial.specs.Drive.{IsDriven}
+use Rattle.ftc.specs.declared.words.Names.{Names}
+use Rattle.ftc.specs.declared.status.Status.{Status}
+use Rattle.ftc.specs.declared.status.Status.TheVariants as status
+use Rattle.ftc.specs.declared.status.ScriptCause.{ScriptCause}
+use Rattle.ftc.specs.declared.status.ScriptCause.TheVariants as script
+use Rattle.ftc.specs.Words.{Words, AreNames}
+use Rattle.ftc.specs.Running.{ReleasedVisited}
+use Rattle.ftc.specs.Output.{out_bytes, MayHold}
+
+-- The files spell this chain, and then this capture; and then the script is empty.
+pub record HasChain (names : Names) (files : Files) (chain : Chain) : Type 0 where
+  pub text : List ℕ
+  pub file : files names.chain.now ≡ Some text
+  pub right : chain_of text ≡ Ok chain
+
+pub record HasCapture (names : Names) (files : Files) (capture : Capture) : Type 0 where
+  pub text : List ℕ
+  pub file : files names.capture.now ≡ Some text
+  pub right : Spells text capture
+
+pub record AreTexts (names : Names) (files : Files) (chain : Chain) (capture : Capture) : Type 0 where
+  pub chain_right : HasChain names files chain
+  pub capture_right : HasCapture names files capture
+  pub script_empty : files names.script.now ≡ Some []
+
+-- The chain's text has this first fault.
+pub record IsChainFault (names : Names) (files : Files) (line : ℕ) (cause : ChainCause) : Type 0 where
+  pub text : List ℕ
+  pub file : files names.chain.now ≡ Some text
+  pub wrong : chain_of text ≡ Err (record { line = line; cause = cause })
+
+-- The chain is right, and the capture's text has this first fault.
+pub record IsCaptureFault (names : Names) (files : Files) (at : ℕ) (cause : CaptureCause) : Type 0 where
+  pub chain : Chain
+  pub chain_right : HasChain names files chain
+  pub text : List ℕ
+  pub file : files names.capture.now ≡ Some text
+  pub wrong : IsFault text (record { at = at; cause = cause })
+
+-- The chain and the capture are right, and the script isn't empty. As yet every script that says something is refused.
+pub record IsScriptFault (names : Names) (files : Files) (line : ℕ) (cause : ScriptCause) : Type 0 where
+  pub chain : Chain
+  pub chain_right : HasChain names files chain
+  pub capture : Capture
+  pub capture_right : HasCapture names files capture
+  pub text : List ℕ
+  pub file : files names.script.now ≡ Some text
+  pub wrong : text ≢ []
+  pub first : line ≡ 1
+  pub word : cause ≡ script.Word
+
+-- The journal of the texts, and the state that its serial run ends in. The texts determine both.
+pub record IsRun (names : Names) (files : Files) (capture : Capture) (journal : List Event) (end : State) : Type 0 where
+  pub chain : Chain
+  pub texts : AreTexts names files chain capture
+  pub driven : IsDriven chain.rules (bytes_of capture.packets) journal end
+  pub visited : ReleasedVisited (length chain.rules) journal
+
+-- No file but these two has changed.
+abbrev pub SameButAtTwo : List ℕ → List ℕ → Files → Files → Type 0
+SameButAtTwo one two old new = (name : List ℕ) → name ≢ one → name ≢ two → new name ≡ old name
+
+-- What a run leaves that is done: the records of the packets that were released, with the bytes that the journal's serial
+-- run gives them, and the journal.
+pub record IsDone (names : Names) (old new : Files) : Type 0 where
+  pub capture : Capture
+  pub journal : List Event
+  pub end : State
+  pub run : IsRun names old capture journal end
+  pub out_file : new names.out.now ≡ Some (out_bytes capture end.released)
+  pub journal_file : new names.journal.now ≡ Some (spelling journal)
+  pub others : SameButAtTwo names.out.now names.journal.now old new
+
+-- What a run leaves that was cut short in its writing: of each file some front of what it would have held.
+pub record IsCutShort (names : Names) (old new : Files) : Type 0 where
+  pub capture : Capture
+  pub journal : List Event
+  pub end : State
+  pub run : IsRun names old capture journal end
+  pub out_file : MayHold (old names.out.now) (new names.out.now) (out_bytes capture end.released)
+  pub journal_file : MayHold (old names.journal.now) (new names.journal.now) (spelling journal)
+  pub others : SameButAtTwo names.out.now names.journal.now old new
+
+-- How a run with these names ends. A run that fails has changed nothing yet, or was cut short.
+abbrev pub Ends : Names → Files → Files → Status → Type 0
+Ends names old new status.Done = IsDone names old new
+Ends names old new status.Usage = ⊥
+Ends names old new (status.Chain line cause) = IsChainFault names old line cause × SameFiles old new
+Ends names old new (status.Capture at cause) = IsCaptureFault names old at cause × SameFiles old new
+Ends names old new (status.Script line cause) = IsScriptFault names old line cause × SameFiles old new
+Ends names old new status.DeskFault = SameFiles old new ⊎ IsCutShort names old new
+Ends names old new status.NoMemory = SameFiles old new ⊎ IsCutShort names old new
+
+-- How a run with these words ends.
+abbrev pub HasEnded : Words → Files → Files → Status → Type 0
+HasEnded words old new ending = (names : Names) × AreNames words names × Ends names old new ending

@@ -1,0 +1,4 @@
+pub mod Running
+pub mod Words
+pub mod Output
+pub mod Ending
