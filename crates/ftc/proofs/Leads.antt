@@ -11,14 +11,15 @@ use Rattle.ftc_serial.specs.Serial.{State, serial_run, serial_step}
 use Rattle.ftc_serial.specs.Trace.{undone_by, steps_of}
 use Rattle.ftc.specs.Running.{LeadsTo, IsQuiet, GoesOn}
 
+-- what holds from every next state holds from the step's
+on_step : (rules : List Rule) (steps more : List Step) (state : State) → ((next : State) → serial_run rules next steps ≡ Some state → serial_run rules next (steps ++ more) ≡ serial_run rules state more) → (o : Option State) → option_and_then (λ next. serial_run rules next steps) o ≡ Some state → option_and_then (λ next. serial_run rules next (steps ++ more)) o ≡ serial_run rules state more
+on_step rules steps more state on None h = absurd (cc)
+on_step rules steps more state on (Some next) h = on next h
+
 -- a run of more steps goes on from where the first ones led
 pub run_on : (rules : List Rule) (start : State) (steps more : List Step) (state : State) → serial_run rules start steps ≡ Some state → serial_run rules start (steps ++ more) ≡ serial_run rules state more
 run_on rules start [] more state led = let same : start ≡ state = cc in ap (λ (s : State). serial_run rules s more) same
-run_on rules start (step ∷ steps) more state led = on_step (serial_step rules start step) led
-  where
-    on_step : (o : Option State) → option_and_then (λ next. serial_run rules next steps) o ≡ Some state → option_and_then (λ next. serial_run rules next (steps ++ more)) o ≡ serial_run rules state more
-    on_step None h = absurd (cc)
-    on_step (Some next) h = run_on rules next steps more state h
+run_on rules start (step ∷ steps) more state led = on_step rules steps more state (λ next. run_on rules next steps more state) (serial_step rules start step) led
 
 one_more : {A B : Type 0} (f : A → List B) (xs : List A) (x : A) → flat_map f (xs ++ x ∷ []) ≡ flat_map f xs ++ f x
 one_more f xs x = flat_map-append f xs (x ∷ []) ∙ ap (λ rest. flat_map f xs ++ rest) (append-nil (f x))

@@ -1,6 +1,6 @@
 //! A run on one thread: packet after packet, each through all servers.
 
-ghost use Rattle.std.specs.Prelude.{List, ◌≡◌, ◌<◌, ◌≤◌, ◌+◌, ◌++◌, [], ◌∷◌, length, OnOk, OnErr, IfOk};
+ghost use Rattle.std.specs.Prelude.{List, ℕ, ◌≡◌, ◌<◌, ◌≤◌, ◌+◌, ◌++◌, [], ◌∷◌, length, OnOk, OnErr, IfOk};
 ghost use Rattle.ftc_serial.specs.Held.{rules_of, state_of};
 ghost use Rattle.ftc_serial.specs.Packets.{bytes_of};
 ghost use Rattle.ftc_serial.specs.Serial.{State};

@@ -1,6 +1,7 @@
 //! The packets of a capture.
 
 ghost use Rattle.std.specs.Prelude.{◌≡◌, ◌≤◌, ◌<◌, ◌++◌, [], ◌∷◌, length, OnOk, OnErr, slice_get, Some};
+ghost use Rattle.ftc_pcap.specs.Packets.{ArePackets};
 
 use ftc_base::limits::{MOST_CAPTURED, MOST_RECORDS};
 use ftc_base::{Bytes, NoMemory};
@@ -52,6 +53,7 @@ impl Packets {
     pub fn len(&self) -> usize
         ensures same { result ≡ length self.now }
         ensures few { result ≤ MOST_RECORDS }
+        ensures bounds { ArePackets self.now }
     {
         self.list.len()
     }

@@ -41,6 +41,7 @@ impl Serial {
     /// The chain at its start: every store is empty, and each packet waits for the first middlebox.
     pub fn new(alloc: Global, spec: &ChainSpec, packets: &Packets) -> Result<Serial, NoMemory>
         ensures rules { IfOk result (λ serial. rules_of serial ≡ spec.now.rules) }
+        ensures some { IfOk result (λ serial. 1 ≤ length (rules_of serial)) }
         ensures opening { IfOk result (λ serial. state_of serial ≡ opening (bytes_of packets.now)) }
     {
         let rules = copy_rules(alloc, spec.rules())?;

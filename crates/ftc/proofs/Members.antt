@@ -1,0 +1,75 @@
+-- What is in a list that is put together of lists.
+use Rattle.std.proofs.Common.{◌≡◌, ◌⊎◌, ℕ, zero, suc, ◌+◌, ◌<◌, List, [], ◌∷◌, ◌++◌, length, refl, inl, inr, ap, ◌∙◌, sym, arith, subst, Contains, get_or, Bool, true, false, ◌≢◌, eq-eqb}
+use Rattle.std.specs.Prelude.{◌==◌}
+use Rattle.std.proofs.lemmas.Bool.{eqb-true}
+use Rattle.ftc.proofs.Coming.{clash}
+use Rattle.std.specs.List.{flat_map, AllByRecursion}
+use Rattle.ftc_serial.specs.Words.{each_below}
+
+pub in_head : {A : Type 0} (x : A) (xs : List A) → Contains (x ∷ xs) x
+in_head x xs = (0, omega arith, refl)
+
+pub in_tail : {A : Type 0} (y : A) (xs : List A) (x : A) → Contains xs x → Contains (y ∷ xs) x
+in_tail y xs x h = (suc h.0, omega (arith, h.1), h.2)
+
+pub in_cons : {A : Type 0} (y : A) (xs : List A) (x : A) → Contains (y ∷ xs) x → (y ≡ x) ⊎ Contains xs x
+in_cons y xs x (zero, l, e) = inl e
+in_cons y xs x (suc k, l, e) = inr (k, omega (arith, l), e)
+
+in_none : {A : Type 0} (x : A) → Contains [] x → ⊥
+in_none x h = absurd (omega (arith, h.1))
+
+pub in_left : {A : Type 0} (xs ys : List A) (x : A) → Contains xs x → Contains (xs ++ ys) x
+in_left [] ys x h = absurd (in_none x h)
+in_left (y ∷ xs) ys x h = elim (in_cons y xs x h) [ inl e ↦ (0, omega arith, e) | inr rest ↦ in_tail y (xs ++ ys) x (in_left xs ys x rest) ]
+
+pub in_right : {A : Type 0} (xs ys : List A) (x : A) → Contains ys x → Contains (xs ++ ys) x
+in_right [] ys x h = h
+in_right (y ∷ xs) ys x h = in_tail y (xs ++ ys) x (in_right xs ys x h)
+
+pub in_either : {A : Type 0} (xs ys : List A) (x : A) → Contains (xs ++ ys) x → Contains xs x ⊎ Contains ys x
+in_either [] ys x h = inr h
+in_either (y ∷ xs) ys x h =
+    elim (in_cons y (xs ++ ys) x h) [
+      | inl e ↦ inl (0, omega arith, e)
+      | inr rest ↦ elim (in_either xs ys x rest) [ inl left ↦ inl (in_tail y xs x left) | inr right ↦ inr right ]
+    ]
+
+-- what one element gives
+pub in_flat_map : {A B : Type 0} (f : A → List B) (xs : List A) (x : A) (y : B) → Contains xs x → Contains (f x) y → Contains (flat_map f xs) y
+in_flat_map f [] x y h given = absurd (in_none x h)
+in_flat_map f (z ∷ xs) x y h given =
+    elim (in_cons z xs x h) [
+      | inl e ↦ in_left (f z) (flat_map f xs) y (subst (λ a. Contains (f a) y) (sym e) given)
+      | inr rest ↦ in_right (f z) (flat_map f xs) y (in_flat_map f xs x y rest given)
+    ]
+
+-- what one number gives
+pub in_below : {A : Type 0} (f : ℕ → List A) (count k : ℕ) (x : A) → k < count → Contains (f k) x → Contains (each_below f count) x
+in_below f zero k x below h = absurd (omega (arith, below))
+in_below f (suc count) k x below h =
+    elim (k == count) as (λ t. (k == count) ≡ t → Contains (each_below f count ++ f count) x) [
+      | true ↦ λ same. in_right (each_below f count) (f count) x (subst (λ n. Contains (f n) x) (eqb-true k count same) h)
+      | false ↦ λ isnt. in_left (each_below f count) (f count) x (in_below f count k x (omega (arith, below, differ isnt)) h)
+    ] refl
+  where
+    differ : (k == count) ≡ false → k ≢ count
+    differ isnt same = clash (sym isnt ∙ eq-eqb k count same)
+
+-- which number gives it
+pub from_below : {A : Type 0} (f : ℕ → List A) (count : ℕ) (x : A) → Contains (each_below f count) x → (k : ℕ) × (k < count) × Contains (f k) x
+from_below f zero x h = absurd (in_none x h)
+from_below f (suc count) x h =
+    elim (in_either (each_below f count) (f count) x h) [
+      | inl before ↦ let told : (k : ℕ) × (k < count) × Contains (f k) x = from_below f count x before in (told.0, omega (arith, told.1), told.2)
+      | inr last ↦ (count, omega arith, last)
+    ]
+
+-- what holds of all holds of one of them
+pub of_one : {A : Type 0} (P : A → Type 0) (xs : List A) (x : A) → AllByRecursion P xs → Contains xs x → P x
+of_one P [] x all h = absurd (in_none x h)
+of_one P (y ∷ xs) x all h = elim (in_cons y xs x h) [ inl e ↦ subst P e all.0 | inr rest ↦ of_one P xs x all.1 rest ]
+
+pub all_push : {A : Type 0} (P : A → Type 0) (xs : List A) (x : A) → AllByRecursion P xs → P x → AllByRecursion P (xs ++ x ∷ [])
+all_push P [] x all holds = (holds, tt)
+all_push P (y ∷ xs) x all holds = (all.0, all_push P xs x all.1 holds)
