@@ -32,8 +32,8 @@ new_client rule flow (turn ∷ answers) =
     let backend = slice_index rule.backends index in
     forward_changed
     (put (client_key flow.protocol flow.source flow.source_port) (to_be_bytes w32 backend)
-        ∷ put turn_key (to_be_bytes w32 ((index + 1) % length rule.backends))
-        ∷ [])
+    ∷ put turn_key (to_be_bytes w32 ((index + 1) % length rule.backends))
+    ∷ [])
     (Destination backend flow.destination_port)
 
 abbrev pub known_or_not : BalanceRule → Flow → Option ℕ → List Answer → Ask

@@ -5,7 +5,7 @@ mod balance;
 mod rule;
 
 pub use balance::ask;
-pub use rule::{BalanceRule, Backends};
+pub use rule::{Backends, BalanceRule};
 
 #[cfg(test)]
 mod tests;

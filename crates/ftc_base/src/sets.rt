@@ -73,5 +73,4 @@ impl NumberSet {
 /// Two sets with the same members are equal.
 pub fn same_members()
     ensures { (a b : ℕ) → ((member : ℕ) → has a member ≡ has b member) → a ≡ b }
-{
-}
+{}

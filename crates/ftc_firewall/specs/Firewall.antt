@@ -24,8 +24,8 @@ abbrev pub connection_key : Flow → List ℕ
 connection_key flow =
     codes "w" ++ flow.protocol
     ∷ (if source_is_smaller flow
-        then endpoint flow.source flow.source_port ++ endpoint flow.destination flow.destination_port
-        else endpoint flow.destination flow.destination_port ++ endpoint flow.source flow.source_port)
+    then endpoint flow.source flow.source_port ++ endpoint flow.destination flow.destination_port
+    else endpoint flow.destination flow.destination_port ++ endpoint flow.source flow.source_port)
 
 -- The line speaks of the protocol.
 abbrev pub is_of_protocol : Option ℕ → ℕ → Bool

@@ -17,9 +17,14 @@ pub type VisitNames = Items<VisitName>;
 #[derive(Debug, Drop)]
 pub enum Event {
     /// A packet comes to server 0.
-    Enter { packet: PacketNo },
+    Enter {
+        packet: PacketNo,
+    },
     /// The receiver of a link takes the message of that origin.
-    Take { link: ServerId, origin: PacketNo },
+    Take {
+        link: ServerId,
+        origin: PacketNo,
+    },
     /// A server applies the log of a group and a packet from a message that it holds.
     Apply {
         server: ServerId,
@@ -34,22 +39,38 @@ pub enum Event {
         worker: WorkerId,
     },
     /// A server sends a message on.
-    Pass { server: ServerId, origin: PacketNo },
+    Pass {
+        server: ServerId,
+        origin: PacketNo,
+    },
     /// The same, but the link loses the message.
-    Lose { server: ServerId, origin: PacketNo },
+    Lose {
+        server: ServerId,
+        origin: PacketNo,
+    },
     /// The forwarder takes a message from the ring.
-    Carry { origin: PacketNo },
+    Carry {
+        origin: PacketNo,
+    },
     /// A server stops.
-    Crash { server: ServerId },
+    Crash {
+        server: ServerId,
+    },
     /// A server is replaced, which undoes visits.
     Recover {
         server: ServerId,
         undone: VisitNames,
     },
     /// The receiver of a link pulls from its sender.
-    Pull { link: ServerId },
+    Pull {
+        link: ServerId,
+    },
     /// Server 0 begins a message without a packet.
-    Propagate { origin: PacketNo },
+    Propagate {
+        origin: PacketNo,
+    },
     /// A packet leaves the chain.
-    Release { packet: PacketNo },
+    Release {
+        packet: PacketNo,
+    },
 }

@@ -36,9 +36,9 @@ drawing rule flow port [] = Read (inside_key flow.protocol port) true
 drawing rule flow port (reverse ∷ answers) =
     forward_changed
     (put (outside_port_key flow.protocol flow.source flow.source_port) (to_be_bytes w16 port)
-        ∷ put next_port_key (to_be_bytes w32 (port + 1))
-        ∷ put (inside_key flow.protocol port) (endpoint flow.source flow.source_port)
-        ∷ [])
+    ∷ put next_port_key (to_be_bytes w32 (port + 1))
+    ∷ put (inside_key flow.protocol port) (endpoint flow.source flow.source_port)
+    ∷ [])
     (Source rule.outside port)
 
 -- An endpoint without an outside port draws the next one, which is the first where none is written yet, unless the last

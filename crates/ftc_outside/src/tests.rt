@@ -1,7 +1,6 @@
 use crate::{Desk, DeskError, FailingDesk, FileDesk, MemoryDesk};
-use std::fs;
-use std::process;
 use std::test::Fail;
+use std::{fs, process};
 
 #[test]
 fn a_desk_in_memory_keeps_files_by_name(rt: HostRuntime) -> Result<(), Fail> {

@@ -54,11 +54,11 @@ visit_made rules stores positions released server packet old first second gone n
     let content : content_at stores server ≡ old.content = ap (λ (o : Option Stored). option_map_or (λ s. s.content) o empty) held in
     visit_leads rules (state stores positions released) server packet bytes rule waits has
     ∙ ap Some (same_state _ _
-        (λ q. ap (λ (c : Content). with_at (content_at stores) server c q) (ap (λ (c : Content). written (taken rule bytes c).writes c) content ∙ sym second-is)
-            ∙ sym (content_set_twice stores server first second q (slice_get_within stores server old held)))
-        (λ q. ap (λ (p : Position). with_at (slice_get positions) packet (Some p) q) (ap (λ (c : Content). position_after (length rules) server (taken rule bytes c).packet) content ∙ sym next-is)
-            ∙ sym (get_set_twice positions packet gone next q (slice_get_within positions packet _ waits)))
-        refl)
+    (λ q. ap (λ (c : Content). with_at (content_at stores) server c q) (ap (λ (c : Content). written (taken rule bytes c).writes c) content ∙ sym second-is)
+    ∙ sym (content_set_twice stores server first second q (slice_get_within stores server old held)))
+    (λ q. ap (λ (p : Position). with_at (slice_get positions) packet (Some p) q) (ap (λ (c : Content). position_after (length rules) server (taken rule bytes c).packet) content ∙ sym next-is)
+    ∙ sym (get_set_twice positions packet gone next q (slice_get_within positions packet _ waits)))
+    refl)
 
 -- a packet that doesn't wait for that middlebox can't visit it
 not_waiting : (rules : List Rule) (s : State) (server packet : ℕ) (place : Option Position) → is_waiting place server ≡ false → option_map (after (length rules) s) (visit_at rules s server packet place) ≡ None
@@ -88,8 +88,8 @@ pub release_made : (rules : List Rule) (stores : List Stored) (positions : List 
 release_made rules stores positions released more packet gone bytes passed gone-is more-is =
     ap (λ (o : Option Position). option_map (after (length rules) (state stores positions released)) (release_at packet o)) passed
     ∙ ap Some (same_state _ _ (λ q. refl)
-        (λ q. ap (λ (p : Position). with_at (slice_get positions) packet (Some p) q) (sym gone-is) ∙ sym (get_set positions packet gone q (slice_get_within positions packet _ passed)))
-        (sym more-is))
+    (λ q. ap (λ (p : Position). with_at (slice_get positions) packet (Some p) q) (sym gone-is) ∙ sym (get_set positions packet gone q (slice_get_within positions packet _ passed)))
+    (sym more-is))
 
 -- a packet that hasn't passed all middleboxes can't be released
 not_passed : (rules : List Rule) (s : State) (packet : ℕ) (place : Option Position) → is_passed place ≡ false → option_map (after (length rules) s) (release_at packet place) ≡ None

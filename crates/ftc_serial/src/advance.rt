@@ -54,7 +54,13 @@ fn position_after(servers: usize, server: ServerId, packet: Option<Bytes>) -> Po
 }
 
 /// A packet that waits for a middlebox goes through it.
-pub fn visited(from: Position, server: ServerId, servers: usize, rule: &Rule, store: &mut Store) -> Position
+pub fn visited(
+    from: Position,
+    server: ServerId,
+    servers: usize,
+    rule: &Rule,
+    store: &mut Store,
+) -> Position
     requires known { server < servers }
     requires few { servers ≤ MOST_SERVERS }
     requires room { MOST_WRITES ≤ store.old.spare }

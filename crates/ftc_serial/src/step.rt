@@ -6,10 +6,7 @@ use ftc_base::{Items, PacketNo, ServerId};
 #[derive(Clone, Copy, Debug, PartialEq, Eq)]
 pub enum Step {
     /// A packet goes through the middlebox of a server.
-    Visit {
-        server: ServerId,
-        packet: PacketNo,
-    },
+    Visit { server: ServerId, packet: PacketNo },
     /// A packet that has passed all middleboxes leaves the chain.
     Release { packet: PacketNo },
 }

@@ -22,6 +22,6 @@ returns-clause-made c =
     let rules = serial.rules in
     let rule = c.at-rule.result.now in
     let next = c.visited-next.ensures.position got.0 from ∙ ap (λ (n : ℕ). position_after n c.args.server (taken rule got.0 c.index_mut-3.result.now.content).packet) c.len-2.ensures
-        ∙ ap (λ (content : Content). position_after (length rules) c.args.server (taken rule got.0 content).packet) content in
+    ∙ ap (λ (content : Content). position_after (length rules) c.args.server (taken rule got.0 content).packet) content in
     let second = c.visited-next.ensures.content got.0 from ∙ ap (λ (content : Content). written (taken rule got.0 content).writes content) content in
     visit_made_at rules serial.stores.items serial.positions.items serial.released c.args.server c.args.packet c.from-middlebox.result c.index_mut.result.now c.reserve.new.self c.visited-next.new.store c.replace-position.new.dest c.visited-next.result rule got.0 at got.1 c.at-rule.ensures held next second
