@@ -28,9 +28,19 @@ servers draft = draft.rules ++ last_firewall draft.firewall
 abbrev pub with_server : Draft → Rule → Draft
 with_server draft server = record draft { rules = servers draft ++ server ∷ []; firewall = None }
 
-abbrev pub with_fire_line : Option FirewallRule → FireLine → Option FirewallRule
-with_fire_line None line = None
-with_fire_line (Some firewall) line = Some (record { lines = firewall.lines ++ line ∷ [] })
+abbrev pub with_firewall : Draft → Draft
+with_firewall draft = record draft { rules = servers draft; firewall = Some (record { lines = [] }) }
+
+-- the firewall with one more line
+abbrev pub longer_firewall : Option FirewallRule → FireLine → Option FirewallRule
+longer_firewall None line = None
+longer_firewall (Some firewall) line = Some (record { lines = firewall.lines ++ line ∷ [] })
+
+abbrev pub with_fire_line : Draft → FireLine → Draft
+with_fire_line draft line = record draft { firewall = longer_firewall draft.firewall line }
+
+abbrev pub with_spare : Draft → Draft
+with_spare draft = record (with_server draft rule.Pass) { spares = draft.spares + 1 }
 
 -- the draft with what the line at that place says
 abbrev pub with_statement : Draft → ℕ → Statement → Draft
@@ -38,9 +48,9 @@ with_statement draft place said.Nothing = draft
 with_statement draft place (said.Failures number) = record draft { failures = Some (record { number = number; line = place }) }
 with_statement draft place (said.Partitions number) = record draft { partitions = Some number }
 with_statement draft place (said.Middlebox server) = with_server draft server
-with_statement draft place said.Firewall = record draft { rules = servers draft; firewall = Some (record { lines = [] }) }
-with_statement draft place (said.FireLine line) = record draft { firewall = with_fire_line draft.firewall line }
-with_statement draft place said.Spare = record (with_server draft rule.Pass) { spares = draft.spares + 1 }
+with_statement draft place said.Firewall = with_firewall draft
+with_statement draft place (said.FireLine line) = with_fire_line draft line
+with_statement draft place said.Spare = with_spare draft
 
 -- what the lines so far say is in its bounds
 pub record IsDraft (draft : Draft) : Type 0 where

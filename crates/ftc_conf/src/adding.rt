@@ -5,7 +5,7 @@ ghost use Rattle.ftc_base.specs.declared.limits.TheConstants.{MOST_SERVERS};
 ghost use Rattle.ftc_firewall.specs.Bounds.{IsFireLine};
 ghost use Rattle.ftc_mbox.specs.Bounds.{IsRule};
 ghost use Rattle.ftc_conf.specs.declared.statement.Statement.TheVariants as said;
-ghost use Rattle.ftc_conf.specs.Draft.{no_lines, servers, last_firewall, with_server, with_statement, IsDraft, IsStatement, HasRoom};
+ghost use Rattle.ftc_conf.specs.Draft.{no_lines, servers, last_firewall, with_server, with_firewall, with_fire_line, with_statement, IsDraft, IsStatement, HasRoom};
 
 use crate::draft::{Draft, Failures};
 use crate::statement::Statement;
@@ -73,7 +73,7 @@ fn add_server(draft: Draft, server: Rule) -> Result<Draft, NoMemory>
 fn add_firewall(alloc: Global, draft: Draft) -> Result<Draft, NoMemory>
     requires bounds { IsDraft draft }
     requires room { length (servers draft) < MOST_SERVERS }
-    ensures value { IfOk result (λ next. next ≡ with_statement draft 0 said.Firewall) }
+    ensures value { IfOk result (λ next. next ≡ with_firewall draft) }
     ensures bounds { IfOk result IsDraft }
 {
     let rules = close_firewall(draft.rules, draft.firewall)?;
@@ -92,7 +92,7 @@ fn add_fire_line(draft: Draft, line: FireLine) -> Result<Draft, NoMemory>
     requires bounds { IsDraft draft }
     requires line { IsFireLine line }
     requires room { HasRoom draft (said.FireLine line) }
-    ensures value { IfOk result (λ next. next ≡ with_statement draft 0 (said.FireLine line)) }
+    ensures value { IfOk result (λ next. next ≡ with_fire_line draft line) }
     ensures bounds { IfOk result IsDraft }
 {
     let mut next = draft;
