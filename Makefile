@@ -1,0 +1,31 @@
+# `make demo` builds the program and runs it on the sample files; `make test` passes all checks.
+
+# A folder with further cases and their comparer, where one lies beside the checkout.
+CASES ?= ../shared/cases
+CASE_SETS = first-path first-path-refused middleboxes middleboxes-refused
+
+SOURCES := $(shell find crates crates.txt -name out -prune -o -type f -print)
+
+.PHONY: build demo test bench clean
+
+build: bin/ftc
+
+# `rt run` proves the program and all crates below it before it runs the stored run.
+bin/ftc: $(SOURCES)
+	cd crates/ftc && rt run
+	mkdir -p bin && cp crates/ftc/out/ftc bin/ftc
+
+demo: bin/ftc
+	./examples/demo bin/ftc out/demo
+
+test:
+	rt ci
+	@if [ -x "$(CASES)/compare" ]; then \
+		$(MAKE) bin/ftc && "$(CASES)/compare" bin/ftc $(addprefix $(CASES)/,$(CASE_SETS)) --no-report; \
+	fi
+
+bench: bin/ftc
+	./examples/bench bin/ftc out/bench
+
+clean:
+	rm -rf bin out crates/*/out
