@@ -2,14 +2,14 @@
 //! tails of the groups are known to have.
 #![tactic(auto)]
 
-mod commit;
+mod advance;
 mod commits;
 mod laws;
 mod marks;
 mod order;
 mod vector;
 
-pub use commit::bump;
+pub use advance::bump;
 pub use commits::Commits;
 pub use laws::{applying, covering, groups, merging, numbers};
 pub use marks::{Marks, need_of};

@@ -1,6 +1,6 @@
 use Rattle.std.proofs.Common.{None, arith}
 use Rattle.ftc_vector.proofs.Partitions.{length-by_partition, get_or-by_partition, by_partition-from}
-use Rattle.ftc_vector.proofs.commit.numbers_at.Goals as goal
+use Rattle.ftc_vector.proofs.advance.numbers_at.Goals as goal
 
 pub loop-partition-init : goal.loop-partition-init
 loop-partition-init c = record {

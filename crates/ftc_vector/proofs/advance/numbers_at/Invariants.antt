@@ -3,7 +3,7 @@ use Rattle.std.proofs.Common.{◌≡◌, ◌<◌, ◌≤◌, ℕ, None, Some, le
 use Rattle.ftc_base.specs.Sets.{has}
 use Rattle.ftc_base.specs.declared.limits.TheConstants.{MOST_PARTITIONS}
 use Rattle.ftc_vector.specs.Vector.{mark_at, number_at}
-use Rattle.ftc_vector.proofs.commit.numbers_at.Given as goal
+use Rattle.ftc_vector.proofs.advance.numbers_at.Given as goal
 
 abbrev pub invariant-loop-partition : goal.invariant-loop-partition
 invariant-loop-partition l = record {
