@@ -1,2 +1,3 @@
 pub mod Lookups
 pub mod Written
+pub mod Listing

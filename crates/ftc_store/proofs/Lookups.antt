@@ -20,7 +20,7 @@ same_test = search (comparing, rules)
 abbrev pub content_of : Pairs → Content
 content_of pairs = from_entries pairs
 
-find_pair : (pairs : Pairs) (q : List ℕ) → find (slice_cmp nat_cmp) q pairs ≡ lookup (pointwise nat_eq q) pairs
+pub find_pair : (pairs : Pairs) (q : List ℕ) → find (slice_cmp nat_cmp) q pairs ≡ lookup (pointwise nat_eq q) pairs
 find_pair [] q = refl
 find_pair (pair ∷ pairs) q =
     ap (λ (b : Bool). cond b (Some pair.1) (find (slice_cmp nat_cmp) q pairs)) (sym (same_test q pair.0)) ∙ ap (cond (pointwise nat_eq q pair.0) (Some pair.1)) (find_pair pairs q)

@@ -1,11 +1,14 @@
 //! A map in which a write that was reserved cannot fail.
 
-ghost use Rattle.std.specs.Prelude.{◌≡◌, ◌≤◌, ◌+◌, length, OnOk, OnErr, IsOk, IfOk};
+ghost use Rattle.std.specs.Prelude.{◌≡◌, ◌≤◌, ◌+◌, ◌↔◌, length, IsTrue, OnOk, OnErr, IsOk, IfOk};
+ghost use Rattle.std.specs.Prelude.{map as map_list};
 ghost use Rattle.std.specs.FinMap as map;
 ghost use Rattle.ftc_store.specs.Store.{written, changed};
+ghost use Rattle.ftc_store.specs.Pairs.{entry_of};
 
+use crate::pairs::{Answers2, copy_of, pairs_of, sort_pairs};
 use ftc_base::limits::MOST_PARTITIONS;
-use ftc_base::{Key, NoMemory, Value, Write, Writes};
+use ftc_base::{Items, Key, NoMemory, Value, Write, Writes};
 use std::alloc::Global;
 use std::collections::HashMap;
 use std::marker::Model;
@@ -55,6 +58,41 @@ impl Store {
         ensures { result ≡ self.now.partitions }
     {
         self.partitions
+    }
+
+    /// How many keys there are.
+    pub fn len(&self) -> usize
+        ensures { result ≡ map.len self.now.content }
+    {
+        self.held.len()
+    }
+
+    /// Whether there is no key.
+    pub fn is_empty(&self) -> bool
+        ensures { IsTrue result ↔ (map.len self.now.content ≡ 0) }
+    {
+        self.len() == 0
+    }
+
+    /// All pairs, by rising key bytes.
+    pub fn list(&self, alloc: Global) -> Result<Answers2, NoMemory>
+        ensures { IfOk result (λ list. map_list entry_of list ≡ map.entries self.now.content) }
+    {
+        let mut pairs = pairs_of(alloc, &self.held)?;
+        sort_pairs(&mut pairs)?;
+        Ok(Items::from_vec(pairs))
+    }
+
+    /// A store with the same content and as many partitions.
+    pub fn copy(&self, alloc: Global) -> Result<Store, NoMemory>
+        ensures content { IfOk result (λ copy. copy.content ≡ self.now.content) }
+        ensures partitions { IfOk result (λ copy. copy.partitions ≡ self.now.partitions) }
+    {
+        let held = copy_of(alloc, &self.held)?;
+        Ok(Store {
+            held,
+            partitions: self.partitions,
+        })
     }
 
     /// Makes room for so many more keys.

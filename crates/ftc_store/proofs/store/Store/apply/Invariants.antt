@@ -1,5 +1,5 @@
 -- the writes so far have been made
-use Rattle.std.proofs.Common.{◌≡◌, ◌≤◌, ◌+◌, take, length}
+use Rattle.std.proofs.Common.{◌≡◌, ◌≤◌, ◌+◌, take}
 use Rattle.ftc_store.specs.Store.{written}
 use Rattle.ftc_store.proofs.store.Store.apply.Given as goal
 

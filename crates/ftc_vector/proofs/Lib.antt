@@ -1,0 +1,4 @@
+pub mod Partitions
+pub mod Bounds
+pub mod Needs
+pub mod GroupLists

@@ -1,0 +1,19 @@
+-- How the numbers of a vector stand to those of a log, of a need and of another vector.
+use Rattle.std.specs.Prelude.{◌≡◌, ◌<◌, ◌≤◌, ℕ, true, false, List, Option, Some}
+use Rattle.ftc_base.specs.Sets.{has}
+use Rattle.ftc_base.specs.declared.limits.TheConstants.{MOST_PARTITIONS}
+use Rattle.ftc_vector.specs.Vector.{number_at, mark_at}
+
+-- a log that carries the numbers before may be applied to the vector: the vector has the carried number in each
+-- changed partition, and at least the carried one in each other partition that the log marks
+pub record IsReady (vector : List ℕ) (before : List (Option ℕ)) (changed : ℕ) : Type 0 where
+  pub changed_equal : (partition carried : ℕ) → partition < MOST_PARTITIONS → mark_at before partition ≡ Some carried → has changed partition ≡ true → number_at vector partition ≡ carried
+  pub others_reached : (partition carried : ℕ) → partition < MOST_PARTITIONS → mark_at before partition ≡ Some carried → has changed partition ≡ false → carried ≤ number_at vector partition
+
+-- the vector has reached the need in each partition that the need marks
+pub record IsCovered (vector : List ℕ) (need : List (Option ℕ)) : Type 0 where
+  pub reached : (partition least : ℕ) → partition < MOST_PARTITIONS → mark_at need partition ≡ Some least → least ≤ number_at vector partition
+
+-- no number of a is greater than that of b
+pub record IsBelow (a b : List ℕ) : Type 0 where
+  pub each : (partition : ℕ) → partition < MOST_PARTITIONS → number_at a partition ≤ number_at b partition

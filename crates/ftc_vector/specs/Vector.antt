@@ -1,0 +1,38 @@
+-- What each partition has: a number in a vector, a number or none in marks.
+use Rattle.std.specs.Prelude.{ℕ, ◌+◌, max, Bool, List, map, Option, Some, None, slice_index, slice_index_or, if◌then◌else◌}
+use Rattle.std.specs.List.{range_with_len}
+use Rattle.ftc_base.specs.Sets.{has}
+use Rattle.ftc_base.specs.declared.limits.TheConstants.{MOST_PARTITIONS}
+
+-- what f gives for each partition, from partition 0 on
+unfoldable pub by_partition : {A : Type 0} → (ℕ → A) → List A
+by_partition f = map f (range_with_len 0 MOST_PARTITIONS)
+
+-- the number of a partition
+abbrev pub number_at : List ℕ → ℕ → ℕ
+number_at vector partition = slice_index vector partition
+
+-- the number that marks give a partition, where they give it one
+abbrev pub mark_at : List (Option ℕ) → ℕ → Option ℕ
+mark_at marks partition = slice_index_or marks partition None
+
+-- the greater number in each partition
+abbrev pub merged : List ℕ → List ℕ → List ℕ
+merged a b = by_partition (λ partition. max (number_at a partition) (number_at b partition))
+
+-- the number of each changed partition is raised by 1
+abbrev pub raised : List ℕ → ℕ → List ℕ
+raised vector changed = by_partition (λ partition. if has changed partition then number_at vector partition + 1 else number_at vector partition)
+
+-- the numbers of the touched partitions
+abbrev pub marks_of : List ℕ → ℕ → List (Option ℕ)
+marks_of vector touched = by_partition (λ partition. if has touched partition then Some (number_at vector partition) else None)
+
+-- what a log that carries this number needs, where it changes the partition and where it doesn't
+abbrev pub need_at : Option ℕ → Bool → Option ℕ
+need_at None changed = None
+need_at (Some carried) changed = Some (if changed then carried + 1 else carried)
+
+-- the need of a log that carries these numbers and changes these partitions
+abbrev pub need_of : List (Option ℕ) → ℕ → List (Option ℕ)
+need_of before changed = by_partition (λ partition. need_at (mark_at before partition) (has changed partition))

@@ -1,0 +1,67 @@
+//! What the tails of the groups are known to have.
+
+ghost use Rattle.std.specs.Prelude.{◌≡◌};
+ghost use Rattle.ftc_vector.specs.Vector.{by_partition};
+ghost use Rattle.ftc_vector.specs.Commits.{by_group, vector_of, all_merged, group_raised};
+
+use crate::vector::{Vector, merge};
+use ftc_base::ServerId;
+use ftc_base::limits::MOST_SERVERS;
+use std::marker::Model;
+
+/// How many groups there may be, one for each server.
+const GROUPS: usize = MOST_SERVERS as usize;
+
+/// A vector for each group, from group 0 on: the greatest that is known of its tail. A contract sees
+/// the list of the vectors.
+#[derive(Clone, Copy, Debug, PartialEq, Eq)]
+pub struct Commits {
+    vectors: [Vector; GROUPS],
+}
+
+impl Model for Commits {
+    ghost use Rattle.std.specs.Prelude.{◌≡◌, ℕ, List, length};
+    ghost use Rattle.ftc_base.specs.declared.limits.TheConstants.{MOST_SERVERS};
+
+    ghost Value = { List (List ℕ) };
+
+    ghost view = { λ commits. commits.vectors };
+
+    ghost invariant = { λ commits. length commits.vectors ≡ MOST_SERVERS };
+
+    ghost inverse = { λ vectors. record { vectors = vectors } };
+}
+
+impl Commits {
+    /// Each group's vector has 0 in each partition.
+    pub fn new() -> Commits
+        ensures { result ≡ by_group (λ _. by_partition (λ _. 0)) }
+    {
+        Commits {
+            vectors: [Vector::zero(); GROUPS],
+        }
+    }
+
+    /// The vector of a group.
+    pub fn of(&self, group: ServerId) -> &Vector
+        ensures { result.now ≡ vector_of self.now group }
+    {
+        &self.vectors[usize::from(group.number())]
+    }
+
+    /// Merges each group's vectors.
+    pub fn merge(&mut self, other: &Commits)
+        ensures { self.new ≡ all_merged self.old other.now }
+    {
+        for (group, vector) in self.vectors.iter_mut().enumerate() {
+            merge(vector, &other.vectors[group]);
+        }
+    }
+
+    /// Merges the group's vector with the given one. The other groups' vectors stay.
+    pub fn raise(&mut self, group: ServerId, vector: &Vector)
+        ensures { self.new ≡ group_raised self.old group vector.now }
+    {
+        merge(&mut self.vectors[usize::from(group.number())], vector);
+    }
+}
