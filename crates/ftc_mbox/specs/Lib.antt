@@ -3,3 +3,4 @@ pub mod Bounds
 pub mod Chain
 pub mod Change
 pub mod Monitor
+pub mod Visit
