@@ -1,3 +1,5 @@
 pub mod Leads
 pub mod Coming
 pub mod WordLemmas
+pub mod OutLemmas
+pub mod TextLemmas

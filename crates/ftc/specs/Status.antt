@@ -53,13 +53,17 @@ code_of (status.Script line cause) = 3
 code_of status.DeskFault = 4
 code_of status.NoMemory = 5
 
+-- the line of a fault at a place of that kind
+abbrev pub fault_line : List ℕ → ℕ → ℕ → List ℕ
+fault_line kind place number = kind ++ codes " " ++ decimal place ++ codes ": cause " ++ decimal number
+
 -- the line on standard error, without a line feed
 abbrev pub line_of : Status → List ℕ
 line_of status.Done = []
 line_of status.Usage = codes "usage: ftc run CHAIN SCRIPT CAPTURE OUT JOURNAL REPORT [--workers N | --alone SCHEDULE]"
-line_of (status.Chain line cause) = codes "chain: line " ++ decimal line ++ codes ": cause " ++ decimal (chain_number cause)
-line_of (status.Capture at cause) = codes "capture: byte " ++ decimal at ++ codes ": cause " ++ decimal (capture_number cause)
-line_of (status.Script line cause) = codes "script: line " ++ decimal line ++ codes ": cause " ++ decimal (script_number cause)
+line_of (status.Chain line cause) = fault_line (codes "chain: line") line (chain_number cause)
+line_of (status.Capture at cause) = fault_line (codes "capture: byte") at (capture_number cause)
+line_of (status.Script line cause) = fault_line (codes "script: line") line (script_number cause)
 line_of status.DeskFault = codes "desk: failed"
 line_of status.NoMemory = codes "memory: refused"
 

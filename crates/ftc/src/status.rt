@@ -2,7 +2,7 @@
 
 ghost use Rattle.std.specs.Prelude.{◌≡◌, IfOk, string_bytes};
 ghost use Rattle.ftc.specs.declared.status.Status.TheVariants as status;
-ghost use Rattle.ftc.specs.Status.{chain_number, capture_number, script_number, code_of, line_of, desk_status, chain_status, capture_status};
+ghost use Rattle.ftc.specs.Status.{chain_number, capture_number, script_number, code_of, fault_line, line_of, desk_status, chain_status, capture_status};
 
 use ftc_base::{Bytes, NoMemory, Refuse};
 use ftc_conf::{ChainCause, ChainFault};
@@ -47,6 +47,13 @@ fn script_number(cause: ScriptCause) -> u8
     cause as u8
 }
 
+/// The line of a fault at a place of that kind.
+fn fault_words(alloc: Global, kind: &str, place: u64, cause: u8) -> Result<String, AllocError>
+    ensures { IfOk result (λ text. string_bytes text ≡ fault_line kind.now place cause) }
+{
+    format!(in alloc; "{kind} {place}: cause {cause}")
+}
+
 /// The line of a status.
 fn words(alloc: Global, status: Status) -> Result<String, AllocError>
     ensures { IfOk result (λ text. string_bytes text ≡ line_of status) }
@@ -57,16 +64,13 @@ fn words(alloc: Global, status: Status) -> Result<String, AllocError>
             "usage: ftc run CHAIN SCRIPT CAPTURE OUT JOURNAL REPORT [--workers N | --alone SCHEDULE]"
         ),
         Status::Chain { line, cause } => {
-            let cause = chain_number(cause);
-            format!(in alloc; "chain: line {line}: cause {cause}")
+            fault_words(alloc, "chain: line", line, chain_number(cause))
         }
         Status::Capture { at, cause } => {
-            let cause = capture_number(cause);
-            format!(in alloc; "capture: byte {at}: cause {cause}")
+            fault_words(alloc, "capture: byte", at, capture_number(cause))
         }
         Status::Script { line, cause } => {
-            let cause = script_number(cause);
-            format!(in alloc; "script: line {line}: cause {cause}")
+            fault_words(alloc, "script: line", u64::from(line), script_number(cause))
         }
         Status::DeskFault => format!(in alloc; "desk: failed"),
         Status::NoMemory => format!(in alloc; "memory: refused"),

@@ -11,7 +11,11 @@ use std::process::Abort;
 use std::test::Fail;
 
 /// The run ends so, and makes no file.
-fn is_refused<R: Abort + AllocGlobal>(rt: &R, mut desk: MemoryDesk, ending: Status) -> Result<(), Fail> {
+fn is_refused<R: Abort + AllocGlobal>(
+    rt: &R,
+    mut desk: MemoryDesk,
+    ending: Status,
+) -> Result<(), Fail> {
     assert_eq!(rt; run(rt, &WORDS, &mut desk), ending);
     assert_eq!(rt; desk.get("out"), None);
     assert_eq!(rt; desk.get("journal"), None);
