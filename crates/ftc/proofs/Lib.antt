@@ -2,4 +2,5 @@ pub mod Leads
 pub mod Coming
 pub mod WordLemmas
 pub mod OutLemmas
-pub mod TextLemmas
+pub mod DistinctLemmas
+pub mod EndLemmas

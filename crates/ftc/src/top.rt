@@ -27,7 +27,7 @@ fn write_files<D: Desk>(
     capture: &Capture,
     driven: &Driven,
 ) -> Result<(), DeskError>
-    requires distinct { names.entry.out.now ≢ names.entry.journal.now }
+    requires distinct { names.out.now ≢ names.journal.now }
     requires writable { AreWritable capture.now.packets (state_of driven.now.serial).released }
     ensures written { D.tells desk.old → OnOk result (AreWritten names.entry (out_bytes capture.now (state_of driven.now.serial).released) (spelling driven.now.journal.items) (D.file desk.old) (D.file desk.new)) }
     ensures refused { D.tells desk.old → OnErr result (AreCutShort names.entry (out_bytes capture.now (state_of driven.now.serial).released) (spelling driven.now.journal.items) (D.file desk.old) (D.file desk.new)) }
@@ -41,7 +41,7 @@ fn write_files<D: Desk>(
 
 /// Runs with these names.
 fn run_names<D: Desk>(alloc: Global, names: Names<'_>, desk: &mut D) -> Status
-    requires distinct { names.entry.out.now ≢ names.entry.journal.now }
+    requires distinct { names.out.now ≢ names.journal.now }
     ensures ends { D.tells desk.old → Ends names.entry (D.file desk.old) (D.file desk.new) result }
     ensures known { result ≢ Status.Usage }
     ensures count { D.faults desk.old ≤ D.faults desk.new }
