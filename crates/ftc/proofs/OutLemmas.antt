@@ -44,15 +44,6 @@ pub piece_cut : {A : Type 0} (f : A → List ℕ) (xs : List A) (place : ℕ) (x
 piece_cut f xs place x front was old now is cut sofar =
     may_hold was old now (front ++ flat_map f (take place xs)) (f x) (flat_map f (drop (suc place) xs)) (front ++ flat_map f xs) sofar (ap (λ (bytes : List ℕ). front ++ bytes) (parted f xs place x is) ∙ sym (append_assoc front (flat_map f (take place xs)) (f x ++ flat_map f (drop (suc place) xs)))) cut
 
--- a file that was just made holds a front of the whole
-pub made_holds : (was now : Option (List ℕ)) (whole : List ℕ) → now ≡ Some [] → MayHold was now whole
-made_holds was now whole made = inr ([], made, (whole, refl))
-
--- a file whose making was cut short, too
-pub making_holds : (was now : Option (List ℕ)) (whole : List ℕ) → (now ≡ was) ⊎ (now ≡ Some []) → MayHold was now whole
-making_holds was now whole (inl same) = inl same
-making_holds was now whole (inr made) = made_holds was now whole made
-
 pub on_err : {A E : Type 0} (r : Result A E) (P : Type 0) → P → OnErr r P
 on_err (Ok x) P p = tt
 on_err (Err e) P p = p
