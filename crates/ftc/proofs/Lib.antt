@@ -5,3 +5,6 @@ pub mod Members
 pub mod Driving
 pub mod Writable
 pub mod WordLemmas
+pub mod OutLemmas
+pub mod DistinctLemmas
+pub mod EndLemmas

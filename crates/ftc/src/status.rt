@@ -1,7 +1,14 @@
 //! How a run ended.
 
-use ftc_conf::ChainCause;
-use ftc_pcap::CaptureCause;
+ghost use Rattle.std.specs.Prelude.{◌≡◌, IfOk, string_bytes};
+ghost use Rattle.ftc.specs.declared.status.Status.TheVariants as status;
+ghost use Rattle.ftc.specs.Status.{chain_number, capture_number, script_number, code_of, fault_line, line_of, desk_status, chain_status, capture_status};
+
+use ftc_base::{Bytes, NoMemory, Refuse};
+use ftc_conf::{ChainCause, ChainFault};
+use ftc_outside::DeskError;
+use ftc_pcap::{CaptureCause, CaptureFault};
+use std::alloc::{AllocError, Global};
 
 /// What is wrong with a script.
 #[derive(Clone, Copy, Debug, PartialEq, Eq)]
@@ -20,4 +27,119 @@ pub enum Status {
     Script { line: u32, cause: ScriptCause },
     DeskFault,
     NoMemory,
+}
+
+fn chain_number(cause: ChainCause) -> u8
+    ensures { result ≡ chain_number cause }
+{
+    cause as u8
+}
+
+fn capture_number(cause: CaptureCause) -> u8
+    ensures { result ≡ capture_number cause }
+{
+    cause as u8
+}
+
+fn script_number(cause: ScriptCause) -> u8
+    ensures { result ≡ script_number cause }
+{
+    cause as u8
+}
+
+/// The line of a fault at a place of that kind.
+fn fault_words(alloc: Global, kind: &str, place: u64, cause: u8) -> Result<String, AllocError>
+    ensures { IfOk result (λ text. string_bytes text ≡ fault_line kind.now place cause) }
+{
+    format!(in alloc; "{kind} {place}: cause {cause}")
+}
+
+/// The line of a status.
+fn words(alloc: Global, status: Status) -> Result<String, AllocError>
+    ensures { IfOk result (λ text. string_bytes text ≡ line_of status) }
+{
+    match status {
+        Status::Done => Ok(String::new(alloc)),
+        Status::Usage => format!(in alloc;
+            "usage: ftc run CHAIN SCRIPT CAPTURE OUT JOURNAL REPORT [--workers N | --alone SCHEDULE]"
+        ),
+        Status::Chain { line, cause } => {
+            fault_words(alloc, "chain: line", line, chain_number(cause))
+        }
+        Status::Capture { at, cause } => {
+            fault_words(alloc, "capture: byte", at, capture_number(cause))
+        }
+        Status::Script { line, cause } => {
+            fault_words(alloc, "script: line", u64::from(line), script_number(cause))
+        }
+        Status::DeskFault => format!(in alloc; "desk: failed"),
+        Status::NoMemory => format!(in alloc; "memory: refused"),
+    }
+}
+
+impl Status {
+    /// The exit code of the program.
+    pub fn code(&self) -> u8
+        ensures { result ≡ code_of self.now }
+    {
+        match self {
+            Status::Done => 0,
+            Status::Usage => 2,
+            Status::Chain { .. } | Status::Capture { .. } | Status::Script { .. } => 3,
+            Status::DeskFault => 4,
+            Status::NoMemory => 5,
+        }
+    }
+
+    /// The line that the program says on standard error, without a line feed. It is empty where the
+    /// run is done.
+    pub fn line(&self, alloc: Global) -> Result<Bytes, NoMemory>
+        ensures { IfOk result (λ line. line ≡ line_of self.now) }
+    {
+        let text = words(alloc, *self)?;
+        let mut line = Bytes::new(alloc);
+        line.append(text.as_bytes())?;
+        Ok(line)
+    }
+}
+
+impl From<DeskError> for Status {
+    ghost from_gives = { λ error ending. ending ≡ desk_status error };
+
+    fn from(error: DeskError) -> Status {
+        match error {
+            DeskError::Failed => Status::DeskFault,
+            DeskError::NoMemory => Status::NoMemory,
+        }
+    }
+}
+
+impl From<NoMemory> for Status {
+    ghost from_gives = { λ _ ending. ending ≡ status.NoMemory };
+
+    fn from(_error: NoMemory) -> Status {
+        Status::NoMemory
+    }
+}
+
+impl From<Refuse<ChainFault>> for Status {
+    ghost from_gives = { λ refusal ending. ending ≡ chain_status refusal };
+
+    fn from(refusal: Refuse<ChainFault>) -> Status {
+        match refusal {
+            Refuse::Bad(ChainFault { line, cause }) => Status::Chain { line, cause },
+            Refuse::NoMemory => Status::NoMemory,
+        }
+    }
+}
+
+impl From<Refuse<CaptureFault>> for Status {
+    ghost from_gives = { λ refusal ending. ending ≡ capture_status refusal };
+
+    fn from(refusal: Refuse<CaptureFault>) -> Status {
+        match refusal {
+            Refuse::Bad(CaptureFault { at, cause }) => Status::Capture { at, cause },
+            Refuse::NoMemory => Status::NoMemory,
+        }
+    }
 }

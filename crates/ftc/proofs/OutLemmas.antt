@@ -1,0 +1,61 @@
+-- Pieces that are written one after another.
+use Rattle.std.proofs.Common.{◌≡◌, ◌<◌, ℕ, zero, suc, ◌+◌, List, [], ◌∷◌, ◌++◌, length, take, drop, ap, sym, refl, ◌∙◌, append_assoc, append-nil, Bool, arith, add-one, inl, inr}
+use Rattle.std.specs.Prelude.{slice_get, IfSome, Option, Some, unwrap_or, ◌⊎◌, OnErr, Result, Ok, Err}
+use Rattle.std.specs.List.{flat_map}
+use Rattle.std.proofs.lemmas.List.{take-append-drop}
+use Rattle.std.proofs.lemmas.Grind.{common_steps}
+use Rattle.std.specs.Option.{option_map_or}
+use Rattle.ftc_base.specs.declared.released.Released.{Released}
+use Rattle.ftc_pcap.specs.declared.capture.Capture.{Capture}
+use Rattle.ftc_pcap.specs.declared.packets.Packet.{Packet}
+use Rattle.ftc_pcap.specs.Grammar.{record_bytes, rewritten}
+use Rattle.ftc.specs.Output.{MayHold, released_record}
+
+-- the piece of the item at a place stands behind those of the items before it
+pub one_more : {A : Type 0} (f : A → List ℕ) (xs : List A) (place : ℕ) (x : A) → slice_get xs place ≡ Some x → flat_map f (take (suc place) xs) ≡ flat_map f (take place xs) ++ f x
+one_more f [] place x is = cc
+one_more f (y ∷ ys) zero x is = grind (arith, common_steps)
+one_more f (y ∷ ys) (suc place) x is = ap (λ (bytes : List ℕ). f y ++ bytes) (one_more f ys place x is) ∙ sym (append_assoc (f y) (flat_map f (take place ys)) (f x))
+
+-- all pieces are those so far, the one at the place, and those behind it
+parted : {A : Type 0} (f : A → List ℕ) (xs : List A) (place : ℕ) (x : A) → slice_get xs place ≡ Some x → flat_map f xs ≡ flat_map f (take place xs) ++ (f x ++ flat_map f (drop (suc place) xs))
+parted f [] place x is = cc
+parted f (y ∷ ys) zero x is = grind (arith, common_steps)
+parted f (y ∷ ys) (suc place) x is = ap (λ (bytes : List ℕ). f y ++ bytes) (parted f ys place x is) ∙ sym (append_assoc (f y) (flat_map f (take place ys)) (f x ++ flat_map f (drop (suc place) ys)))
+
+-- a file that had the pieces so far has one more
+pub written_more : {A : Type 0} (f : A → List ℕ) (xs : List A) (place : ℕ) (x : A) (front : List ℕ) (old now : Option (List ℕ)) → slice_get xs place ≡ Some x → now ≡ Some (unwrap_or old [] ++ f x) → old ≡ Some (front ++ flat_map f (take place xs)) → now ≡ Some (front ++ flat_map f (take (place + 1) xs))
+written_more f xs place x front old now is grown sofar =
+    let more : now ≡ Some ((front ++ flat_map f (take place xs)) ++ f x) = grown ∙ ap (λ (o : Option (List ℕ)). Some (unwrap_or o [] ++ f x)) sofar in
+    let whole : (front ++ flat_map f (take place xs)) ++ f x ≡ front ++ flat_map f (take (suc place) xs) = append_assoc front (flat_map f (take place xs)) (f x) ∙ ap (λ (bytes : List ℕ). front ++ bytes) (sym (one_more f xs place x is)) in
+    rw add-one (more ∙ ap Some whole)
+
+regroup : (s a b m : List ℕ) → s ++ ((a ++ b) ++ m) ≡ (s ++ a) ++ (b ++ m)
+regroup s a b m = simp append_assoc
+
+-- a piece that was cut short leaves some front of the whole
+pub may_hold : (was old now : Option (List ℕ)) (sofar piece more whole : List ℕ) → old ≡ Some sofar → whole ≡ sofar ++ (piece ++ more) → (now ≡ old) ⊎ ((count : ℕ) × (now ≡ Some (unwrap_or old [] ++ take count piece))) → MayHold was now whole
+may_hold was old now sofar piece more whole old-is whole-is (inl same) = inr (sofar, same ∙ old-is, (piece ++ more, whole-is))
+may_hold was old now sofar piece more whole old-is whole-is (inr (count, grown)) =
+    inr (sofar ++ take count piece, grown ∙ ap (λ (o : Option (List ℕ)). Some (unwrap_or o [] ++ take count piece)) old-is, (drop count piece ++ more, whole-is ∙ ap (λ (bytes : List ℕ). sofar ++ (bytes ++ more)) (sym (take-append-drop count piece)) ∙ regroup sofar (take count piece) (drop count piece) more))
+
+-- and so does the piece of an item
+pub piece_cut : {A : Type 0} (f : A → List ℕ) (xs : List A) (place : ℕ) (x : A) (front : List ℕ) (was old now : Option (List ℕ)) → slice_get xs place ≡ Some x → (now ≡ old) ⊎ ((count : ℕ) × (now ≡ Some (unwrap_or old [] ++ take count (f x)))) → old ≡ Some (front ++ flat_map f (take place xs)) → MayHold was now (front ++ flat_map f xs)
+piece_cut f xs place x front was old now is cut sofar =
+    may_hold was old now (front ++ flat_map f (take place xs)) (f x) (flat_map f (drop (suc place) xs)) (front ++ flat_map f xs) sofar (ap (λ (bytes : List ℕ). front ++ bytes) (parted f xs place x is) ∙ sym (append_assoc front (flat_map f (take place xs)) (f x ++ flat_map f (drop (suc place) xs)))) cut
+
+pub on_err : {A E : Type 0} (r : Result A E) (P : Type 0) → P → OnErr r P
+on_err (Ok x) P p = tt
+on_err (Err e) P p = p
+
+pub nothing_more : (whole : List ℕ) → whole ≡ [] ++ (whole ++ [])
+nothing_more whole = simp append-nil refl
+
+-- what was written for a released packet is its record
+piece_at : (big : Bool) (packets : List Packet) (place : ℕ) (own bytes : List ℕ) → place < length packets → IfSome (slice_get packets place) (λ packet. bytes ≡ record_bytes big (rewritten packet own)) → bytes ≡ option_map_or (λ packet. record_bytes big (rewritten packet own)) (slice_get packets place) []
+piece_at big [] place own bytes known written = absurd (omega arith)
+piece_at big (p ∷ ps) zero own bytes known written = written
+piece_at big (p ∷ ps) (suc place) own bytes known written = piece_at big ps place own bytes (omega arith) written
+
+pub record_piece : (capture : Capture) (released : Released) (bytes : List ℕ) → released.packet < length capture.packets → IfSome (slice_get capture.packets released.packet) (λ packet. bytes ≡ record_bytes capture.big (rewritten packet released.bytes)) → bytes ≡ released_record capture released
+record_piece capture released bytes known written = piece_at capture.big capture.packets released.packet released.bytes bytes known written

@@ -1,0 +1,14 @@
+-- the file has the header and the records so far
+use Rattle.std.proofs.Common.{◌≡◌, ◌≤◌, ◌++◌, take, Some}
+use Rattle.std.specs.List.{flat_map}
+use Rattle.ftc_outside.specs.Desk.{SameButAt}
+use Rattle.ftc.specs.Output.{released_record}
+use Rattle.ftc.proofs.output.write_out.Given as goal
+
+abbrev pub invariant-loop-packet : goal.invariant-loop-packet
+invariant-loop-packet g l = record {
+  written : g.D.Desk.tells l.fn.desk → g.D.Desk.file l.desk l.name ≡ Some (l.capture.header ++ flat_map (released_record l.capture) (take l.packet-index l.packet-items));
+  others : g.D.Desk.tells l.fn.desk → SameButAt l.name (g.D.Desk.file l.fn.desk) (g.D.Desk.file l.desk);
+  tells : g.D.Desk.tells l.fn.desk → g.D.Desk.tells l.desk;
+  count : g.D.Desk.faults l.fn.desk ≤ g.D.Desk.faults l.desk;
+}

@@ -1,0 +1,81 @@
+-- What the program says of a status: its exit code and its line.
+use Rattle.std.specs.Prelude.{ℕ, List, [], ◌++◌, decimal, codes}
+use Rattle.ftc_base.specs.declared.refusal.Refuse.{Refuse}
+use Rattle.ftc_base.specs.declared.refusal.Refuse.TheVariants as refuse
+use Rattle.ftc_outside.specs.declared.desk.DeskError.{DeskError}
+use Rattle.ftc_outside.specs.declared.desk.DeskError.TheVariants as desk
+use Rattle.ftc_conf.specs.declared.fault.ChainCause.{ChainCause}
+use Rattle.ftc_conf.specs.declared.fault.ChainCause.TheVariants as chain
+use Rattle.ftc_conf.specs.declared.fault.ChainFault.{ChainFault}
+use Rattle.ftc_pcap.specs.declared.capture.CaptureCause.{CaptureCause}
+use Rattle.ftc_pcap.specs.declared.capture.CaptureCause.TheVariants as capture
+use Rattle.ftc_pcap.specs.declared.capture.CaptureFault.{CaptureFault}
+use Rattle.ftc.specs.declared.status.ScriptCause.{ScriptCause}
+use Rattle.ftc.specs.declared.status.ScriptCause.TheVariants as script
+use Rattle.ftc.specs.declared.status.Status.{Status}
+use Rattle.ftc.specs.declared.status.Status.TheVariants as status
+
+-- the numbers of the causes
+abbrev pub chain_number : ChainCause → ℕ
+chain_number chain.NotText = 1
+chain_number chain.NoFailures = 2
+chain_number chain.NoPartitions = 3
+chain_number chain.UnknownWord = 4
+chain_number chain.WordCount = 5
+chain_number chain.BadNumber = 6
+chain_number chain.BadAddress = 7
+chain_number chain.BadRange = 8
+chain_number chain.TooManyServers = 9
+chain_number chain.TooManyItems = 10
+chain_number chain.Replicas = 11
+chain_number chain.Empty = 12
+chain_number chain.SpareOrder = 13
+
+abbrev pub capture_number : CaptureCause → ℕ
+capture_number capture.NotCapture = 1
+capture_number capture.Version = 2
+capture_number capture.LinkType = 3
+capture_number capture.RecordTooLong = 4
+capture_number capture.Cut = 5
+capture_number capture.TooMany = 6
+capture_number capture.TooBig = 7
+
+abbrev pub script_number : ScriptCause → ℕ
+script_number script.Word = 1
+
+-- the exit code
+abbrev pub code_of : Status → ℕ
+code_of status.Done = 0
+code_of status.Usage = 2
+code_of (status.Chain line cause) = 3
+code_of (status.Capture at cause) = 3
+code_of (status.Script line cause) = 3
+code_of status.DeskFault = 4
+code_of status.NoMemory = 5
+
+-- the line of a fault at a place of that kind
+abbrev pub fault_line : List ℕ → ℕ → ℕ → List ℕ
+fault_line kind place number = kind ++ codes " " ++ decimal place ++ codes ": cause " ++ decimal number
+
+-- the line on standard error, without a line feed
+abbrev pub line_of : Status → List ℕ
+line_of status.Done = []
+line_of status.Usage = codes "usage: ftc run CHAIN SCRIPT CAPTURE OUT JOURNAL REPORT [--workers N | --alone SCHEDULE]"
+line_of (status.Chain line cause) = fault_line (codes "chain: line") line (chain_number cause)
+line_of (status.Capture at cause) = fault_line (codes "capture: byte") at (capture_number cause)
+line_of (status.Script line cause) = fault_line (codes "script: line") line (script_number cause)
+line_of status.DeskFault = codes "desk: failed"
+line_of status.NoMemory = codes "memory: refused"
+
+-- how a run ends whose desk, chain or capture was refused
+abbrev pub desk_status : DeskError → Status
+desk_status desk.Failed = status.DeskFault
+desk_status desk.NoMemory = status.NoMemory
+
+abbrev pub chain_status : Refuse ChainFault → Status
+chain_status (refuse.Bad fault) = status.Chain fault.line fault.cause
+chain_status refuse.NoMemory = status.NoMemory
+
+abbrev pub capture_status : Refuse CaptureFault → Status
+capture_status (refuse.Bad fault) = status.Capture fault.at fault.cause
+capture_status refuse.NoMemory = status.NoMemory

@@ -1,0 +1,43 @@
+mod frames;
+mod refusals;
+mod runs;
+mod statuses;
+
+use ftc_base::Bytes;
+use ftc_outside::MemoryDesk;
+use std::test::Fail;
+
+/// The words of a run.
+pub const WORDS: [&str; 7] = [
+    "run", "chain", "script", "capture", "out", "journal", "report",
+];
+
+/// A chain of one monitor of 8 groups.
+pub const MONITOR: &[u8] = b"f 0\npartitions 4\nmonitor 8\n";
+
+/// The header of a little-endian capture, whose stamps are in microseconds.
+pub const HEADER: [u8; 24] = [
+    0xd4, 0xc3, 0xb2, 0xa1, 2, 0, 4, 0, 0, 0, 0, 0, 0, 0, 0, 0, 0xff, 0xff, 0, 0, 1, 0, 0, 0,
+];
+
+/// A capture of these packets, each at second 1.
+pub fn capture_of<R: AllocGlobal>(rt: &R, packets: &[&[u8]]) -> Result<Bytes, Fail> {
+    let mut capture = Bytes::new(rt.alloc());
+    capture.append(&HEADER)?;
+    for packet in packets {
+        let len = packet.len() as u8;
+        let head = [1, 0, 0, 0, 0, 0, 0, 0, len, 0, 0, 0, len, 0, 0, 0];
+        capture.append(&head)?;
+        capture.append(*packet)?;
+    }
+    Ok(capture)
+}
+
+/// A desk with this chain, this capture and an empty script.
+pub fn desk_of<R: AllocGlobal>(rt: &R, chain: &[u8], capture: &[u8]) -> Result<MemoryDesk, Fail> {
+    let mut desk = MemoryDesk::new(rt.alloc());
+    desk.put("chain", chain)?;
+    desk.put("script", b"")?;
+    desk.put("capture", capture)?;
+    Ok(desk)
+}

@@ -1,0 +1,107 @@
+//! Runs that are refused, or whose desk fails.
+
+use crate::status::{ScriptCause, Status};
+use crate::tests::frames::DATAGRAM;
+use crate::tests::{HEADER, MONITOR, WORDS, capture_of, desk_of};
+use crate::top::run;
+use ftc_conf::ChainCause;
+use ftc_outside::{FailingDesk, MemoryDesk};
+use ftc_pcap::CaptureCause;
+use std::process::Abort;
+use std::test::Fail;
+
+/// The run ends so, and makes no file.
+fn is_refused<R: Abort + AllocGlobal>(
+    rt: &R,
+    mut desk: MemoryDesk,
+    ending: Status,
+) -> Result<(), Fail> {
+    assert_eq!(rt; run(rt, &WORDS, &mut desk), ending);
+    assert_eq!(rt; desk.get("out"), None);
+    assert_eq!(rt; desk.get("journal"), None);
+    assert_eq!(rt; desk.get("report"), None);
+    Ok(())
+}
+
+#[test]
+fn faulty_chains(rt: HostRuntime) -> Result<(), Fail> {
+    let cases: [(&[u8], u64, ChainCause); 4] = [
+        (b"f 1\npartitions 4\nmonitor 8\n", 1, ChainCause::Replicas),
+        (b"", 1, ChainCause::NoFailures),
+        (
+            b"f 0\npartitions 4\nspare\nmonitor 8\n",
+            4,
+            ChainCause::SpareOrder,
+        ),
+        (b"f 0\npartitions 4\nspare\n", 4, ChainCause::Empty),
+    ];
+    for (chain, line, cause) in cases {
+        // The capture is at fault too, but the chain is read before it.
+        let desk = desk_of(&rt, chain, b"")?;
+        is_refused(&rt, desk, Status::Chain { line, cause })?;
+    }
+    Ok(())
+}
+
+#[test]
+fn a_cut_capture(rt: HostRuntime) -> Result<(), Fail> {
+    let capture = capture_of(&rt, &[&DATAGRAM])?;
+    let mut desk = desk_of(&rt, MONITOR, &capture.as_slice()[..81])?;
+    desk.put("script", b"lose 0 0\n")?;
+    let cause = CaptureCause::Cut;
+    is_refused(&rt, desk, Status::Capture { at: 24, cause })
+}
+
+#[test]
+fn a_script_that_says_something(rt: HostRuntime) -> Result<(), Fail> {
+    let mut desk = desk_of(&rt, MONITOR, &HEADER)?;
+    desk.put("script", b"\nlose 0 0\n")?;
+    let cause = ScriptCause::Word;
+    is_refused(&rt, desk, Status::Script { line: 1, cause })
+}
+
+#[test]
+fn words_that_are_no_run(rt: HostRuntime) -> Result<(), Fail> {
+    let cases: [&[&str]; 6] = [
+        &["run", "a", "b", "c", "d", "e", "e"],
+        &["run", "a", "b", "c", "d", "e", "-"],
+        &["run", "a", "b", "c", "d", "e", "f", "g"],
+        &["run", "a", "b", "c", "d", "e", ""],
+        &["Run", "a", "b", "c", "d", "e", "f"],
+        &[],
+    ];
+    for words in cases {
+        let mut desk = desk_of(&rt, MONITOR, &HEADER)?;
+        assert_eq!(rt; run(&rt, words, &mut desk), Status::Usage);
+    }
+    Ok(())
+}
+
+#[test]
+fn a_chain_that_is_not_there(rt: HostRuntime) -> Result<(), Fail> {
+    is_refused(&rt, MemoryDesk::new(rt.alloc()), Status::DeskFault)
+}
+
+#[test]
+fn a_call_that_fails(rt: HostRuntime) -> Result<(), Fail> {
+    let capture = capture_of(&rt, &[&DATAGRAM])?;
+    let bytes = capture.as_slice();
+    // What the files hold where the call of that number fails: three fetch the texts.
+    let cases: [(u64, Option<&[u8]>, Option<&[u8]>); 7] = [
+        (0, None, None),
+        (2, None, None),
+        (3, None, None),
+        (4, Some(b""), None),
+        (5, Some(&HEADER), None),
+        (6, Some(bytes), None),
+        (7, Some(bytes), Some(b"")),
+    ];
+    for (call, out, journal) in cases {
+        let desk = desk_of(&rt, MONITOR, bytes)?;
+        let mut desk = FailingDesk::new(rt.alloc(), desk, &[call])?;
+        assert_eq!(rt; run(&rt, &WORDS, &mut desk), Status::DeskFault, "at {call}");
+        assert_eq!(rt; desk.inner().get("out"), out, "at {call}");
+        assert_eq!(rt; desk.inner().get("journal"), journal, "at {call}");
+    }
+    Ok(())
+}

@@ -1,0 +1,85 @@
+//! Fetching and reading the texts of a run.
+
+ghost use Rattle.std.specs.Prelude.{◌≡◌, ◌≢◌, ◌≤◌, [], Some, Err, IfOk, IfErr, OnOk};
+ghost use Rattle.ftc_outside.specs.Desk.{SameFiles, Rose};
+ghost use Rattle.ftc.specs.Ending.{HasChain, HasCapture, AreTexts};
+ghost use Rattle.ftc.specs.Texts.{IsChainRefused, IsCaptureRefused, IsScriptRefused, AreRefused};
+
+use crate::status::{ScriptCause, Status};
+use crate::words::Names;
+use ftc_conf::read_chain;
+use ftc_mbox::ChainSpec;
+use ftc_outside::Desk;
+use ftc_pcap::{Capture, read_capture};
+use std::alloc::Global;
+
+/// What the texts of a run say.
+#[derive(Drop)]
+pub struct Texts {
+    pub spec: ChainSpec,
+    pub capture: Capture,
+}
+
+/// Fetches and reads the chain.
+fn fetch_chain<D: Desk>(alloc: Global, names: Names<'_>, desk: &mut D) -> Result<ChainSpec, Status>
+    ensures accepted { D.tells desk.old → IfOk result (HasChain names.entry (D.file desk.old)) }
+    ensures refused { D.tells desk.old → IfErr result (IsChainRefused names.entry (D.file desk.old)) }
+    ensures known { IfErr result (λ ending. ending ≢ Status.Usage) }
+    ensures files { D.tells desk.old → SameFiles (D.file desk.old) (D.file desk.new) }
+    ensures tells { D.tells desk.old → D.tells desk.new }
+    ensures count { D.faults desk.old ≤ D.faults desk.new }
+    ensures cause { result ≡ Err Status.DeskFault → Rose (D.faults desk.old) (D.faults desk.new) }
+{
+    let text = desk.fetch(alloc, names.chain)?;
+    let spec = read_chain(alloc, text.as_slice())?;
+    Ok(spec)
+}
+
+/// Fetches and reads the capture.
+fn fetch_capture<D: Desk>(alloc: Global, names: Names<'_>, desk: &mut D) -> Result<Capture, Status>
+    ensures accepted { D.tells desk.old → IfOk result (HasCapture names.entry (D.file desk.old)) }
+    ensures refused { D.tells desk.old → IfErr result (IsCaptureRefused names.entry (D.file desk.old)) }
+    ensures known { IfErr result (λ ending. ending ≢ Status.Usage) }
+    ensures files { D.tells desk.old → SameFiles (D.file desk.old) (D.file desk.new) }
+    ensures tells { D.tells desk.old → D.tells desk.new }
+    ensures count { D.faults desk.old ≤ D.faults desk.new }
+    ensures cause { result ≡ Err Status.DeskFault → Rose (D.faults desk.old) (D.faults desk.new) }
+{
+    let text = desk.fetch(alloc, names.capture)?;
+    let capture = read_capture(alloc, text.as_slice())?;
+    Ok(capture)
+}
+
+/// Fetches the script. As yet every script that says something is refused.
+fn fetch_script<D: Desk>(alloc: Global, names: Names<'_>, desk: &mut D) -> Result<(), Status>
+    ensures accepted { D.tells desk.old → OnOk result (D.file desk.old names.entry.script.now ≡ Some []) }
+    ensures refused { D.tells desk.old → IfErr result (IsScriptRefused names.entry (D.file desk.old)) }
+    ensures known { IfErr result (λ ending. ending ≢ Status.Usage) }
+    ensures files { D.tells desk.old → SameFiles (D.file desk.old) (D.file desk.new) }
+    ensures tells { D.tells desk.old → D.tells desk.new }
+    ensures count { D.faults desk.old ≤ D.faults desk.new }
+    ensures cause { result ≡ Err Status.DeskFault → Rose (D.faults desk.old) (D.faults desk.new) }
+{
+    let text = desk.fetch(alloc, names.script)?;
+    if text.is_empty() {
+        return Ok(());
+    }
+    let cause = ScriptCause::Word;
+    Err(Status::Script { line: 1, cause })
+}
+
+/// Fetches and reads chain, capture and script in this order, each before the next.
+pub fn read_texts<D: Desk>(alloc: Global, names: Names<'_>, desk: &mut D) -> Result<Texts, Status>
+    ensures accepted { D.tells desk.old → IfOk result (λ texts. AreTexts names.entry (D.file desk.old) texts.spec texts.capture) }
+    ensures refused { D.tells desk.old → IfErr result (AreRefused names.entry (D.file desk.old)) }
+    ensures known { IfErr result (λ ending. ending ≢ Status.Usage) }
+    ensures files { D.tells desk.old → SameFiles (D.file desk.old) (D.file desk.new) }
+    ensures tells { D.tells desk.old → D.tells desk.new }
+    ensures count { D.faults desk.old ≤ D.faults desk.new }
+    ensures cause { result ≡ Err Status.DeskFault → Rose (D.faults desk.old) (D.faults desk.new) }
+{
+    let spec = fetch_chain(alloc, names, desk)?;
+    let capture = fetch_capture(alloc, names, desk)?;
+    fetch_script(alloc, names, desk)?;
+    Ok(Texts { spec, capture })
+}
