@@ -53,7 +53,7 @@ pub driving_more : (rules : List Rule) (packets : List (List ℕ)) (count : ℕ)
 driving_more rules packets count journal more now next so drives =
     let events_of : State → ℕ → List Event = λ state packet. packet_events (length rules) packet (filtered_at (state.place packet)) in
     let same : each_below (events_of now) count ≡ each_below (events_of next) count =
-        each_below_same (events_of now) (events_of next) count (λ packet below. ap (λ (o : Option Position). packet_events (length rules) packet (filtered_at o)) (sym (drives.others packet (λ e. absurd (omega (arith, below, e)))))) in
+    each_below_same (events_of now) (events_of next) count (λ packet below. ap (λ (o : Option Position). packet_events (length rules) packet (filtered_at o)) (sym (drives.others packet (λ e. absurd (omega (arith, below, e)))))) in
     record {
       events = drives.events ∙ ap (λ (events : List Event). events ++ events_of next count) (so.events ∙ same);
       leads = drives.goes_on (opening packets) so.leads;
@@ -99,11 +99,11 @@ released_at servers packet other filtered h =
     elim (in_cons (event.Enter packet) (each_below (server_events servers packet filtered) servers ++ release_events packet filtered) (event.Release other) h) [
       | inl e ↦ absurd (cc)
       | inr rest ↦ elim (in_either (each_below (server_events servers packet filtered) servers) (release_events packet filtered) (event.Release other) rest) [
-          | inl at ↦
-              let told : (k : ℕ) × (k < servers) × Contains (server_events servers packet filtered k) (event.Release other) = from_below (server_events servers packet filtered) servers (event.Release other) at in
-              absurd (of_one IsOther (server_events servers packet filtered told.0) (event.Release other) (no_release told.0 packet (is_visited filtered told.0) (nat_lt (told.0 + 1) servers)) told.2)
-          | inr at ↦ released_here servers packet other filtered at
-        ]
+        | inl at ↦
+            let told : (k : ℕ) × (k < servers) × Contains (server_events servers packet filtered k) (event.Release other) = from_below (server_events servers packet filtered) servers (event.Release other) at in
+            absurd (of_one IsOther (server_events servers packet filtered told.0) (event.Release other) (no_release told.0 packet (is_visited filtered told.0) (nat_lt (told.0 + 1) servers)) told.2)
+        | inr at ↦ released_here servers packet other filtered at
+      ]
     ]
 
 -- the packet's visit at a server is among its events
@@ -111,8 +111,8 @@ visited_at : (servers packet server : ℕ) (filtered : Option ℕ) → filtered 
 visited_at servers packet server filtered kept known =
     let at : Contains (server_events servers packet None server) (event.Visit server packet 63) = in_head (event.Visit server packet 63) (event.Pass server packet ∷ take_events servers server packet) in
     in_tail (event.Enter packet) (each_below (server_events servers packet filtered) servers ++ release_events packet filtered) (event.Visit server packet 63)
-        (in_left (each_below (server_events servers packet filtered) servers) (release_events packet filtered) (event.Visit server packet 63)
-            (in_below (server_events servers packet filtered) servers server (event.Visit server packet 63) known (subst (λ (o : Option ℕ). Contains (server_events servers packet o server) (event.Visit server packet 63)) (sym kept) at)))
+    (in_left (each_below (server_events servers packet filtered) servers) (release_events packet filtered) (event.Visit server packet 63)
+    (in_below (server_events servers packet filtered) servers server (event.Visit server packet 63) known (subst (λ (o : Option ℕ). Contains (server_events servers packet o server) (event.Visit server packet 63)) (sym kept) at)))
 
 -- a packet that is released has visited all middleboxes
 pub released_visited : (rules : List Rule) (packets : List (List ℕ)) (count : ℕ) (journal : List Event) (now : State) → Driving rules packets count journal now → ReleasedVisited (length rules) journal
@@ -121,7 +121,7 @@ released_visited rules packets count journal now so packet server released known
     let found : (p : ℕ) × (p < count) × Contains (events_of p) (event.Release packet) = from_below events_of count (event.Release packet) (subst (λ (events : List Event). Contains events (event.Release packet)) so.events released) in
     let told : (found.0 ≡ packet) × (filtered_at (now.place found.0) ≡ None) = released_at (length rules) found.0 packet (filtered_at (now.place found.0)) found.2 in
     let visits : Contains journal (event.Visit server found.0 63) =
-        subst (λ (events : List Event). Contains events (event.Visit server found.0 63)) (sym so.events) (in_below events_of count found.0 (event.Visit server found.0 63) found.1 (visited_at (length rules) found.0 server (filtered_at (now.place found.0)) told.1 known)) in
+    subst (λ (events : List Event). Contains events (event.Visit server found.0 63)) (sym so.events) (in_below events_of count found.0 (event.Visit server found.0 63) found.1 (visited_at (length rules) found.0 server (filtered_at (now.place found.0)) told.1 known)) in
     let traced : Contains (flat_map (steps_of []) journal) (Visit server found.0) = in_flat_map (steps_of []) journal (event.Visit server found.0 63) (Visit server found.0) visits (in_head (Visit server found.0) []) in
     subst (λ (p : ℕ). Contains (trace_of journal) (Visit server p)) told.0
-        (subst (λ (undone : List VisitName). Contains (flat_map (steps_of undone) journal) (Visit server found.0)) (sym so.leads.nothing_undone) traced)
+    (subst (λ (undone : List VisitName). Contains (flat_map (steps_of undone) journal) (Visit server found.0)) (sym so.leads.nothing_undone) traced)

@@ -20,25 +20,25 @@ use Rattle.ftc.specs.Ending.{AreTexts, IsDone, IsCutShort, Ends}
 -- all was written
 pub ended_done : (names : Names) (old mid new : Files) (chain : Chain) (capture : Capture) (journal : List Event) (end : State) → AreTexts names old chain capture → IsDriven chain.rules (bytes_of capture.packets) journal end → ReleasedVisited (length chain.rules) journal → SameFiles old mid → AreWritten names (out_bytes capture end.released) (spelling journal) mid new → IsDone names old new
 ended_done names old mid new chain capture journal end texts driven visited same written = record {
-    capture = capture;
-    journal = journal;
-    end = end;
-    run = record { chain = chain; texts = texts; driven = driven; visited = visited };
-    out_file = written.out_file;
-    journal_file = written.journal_file;
-    others = λ name no-out no-journal. written.others name no-out no-journal ∙ same name;
-  }
+  capture = capture;
+  journal = journal;
+  end = end;
+  run = record { chain = chain; texts = texts; driven = driven; visited = visited };
+  out_file = written.out_file;
+  journal_file = written.journal_file;
+  others = λ name no-out no-journal. written.others name no-out no-journal ∙ same name;
+}
 
 cut_short : (names : Names) (old mid new : Files) (chain : Chain) (capture : Capture) (journal : List Event) (end : State) → AreTexts names old chain capture → IsDriven chain.rules (bytes_of capture.packets) journal end → ReleasedVisited (length chain.rules) journal → SameFiles old mid → AreCutShort names (out_bytes capture end.released) (spelling journal) mid new → IsCutShort names old new
 cut_short names old mid new chain capture journal end texts driven visited same cut = record {
-    capture = capture;
-    journal = journal;
-    end = end;
-    run = record { chain = chain; texts = texts; driven = driven; visited = visited };
-    out_file = rw (← same names.out.now) cut.out_file;
-    journal_file = rw (← same names.journal.now) cut.journal_file;
-    others = λ name no-out no-journal. cut.others name no-out no-journal ∙ same name;
-  }
+  capture = capture;
+  journal = journal;
+  end = end;
+  run = record { chain = chain; texts = texts; driven = driven; visited = visited };
+  out_file = rw (← same names.out.now) cut.out_file;
+  journal_file = rw (← same names.journal.now) cut.journal_file;
+  others = λ name no-out no-journal. cut.others name no-out no-journal ∙ same name;
+}
 
 -- the writing was cut short
 pub ended_cut : (names : Names) (old mid new : Files) (chain : Chain) (capture : Capture) (journal : List Event) (end : State) (error : DeskError) → AreTexts names old chain capture → IsDriven chain.rules (bytes_of capture.packets) journal end → ReleasedVisited (length chain.rules) journal → SameFiles old mid → AreCutShort names (out_bytes capture end.released) (spelling journal) mid new → Ends names old new (desk_status error)

@@ -32,7 +32,7 @@ pub record Served (rules : List Rule) (packet server : ℕ) (journal : List Even
 same_events : (servers packet server : ℕ) (old new : Option ℕ) → ((earlier : ℕ) → earlier < server → is_visited new earlier ≡ is_visited old earlier) → each_below (server_events servers packet old) server ≡ each_below (server_events servers packet new) server
 same_events servers packet server old new before =
     each_below_same (server_events servers packet old) (server_events servers packet new) server
-        (λ k below. ap (λ (t : Bool). cond t (event.Visit k packet 63 ∷ []) [] ++ event.Pass k packet ∷ take_events servers k packet) (sym (before k below)))
+    (λ k below. ap (λ (t : Bool). cond t (event.Visit k packet 63 ∷ []) [] ++ event.Pass k packet ∷ take_events servers k packet) (sym (before k below)))
 
 pub through_start : (rules : List Rule) (packet : ℕ) (first : List Event) (start : State) → HasCome (length rules) 0 (start.place packet) → Through rules packet 0 first start first start
 through_start rules packet first start come = record { come = come; events = sym (append-nil first); goes_on = λ _ led. led; others = λ _ _. refl }

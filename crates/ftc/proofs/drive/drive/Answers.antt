@@ -23,7 +23,7 @@ pub drive_packet-requires : goal.drive_packet-requires
 drive_packet-requires c =
     let some : 1 ≤ length c.args.spec.now.rules = subst (λ (rules : List Rule). 1 ≤ length rules) c.in_ok-serial.ensures.rules c.in_ok-serial.ensures.some in
     subst (λ (rules : List Rule). HasCome (length rules) 0 ((state_of c.loop-packet.serial).place c.loop-packet.packet)) (sym c.loop-packet.invariant.rules)
-        (waits_first c.args.spec.now.rules (bytes_of c.args.packets.now) c.loop-packet.packet c.loop-packet.packet c.loop-packet.journal.items (state_of c.loop-packet.serial) some c.loop-packet.invariant.driving (omega arith) (rw (length-map c.args.packets.now (λ p. p.bytes)) (omega (arith, c.loop-packet-test.true, c.len-packet-end.ensures.same))))
+    (waits_first c.args.spec.now.rules (bytes_of c.args.packets.now) c.loop-packet.packet c.loop-packet.packet c.loop-packet.journal.items (state_of c.loop-packet.serial) some c.loop-packet.invariant.driving (omega arith) (rw (length-map c.args.packets.now (λ p. p.bytes)) (omega (arith, c.loop-packet-test.true, c.len-packet-end.ensures.same))))
 
 drives : (c : goal.In_ok-drive_packet) → Drives c.args.spec.now.rules c.loop-packet.packet c.loop-packet.journal.items (state_of c.loop-packet.serial) c.drive_packet.new.journal.items (state_of c.drive_packet.new.serial)
 drives c =

@@ -16,7 +16,7 @@ served c =
       others = c.in_ok-serve.ensures.others;
     } in
     subst (λ (rules : List Rule). Served rules c.args.packet c.loop-server.server c.loop-server.journal.items (state_of c.loop-server.serial) c.serve.new.journal.items (state_of c.serve.new.serial)) c.loop-server.invariant.rules
-        (subst (λ (server : ℕ). Served (rules_of c.loop-server.serial) c.args.packet server c.loop-server.journal.items (state_of c.loop-server.serial) c.serve.new.journal.items (state_of c.serve.new.serial)) number told)
+    (subst (λ (server : ℕ). Served (rules_of c.loop-server.serial) c.args.packet server c.loop-server.journal.items (state_of c.loop-server.serial) c.serve.new.journal.items (state_of c.serve.new.serial)) number told)
 
 pub loop-server-preserved : goal.loop-server-preserved
 loop-server-preserved c = record {
