@@ -83,11 +83,7 @@ fn serve(
 }
 
 /// The packet leaves the chain, where no middlebox has dropped it.
-fn leave(
-    serial: &mut Serial,
-    journal: &mut Journal,
-    packet: PacketNo,
-) -> Result<(), NoMemory>
+fn leave(serial: &mut Serial, journal: &mut Journal, packet: PacketNo) -> Result<(), NoMemory>
     requires { HasCome (length (rules_of serial.old)) (length (rules_of serial.old)) ((state_of serial.old).place packet) }
     ensures settled { OnOk result (IsSettled ((state_of serial.new).place packet)) }
     ensures filtered { OnOk result (filtered_at ((state_of serial.new).place packet) ≡ filtered_at ((state_of serial.old).place packet)) }
