@@ -1,5 +1,5 @@
 -- Which numbers a firewall's rule may have.
-use Rattle.std.specs.Prelude.{◌≡◌, ◌≤◌, ◌⊎◌, length, Option, Some, None}
+use Rattle.std.specs.Prelude.{◌≡◌, ◌≤◌, ◌⊎◌, length, Some, None}
 use Rattle.std.specs.List.{AllByRecursion}
 use Rattle.ftc_base.specs.Endpoint.{IsNet}
 use Rattle.ftc_base.specs.declared.limits.TheConstants.{MOST_FIREWALL_LINES}

@@ -2,7 +2,6 @@
 use Rattle.std.specs.Prelude.{List, ℕ}
 use Rattle.ftc_base.specs.declared.ask.Ask.{Ask}
 use Rattle.ftc_base.specs.declared.ask.Ask.TheVariants.{Read, Finish}
-use Rattle.ftc_base.specs.declared.ask.Finish.{Finish as End}
 use Rattle.ftc_base.specs.declared.ask.Verdict.{Verdict}
 use Rattle.ftc_base.specs.declared.ask.Verdict.TheVariants.{Forward, Filter}
 use Rattle.ftc_base.specs.declared.ask.Change.{Change}

@@ -1,5 +1,5 @@
 -- Every rule reads few keys, none twice, and writes only at keys that it read with leave.
-use Rattle.std.specs.Prelude.{ℕ, zero, suc, ◌≡◌, ◌≢◌, ◌==◌, nat_lt, Bool, true, false, List, [], ◌∷◌, length, Option, Some, None, if◌then◌else◌, refl, unwrap_or, ◌&&◌, take, drop}
+use Rattle.std.specs.Prelude.{ℕ, ◌≢◌, ◌==◌, nat_lt, Bool, true, false, List, [], ◌∷◌, length, Option, Some, None, if◌then◌else◌, refl, unwrap_or, ◌&&◌, take, drop}
 use Rattle.std.specs.List.{Contains, list_any}
 use Rattle.std.specs.Int.{w16, w32, from_be_bytes}
 use Rattle.std.proofs.Common.{arith}
@@ -34,7 +34,10 @@ third key other another keys = (2, grind (arith), refl)
 apart : (a b : ℕ) (xs ys : List ℕ) → a ≢ b → (a ∷ xs) ≢ (b ∷ ys)
 apart a b xs ys different same = different (grind (arith))
 
-either : (left : ℕ) (read leave : List (List ℕ)) (test : Bool) (one other : List Answer → Ask) → ReadsAndWrites left read leave one → ReadsAndWrites left read leave other → ReadsAndWrites left read leave (λ answers. if test then one answers else other answers)
+-- a test decides between two ways, and both are right
+either : (left : ℕ) (read leave : List (List ℕ)) (test : Bool) (one other : List Answer → Ask)
+    → ReadsAndWrites left read leave one → ReadsAndWrites left read leave other
+    → ReadsAndWrites left read leave (λ answers. if test then one answers else other answers)
 either left read leave true one other first second = first
 either left read leave false one other first second = second
 

@@ -1,6 +1,6 @@
 -- The rule of a monitor, which counts packets by groups of source addresses.
-use Rattle.std.specs.Prelude.{ℕ, ◌+◌, ◌%◌, ◌<◌, ◌==◌, min, List, [], ◌∷◌, ◌++◌, length, sum, Option, Some, None, if◌then◌else◌, codes, true, unwrap_or}
-use Rattle.std.specs.Int.{w16, w32, w64, to_be_bytes, from_be_bytes}
+use Rattle.std.specs.Prelude.{ℕ, ◌+◌, ◌%◌, min, List, [], ◌∷◌, ◌++◌, sum, codes, true, unwrap_or}
+use Rattle.std.specs.Int.{w16, w32, w64, to_be_bytes}
 use Rattle.ftc_base.specs.declared.ask.Answer.{Answer}
 use Rattle.ftc_base.specs.declared.ask.Ask.{Ask}
 use Rattle.ftc_base.specs.declared.ask.Ask.TheVariants.{Read}
