@@ -10,10 +10,13 @@ SOURCES := $(shell find crates crates.txt -name out -prune -o -type f -print)
 
 build: bin/ftc
 
-# `rt run` proves the program and all crates below it before it runs the stored run.
+# `rt run` proves the program and all crates below it, builds it, and runs it once.
+SAMPLE = ../../examples/monitors
 bin/ftc: $(SOURCES)
-	cd crates/ftc && rt run
-	mkdir -p bin && cp crates/ftc/out/ftc bin/ftc
+	mkdir -p bin out
+	cd crates/ftc && rt run -- run $(SAMPLE)/chain $(SAMPLE)/script $(SAMPLE)/capture.pcap \
+		../../out/first.pcap ../../out/first.journal ../../out/first.report
+	cp crates/ftc/out/ftc bin/ftc
 
 demo: bin/ftc
 	./examples/demo bin/ftc out/demo
