@@ -20,12 +20,12 @@ pub const HEADER: [u8; 24] = [
     0xd4, 0xc3, 0xb2, 0xa1, 2, 0, 4, 0, 0, 0, 0, 0, 0, 0, 0, 0, 0xff, 0xff, 0, 0, 1, 0, 0, 0,
 ];
 
-/// A capture of these packets, each at second 1.
+/// A capture of these packets, each at second 1 and of at most 255 bytes.
 pub fn capture_of<R: AllocGlobal>(rt: &R, packets: &[&[u8]]) -> Result<Bytes, Fail> {
     let mut capture = Bytes::new(rt.alloc());
     capture.append(&HEADER)?;
     for packet in packets {
-        let len = packet.len() as u8;
+        let len = packet.len().min(255) as u8;
         let head = [1, 0, 0, 0, 0, 0, 0, 0, len, 0, 0, 0, len, 0, 0, 0];
         capture.append(&head)?;
         capture.append(*packet)?;

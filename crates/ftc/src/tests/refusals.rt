@@ -46,7 +46,12 @@ fn faulty_chains(rt: HostRuntime) -> Result<(), Fail> {
 #[test]
 fn a_cut_capture(rt: HostRuntime) -> Result<(), Fail> {
     let capture = capture_of(&rt, &[&DATAGRAM])?;
-    let mut desk = desk_of(&rt, MONITOR, &capture.as_slice()[..81])?;
+    let cut = match capture.as_slice() {
+        [front @ .., _] => front,
+        [] => &[],
+    };
+    assert_eq!(rt; cut.len(), 81);
+    let mut desk = desk_of(&rt, MONITOR, cut)?;
     desk.put("script", b"lose 0 0\n")?;
     let cause = CaptureCause::Cut;
     is_refused(&rt, desk, Status::Capture { at: 24, cause })
