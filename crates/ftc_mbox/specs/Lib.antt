@@ -3,4 +3,5 @@ pub mod Bounds
 pub mod Chain
 pub mod Change
 pub mod Monitor
+pub mod Plan
 pub mod Visit

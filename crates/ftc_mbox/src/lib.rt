@@ -5,12 +5,14 @@ mod asking;
 mod change;
 mod laws;
 mod monitor;
+mod plan;
 mod rule;
 mod spec;
 
 pub use asking::ask;
 pub use change::change_packet;
 pub use laws::law_of_visits;
+pub use plan::Plan;
 pub use rule::{Rule, Rules, copy_rules};
 pub use spec::ChainSpec;
 
