@@ -63,7 +63,7 @@ pub record IsScriptFault (names : Names) (files : Files) (line : ℕ) (cause : S
   pub first : line ≡ 1
   pub word : cause ≡ script.Word
 
--- The journal of the texts, and the state that its serial run ends in. The texts determine both.
+-- A journal of the texts, and the state that its serial run ends in.
 pub record IsRun (names : Names) (files : Files) (capture : Capture) (journal : List Event) (end : State) : Type 0 where
   pub chain : Chain
   pub texts : AreTexts names files chain capture

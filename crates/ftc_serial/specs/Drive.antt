@@ -58,7 +58,7 @@ IsSettled (Some position.Released) = Unit {0}
 IsSettled None = ⊥
 
 -- The journal drives all packets through the chain, its trace is a serial run, and that run ends in this state, in which
--- each packet was released or dropped. So the rules and the packets determine the journal.
+-- each packet was released or dropped.
 pub record IsDriven (rules : List Rule) (packets : List (List ℕ)) (journal : List Event) (end : State) : Type 0 where
   pub events : journal ≡ drive (length rules) (length packets) end.place
   pub run : serial_run rules (opening packets) (trace_of journal) ≡ Some end
