@@ -1,0 +1,12 @@
+pub mod Shim
+pub mod Line
+pub mod Setting
+pub mod Visits
+pub mod Changes
+pub mod Trace
+pub mod State
+pub mod Known
+pub mod Recovery
+pub mod Legal
+pub mod Next
+pub mod Run

@@ -1,0 +1,42 @@
+-- What a run is given: the chain, the packets and the script.
+use Rattle.std.specs.Prelude.{ℕ, Bool, List, [], length, slice_index_or, nat_le, ◌==◌}
+use Rattle.ftc_mbox.specs.declared.rule.Rule.{Rule}
+use Rattle.ftc_mbox.specs.declared.rule.Rule.TheVariants.{Pass}
+use Rattle.ftc_ring.specs.Ring.{RingShape, apart}
+use Rattle.ftc_machine.specs.Line.{ScriptLine}
+
+-- the rules of the middleboxes, one on each server; how many servers may be down at once; in how many partitions the keys of a
+-- middlebox lie; the bytes of the packets; which messages a link loses, by the link and the message's origin; and the servers
+-- that crash and are replaced
+pub record Setting : Type 0 where
+  pub rules : List Rule
+  pub failures : ℕ
+  pub partitions : ℕ
+  pub packets : List (List ℕ)
+  pub loses : ℕ → ℕ → Bool
+  pub lines : List ScriptLine
+
+abbrev pub servers : Setting → ℕ
+servers c = length c.rules
+
+abbrev pub shape : Setting → RingShape
+shape c = record { servers = servers c; failures = c.failures }
+
+abbrev pub count : Setting → ℕ
+count c = length c.packets
+
+-- the bytes with which a packet comes
+abbrev pub packet_at : Setting → ℕ → List ℕ
+packet_at c packet = slice_index_or c.packets packet []
+
+-- the rule of a server's middlebox
+abbrev pub rule_at : Setting → ℕ → Rule
+rule_at c server = slice_index_or c.rules server Pass
+
+-- a server is a member of a group
+abbrev pub is_member : Setting → ℕ → ℕ → Bool
+is_member c group server = nat_le (apart (servers c) group server) c.failures
+
+-- and the last of them
+abbrev pub is_tail : Setting → ℕ → ℕ → Bool
+is_tail c group server = apart (servers c) group server == c.failures

@@ -1,0 +1,7 @@
+//! The protocol as a machine over sets of visits: when an event is legal, what it does, and what became
+//! of each packet. It has no vector, log, frame or lock: what the chain of servers does is judged by it.
+#![tactic(auto)]
+
+mod fate;
+
+pub use fate::Fate;
