@@ -81,6 +81,17 @@ pub fn the_live()
         IsAdmissible ring down → ¬ IsAlone ring.servers down k }
 {}
 
+/// Which sets of down servers leave each group a live member.
+pub fn admissible()
+    ensures nobody { (ring : RingShape) (down : ℕ) → IsRing ring → ((k : ℕ) → k < ring.servers → IsLive down k) →
+        IsAdmissible ring down }
+    ensures fewer { (ring : RingShape) (down fewer : ℕ) →
+        ((k : ℕ) → k < ring.servers → IsLive down k → IsLive fewer k) →
+        IsAdmissible ring down → IsAdmissible ring fewer }
+    ensures first { (ring : RingShape) (down j : ℕ) → IsRing ring → j < ring.servers → IsAdmissible ring down →
+        (k : ℕ) × (first_live_of ring down j ≡ Some k) × IsFirstLive ring down j k }
+{}
+
 /// Where servers stand when server k, which is down, is replaced: r is the nearest live server before
 /// it and s the nearest live server after it.
 pub fn recoveries()
