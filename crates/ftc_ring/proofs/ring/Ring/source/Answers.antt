@@ -1,13 +1,13 @@
 use Rattle.std.proofs.Common.{◌<◌, rules}
 use Rattle.ftc_ring.specs.Ring.{apart}
-use Rattle.ftc_ring.specs.Live.{IsLiveBefore, IsLiveAfter}
+use Rattle.ftc_ring.specs.Live.{is_live, IsLiveBefore, IsLiveAfter}
 use Rattle.ftc_ring.proofs.Sources.{from_after, after_is_member}
 use Rattle.ftc_ring.proofs.ring.Ring.source.Goals as goal
 
 pub returns-else-apart-clause-member : goal.returns-else-apart-clause-member
 returns-else-apart-clause-member c =
     let ring = c.args.self.now in
-    let down = c.args.down in
+    let down = is_live c.args.down in
     let k = c.args.server in
     let r = c.in-Some-Some.before in
     let s = c.in-Some-Some.after in
