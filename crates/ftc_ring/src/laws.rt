@@ -1,9 +1,8 @@
 //! Laws about the ring, which every caller may rest on.
 
-ghost use Rattle.std.specs.Prelude.{◌≡◌, ◌≢◌, ◌≤◌, ◌<◌, ◌+◌, ◌-◌, ◌⊎◌, ◌↔◌, ℕ, true, Some, None};
-ghost use Rattle.ftc_base.specs.Sets.{has};
+ghost use Rattle.std.specs.Prelude.{◌≡◌, ◌≢◌, ◌≤◌, ◌<◌, ◌+◌, ◌-◌, ◌⊎◌, ◌↔◌, ℕ, Bool, Some, None};
 ghost use Rattle.ftc_ring.specs.Ring.{RingShape, IsRing, apart, IsMember, next_of, previous_of, tail_of};
-ghost use Rattle.ftc_ring.specs.Live.{IsLive, IsGone, IsAdmissible, IsFirstLive, IsFirstGone, IsLiveBefore, IsLiveAfter, IsAlone, IsBetween, first_live_of, gone_of, live_before_of, live_after_of, source_between, source_of, span};
+ghost use Rattle.ftc_ring.specs.Live.{IsLive, IsDown, IsGone, IsAdmissible, IsFirstLive, IsFirstGone, IsLiveBefore, IsLiveAfter, IsAlone, IsBetween, first_live_of, gone_of, live_before_of, live_after_of, source_between, source_of, span};
 
 /// How far servers are apart.
 pub fn distances()
@@ -66,53 +65,64 @@ pub fn groups()
 
 /// What the functions that compute say, and that at most one server or group is meant.
 pub fn the_live()
-    ensures first_found { (ring : RingShape) (down j k : ℕ) → IsRing ring → j < ring.servers →
-        (first_live_of ring down j ≡ Some k) ↔ IsFirstLive ring down j k }
-    ensures first_none { (ring : RingShape) (down j : ℕ) → IsRing ring → j < ring.servers →
-        (first_live_of ring down j ≡ None) ↔ IsGone ring down j }
-    ensures gone_found { (ring : RingShape) (down j : ℕ) → IsRing ring →
-        (gone_of ring down ≡ Some j) ↔ IsFirstGone ring down j }
-    ensures gone_none { (ring : RingShape) (down : ℕ) → IsRing ring → (gone_of ring down ≡ None) ↔ IsAdmissible ring down }
-    ensures before_found { (n down k r : ℕ) → k < n → (live_before_of n down k ≡ Some r) ↔ IsLiveBefore n down k r }
-    ensures before_none { (n down k : ℕ) → k < n → (live_before_of n down k ≡ None) ↔ IsAlone n down k }
-    ensures after_found { (n down k s : ℕ) → k < n → (live_after_of n down k ≡ Some s) ↔ IsLiveAfter n down k s }
-    ensures after_none { (n down k : ℕ) → k < n → (live_after_of n down k ≡ None) ↔ IsAlone n down k }
-    ensures admissible_not_alone { (ring : RingShape) (down k : ℕ) → k < ring.servers → has down k ≡ true →
-        IsAdmissible ring down → ¬ IsAlone ring.servers down k }
+    ensures first_found { (ring : RingShape) (live : ℕ → Bool) (j k : ℕ) → IsRing ring → j < ring.servers →
+        (first_live_of ring live j ≡ Some k) ↔ IsFirstLive ring live j k }
+    ensures first_none { (ring : RingShape) (live : ℕ → Bool) (j : ℕ) → IsRing ring → j < ring.servers →
+        (first_live_of ring live j ≡ None) ↔ IsGone ring live j }
+    ensures gone_found { (ring : RingShape) (live : ℕ → Bool) (j : ℕ) → IsRing ring →
+        (gone_of ring live ≡ Some j) ↔ IsFirstGone ring live j }
+    ensures gone_none { (ring : RingShape) (live : ℕ → Bool) → IsRing ring → (gone_of ring live ≡ None) ↔ IsAdmissible ring live }
+    ensures before_found { (n : ℕ) (live : ℕ → Bool) (k r : ℕ) → k < n → (live_before_of n live k ≡ Some r) ↔ IsLiveBefore n live k r }
+    ensures before_none { (n : ℕ) (live : ℕ → Bool) (k : ℕ) → k < n → (live_before_of n live k ≡ None) ↔ IsAlone n live k }
+    ensures after_found { (n : ℕ) (live : ℕ → Bool) (k s : ℕ) → k < n → (live_after_of n live k ≡ Some s) ↔ IsLiveAfter n live k s }
+    ensures after_none { (n : ℕ) (live : ℕ → Bool) (k : ℕ) → k < n → (live_after_of n live k ≡ None) ↔ IsAlone n live k }
+    ensures admissible_not_alone { (ring : RingShape) (live : ℕ → Bool) (k : ℕ) → k < ring.servers → IsDown live k →
+        IsAdmissible ring live → ¬ IsAlone ring.servers live k }
+{}
+
+/// Which sets of down servers leave each group a live member.
+pub fn admissible()
+    ensures nobody { (ring : RingShape) (live : ℕ → Bool) → IsRing ring → ((k : ℕ) → k < ring.servers → IsLive live k) →
+        IsAdmissible ring live }
+    ensures more { (ring : RingShape) (live more : ℕ → Bool) →
+        ((k : ℕ) → k < ring.servers → IsLive live k → IsLive more k) →
+        IsAdmissible ring live → IsAdmissible ring more }
+    ensures first { (ring : RingShape) (live : ℕ → Bool) (j : ℕ) → IsRing ring → j < ring.servers → IsAdmissible ring live →
+        (k : ℕ) × (first_live_of ring live j ≡ Some k) × IsFirstLive ring live j k }
 {}
 
 /// Where servers stand when server k, which is down, is replaced: r is the nearest live server before
 /// it and s the nearest live server after it.
 pub fn recoveries()
-    ensures between { (n down k r s : ℕ) → k < n → has down k ≡ true →
-        IsLiveBefore n down k r → IsLiveAfter n down k s → IsBetween n r s k }
-    ensures live_outside { (n down k r s x : ℕ) → k < n → has down k ≡ true →
-        IsLiveBefore n down k r → IsLiveAfter n down k s → x < n → IsLive down x →
+    ensures between { (n : ℕ) (live : ℕ → Bool) (k r s : ℕ) → k < n → IsDown live k →
+        IsLiveBefore n live k r → IsLiveAfter n live k s → IsBetween n r s k }
+    ensures live_outside { (n : ℕ) (live : ℕ → Bool) (k r s x : ℕ) → k < n → IsDown live k →
+        IsLiveBefore n live k r → IsLiveAfter n live k s → x < n → IsLive live x →
         (x ≡ r) ⊎ (span n r s ≤ apart n r x) }
-    ensures between_down { (n down k r s j : ℕ) → k < n → has down k ≡ true →
-        IsLiveBefore n down k r → IsLiveAfter n down k s → j < n → IsBetween n r s j → has down j ≡ true }
-    ensures after_is_first { (n down k r s j x : ℕ) → k < n → has down k ≡ true →
-        IsLiveBefore n down k r → IsLiveAfter n down k s → j < n → IsBetween n r s j → x < n → IsLive down x →
+    ensures between_down { (n : ℕ) (live : ℕ → Bool) (k r s j : ℕ) → k < n → IsDown live k →
+        IsLiveBefore n live k r → IsLiveAfter n live k s → j < n → IsBetween n r s j → IsDown live j }
+    ensures after_is_first { (n : ℕ) (live : ℕ → Bool) (k r s j x : ℕ) → k < n → IsDown live k →
+        IsLiveBefore n live k r → IsLiveAfter n live k s → j < n → IsBetween n r s j → x < n → IsLive live x →
         apart n j s ≤ apart n j x }
-    ensures after_is_member { (ring : RingShape) (down k r s j : ℕ) → k < ring.servers → has down k ≡ true →
-        IsLiveBefore ring.servers down k r → IsLiveAfter ring.servers down k s →
-        IsAdmissible ring down → j < ring.servers → IsBetween ring.servers r s j → IsMember ring j s }
-    ensures from_before { (n down k r s j : ℕ) → k < n → has down k ≡ true →
-        IsLiveBefore n down k r → IsLiveAfter n down k s → j < n → apart n r k ≤ apart n j k →
+    ensures after_is_member { (ring : RingShape) (live : ℕ → Bool) (k r s j : ℕ) → k < ring.servers → IsDown live k →
+        IsLiveBefore ring.servers live k r → IsLiveAfter ring.servers live k s →
+        IsAdmissible ring live → j < ring.servers → IsBetween ring.servers r s j → IsMember ring j s }
+    ensures from_before { (n : ℕ) (live : ℕ → Bool) (k r s j : ℕ) → k < n → IsDown live k →
+        IsLiveBefore n live k r → IsLiveAfter n live k s → j < n → apart n r k ≤ apart n j k →
         apart n j r + apart n r k ≡ apart n j k }
-    ensures from_before_live { (n down k r s j x : ℕ) → k < n → has down k ≡ true →
-        IsLiveBefore n down k r → IsLiveAfter n down k s → j < n → apart n r k ≤ apart n j k →
-        x < n → IsLive down x → (apart n j x ≤ apart n j r) ⊎ (apart n j k < apart n j x) }
-    ensures from_after { (n down k r s j : ℕ) → k < n → has down k ≡ true →
-        IsLiveBefore n down k r → IsLiveAfter n down k s → j < n → apart n j k < apart n r k →
+    ensures from_before_live { (n : ℕ) (live : ℕ → Bool) (k r s j x : ℕ) → k < n → IsDown live k →
+        IsLiveBefore n live k r → IsLiveAfter n live k s → j < n → apart n r k ≤ apart n j k →
+        x < n → IsLive live x → (apart n j x ≤ apart n j r) ⊎ (apart n j k < apart n j x) }
+    ensures from_after { (n : ℕ) (live : ℕ → Bool) (k r s j : ℕ) → k < n → IsDown live k →
+        IsLiveBefore n live k r → IsLiveAfter n live k s → j < n → apart n j k < apart n r k →
         IsBetween n r s j × (apart n j k < apart n j s) }
-    ensures by_head { (n down k r s j : ℕ) → k < n → has down k ≡ true →
-        IsLiveBefore n down k r → IsLiveAfter n down k s → j < n →
+    ensures by_head { (n : ℕ) (live : ℕ → Bool) (k r s j : ℕ) → k < n → IsDown live k →
+        IsLiveBefore n live k r → IsLiveAfter n live k s → j < n →
         (apart n j k < apart n r k) ↔ ((0 < apart n r j) × (apart n r j ≤ apart n r k)) }
-    ensures on_the_chain { (n down k r s j x : ℕ) → k < n → has down k ≡ true →
-        IsLiveBefore n down k r → IsLiveAfter n down k s → j < n → x < n → IsBetween n r s j →
+    ensures on_the_chain { (n : ℕ) (live : ℕ → Bool) (k r s j x : ℕ) → k < n → IsDown live k →
+        IsLiveBefore n live k r → IsLiveAfter n live k s → j < n → x < n → IsBetween n r s j →
         j ≤ x → ¬ IsBetween n r s x → (j ≤ s) × (s ≤ x) }
-    ensures source_found { (ring : RingShape) (down k j : ℕ) → k < ring.servers → has down k ≡ true →
-        IsAdmissible ring down → j < ring.servers → IsMember ring j k →
-        (x : ℕ) × (source_of ring.servers down j k ≡ Some x) × (x < ring.servers) × IsLive down x × IsMember ring j x }
+    ensures source_found { (ring : RingShape) (live : ℕ → Bool) (k j : ℕ) → k < ring.servers → IsDown live k →
+        IsAdmissible ring live → j < ring.servers → IsMember ring j k →
+        (x : ℕ) × (source_of ring.servers live j k ≡ Some x) × (x < ring.servers) × IsLive live x × IsMember ring j x }
 {}

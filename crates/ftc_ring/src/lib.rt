@@ -7,7 +7,7 @@ mod live;
 mod recovery;
 mod ring;
 
-pub use laws::{distances, groups, origins, recoveries, steps, the_live};
+pub use laws::{admissible, distances, groups, origins, recoveries, steps, the_live};
 pub use ring::Ring;
 
 #[cfg(test)]

@@ -2,7 +2,6 @@
 
 ghost use Rattle.std.specs.Prelude.{◌≡◌, ◌≤◌, ◌<◌, ◌↔◌, IfSome, IfNone, IsNone};
 ghost use Rattle.std.specs.List.{find};
-ghost use Rattle.ftc_base.specs.Sets.{has};
 ghost use Rattle.ftc_ring.specs.Ring.{along, against};
 ghost use Rattle.ftc_ring.specs.Live.{is_live, IsGone, IsAdmissible, IsFirstLive, IsFirstGone, IsLiveBefore, IsLiveAfter, IsAlone, first_live_of, gone_of, live_before_of, live_after_of};
 
@@ -55,18 +54,18 @@ impl Ring {
     /// The first member of a group that is live.
     pub fn first_live(&self, group: ServerId, down: ServerSet) -> Option<ServerId>
         requires { group < self.now.servers }
-        ensures value { result ≡ first_live_of self.now down group }
-        ensures first { IfSome result (IsFirstLive self.now down group) }
-        ensures none { IsNone result ↔ IsGone self.now down group }
+        ensures value { result ≡ first_live_of self.now (is_live down) group }
+        ensures first { IfSome result (IsFirstLive self.now (is_live down) group) }
+        ensures none { IsNone result ↔ IsGone self.now (is_live down) group }
     {
         self.first_along(group, self.failures() + 1, down)
     }
 
     /// The smallest group without a live member.
     pub fn gone(&self, down: ServerSet) -> Option<ServerId>
-        ensures value { result ≡ gone_of self.now down }
-        ensures first { IfSome result (IsFirstGone self.now down) }
-        ensures none { IsNone result ↔ IsAdmissible self.now down }
+        ensures value { result ≡ gone_of self.now (is_live down) }
+        ensures first { IfSome result (IsFirstGone self.now (is_live down)) }
+        ensures none { IsNone result ↔ IsAdmissible self.now (is_live down) }
     {
         for number in 0..self.servers() {
             let group = server_of(number);
@@ -80,9 +79,9 @@ impl Ring {
     /// The nearest other live server before a server.
     pub fn live_before(&self, server: ServerId, down: ServerSet) -> Option<ServerId>
         requires { server < self.now.servers }
-        ensures value { result ≡ live_before_of self.now.servers down server }
-        ensures nearest { IfSome result (IsLiveBefore self.now.servers down server) }
-        ensures none { IsNone result ↔ IsAlone self.now.servers down server }
+        ensures value { result ≡ live_before_of self.now.servers (is_live down) server }
+        ensures nearest { IfSome result (IsLiveBefore self.now.servers (is_live down) server) }
+        ensures none { IsNone result ↔ IsAlone self.now.servers (is_live down) server }
     {
         self.first_against(self.previous(server), self.servers() - 1, down)
     }
@@ -90,9 +89,9 @@ impl Ring {
     /// The nearest other live server after a server.
     pub fn live_after(&self, server: ServerId, down: ServerSet) -> Option<ServerId>
         requires { server < self.now.servers }
-        ensures value { result ≡ live_after_of self.now.servers down server }
-        ensures nearest { IfSome result (IsLiveAfter self.now.servers down server) }
-        ensures none { IsNone result ↔ IsAlone self.now.servers down server }
+        ensures value { result ≡ live_after_of self.now.servers (is_live down) server }
+        ensures nearest { IfSome result (IsLiveAfter self.now.servers (is_live down) server) }
+        ensures none { IsNone result ↔ IsAlone self.now.servers (is_live down) server }
     {
         self.first_along(self.next(server), self.servers() - 1, down)
     }

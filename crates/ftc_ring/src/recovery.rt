@@ -1,9 +1,8 @@
 //! From where a server that is replaced gets the lists of its groups.
 
-ghost use Rattle.std.specs.Prelude.{◌≡◌, ◌<◌, ℕ, true, Some};
-ghost use Rattle.ftc_base.specs.Sets.{has};
+ghost use Rattle.std.specs.Prelude.{◌≡◌, ◌<◌, ℕ, Some};
 ghost use Rattle.ftc_ring.specs.Ring.{IsMember};
-ghost use Rattle.ftc_ring.specs.Live.{IsLive, IsAdmissible, IsLiveBefore, IsLiveAfter, source_between, source_of};
+ghost use Rattle.ftc_ring.specs.Live.{is_live, IsLive, IsDown, IsAdmissible, IsLiveBefore, IsLiveAfter, source_between, source_of};
 
 use crate::distance::apart;
 use crate::ring::Ring;
@@ -14,15 +13,15 @@ impl Ring {
     pub fn source(&self, server: ServerId, group: ServerId, down: ServerSet) -> ServerId
         requires server { server < self.now.servers }
         requires group { group < self.now.servers }
-        requires down { has down server ≡ true }
+        requires down { IsDown (is_live down) server }
         requires member { IsMember self.now group server }
-        requires admissible { IsAdmissible self.now down }
-        ensures value { source_of self.now.servers down group server ≡ Some result }
-        ensures nearest { (before after : ℕ) → IsLiveBefore self.now.servers down server before →
-            IsLiveAfter self.now.servers down server after →
+        requires admissible { IsAdmissible self.now (is_live down) }
+        ensures value { source_of self.now.servers (is_live down) group server ≡ Some result }
+        ensures nearest { (before after : ℕ) → IsLiveBefore self.now.servers (is_live down) server before →
+            IsLiveAfter self.now.servers (is_live down) server after →
             result ≡ source_between self.now.servers before after group server }
         ensures within { result < self.now.servers }
-        ensures live { IsLive down result }
+        ensures live { IsLive (is_live down) result }
         ensures member { IsMember self.now group result }
     {
         let nearest = (

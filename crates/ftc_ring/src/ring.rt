@@ -55,7 +55,7 @@ impl Ring {
     /// How many of them may be down at once.
     pub fn failures(&self) -> u8
         ensures same { result ≡ self.now.failures }
-        ensures fewer { result < self.now.servers }
+        ensures bounds { IsRing self.now }
     {
         self.failures
     }
