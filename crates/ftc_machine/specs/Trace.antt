@@ -7,7 +7,7 @@ use Rattle.ftc_store.specs.Store.{Content, written}
 use Rattle.ftc_serial.specs.Words.{AnyOf}
 use Rattle.ftc_serial.specs.Take.{Outcome}
 use Rattle.ftc_serial.specs.Serial.{Entry, Visited, Given}
-use Rattle.ftc_machine.specs.Visits.{Visits, In, no_visits}
+use Rattle.ftc_machine.specs.Visits.{Visits, In, no_visits, union, just}
 use Rattle.ftc_machine.specs.Changes.{is_touching, is_changing, Meets, meets}
 
 -- the entry is that visit, and its outcome has P
@@ -68,9 +68,8 @@ has_each partitions (Given packet bytes ∷ older) visits wanted = has_each part
 -- .. and the visits of the trace that touch something and that the set lacks.
 abbrev pub lacked_by : ℕ → List Entry → Visits → Visits
 lacked_by partitions [] visits = no_visits
-lacked_by partitions (Visited server packet outcome ∷ older) visits other another =
-    ((other == server) && (another == packet) && is_touching outcome && not (is_had partitions visits older server packet outcome))
-    || lacked_by partitions older visits other another
+lacked_by partitions (Visited server packet outcome ∷ older) visits =
+    union (just server packet (is_touching outcome && not (is_had partitions visits older server packet outcome))) (lacked_by partitions older visits)
 lacked_by partitions (Given packet bytes ∷ older) visits = lacked_by partitions older visits
 
 -- the content of a middlebox after the writes of those of its visits in the trace that are of these packets
