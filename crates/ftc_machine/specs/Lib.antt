@@ -1,4 +1,3 @@
-pub mod Shim
 pub mod Line
 pub mod Setting
 pub mod Visits

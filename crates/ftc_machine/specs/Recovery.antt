@@ -3,7 +3,7 @@ use Rattle.std.specs.Prelude.{ℕ, zero, suc, Bool, ◌==◌, ◌&&◌, ◌||◌
 use Rattle.ftc_journal.specs.declared.event.VisitName.{VisitName}
 use Rattle.ftc_serial.specs.Serial.{Entry, Visited, Given}
 use Rattle.ftc_ring.specs.Ring.{apart, next_of}
-use Rattle.ftc_machine.specs.Shim.{live_before_of, live_after_of, source_between, span}
+use Rattle.ftc_ring.specs.Live.{live_before_of, live_after_of, source_between, span}
 use Rattle.ftc_machine.specs.Setting.{Setting, servers, is_member}
 use Rattle.ftc_machine.specs.Visits.{Visits}
 use Rattle.ftc_machine.specs.Trace.{has_each, lacked_by}

@@ -1,0 +1,15 @@
+pub mod Places
+pub mod Removed
+pub mod Undone
+pub mod Ring
+pub mod Standing
+pub mod Awake
+pub mod Listing
+pub mod Nesting
+pub mod Carrying
+pub mod Between
+pub mod Ready
+pub mod Premises
+pub mod Having
+pub mod Within
+pub mod Passed
