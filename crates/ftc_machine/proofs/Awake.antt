@@ -11,7 +11,6 @@ use Rattle.ftc_machine.specs.Setting.{Setting, packet_at, servers}
 use Rattle.ftc_machine.specs.Next.{drop_if, fresh_message, is_at, is_away, next, outcome_at, sent_message, taken_message, visited_at, visited_message}
 use Rattle.ftc_machine.specs.Recovery.{is_dropped}
 use Rattle.ftc_ring.specs.Ring.{next_of}
-use Rattle.ftc_machine.proofs.Carrying.{visited}
 use Rattle.ftc_serial.specs.Words.{with_at}
 use Rattle.ftc_serial.proofs.Functions.{with_at_cases}
 

@@ -75,10 +75,10 @@ module _ (c : Setting) (s : ChainState) (m r t : ℕ) (inside : m < (servers c))
       ]
 
   pub fetched_r : (j p : ℕ) → apart (servers c) j m ≤ c.failures → apart (servers c) r m ≤ apart (servers c) j m → In (s.lists r) j p → In (list_got c s m r t) j p
-  fetched_r j p member head h = and_from _ _ (le-leb _ _ member) (subst (λ b. s.lists (if b then r else t) j p ≡ true) (sym (le-leb (apart (servers c) r m) (apart (servers c) j m) head)) h)
+  fetched_r j p member head h = and_from _ _ (le-leb _ _ member) (subst (λ b. (s.lists (if b then r else t) j p) ≡ true) (sym (le-leb (apart (servers c) r m) (apart (servers c) j m) head)) h)
 
   pub fetched_t : (j p : ℕ) → apart (servers c) j m ≤ c.failures → apart (servers c) j m < apart (servers c) r m → In (s.lists t) j p → In (list_got c s m r t) j p
-  fetched_t j p member head h = and_from _ _ (le-leb _ _ member) (subst (λ b. s.lists (if b then r else t) j p ≡ true) (sym (lt-leb (apart (servers c) r m) (apart (servers c) j m) head)) h)
+  fetched_t j p member head h = and_from _ _ (le-leb _ _ member) (subst (λ b. (s.lists (if b then r else t) j p) ≡ true) (sym (lt-leb (apart (servers c) r m) (apart (servers c) j m) head)) h)
 
   pub recovers : IsAdmissible c s.up → (gone : Visits) → ((j p : ℕ) → In gone j p → IsUndone c s r t j p)
       → (logs : Visits) (x : ℕ) → x < (servers c) → s.up x ≡ true → (x ≡ t → (j q : ℕ) → In logs j q → Has c.partitions s.trace (s.lists t) j q)

@@ -13,3 +13,8 @@ pub mod Premises
 pub mod Having
 pub mod Within
 pub mod Passed
+pub mod Changing
+pub mod Stores
+pub mod Undoing
+pub mod World
+pub mod Inv

@@ -7,7 +7,7 @@ use Rattle.ftc_machine.proofs.Ring.{IsLastLive, IsNextLive, apart_after, apart_c
 use Rattle.ftc_machine.specs.Setting.{Setting, is_member, servers}
 use Rattle.ftc_serial.specs.Serial.{after}
 use Rattle.ftc_ring.specs.Ring.{apart, next_of}
-use Rattle.ftc_machine.proofs.Listing.{gets, in_both, in_left, in_one}
+use Rattle.ftc_machine.proofs.Listing.{in_both, in_left, in_one}
 use Rattle.ftc_machine.specs.Recovery.{list_got}
 use Rattle.ftc_machine.specs.Next.{pulled_list}
 use Rattle.ftc_serial.specs.Words.{with_at}
@@ -113,13 +113,13 @@ module _ (c : Setting) (s : ChainState) (h : IsNested c s.up s.lists) where
       let n = (servers c) in
       let from : (j p : ℕ) → In (list_got c s m r t) j p → (apart n j m ≤ c.failures) × ((In (s.lists r) j p × (apart n r m ≤ apart n j m)) ⊎ (In (s.lists t) j p × (apart n j m < apart n r m))) =
           λ j p i. let a = and_parts _ _ i in
-          (member_le c j m a.0, elim (nat_le (apart n r m) (apart n j m)) as (λ b. nat_le (apart n r m) (apart n j m) ≡ b → s.lists (if b then r else t) j p ≡ true
+          (member_le c j m a.0, elim (nat_le (apart n r m) (apart n j m)) as (λ b. nat_le (apart n r m) (apart n j m) ≡ b → (s.lists (if b then r else t) j p) ≡ true
               → (In (s.lists r) j p × (apart n r m ≤ apart n j m)) ⊎ (In (s.lists t) j p × (apart n j m < apart n r m))) [
             | true ↦ λ is h. inl (h, leb-true _ _ is)
             | false ↦ λ is h. inr (h, leb-false _ _ is)
           ] refl a.1) in
       let to : (j p : ℕ) → apart n j m ≤ c.failures → (apart n r m ≤ apart n j m → In (s.lists r) j p) → (apart n j m < apart n r m → In (s.lists t) j p) → In (list_got c s m r t) j p =
-          λ j p le a b. and_from _ _ (le-leb _ _ le) (elim (nat_le (apart n r m) (apart n j m)) as (λ t'. nat_le (apart n r m) (apart n j m) ≡ t' → s.lists (if t' then r else t) j p ≡ true) [
+          λ j p le a b. and_from _ _ (le-leb _ _ le) (elim (nat_le (apart n r m) (apart n j m)) as (λ t'. nat_le (apart n r m) (apart n j m) ≡ t' → (s.lists (if t' then r else t) j p) ≡ true) [
             | true ↦ λ is. a (leb-true _ _ is)
             | false ↦ λ is. b (leb-false _ _ is)
           ] refl) in

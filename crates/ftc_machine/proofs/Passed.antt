@@ -1,7 +1,7 @@
 -- Where a packet has been, the live members have its visits; and who has a later visit of a packet has the earlier ones.
 use Rattle.std.proofs.Common.{◌≡◌, ◌≢◌, ℕ, ◌+◌, ◌-◌, ◌<◌, ◌≤◌, ◌==◌, ◌&&◌, ◌||◌, if◌then◌else◌, Bool, true, false, cond, not, List, ◌∷◌, ◌⊎◌, inl, inr, refl, sym, ap, subst, ◌∙◌, arith, nat_le}
 use Rattle.std.proofs.lemmas.Bool.{true≢false, eqb-false, cases_eq, cases_lt, and_parts, or_cases, or_left, or_right, and_from, not-true, cases_Bool, le-leb, leb-true, leb-false, not_from_false, ne_eqb}
-use Rattle.ftc_machine.proofs.Listing.{AreLists, gained, kept, visits}
+use Rattle.ftc_machine.proofs.Listing.{AreLists, gained, kept}
 use Rattle.ftc_machine.specs.State.{ChainState}
 use Rattle.ftc_serial.specs.Serial.{Entry, Given, Visited, after}
 use Rattle.ftc_machine.specs.Trace.{Has, IsChanging, IsInTrace, IsTouching}
@@ -163,7 +163,7 @@ module _ (c : Setting) (s : ChainState) (lists : AreLists c s.trace s.up s.lists
           let im_member : apart n i m ≤ c.failures = subst (λ v. apart n i v ≤ c.failures) e member_x in
           let a = and_parts _ _ is in
           let from : (In (s.lists r) j p × (apart n r m ≤ apart n j m)) ⊎ (In (s.lists t) j p × (apart n j m < apart n r m)) =
-              elim (nat_le (apart n r m) (apart n j m)) as (λ b. nat_le (apart n r m) (apart n j m) ≡ b → s.lists (if b then r else t) j p ≡ true
+              elim (nat_le (apart n r m) (apart n j m)) as (λ b. nat_le (apart n r m) (apart n j m) ≡ b → (s.lists (if b then r else t) j p) ≡ true
                   → (In (s.lists r) j p × (apart n r m ≤ apart n j m)) ⊎ (In (s.lists t) j p × (apart n j m < apart n r m))) [
                 | true ↦ λ is h. inl (h, leb-true _ _ is)
                 | false ↦ λ is h. inr (h, leb-false _ _ is)

@@ -1,6 +1,6 @@
 -- Where packets are on the serial chain, and what a legal entry of the trace is, in the form that the proofs use.
 use Rattle.std.proofs.Common.{◌≡◌, ℕ, ◌+◌, ◌<◌, ◌==◌, if◌then◌else◌, Bool, true, false, List, [], ◌∷◌, length, get_or, Option, Some, None, refl, sym, ap, ◌∙◌, subst}
-use Rattle.std.specs.Prelude.{slice_get, slice_index_or}
+use Rattle.std.specs.Prelude.{slice_get, slice_index_or, option_map}
 use Rattle.std.proofs.lemmas.Option.{slice_get-get_or, get_or_from_slice_get, slice_get_within}
 use Rattle.ftc_mbox.specs.declared.rule.Rule.{Rule}
 use Rattle.ftc_mbox.specs.declared.rule.Rule.TheVariants.{Pass}
@@ -84,3 +84,12 @@ pub serial_by : (c : Setting) (trace : List Entry) → IsHistory c.rules (serial
 serial_by c [] is = tt
 serial_by c (entry ∷ older) is =
     (entry_legal c (serial_of c older) entry (subst (λ (s : State). IsLegal c.rules s entry) (state_same c older) is.0), serial_by c older is.1)
+
+-- where packets are at the start
+pub opening_waits : (packet : Option (List ℕ)) (server : ℕ) (bytes : List ℕ) → option_map (position.Waiting 0) packet ≡ Waits server bytes → 0 ≡ server
+opening_waits None server bytes is = absurd (cc)
+opening_waits (Some own) server bytes is = cc
+
+pub opening_passed : (packet : Option (List ℕ)) (bytes : List ℕ) → option_map (position.Waiting 0) packet ≡ Passed bytes → ⊥
+opening_passed None bytes is = cc
+opening_passed (Some own) bytes is = cc
