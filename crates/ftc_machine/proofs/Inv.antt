@@ -13,7 +13,7 @@ use Rattle.ftc_machine.specs.Trace.{IsChanging, IsTouching}
 use Rattle.ftc_machine.proofs.Within.{IsWithin}
 use Rattle.ftc_machine.specs.Legal.{MayHappen}
 use Rattle.ftc_machine.proofs.Places.{Passed, Place, Waits, place_after, serial_of}
-use Rattle.ftc_machine.specs.Setting.{Setting, is_tail, packet_at, servers}
+use Rattle.ftc_machine.specs.Setting.{Setting, count, is_tail, packet_at, servers}
 use Rattle.ftc_machine.proofs.World.{World}
 use Rattle.ftc_ring.specs.Ring.{apart, next_of}
 use Rattle.ftc_machine.specs.Next.{fresh_message, next}
@@ -74,7 +74,7 @@ pub record Inv (c : Setting) (s : ChainState) : Type 0 where
   pub forward_far : (j q : ℕ) → In s.forwarder j q → 0 < apart (servers c) j (next_of (servers c) 0)
   pub withheld : (p : ℕ) (w : Withheld) → s.withheld p ≡ Some w → IsWithheld c s.trace s.up p w
   pub single : (p : ℕ) (w : Withheld) (m : Message) → s.withheld p ≡ Some w → s.message p ≡ Some m → m.packet ≡ None
-  pub unentered : (p : ℕ) → s.entered ≤ p → (serial_of c s.trace).place p ≡ Waits 0 (packet_at c p)
+  pub unentered : (p : ℕ) → s.entered ≤ p → p < (count c) → (serial_of c s.trace).place p ≡ Waits 0 (packet_at c p)
   pub known : (k j q : ℕ) → In (s.known k) j q → IsSafe c s.trace s.up s.lists j q
   pub gaps : (l : ℕ) → s.gap l ≡ true → (servers c) ≢ 1
 
@@ -135,11 +135,11 @@ module _ (c : Setting) (good : IsGood c) (s : ChainState) (h : Inv c s) where
   place_of : ℕ → Place
   place_of p = (serial_of c s.trace).place p
 
-  enter_steady : (p : ℕ) → p ≡ s.entered → (b : Bool) → (m : Message) → (if b then Some (fresh_message s.events (Some (packet_at c p))) else s.message p) ≡ Some m → IsSteady c s.trace s.up s.lists p m
-  enter_steady p first true m e =
+  enter_steady : (p : ℕ) → p ≡ s.entered → p < (count c) → (b : Bool) → (m : Message) → (if b then Some (fresh_message s.events (Some (packet_at c p))) else s.message p) ≡ Some m → IsSteady c s.trace s.up s.lists p m
+  enter_steady p first few true m e =
       let same : fresh_message s.events (Some (packet_at c p)) ≡ m = same_Some _ _ e in
       subst (λ v. IsSteady c s.trace s.up s.lists p v) same (empty_steady c s.trace s.up s.lists p _ refl refl (λ bytes is.
-        let waits : (serial_of c s.trace).place p ≡ Waits 0 (packet_at c p) = h.unentered p (omega arith) in
+        let waits : (serial_of c s.trace).place p ≡ Waits 0 (packet_at c p) = h.unentered p (omega arith) few in
         record {
           place = waits ∙ ap (Waits 0) (same_Some _ _ is);
           within = λ i less. absurd (omega arith);
@@ -147,11 +147,11 @@ module _ (c : Setting) (good : IsGood c) (s : ChainState) (h : Inv c s) where
           own = tt;
           needs = λ i t. let less : i < 0 = visited_earlier c s.trace 0 p (packet_at c p) h.world.serial waits i (some_stands _ s.trace i p t) in absurd (omega arith);
         }))
-  enter_steady p first false m e = h.messages p m e
+  enter_steady p first few false m e = h.messages p m e
 
-  enter_packet : (p : ℕ) → p ≡ s.entered → (b : Bool) → (m : Message) → (if b then Some (fresh_message s.events (Some (packet_at c p))) else s.message p) ≡ Some m → (w : Withheld) → s.withheld p ≡ Some w → m.packet ≡ None
-  enter_packet p first b m e w is =
-      let waits : (serial_of c s.trace).place p ≡ Waits 0 (packet_at c p) = h.unentered p (omega arith) in
+  enter_packet : (p : ℕ) → p ≡ s.entered → p < (count c) → (b : Bool) → (m : Message) → (if b then Some (fresh_message s.events (Some (packet_at c p))) else s.message p) ≡ Some m → (w : Withheld) → s.withheld p ≡ Some w → m.packet ≡ None
+  enter_packet p first few b m e w is =
+      let waits : (serial_of c s.trace).place p ≡ Waits 0 (packet_at c p) = h.unentered p (omega arith) few in
       let passed = (h.withheld p w is).place in absurd (cc)
 
   pub enters : (p : ℕ) → MayHappen c s (Enter p) → Inv c (next c s (Enter p))
@@ -159,14 +159,14 @@ module _ (c : Setting) (good : IsGood c) (s : ChainState) (h : Inv c s) where
     world = h.world;
     fit = h.fit;
     awake = stays_awake c good.some s (Enter p) legal h.awake;
-    messages = each_message (λ q m. IsSteady c s.trace s.up s.lists q m) s.message p _ (enter_steady p legal.0 (s.up 0)) h.messages;
+    messages = each_message (λ q m. IsSteady c s.trace s.up s.lists q m) s.message p _ (enter_steady p legal.0 legal.1 (s.up 0)) h.messages;
     entered = λ q m b e is. each_message (λ q m. (bytes : (List ℕ)) → m.packet ≡ Some bytes → q < s.entered + 1) s.message p _ (λ m e b is. let first : p ≡ s.entered = legal.0 in omega arith) (λ q m e b is. let old = h.entered q m b e is in omega arith) q m e b is;
     forward = h.forward;
     forward_live = h.forward_live;
     forward_far = h.forward_far;
     withheld = h.withheld;
-    single = λ q w m is e. each_message (λ x n. (v : Withheld) → s.withheld x ≡ Some v → n.packet ≡ None) s.message p _ (enter_packet p legal.0 (s.up 0)) (λ x n e v is. h.single x v n is e) q m e w is;
-    unentered = λ q le. h.unentered q (omega arith);
+    single = λ q w m is e. each_message (λ x n. (v : Withheld) → s.withheld x ≡ Some v → n.packet ≡ None) s.message p _ (enter_packet p legal.0 legal.1 (s.up 0)) (λ x n e v is. h.single x v n is e) q m e w is;
+    unentered = λ q le few. h.unentered q (omega arith) few;
     known = h.known;
     gaps = h.gaps;
   }

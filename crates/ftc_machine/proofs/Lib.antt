@@ -18,3 +18,10 @@ pub mod Stores
 pub mod Undoing
 pub mod World
 pub mod Inv
+pub mod SmallEvents
+pub mod Ends
+pub mod Visiting
+pub mod Leaving
+pub mod Listed
+pub mod Recovering
+pub mod Every

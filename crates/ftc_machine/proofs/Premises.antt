@@ -1,9 +1,10 @@
 -- What is supposed of a setting, in the form that the proofs use.
-use Rattle.std.proofs.Common.{◌≡◌, ℕ, ◌<◌, ◌≤◌, Bool, true, false, not, List, [], ◌∷◌}
+use Rattle.std.proofs.Common.{◌≡◌, ℕ, ◌+◌, ◌<◌, ◌≤◌, Bool, true, false, not, List, [], ◌∷◌}
 use Rattle.ftc_serial.specs.Words.{with_at}
 use Rattle.ftc_ring.specs.Ring.{apart}
 use Rattle.ftc_machine.specs.Line.{ScriptLine, Crash, Recover}
 use Rattle.ftc_machine.specs.Setting.{Setting, servers}
+use Rattle.ftc_machine.specs.State.{ChainState}
 use Rattle.ftc_machine.proofs.Places.{IsSoundTaking}
 
 abbrev pub server_of : ScriptLine → ℕ
@@ -29,3 +30,7 @@ pub record IsGood (c : Setting) : Type 0 where
   pub some : 0 < servers c
   pub small : c.failures < servers c
   pub sound : IsSoundTaking c
+
+-- events are counted
+abbrev pub ticked : ChainState → ChainState
+ticked s = record s { events = s.events + 1 }

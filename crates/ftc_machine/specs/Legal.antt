@@ -22,6 +22,10 @@ abbrev pub IsNextLine : List ScriptLine → ScriptLine → Type 0
 IsNextLine [] line = ⊥
 IsNextLine (next ∷ lines) line = next ≡ line
 
+-- the server holds the message
+abbrev pub IsHeld : ChainState → ℕ → ℕ → Message → Type 0
+IsHeld s server origin message = (s.message origin ≡ Some message) × (visited : Bool) × (by_ring : Bool) × (message.place ≡ Held server visited by_ring)
+
 -- Conditions of both pass and lose: the server holds the message, which is ready, has been visited here or has no packet, and
 -- did not come by the ring link.
 pub record MayLeave (c : Setting) (s : ChainState) (server origin : ℕ) (message : Message) : Type 0 where
@@ -50,8 +54,8 @@ MayHappen c s (event.Take link origin) = (message : Message)
     × (s.message origin ≡ Some message) × (message.place ≡ Queued link)
     × ((other : ℕ) (queued : Message) → s.message other ≡ Some queued → queued.place ≡ Queued link → message.since ≤ queued.since)
 MayHappen c s (event.Apply server origin group packet) = (message : Message)
-    × (s.message origin ≡ Some message) × (visited : Bool) × (by_ring : Bool) × (message.place ≡ Held server visited by_ring)
-    × In message.logs group packet × IsChanging c.partitions s.trace group packet × (s.lists server group packet ≡ false)
+    × IsHeld s server origin message × In message.logs group packet
+    × IsChanging c.partitions s.trace group packet × (s.lists server group packet ≡ false)
     × ((earlier : ℕ) → IsBefore c.partitions s.trace group earlier packet → In (s.lists server) group earlier)
     × ((smaller : ℕ) → smaller < group → In message.logs smaller packet → ServerHas c s server smaller packet)
 MayHappen c s (event.Visit server packet worker) = (message : Message) × (bytes : List ℕ) × (by_ring : Bool)
@@ -68,7 +72,7 @@ MayHappen c s (event.Pull link) =
     (s.up link ≡ true) × (s.up (next_of (servers c) link) ≡ true) × (s.gap link ≡ true)
 MayHappen c s (event.Propagate origin) =
     (s.entered ≡ count c) × ((server : ℕ) → server < servers c → s.up server ≡ true)
-    × ((other : ℕ) (message : Message) (visited : Bool) → s.message other ≡ Some message → message.place ≢ Held 0 visited false)
+    × ((other : ℕ) (message : Message) → s.message other ≡ Some message → (visited : Bool) → message.place ≢ Held 0 visited false)
     × (((group : ℕ) × (packet : ℕ) × In s.forwarder group packet) ⊎ IsStalled c s)
     × (origin ≡ count c + s.propagates)
 MayHappen c s (event.Release packet) = (withheld : Withheld)
