@@ -25,3 +25,7 @@ pub mod Leaving
 pub mod Listed
 pub mod Recovering
 pub mod Every
+pub mod First
+pub mod Fallen
+pub mod Moments
+pub mod Sound

@@ -9,3 +9,4 @@ pub mod Recovery
 pub mod Legal
 pub mod Next
 pub mod Run
+pub mod Moment
