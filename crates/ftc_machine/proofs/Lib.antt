@@ -29,3 +29,9 @@ pub mod First
 pub mod Fallen
 pub mod Moments
 pub mod Sound
+pub mod Pending
+pub mod Waiting
+pub mod Soon
+pub mod Progress
+pub mod Finished
+pub mod Forever

@@ -213,3 +213,10 @@ undone_exact c s r t some rl tl serial j p =
       | true ↦ λ e h. let ri = apart_cases (servers c) r i rl il in omega arith
       | false ↦ λ e h. elim h [ inl same ↦ absurd (eqb-false r t e same) | inr less ↦ less ]
     ] refl
+
+-- the same of the list with which a recovery is legal
+pub undone_listed : (c : Setting) (s : ChainState) (k : ℕ) (undone : List VisitName) → undone ≡ undone_visits c s k → 0 < servers c → previous_live c s k < servers c → following_live c s k < servers c → IsSerial c s.trace
+    → (j p : ℕ) → In (names undone) j p ↔ IsUndone c s (previous_live c s k) (following_live c s k) j p
+undone_listed c s k undone same some rl tl serial j p =
+    subst (λ (list : List VisitName). In (names list) j p ↔ IsUndone c s (previous_live c s k) (following_live c s k) j p) (sym same)
+    (undone_exact c s (previous_live c s k) (following_live c s k) some rl tl serial j p)

@@ -26,7 +26,7 @@ use Rattle.ftc_ring.specs.Ring.{apart, next_of}
 use Rattle.ftc_machine.specs.Next.{drop_if, lines_behind, next, recovered}
 use Rattle.ftc_machine.proofs.Ready.{each_had}
 use Rattle.ftc_machine.proofs.SmallEvents.{fit_next, fit_now}
-use Rattle.ftc_machine.specs.Recovery.{following_live, is_dropped, is_dropped_at, list_got, previous_live, undone_visits}
+use Rattle.ftc_machine.specs.Recovery.{following_live, is_dropped, is_dropped_at, list_got, previous_live}
 use Rattle.ftc_machine.proofs.Undoing.{head_between, lacks}
 use Rattle.ftc_machine.specs.Changes.{is_changing, is_touching}
 use Rattle.ftc_machine.specs.Known.{knows}
@@ -34,7 +34,7 @@ use Rattle.ftc_serial.specs.Removal.{left_of}
 use Rattle.ftc_serial.specs.Trace.{names}
 use Rattle.ftc_machine.proofs.Places.{placed, serial_of}
 use Rattle.ftc_machine.proofs.Stores.{stands_below, touching_changing}
-use Rattle.ftc_machine.proofs.Listed.{undone_exact}
+use Rattle.ftc_machine.proofs.Listed.{undone_listed}
 use Rattle.ftc_machine.proofs.Standing.{visit_left, visit_stood, visited_earlier}
 use Rattle.ftc_serial.specs.Words.{with_at}
 use Rattle.ftc_serial.proofs.Functions.{with_at_cases}
@@ -234,14 +234,11 @@ module _ (c : Setting) (good : IsGood c) (s : ChainState) (h : Inv c s) (m r t :
 module _ (c : Setting) (good : IsGood c) (s : ChainState) (h : Inv c s) where
   pub recovers_event : (k : ℕ) (undone : List VisitName) → MayHappen c s (Recover k undone) → Inv c (next c s (Recover k undone))
   recovers_event k undone legal =
-      let exact_by : (undone : List VisitName) → undone ≡ undone_visits c s k → IsLastLive (servers c) s.up k (previous_live c s k) → IsNextLive (servers c) s.up k (following_live c s k) → (j p : ℕ) → In (names undone) j p ↔ IsUndone c s (previous_live c s k) (following_live c s k) j p =
-          λ undone same before after j p. subst (λ (list : List VisitName). In (names list) j p ↔ IsUndone c s (previous_live c s k) (following_live c s k) j p) (sym same)
-            (undone_exact c s (previous_live c s k) (following_live c s k) good.some before.below after.below h.world.serial j p) in
       let fit = fit_next c s.up s.lines (script_line.Recover s.entered k) legal.0 h.fit in
       let admissible = fit_now c s.up s.lines h.fit in
       let down = fit.1 refl in
       let z = admissible k fit.0 in
       let other : z.0 ≢ k = λ e. true≢false (sym z.2 ∙ subst (λ v. s.up v ≡ false) (sym e) down) in
       recovers c good s h k (previous_live c s k) (following_live c s k) fit.0 down
-        (last_live (servers c) s.up k fit.0 z.0 z.1 z.2 other) (next_live (servers c) s.up k fit.0 z.0 z.1 z.2 other) admissible (names undone) (exact_by undone legal.1 (last_live (servers c) s.up k fit.0 z.0 z.1 z.2 other) (next_live (servers c) s.up k fit.0 z.0 z.1 z.2 other)) undone refl fit.2
+        (last_live (servers c) s.up k fit.0 z.0 z.1 z.2 other) (next_live (servers c) s.up k fit.0 z.0 z.1 z.2 other) admissible (names undone) (undone_listed c s k undone legal.1 good.some (last_live (servers c) s.up k fit.0 z.0 z.1 z.2 other).below (next_live (servers c) s.up k fit.0 z.0 z.1 z.2 other).below h.world.serial) undone refl fit.2
         (stays_awake c good.some s (Recover k undone) legal h.awake)

@@ -21,6 +21,12 @@ apart_after n a la = elim (a + 1 == n) as (λ t. a + 1 == n ≡ t → (let b = i
   | false ↦ λ is. let e : a + 1 ≡ n → ⊥ = eqb-false (a + 1) n is in inl (inl (omega arith, omega arith), omega arith)
 ] refl
 
+pub apart_before : (n a : ℕ) → a < n → Apart n (previous_of n a) a 1 × (previous_of n a < n) ⊎ (n ≡ 1)
+apart_before n a la = elim (a == 0) as (λ t. a == 0 ≡ t → (let b = if t then n - 1 else a - 1 in Apart n b a 1 × (b < n) ⊎ (n ≡ 1))) [
+  | true ↦ λ is. let e : a ≡ 0 = eqb-true a 0 is in elim (cases_eq n 1) [ inl one ↦ inr one | inr more ↦ inl (inr (omega arith, omega arith), omega arith) ]
+  | false ↦ λ is. let e : a ≡ 0 → ⊥ = eqb-false a 0 is in inl (inl (omega arith, omega arith), omega arith)
+] refl
+
 -- t is the nearest live server after k
 pub record IsNextLive (n : ℕ) (up : ℕ → Bool) (k t : ℕ) : Type 0 where
   pub below : t < n
