@@ -80,9 +80,9 @@ abbrev pub placed : {A : Type 0} → ℕ → Result A ScriptCause → Result A S
 placed line (Ok value) = Ok value
 placed line (Err cause) = fault_at line cause
 
--- the smallest server that is down
-abbrev pub down_of : RingShape → (ℕ → Bool) → Option ℕ
-down_of ring live = find (λ server. not (live server)) (range_with_len 0 ring.servers)
+-- the smallest server that is down, among n
+abbrev pub down_of : ℕ → (ℕ → Bool) → Option ℕ
+down_of n live = find (λ server. not (live server)) (range_with_len 0 n)
 
 -- the script where no line is left; the place is behind the last line
 abbrev pub finished : RingShape → ℕ → ScriptDraft → ℕ → Option ℕ → Result ScriptShape ScriptFault
@@ -90,7 +90,7 @@ finished ring packets draft place None = Ok (record { ring = ring; packets = pac
 finished ring packets draft place (Some server) = fault_at place (LeftDown server)
 
 abbrev pub finish : RingShape → ℕ → ScriptDraft → ℕ → Result ScriptShape ScriptFault
-finish ring packets draft place = finished ring packets draft place (down_of ring (live_in draft))
+finish ring packets draft place = finished ring packets draft place (down_of ring.servers (live_in draft))
 
 -- the script of the lines that are left, the first of which stands at that place
 abbrev pub script_from : RingShape → ℕ → Result ScriptDraft ScriptFault → ℕ → List (List ℕ) → Result ScriptShape ScriptFault

@@ -1,8 +1,8 @@
 //! What one more line adds.
 
-ghost use Rattle.std.specs.Prelude.{◌≡◌, IfOk};
+ghost use Rattle.std.specs.Prelude.{◌≡◌, IfOk, OnOk};
 ghost use Rattle.ftc_base.specs.Refused.{IsReading};
-ghost use Rattle.ftc_script.specs.Steps.{last_of};
+ghost use Rattle.ftc_script.specs.Steps.{last_of, IsCrash};
 ghost use Rattle.ftc_script.specs.Grammar.{live_in, server_in, in_turn, may_crash, may_recover, lose_line, add, IsDraft};
 
 use crate::draft::Draft;
@@ -47,7 +47,8 @@ fn in_turn(
 
 /// A server that crashes is live, and each group keeps a live member.
 fn may_crash(ring: &Ring, draft: &Draft, server: ServerId) -> Result<(), ScriptCause>
-    ensures { result ≡ may_crash ring.now (live_in draft.now) server }
+    ensures value { result ≡ may_crash ring.now (live_in draft.now) server }
+    ensures crash { OnOk result (IsCrash ring.now (live_in draft.now) server) }
 {
     if !draft.is_up(server) {
         return Err(ScriptCause::NotUp);

@@ -1,7 +1,8 @@
 //! A script of which some lines are read.
 
-ghost use Rattle.std.specs.Prelude.{◌≡◌, false, IfOk};
-ghost use Rattle.ftc_ring.specs.Live.{is_live, gone_of};
+ghost use Rattle.std.specs.Prelude.{◌≡◌, ◌≤◌, false, IfOk, IfNone};
+ghost use Rattle.ftc_base.specs.declared.limits.TheConstants.{MOST_SERVERS};
+ghost use Rattle.ftc_ring.specs.Live.{is_live, IsAdmissible, gone_of};
 ghost use Rattle.ftc_script.specs.Steps.{with_at, live_after, last_of};
 ghost use Rattle.ftc_script.specs.Grammar.{no_lines, live_in, with_step, with_lose, down_of};
 
@@ -74,24 +75,21 @@ impl Draft {
 
     /// The smallest group that has no live member once this server crashes too.
     pub fn gone_with(&self, ring: &Ring, server: ServerId) -> Option<ServerId>
-        ensures { result ≡ gone_of ring.now (with_at (live_in self.now) server false) }
+        ensures value { result ≡ gone_of ring.now (with_at (live_in self.now) server false) }
+        ensures none { IfNone result (IsAdmissible ring.now (with_at (live_in self.now) server false)) }
     {
-        let down = down_behind(
-            self.down,
-            ScriptLine::Crash {
-                at: self.last,
-                server,
-            },
-        );
+        let down = down_behind(self.down, ScriptLine::Crash { at: self.last, server });
         ring.gone(down)
     }
 
-    /// The smallest server that is down behind the lines so far.
-    pub fn first_down(&self, ring: &Ring) -> Option<ServerId>
-        ensures { result ≡ down_of ring.now (live_in self.now) }
+    /// The smallest of so many servers that is down behind the lines so far.
+    pub fn first_down(&self, servers: u8) -> Option<ServerId>
+        requires { servers ≤ MOST_SERVERS }
+        ensures { result ≡ down_of servers (live_in self.now) }
     {
-        for number in 0..ring.servers() {
-            if self.down.has(number) {
+        let down = self.down;
+        for number in 0..servers {
+            if down.has(number) {
                 return ServerId::new(number);
             }
         }

@@ -55,7 +55,7 @@ fn finish(
     requires { IsDraft ring.now packets draft }
     ensures { IsReading result (finish ring.now packets draft place) }
 {
-    match draft.first_down(ring) {
+    match draft.first_down(ring.servers()) {
         Some(server) => Err(fault_at(place, ScriptCause::LeftDown { server })),
         None => {
             let (steps, loses) = draft.into_parts();

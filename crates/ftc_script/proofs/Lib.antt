@@ -1,0 +1,3 @@
+pub mod InTurn
+pub mod Downs
+pub mod Acceptance
