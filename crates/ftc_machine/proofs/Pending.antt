@@ -6,7 +6,7 @@ use Rattle.std.specs.List.{list_any}
 use Rattle.std.proofs.lemmas.Bool.{not_from_false, le-leb, false_from_ne_true}
 use Rattle.std.proofs.Common.{lt_irrefl, zero}
 use Rattle.std.proofs.lemmas.Bool.{leb-true}
-use Rattle.ftc_machine.specs.Line as script_line
+use Rattle.ftc_script.specs.declared.line.ScriptLine.TheVariants as script_line
 use Rattle.ftc_journal.specs.declared.event.Event.TheVariants.{Apply, Carry, Crash, Enter, Lose, Pass, Propagate, Pull, Recover, Release, Take, Visit}
 use Rattle.ftc_machine.proofs.Premises.{AreFit, IsGood, ticked}
 use Rattle.ftc_machine.specs.Run.{AreLegal, state_after}

@@ -2,7 +2,8 @@
 use Rattle.std.proofs.Common.{◌≡◌, ℕ, ◌+◌, ◌<◌, ◌≤◌, Bool, true, false, not, List, [], ◌∷◌}
 use Rattle.ftc_serial.specs.Words.{with_at}
 use Rattle.ftc_ring.specs.Ring.{apart}
-use Rattle.ftc_machine.specs.Line.{ScriptLine, Crash, Recover}
+use Rattle.ftc_script.specs.declared.line.ScriptLine.{ScriptLine}
+use Rattle.ftc_script.specs.declared.line.ScriptLine.TheVariants.{Crash, Recover}
 use Rattle.ftc_machine.specs.Setting.{Setting, servers}
 use Rattle.ftc_machine.specs.State.{ChainState}
 use Rattle.ftc_machine.proofs.Places.{IsSoundTaking}

@@ -7,7 +7,7 @@ use Rattle.std.proofs.lemmas.Bool.{not_from_false, le-leb, false_from_ne_true}
 use Rattle.std.proofs.Common.{lt_irrefl, zero}
 use Rattle.std.proofs.lemmas.Bool.{leb-true}
 use Rattle.std.specs.List.{AllByRecursion}
-use Rattle.ftc_machine.specs.Line as script_line
+use Rattle.ftc_script.specs.declared.line.ScriptLine.TheVariants as script_line
 use Rattle.ftc_journal.specs.declared.event.Event.TheVariants.{Apply, Carry, Enter, Lose, Pass, Propagate, Pull, Take, Visit}
 use Rattle.ftc_machine.proofs.Carrying.{AreCarried}
 use Rattle.ftc_machine.proofs.Waiting.{AreSeen, From, IsHeldAt, IsRinged, IsSeenAt, IsTimed}
@@ -25,7 +25,7 @@ use Rattle.ftc_machine.proofs.Soon.{IsSoonAll}
 use Rattle.ftc_machine.proofs.Awake.{IsUp}
 use Rattle.ftc_machine.specs.Legal.{MayHappen, MayLeave, is_sent, packets_of}
 use Rattle.ftc_serial.specs.Take.{Outcome}
-use Rattle.ftc_machine.specs.Line.{ScriptLine}
+use Rattle.ftc_script.specs.declared.line.ScriptLine.{ScriptLine}
 use Rattle.ftc_machine.specs.Setting.{Setting, count, servers}
 use Rattle.ftc_machine.proofs.Passed.{Somehow, some_stands}
 use Rattle.ftc_ring.specs.Ring.{apart, next_of, previous_of}

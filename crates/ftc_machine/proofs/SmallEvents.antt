@@ -13,7 +13,7 @@ use Rattle.ftc_machine.specs.Legal.{IsNextLine, MayHappen}
 use Rattle.ftc_machine.proofs.Awake.{IsUp, stays_awake}
 use Rattle.ftc_machine.proofs.Within.{IsWithin, carried_both, carried_pulls, within_more, within_pulls}
 use Rattle.ftc_serial.specs.Take.{Outcome}
-use Rattle.ftc_machine.specs.Line.{ScriptLine}
+use Rattle.ftc_script.specs.declared.line.ScriptLine.{ScriptLine}
 use Rattle.ftc_machine.specs.Setting.{Setting, is_tail, servers}
 use Rattle.ftc_ring.specs.Ring.{apart, next_of}
 use Rattle.ftc_machine.proofs.Ring.{apart_cases}

@@ -4,7 +4,8 @@ use Rattle.std.specs.List.{AllByRecursion}
 use Rattle.ftc_ring.specs.Ring.{next_of}
 use Rattle.ftc_journal.specs.declared.event.Event.{Event}
 use Rattle.ftc_journal.specs.declared.event.Event.TheVariants as event
-use Rattle.ftc_machine.specs.Line.{ScriptLine, Crash, Recover}
+use Rattle.ftc_script.specs.declared.line.ScriptLine.{ScriptLine}
+use Rattle.ftc_script.specs.declared.line.ScriptLine.TheVariants.{Crash, Recover}
 use Rattle.ftc_machine.specs.Setting.{Setting, servers, count}
 use Rattle.ftc_machine.specs.Visits.{In}
 use Rattle.ftc_machine.specs.Trace.{IsBefore, IsChanging}

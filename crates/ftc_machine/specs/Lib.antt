@@ -1,4 +1,3 @@
-pub mod Line
 pub mod Setting
 pub mod Visits
 pub mod Changes

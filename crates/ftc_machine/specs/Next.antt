@@ -12,7 +12,7 @@ use Rattle.ftc_serial.specs.Serial.{Entry, Visited, Given}
 use Rattle.ftc_ring.specs.Ring.{next_of}
 use Rattle.ftc_machine.specs.declared.fate.Fate.{Fate}
 use Rattle.ftc_machine.specs.declared.fate.Fate.TheVariants as became
-use Rattle.ftc_machine.specs.Line.{ScriptLine}
+use Rattle.ftc_script.specs.declared.line.ScriptLine.{ScriptLine}
 use Rattle.ftc_machine.specs.Setting.{Setting, servers, packet_at, rule_at, is_member, is_tail}
 use Rattle.ftc_machine.specs.Visits.{Visits, no_visits, union, just}
 use Rattle.ftc_machine.specs.Changes.{is_touching, is_changing}

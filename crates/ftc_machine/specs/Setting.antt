@@ -3,7 +3,7 @@ use Rattle.std.specs.Prelude.{ℕ, Bool, List, [], length, slice_index_or, nat_l
 use Rattle.ftc_mbox.specs.declared.rule.Rule.{Rule}
 use Rattle.ftc_mbox.specs.declared.rule.Rule.TheVariants.{Pass}
 use Rattle.ftc_ring.specs.Ring.{RingShape, apart}
-use Rattle.ftc_machine.specs.Line.{ScriptLine}
+use Rattle.ftc_script.specs.declared.line.ScriptLine.{ScriptLine}
 
 -- the rules of the middleboxes, one on each server; how many servers may be down at once; in how many partitions the keys of a
 -- middlebox lie; the bytes of the packets; which messages a link loses, by the link and the message's origin; and the servers

@@ -3,7 +3,7 @@ use Rattle.std.specs.Prelude.{ℕ, Bool, false, nat_lt, List, [], Option, None}
 use Rattle.ftc_serial.specs.Serial.{Entry}
 use Rattle.ftc_machine.specs.declared.fate.Fate.{Fate}
 use Rattle.ftc_machine.specs.declared.fate.Fate.TheVariants as became
-use Rattle.ftc_machine.specs.Line.{ScriptLine}
+use Rattle.ftc_script.specs.declared.line.ScriptLine.{ScriptLine}
 use Rattle.ftc_machine.specs.Setting.{Setting, servers}
 use Rattle.ftc_machine.specs.Visits.{Visits, no_visits}
 
