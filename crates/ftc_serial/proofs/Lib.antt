@@ -7,3 +7,4 @@ pub mod Legal
 pub mod Histories
 pub mod Runs
 pub mod More
+pub mod Written

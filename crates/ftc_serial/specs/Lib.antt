@@ -12,3 +12,4 @@ pub mod Entries
 pub mod Removal
 pub mod History
 pub mod Illegal
+pub mod Reads

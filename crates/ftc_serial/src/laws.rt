@@ -1,6 +1,11 @@
 //! Laws about serial runs, on which the replicated chain's promises rest.
 
 ghost use Rattle.std.specs.Prelude.{◌≡◌, ℕ, List, Some};
+ghost use Rattle.std.specs.List.{AllByRecursion};
+ghost use Rattle.ftc_base.specs.declared.ask.Write.{Write as AWrite};
+ghost use Rattle.ftc_store.specs.Store.{Content};
+ghost use Rattle.ftc_serial.specs.Reads.{IsRead};
+ghost use Rattle.ftc_serial.specs.Take.{taken};
 ghost use Rattle.ftc_mbox.specs.declared.rule.Rule.{Rule as ARule};
 ghost use Rattle.ftc_serial.specs.declared.step.Step.{Step as AStep};
 ghost use Rattle.ftc_serial.specs.Serial.{State, Entry, serial_run};
@@ -21,4 +26,11 @@ pub fn removal_from_history()
     ensures { (rules : List ARule) (partitions : ℕ) (out : Taken) (start : State) (history : List Entry) →
         IsHistory rules start history → IsClosedHistory partitions out history →
         IsRemovedHistory rules partitions out start history }
+{}
+
+/// Whatever the store has, a visit writes only at keys that it read.
+pub fn what_it_reads()
+    ensures { (rule : ARule) (packet : List ℕ) (content : Content) →
+        AllByRecursion (λ (write : AWrite). IsRead (taken rule packet content).answers write.key)
+        (taken rule packet content).writes }
 {}
