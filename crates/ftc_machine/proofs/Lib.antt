@@ -35,3 +35,4 @@ pub mod Soon
 pub mod Progress
 pub mod Finished
 pub mod Forever
+pub mod Accepted

@@ -1,9 +1,14 @@
 -- What a run is given: the chain, the packets and the script.
-use Rattle.std.specs.Prelude.{ℕ, Bool, List, [], length, slice_index_or, nat_le, ◌==◌}
+use Rattle.std.specs.Prelude.{ℕ, ◌<◌, Bool, List, [], length, slice_index_or, nat_le, ◌==◌}
+use Rattle.std.specs.Option.{is_some}
 use Rattle.ftc_mbox.specs.declared.rule.Rule.{Rule}
 use Rattle.ftc_mbox.specs.declared.rule.Rule.TheVariants.{Pass}
-use Rattle.ftc_ring.specs.Ring.{RingShape, apart}
+use Rattle.ftc_mbox.specs.Chain.{Chain}
+use Rattle.ftc_ring.specs.Ring.{RingShape, IsRing, apart}
+use Rattle.ftc_ring.specs.Live.{IsLive}
 use Rattle.ftc_script.specs.declared.line.ScriptLine.{ScriptLine}
+use Rattle.ftc_script.specs.Script.{ScriptShape, loses_of}
+use Rattle.ftc_script.specs.Steps.{all_live, live_after_all, AreSteps}
 
 -- the rules of the middleboxes, one on each server; how many servers may be down at once; in how many partitions the keys of a
 -- middlebox lie; the bytes of the packets; which messages a link loses, by the link and the message's origin; and the servers
@@ -15,6 +20,17 @@ pub record Setting : Type 0 where
   pub packets : List (List ℕ)
   pub loses : ℕ → ℕ → Bool
   pub lines : List ScriptLine
+
+-- the setting of a chain, the packets of a capture and a script
+abbrev pub setting_of : Chain → List (List ℕ) → ScriptShape → Setting
+setting_of chain packets script = record {
+  rules = chain.rules;
+  failures = chain.failures;
+  partitions = chain.partitions;
+  packets = packets;
+  loses = λ link origin. is_some (loses_of script.loses link origin);
+  lines = script.steps;
+}
 
 abbrev pub servers : Setting → ℕ
 servers c = length c.rules
@@ -40,3 +56,10 @@ is_member c group server = nat_le (apart (servers c) group server) c.failures
 -- and the last of them
 abbrev pub is_tail : Setting → ℕ → ℕ → Bool
 is_tail c group server = apart (servers c) group server == c.failures
+
+-- What a run may be given: a ring of servers, and lines each of which may be done where those before it were, and which leave
+-- all servers up.
+pub record IsSetting (c : Setting) : Type 0 where
+  pub ring : IsRing (shape c)
+  pub lines : AreSteps (shape c) (count c) 0 all_live c.lines
+  pub ends : (server : ℕ) → server < servers c → IsLive (live_after_all all_live c.lines) server
