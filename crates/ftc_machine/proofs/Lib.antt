@@ -35,4 +35,5 @@ pub mod Soon
 pub mod Progress
 pub mod Finished
 pub mod Forever
-pub mod Accepted
+pub mod Supposed
+pub mod Prefixes

@@ -3,5 +3,7 @@
 #![tactic(auto)]
 
 mod fate;
+mod laws;
 
 pub use fate::Fate;
+pub use laws::{accepted, every_moment, law_of_changes, released_for_good};
