@@ -37,3 +37,5 @@ pub mod Finished
 pub mod Forever
 pub mod Supposed
 pub mod Prefixes
+pub mod Lined
+pub mod Inside

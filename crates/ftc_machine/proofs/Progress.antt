@@ -23,7 +23,8 @@ use Rattle.ftc_machine.specs.Known.{IsReady}
 use Rattle.ftc_machine.proofs.Places.{IsSerial}
 use Rattle.ftc_machine.proofs.Soon.{IsSoonAll}
 use Rattle.ftc_machine.proofs.Awake.{IsUp}
-use Rattle.ftc_machine.specs.Legal.{MayHappen, MayLeave, is_sent, packets_of}
+use Rattle.ftc_machine.specs.Legal.{MayHappen, MayLeave, is_sent}
+use Rattle.ftc_script.specs.Steps.{at_of}
 use Rattle.ftc_serial.specs.Take.{Outcome}
 use Rattle.ftc_script.specs.declared.line.ScriptLine.{ScriptLine}
 use Rattle.ftc_machine.specs.Setting.{Setting, count, servers}
@@ -104,7 +105,7 @@ module _ (c : Setting) (good : IsGood c) (s : ChainState) (h : Inv c s) (t : IsT
 
   no_logs : (j q : ℕ) → In s.forwarder j q → ⊥
   no_logs j q log = elim (cases_lt s.entered (count c)) [
-    | inl less ↦ stuck (Enter s.entered) (refl, less, subst (λ l. AllByRecursion (λ (line : ScriptLine). packets_of line ≢ s.entered) l) (sym no_lines) tt)
+    | inl less ↦ stuck (Enter s.entered) (refl, less, subst (λ l. AllByRecursion (λ (line : ScriptLine). at_of line ≢ s.entered) l) (sym no_lines) tt)
     | inr more ↦
       let bounded = t.bounded in
       let all_in : s.entered ≡ (count c) = omega arith in

@@ -6,17 +6,13 @@ use Rattle.ftc_journal.specs.declared.event.Event.{Event}
 use Rattle.ftc_journal.specs.declared.event.Event.TheVariants as event
 use Rattle.ftc_script.specs.declared.line.ScriptLine.{ScriptLine}
 use Rattle.ftc_script.specs.declared.line.ScriptLine.TheVariants.{Crash, Recover}
+use Rattle.ftc_script.specs.Steps.{at_of}
 use Rattle.ftc_machine.specs.Setting.{Setting, servers, count}
 use Rattle.ftc_machine.specs.Visits.{In}
 use Rattle.ftc_machine.specs.Trace.{IsBefore, IsChanging}
 use Rattle.ftc_machine.specs.State.{Held, Queued, Message, Withheld, ChainState}
 use Rattle.ftc_machine.specs.Known.{ServerHas, IsReady, IsDue}
 use Rattle.ftc_machine.specs.Recovery.{undone_visits}
-
--- the number of packets that a line names
-abbrev pub packets_of : ScriptLine → ℕ
-packets_of (Crash at server) = at
-packets_of (Recover at server) = at
 
 -- the next `at` line is this one
 abbrev pub IsNextLine : List ScriptLine → ScriptLine → Type 0
@@ -50,7 +46,7 @@ pub record IsStalled (c : Setting) (s : ChainState) : Type 0 where
 -- where the event may happen, if no release is due
 abbrev pub MayHappen : Setting → ChainState → Event → Type 0
 MayHappen c s (event.Enter packet) =
-    (packet ≡ s.entered) × (packet < count c) × AllByRecursion (λ (line : ScriptLine). packets_of line ≢ packet) s.lines
+    (packet ≡ s.entered) × (packet < count c) × AllByRecursion (λ (line : ScriptLine). at_of line ≢ packet) s.lines
 MayHappen c s (event.Take link origin) = (message : Message)
     × (s.message origin ≡ Some message) × (message.place ≡ Queued link)
     × ((other : ℕ) (queued : Message) → s.message other ≡ Some queued → queued.place ≡ Queued link → message.since ≤ queued.since)

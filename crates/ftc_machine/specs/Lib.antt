@@ -9,3 +9,5 @@ pub mod Legal
 pub mod Next
 pub mod Run
 pub mod Moment
+pub mod Finish
+pub mod Fates
