@@ -8,7 +8,11 @@ use Rattle.ftc_journal.specs.declared.event.Event.{Event}
 use Rattle.ftc_journal.specs.declared.event.Event.TheVariants.{Apply, Carry, Crash, Enter, Lose, Pass, Propagate, Pull, Recover, Release, Take, Visit}
 use Rattle.ftc_serial.specs.Words.{with_at}
 use Rattle.ftc_serial.specs.Serial.{Entry, Given, Visited}
-use Rattle.ftc_machine.specs.Fates.{IsDropped, IsGiven}
+use Rattle.ftc_serial.specs.Words.{AnyOf}
+use Rattle.ftc_serial.specs.Trace.{names}
+use Rattle.ftc_serial.specs.Removal.{is_taken, left_of}
+use Rattle.ftc_machine.proofs.Standing.{left_stood, stands_left, visit_left, visit_stood}
+use Rattle.ftc_machine.specs.Fates.{IsDropped, IsGiven, IsRelease, IsCarried, IsBuffered, AreFates}
 use Rattle.ftc_serial.specs.Take.{Outcome}
 use Rattle.ftc_serial.proofs.Functions.{with_at_cases}
 use Rattle.ftc_machine.specs.declared.fate.Fate.{Fate}
@@ -488,3 +492,144 @@ module _ (c : Setting) (good : IsGood c) (s : ChainState) (h : Inv c s) (t : IsT
               fate_lost s.trace s.entered q s.events (s.fate q) (has_packet (s.message q)) (is_some (s.withheld q)) _ false (f.buffered q w e) (old.held_inside (some_withheld (s.withheld q) w e))
                 (test_false (λ m. is_at c k m.place) (s.message q) is ∙ none_carried) refl old
           ] refl
+
+  recover_fated : (k : ℕ) (undone : List VisitName) → AreFated c (next c s (Recover k undone))
+  recover_fated k undone =
+      let test : Message → Bool = is_dropped c s (following_live c s k) in
+      record {
+        fates = λ q. recovered q (loses_packet test (s.message q)) (is_undone_drop undone q (s.fate q)) refl refl;
+        bare = λ q m there is. f.bare q m (kept_drop test (s.message q) m there) is;
+        past = λ q w m held there. f.past q w m held (kept_drop test (s.message q) m there);
+        buffered = f.buffered;
+      }
+    where
+      kept_drop : (test : Message → Bool) (o : Option Message) (m : Message) → drop_if test o ≡ Some m → o ≡ Some m
+      kept_drop test None m e = absurd (none-some m e)
+      kept_drop test (Some n) m e = elim (test n) as (λ b. (if b then None else Some n) ≡ Some m → Some n ≡ Some m) [ true ↦ λ x. absurd (none-some m x) | false ↦ λ x. x ] e
+
+      given_stood : (q : ℕ) → IsGiven (left_of (names undone) s.trace) q → IsGiven s.trace q
+      given_stood q is = first s.trace (left_stood (names undone) (IsRelease q) s.trace is)
+        where
+          first : (trace : List Entry) → AnyOf (λ e. IsRelease q e × (is_taken (names undone) e ≡ false)) trace → IsGiven trace q
+          first [] is = absurd is
+          first (e ∷ older) is = elim is [ inl here ↦ inl here.0 | inr more ↦ inr (first older more) ]
+
+      given_left : (q : ℕ) → IsGiven s.trace q → IsGiven (left_of (names undone) s.trace) q
+      given_left q is = stands_left (names undone) (IsRelease q) s.trace (untaken s.trace is)
+        where
+          untaken : (trace : List Entry) → IsGiven trace q → AnyOf (λ e. IsRelease q e × (is_taken (names undone) e ≡ false)) trace
+          untaken [] is = absurd is
+          untaken (Given x bytes ∷ older) is = elim is [ inl here ↦ inl (here, refl) | inr more ↦ inr (untaken older more) ]
+          untaken (Visited j x o ∷ older) is = elim is [ inl here ↦ absurd here | inr more ↦ inr (untaken older more) ]
+
+      dropped_stood : (q j : ℕ) → IsDropped (left_of (names undone) s.trace) j q → IsDropped s.trace j q × (names undone j q ≡ false)
+      dropped_stood q j is = visit_stood (names undone) (λ o. o.packet ≡ None) s.trace j q is
+
+      -- in what is left of the trace
+      lost_left : (q e : ℕ) (carried held : Bool) → IsFate s.trace s.entered q (Lost e) carried held → IsFate (left_of (names undone) s.trace) s.entered q (Lost e) carried held
+      lost_left q e carried held old = record {
+        inside = old.inside; carried_inside = old.carried_inside; held_inside = old.held_inside; waiting = old.waiting;
+        filtered = λ j is. absurd (cc);
+        dropped = λ j is. old.dropped j (dropped_stood q j is).0;
+        released = λ is. absurd (cc);
+        given = λ is. old.given (given_stood q is);
+      }
+
+      -- a packet whose drop is undone
+      undropped : (q : ℕ) → (fate : Fate) → s.fate q ≡ fate → is_undone_drop undone q fate ≡ true → loses_packet (is_dropped c s (following_live c s k)) (s.message q) ≡ false
+          → IsFate (left_of (names undone) s.trace) s.entered q (Lost s.events) (has_packet (drop_if (is_dropped c s (following_live c s k)) (s.message q))) (is_some (s.withheld q))
+      undropped q Released is undoes kept = absurd (true≢false (sym undoes))
+      undropped q Inside is undoes kept = absurd (true≢false (sym undoes))
+      undropped q (Lost e) is undoes kept = absurd (true≢false (sym undoes))
+      undropped q (Filtered j) is undoes kept =
+          let old = f.fates q in
+          let not_inside : s.fate q ≡ Inside → ⊥ = λ e. cc in
+          let same = test_false (is_dropped c s (following_live c s k)) (s.message q) kept in
+          record {
+            inside = λ l e. absurd (cc);
+            carried_inside = λ x. absurd (not_inside (old.carried_inside (sym same ∙ x)));
+            held_inside = λ x. absurd (not_inside (old.held_inside x));
+            waiting = λ le. absurd (not_inside (old.waiting le));
+            filtered = λ i e. absurd (cc);
+            dropped = λ i left.
+              let stood = dropped_stood q i left in
+              let e1 : s.fate q ≡ Filtered i = old.dropped i stood.0 in
+              let e2 : j ≡ i = cc in
+              absurd (true≢false (sym undoes ∙ (ap (λ x. names undone x q) e2 ∙ stood.1)));
+            released = λ e. absurd (cc);
+            given = λ left. let e1 = old.given (given_stood q left) in absurd (cc);
+          }
+
+      recovered : (q : ℕ) (loses undoes : Bool) → loses_packet (is_dropped c s (following_live c s k)) (s.message q) ≡ loses → is_undone_drop undone q (s.fate q) ≡ undoes
+          → IsFate (left_of (names undone) s.trace) s.entered q (if loses || undoes then Lost s.events else s.fate q) (has_packet (drop_if (is_dropped c s (following_live c s k)) (s.message q))) (is_some (s.withheld q))
+      recovered q true undoes is drop =
+          let parts = test_true (is_dropped c s (following_live c s k)) (s.message q) is in
+          let old = f.fates q in
+          let there = packet_there (s.message q) parts.0 in
+          let no_held : is_some (s.withheld q) ≡ false = elim (cases_Bool (is_some (s.withheld q))) [
+            | inr isnt ↦ isnt
+            | inl held ↦ let v = withheld_there (s.withheld q) held in absurd (none-some there.1 (sym (h.single q v.0 there.0 v.1 there.2) ∙ there.3))
+          ] in
+          lost_left q s.events _ _ (fate_lost s.trace s.entered q s.events (s.fate q) (has_packet (s.message q)) (is_some (s.withheld q)) _ _ (h.entered q there.0 there.1 there.2 there.3) (old.carried_inside parts.0) parts.1 no_held old)
+      recovered q false true is drop = undropped q (s.fate q) refl drop is
+      recovered q false false is drop =
+          let old = f.fates q in
+          let same = test_false (is_dropped c s (following_live c s k)) (s.message q) is in
+          record {
+            inside = λ l e. elim (old.inside l e) [ inl x ↦ inl (same ∙ x) | inr x ↦ inr x ];
+            carried_inside = λ x. old.carried_inside (sym same ∙ x);
+            held_inside = old.held_inside;
+            waiting = old.waiting;
+            filtered = λ j e. visit_left (names undone) (λ o. o.packet ≡ None) s.trace j q (old.filtered j e) (sym (ap (is_undone_drop undone q) e) ∙ drop);
+            dropped = λ j left. old.dropped j (dropped_stood q j left).0;
+            released = λ e. given_left q (old.released e);
+            given = λ left. old.given (given_stood q left);
+          }
+
+  pub keeps_fates : (e : Event) → MayHappen c s e → AreFated c (next c s e)
+  keeps_fates (Enter p) legal = enter_fated p legal
+  keeps_fates (Take k p) legal = take_fated k p legal
+  keeps_fates (Apply k p j q) legal = record { fates = f.fates; bare = f.bare; past = f.past; buffered = f.buffered }
+  keeps_fates (Visit k p w) legal = visit_fated k p w legal
+  keeps_fates (Pass k p) legal = left_fated k p false legal.0 legal.1
+  keeps_fates (Lose k p) legal = left_fated k p true legal.0 legal.1
+  keeps_fates (Carry p) legal = carry_fated p legal
+  keeps_fates (Crash k) legal = crash_fated k
+  keeps_fates (Recover k undone) legal = recover_fated k undone
+  keeps_fates (Pull k) legal = record { fates = f.fates; bare = f.bare; past = f.past; buffered = f.buffered }
+  keeps_fates (Propagate p) legal = propagate_fated p legal
+  keeps_fates (Release p) legal = release_fated p legal
+
+pub opens_fated : (c : Setting) → AreFated c (opening c)
+opens_fated c = record {
+  fates = λ p. record {
+    inside = λ l is. absurd (omega arith);
+    carried_inside = λ x. refl;
+    held_inside = λ x. refl;
+    waiting = λ le. refl;
+    filtered = λ k is. absurd (cc);
+    dropped = λ k is. absurd is;
+    released = λ is. absurd (cc);
+    given = λ is. absurd is;
+  };
+  bare = λ p m there. absurd (none-some m there);
+  past = λ p w m held there. absurd (none-some m there);
+  buffered = λ p w held. absurd (none-some w held);
+}
+
+-- in the words of the definitions
+pub are_fates : (c : Setting) (s : ChainState) → AreFated c s → AreFates s
+are_fates c s f = record {
+  released = λ p. let old = f.fates p in (old.released, old.given);
+  filtered = λ k p. let old = f.fates p in (old.filtered k, old.dropped k);
+  inside = λ p entered. let old = f.fates p in (
+    (λ is. elim (old.inside entered is) [
+      | inl carried ↦ let there = packet_there (s.message p) carried in inl (record { message = there.0; there = there.2; bytes = there.1; carries = there.3 })
+      | inr held ↦ let there = withheld_there (s.withheld p) held in inr (record { withheld = there.0; there = there.1 })
+    ]),
+    λ where_it_is. elim where_it_is [
+      | inl by ↦ old.carried_inside (carries (s.message p) by.message by.bytes by.there by.carries)
+      | inr by ↦ old.held_inside (some_withheld (s.withheld p) by.withheld by.there)
+    ]);
+  waiting = λ p le. let old = f.fates p in old.waiting le;
+}
