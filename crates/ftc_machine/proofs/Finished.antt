@@ -149,25 +149,22 @@ live_opens c good fit = record {
   soon = λ y j q is. absurd (true≢false (sym is));
 }
 
--- a finished state with all servers up and no line left has no message, no log under way, no gap, and nothing to release
-module _ (c : Setting) (good : IsGood c) (s : ChainState) (l : IsLive c s) (all_up : (k : ℕ) → k < (servers c) → s.up k ≡ true) (no_lines : s.lines ≡ []) (finished : (e : Event) → IsLegal c s e → ⊥) where
+-- a finished state has nothing due, and nothing may happen
+module _ (c : Setting) (s : ChainState) (finished : (e : Event) → IsLegal c s e → ⊥) where
   no_due : (b p : ℕ) (w : Withheld) → IsDue c s p w → w.since < b → ⊥
   no_due zero p w due less = absurd (omega arith)
   no_due (suc b) p w due less = finished (Release p) ((w, due, λ q v other. elim (cases_lt v.since w.since) [ inl sooner ↦ absurd (no_due b q v other (omega arith)) | inr more ↦ more ]), λ e. absurd (true≢false e))
 
-  stuck : (e : Event) → MayHappen c s e → ⊥
+  pub stuck : (e : Event) → MayHappen c s e → ⊥
   stuck e legal = finished e (legal, λ _ p w due. no_due (suc w.since) p w due (omega arith))
 
+-- with all servers up and no line left it has no message and no gap
+module _ (c : Setting) (good : IsGood c) (s : ChainState) (l : IsLive c s) (all_up : (k : ℕ) → k < (servers c) → s.up k ≡ true) (no_lines : s.lines ≡ []) (finished : (e : Event) → IsLegal c s e → ⊥) where
   pub no_messages : (p : ℕ) → s.message p ≡ None
-  no_messages p = elim (s.message p) as (λ o. s.message p ≡ o → o ≡ None) [ None ↦ λ e. refl | Some m ↦ λ e. absurd (no_message c good s l.inv l.timed l.seen l.ok l.soon all_up no_lines stuck p m e) ] refl
+  no_messages p = elim (s.message p) as (λ o. s.message p ≡ o → o ≡ None) [ None ↦ λ e. refl | Some m ↦ λ e. absurd (no_message c good s l.inv l.timed l.seen l.ok l.soon all_up no_lines (stuck c s finished) p m e) ] refl
 
-  quiet_gaps : (k : ℕ) → k < (servers c) → s.gap k ≡ false
+  pub quiet_gaps : (k : ℕ) → k < (servers c) → s.gap k ≡ false
   quiet_gaps k kl = elim (cases_Bool (s.gap k)) [ inr g ↦ g | inl g ↦ absurd (elim (apart_after (servers c) k kl) [
     | inr just' ↦ l.inv.gaps k g just'
-    | inl step ↦ stuck (Pull k) (all_up k kl, all_up (next_of (servers c) k) step.1, g)
+    | inl step ↦ stuck c s finished (Pull k) (all_up k kl, all_up (next_of (servers c) k) step.1, g)
   ]) ]
-
-pub finishes : (c : Setting) → IsGood c → AreFit c (opening c).up c.lines → (es : List Event) → AreLegal c (opening c) es
-    → ((k : ℕ) → k < (servers c) → (state_after c (opening c) es).up k ≡ true) → (state_after c (opening c) es).lines ≡ [] → ((e : Event) → IsLegal c (state_after c (opening c) es) e → ⊥)
-    → (p : ℕ) → (state_after c (opening c) es).message p ≡ None
-finishes c good fit es legal all_up no_lines finished p = no_messages c good (state_after c (opening c) es) (live_runs c good es (opening c) (live_opens c good fit) legal) all_up no_lines finished p

@@ -39,3 +39,4 @@ pub mod Supposed
 pub mod Prefixes
 pub mod Lined
 pub mod Inside
+pub mod Complete
