@@ -40,3 +40,4 @@ pub mod Prefixes
 pub mod Lined
 pub mod Inside
 pub mod Complete
+pub mod Losing

@@ -1,7 +1,7 @@
 //! What is so of every run, whatever its chain, packets and script: the laws on which the promises of the
 //! chain of servers rest. A law is the contract of a function that does nothing.
 
-ghost use Rattle.std.specs.Prelude.{◌≡◌, ◌++◌, ℕ, List, length};
+ghost use Rattle.std.specs.Prelude.{◌≡◌, ◌⊎◌, ◌++◌, ℕ, List, length};
 ghost use Rattle.std.specs.List.{AllByRecursion};
 ghost use Rattle.ftc_base.specs.Partition.{partition_of};
 ghost use Rattle.ftc_base.specs.declared.ask.Write.{Write as AWrite};
@@ -17,8 +17,12 @@ ghost use Rattle.ftc_store.specs.Store.{Content};
 ghost use Rattle.ftc_machine.specs.Setting.{Setting, setting_of, IsSetting};
 ghost use Rattle.ftc_machine.specs.Changes.{Changes};
 ghost use Rattle.ftc_machine.specs.Trace.{IsSomeVisit};
-ghost use Rattle.ftc_machine.specs.State.{opening};
-ghost use Rattle.ftc_machine.specs.Run.{IsRun, state_after};
+ghost use Rattle.ftc_machine.specs.State.{ChainState, opening};
+ghost use Rattle.ftc_machine.specs.Next.{next};
+ghost use Rattle.ftc_machine.specs.declared.fate.Fate.TheVariants as became;
+ghost use Rattle.ftc_machine.specs.Fates.{AreFates, MayLose};
+ghost use Rattle.ftc_machine.specs.Finish.{IsComplete};
+ghost use Rattle.ftc_machine.specs.Run.{IsRun, IsFinished, state_after};
 ghost use Rattle.ftc_machine.specs.Moment.{IsSound};
 
 /// An accepted script for a chain and for its packets makes a setting of which the other laws speak.
@@ -56,4 +60,24 @@ pub fn released_for_good()
         AnyOf (λ entry. entry ≡ Given packet bytes) (state_after setting (opening setting) (before ++ after)).trace
         × ((server : ℕ) → IsSomeVisit (state_after setting (opening setting) before).trace server packet →
         IsSomeVisit (state_after setting (opening setting) (before ++ after)).trace server packet) }
+{}
+
+/// When no event is legal any more, nothing is left to do: the script is done, all packets have entered, no
+/// message and no log is under way, the buffer is empty, all members of a group have the same list and so
+/// the same store, that of the serial run, and each packet was released, filtered or lost.
+pub fn finished_run()
+    ensures { (setting : Setting) → IsSetting setting → (journal : List AnEvent) → IsRun setting journal →
+        IsFinished setting (state_after setting (opening setting) journal) →
+        IsComplete setting (state_after setting (opening setting) journal) }
+{}
+
+/// A packet's fate is released where the trace has its release, filtered where a visit of the trace dropped
+/// it, and inside where it is still to come, or a message carries it, or the buffer withholds it. It gets
+/// lost only by an event that may lose something, whose number its fate then has.
+pub fn fates()
+    ensures says { (setting : Setting) → IsSetting setting → (journal : List AnEvent) → IsRun setting journal →
+        AreFates (state_after setting (opening setting) journal) }
+    ensures lost { (setting : Setting) (state : ChainState) (event : AnEvent) (packet number : ℕ) →
+        (next setting state event).fate packet ≡ became.Lost number →
+        (state.fate packet ≡ became.Lost number) ⊎ ((number ≡ state.events) × MayLose setting state event) }
 {}
