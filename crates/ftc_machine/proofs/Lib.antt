@@ -41,3 +41,4 @@ pub mod Lined
 pub mod Inside
 pub mod Complete
 pub mod Losing
+pub mod Calm

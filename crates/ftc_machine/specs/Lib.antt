@@ -11,3 +11,4 @@ pub mod Run
 pub mod Moment
 pub mod Finish
 pub mod Fates
+pub mod Quiet

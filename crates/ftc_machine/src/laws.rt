@@ -22,6 +22,7 @@ ghost use Rattle.ftc_machine.specs.Next.{next};
 ghost use Rattle.ftc_machine.specs.declared.fate.Fate.TheVariants as became;
 ghost use Rattle.ftc_machine.specs.Fates.{AreFates, MayLose};
 ghost use Rattle.ftc_machine.specs.Finish.{IsComplete};
+ghost use Rattle.ftc_machine.specs.Quiet.{IsQuiet, IsQuietEvent, AreDone};
 ghost use Rattle.ftc_machine.specs.Run.{IsRun, IsFinished, state_after};
 ghost use Rattle.ftc_machine.specs.Moment.{IsSound};
 
@@ -80,4 +81,15 @@ pub fn fates()
     ensures lost { (setting : Setting) (state : ChainState) (event : AnEvent) (packet number : ℕ) →
         (next setting state event).fate packet ≡ became.Lost number →
         (state.fate packet ≡ became.Lost number) ⊎ ((number ≡ state.events) × MayLose setting state event) }
+{}
+
+/// Where the script has no line, no message is lost on a link and nothing is ever pulled, and in the end each
+/// packet was released or dropped by a middlebox: the logs that ride on messages alone bring all changes to
+/// all members.
+pub fn quiet_links()
+    ensures events { (setting : Setting) → IsSetting setting → IsQuiet setting → (journal : List AnEvent) →
+        IsRun setting journal → AllByRecursion IsQuietEvent journal }
+    ensures done { (setting : Setting) → IsSetting setting → IsQuiet setting → (journal : List AnEvent) →
+        IsRun setting journal → IsFinished setting (state_after setting (opening setting) journal) →
+        AreDone setting (state_after setting (opening setting) journal) }
 {}
