@@ -1,5 +1,5 @@
 -- An accepted chain and script give what the proofs suppose of a setting.
-use Rattle.std.proofs.Common.{◌≡◌, ℕ, ◌+◌, ◌<◌, ◌≤◌, ◌==◌, if◌then◌else◌, nat_lt, Bool, true, false, not, List, [], ◌∷◌, inl, inr, refl, sym, ap, subst, ◌∙◌, arith, length, eqb-true, lt-ltb}
+use Rattle.std.proofs.Common.{◌≡◌, ℕ, ◌+◌, ◌<◌, ◌≤◌, ◌==◌, ◌&&◌, if◌then◌else◌, nat_lt, Option, Some, None, Bool, true, false, not, List, [], ◌∷◌, inl, inr, refl, sym, ap, subst, ◌∙◌, arith, length, eqb-true, lt-ltb}
 use Rattle.std.specs.List.{AllByRecursion}
 use Rattle.ftc_base.specs.Partition.{partition_of}
 use Rattle.ftc_base.specs.declared.ask.Answer.{Answer}
@@ -11,7 +11,11 @@ use Rattle.ftc_ring.specs.Ring.{RingShape, IsRing}
 use Rattle.ftc_ring.specs.Live as ring
 use Rattle.ftc_script.specs.declared.line.ScriptLine.{ScriptLine}
 use Rattle.ftc_script.specs.declared.line.ScriptLine.TheVariants.{Crash, Recover}
-use Rattle.ftc_script.specs.Script.{ScriptShape, IsScript}
+use Rattle.std.proofs.lemmas.Bool.{true≢false, and_parts}
+use Rattle.std.specs.List.{find}
+use Rattle.std.specs.Option.{is_some, option_map}
+use Rattle.ftc_script.specs.declared.line.LoseLine.{LoseLine}
+use Rattle.ftc_script.specs.Script.{ScriptShape, IsScript, IsLose, loses_of, is_of}
 use Rattle.ftc_script.specs.Steps as steps
 use Rattle.ftc_script.specs.Steps.{all_live, live_after, at_of, IsStep, AreSteps}
 use Rattle.ftc_script.proofs.InTurn.{keeps}
@@ -76,6 +80,16 @@ is_good c is = record { some = is.ring.some; small = is.ring.failures; sound = s
 pub opens_fit : (c : Setting) → IsSetting c → AreFit c (opening c).up c.lines
 opens_fit c is = are_fit c c.lines 0 (opening c).up all_live (λ server below. lt-ltb server (servers c) below) (all_admissible c is.ring) is.lines
 
+-- a message that is lost is a packet's
+lost_below : (r : RingShape) (packets link origin : ℕ) (loses : List LoseLine) → AllByRecursion (IsLose r packets) loses → is_some (loses_of loses link origin) ≡ true → origin < packets
+lost_below r packets link origin [] all lost = absurd (true≢false (sym lost))
+lost_below r packets link origin (line ∷ loses) all lost =
+    elim (is_of link origin line) as (λ b. is_of link origin line ≡ b → is_some (option_map (λ (found : LoseLine). found.line) (if b then Some line else find (is_of link origin) loses)) ≡ true → origin < packets) [
+      | true ↦ λ is there. let same : line.origin ≡ origin = eqb-true line.origin origin (and_parts (line.link == link) (line.origin == origin) is).1 in
+          subst (λ n. n < packets) same (let first = all.0 in first.origin)
+      | false ↦ λ isnt more. lost_below r packets link origin loses all.1 more
+    ] refl lost
+
 -- an accepted chain and an accepted script for it and for the packets give such a setting
 pub is_setting : (chain : Chain) (packets : List (List ℕ)) (script : ScriptShape) → IsScript script
     → script.ring ≡ record { servers = length chain.rules; failures = chain.failures } → script.packets ≡ length packets → IsSetting (setting_of chain packets script)
@@ -83,4 +97,5 @@ is_setting chain packets script is ring_is packets_are = record {
   ring = subst IsRing ring_is is.ring;
   lines = subst (λ (r : RingShape). AreSteps r (length packets) 0 all_live script.steps) ring_is (subst (λ n. AreSteps script.ring n 0 all_live script.steps) packets_are is.steps);
   ends = λ server below. is.all_live server (subst (λ (r : RingShape). server < r.servers) (sym ring_is) below);
+  loses = λ link origin lost. subst (λ n. origin < n) packets_are (lost_below script.ring script.packets link origin script.loses is.loses lost);
 }

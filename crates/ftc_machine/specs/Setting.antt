@@ -1,5 +1,5 @@
 -- What a run is given: the chain, the packets and the script.
-use Rattle.std.specs.Prelude.{ℕ, ◌<◌, Bool, List, [], length, slice_index_or, nat_le, ◌==◌}
+use Rattle.std.specs.Prelude.{ℕ, ◌≡◌, ◌<◌, Bool, true, List, [], length, slice_index_or, nat_le, ◌==◌}
 use Rattle.std.specs.Option.{is_some}
 use Rattle.ftc_mbox.specs.declared.rule.Rule.{Rule}
 use Rattle.ftc_mbox.specs.declared.rule.Rule.TheVariants.{Pass}
@@ -57,9 +57,10 @@ is_member c group server = nat_le (apart (servers c) group server) c.failures
 abbrev pub is_tail : Setting → ℕ → ℕ → Bool
 is_tail c group server = apart (servers c) group server == c.failures
 
--- What a run may be given: a ring of servers, and lines each of which may be done where those before it were, and which leave
--- all servers up.
+-- What a run may be given: a ring of servers, lines each of which may be done where those before it were, and which leave all
+-- servers up, and losses of packets' messages.
 pub record IsSetting (c : Setting) : Type 0 where
   pub ring : IsRing (shape c)
   pub lines : AreSteps (shape c) (count c) 0 all_live c.lines
   pub ends : (server : ℕ) → server < servers c → IsLive (live_after_all all_live c.lines) server
+  pub loses : (link origin : ℕ) → c.loses link origin ≡ true → origin < count c
