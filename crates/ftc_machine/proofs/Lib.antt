@@ -42,3 +42,4 @@ pub mod Inside
 pub mod Complete
 pub mod Losing
 pub mod Calm
+pub mod Shapes

@@ -12,3 +12,4 @@ pub mod Moment
 pub mod Finish
 pub mod Fates
 pub mod Quiet
+pub mod Counts
