@@ -43,3 +43,6 @@ pub mod Complete
 pub mod Losing
 pub mod Calm
 pub mod Shapes
+pub mod Ended
+pub mod HasEach
+pub mod Counting
