@@ -28,6 +28,7 @@ use Rattle.ftc_machine.proofs.Ring.{apart_before, apart_cases}
 use Rattle.ftc_machine.proofs.Stores.{store_all}
 use Rattle.ftc_machine.proofs.Sound.{serial_runs}
 use Rattle.ftc_machine.proofs.Finished.{IsLive, keeps_live, live_opens, stuck, no_messages, quiet_gaps}
+use Rattle.ftc_machine.proofs.Full.{full}
 use Rattle.ftc_machine.proofs.Lined.{IsLined, AreInOrder, all_later, keeps_lines, opens_lined}
 use Rattle.ftc_machine.proofs.Inside.{AreFated, keeps_fates, opens_fated, are_fates}
 
@@ -113,38 +114,10 @@ module _ (c : Setting) (good : IsGood c) (s : ChainState) (r : IsReached c s) (f
         inr (record { messages = gone; gaps = gaps; packet = packet; withheld = λ none_there. none-some w (sym none_there ∙ e) }), refl))
   ] refl
 
-  -- by the number of links from the head
-  along : (d group server packet : ℕ) → apart (servers c) group server ≡ d → server < servers c → group < servers c → d ≤ c.failures → IsChanging c.partitions s.trace group packet → In (s.lists server) group packet
-  along zero group server packet far below group_below member changing =
-      let cases = apart_cases (servers c) group server group_below below in
-      let same : group ≡ server = omega arith in
-      subst (λ k. In (s.lists k) group packet) same (r.live.inv.world.lists.heads group packet (all_up group group_below) changing)
-  along (suc d) group server packet far below group_below member changing =
-      let n = servers c in
-      let cases = apart_cases n group server group_below below in
-      elim (apart_before n server below) [
-        | inr alone ↦ absurd (omega arith)
-        | inl step ↦
-          let y = previous_of n server in
-          let yl : y < n = step.1 in
-          let st = step.0 in
-          let before = apart_cases n group y group_below yl in
-          let near : apart n group y ≡ d = omega arith in
-          let next_is : next_of n y ≡ server = elim (Rattle.ftc_machine.proofs.Ring.apart_after n y yl) [ inr alone ↦ absurd (omega arith) | inl more ↦ let st2 = more.0 in let nl = more.1 in omega arith ] in
-          let had = along d group y packet near yl group_below (omega arith) changing in
-          elim (r.live.pending y group packet had (omega arith) (subst (λ k. s.up k ≡ true) (sym next_is) (all_up server below)) (gaps y yl)) [
-            | inl there ↦ subst (λ k. In (s.lists k) group packet) next_is there
-            | inr way ↦ absurd (elim way [
-                | inl by ↦ no_message by.origin by.by by.there
-                | inr by ↦ true≢false (sym by.1 ∙ no_logs group packet)
-              ])
-          ]
-      ]
-
   same_lists : (group server packet : ℕ) → server < servers c → is_member c group server ≡ true → group < servers c → In (s.lists server) group packet ↔ IsChanging c.partitions s.trace group packet
   same_lists group server packet below member group_below = (
     (λ is. (r.live.inv.world.lists.listed server group packet is).1),
-    λ changing. along (apart (servers c) group server) group server packet refl below group_below (leb-true _ _ member) changing)
+    λ changing. full c s r.live all_up gone gaps no_logs group server packet below group_below (leb-true _ _ member) changing)
 
   no_inside : (packet : ℕ) → packet < count c → s.fate packet ≢ Inside
   no_inside packet below is =

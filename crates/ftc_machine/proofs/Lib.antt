@@ -39,6 +39,7 @@ pub mod Supposed
 pub mod Prefixes
 pub mod Lined
 pub mod Inside
+pub mod Full
 pub mod Complete
 pub mod Losing
 pub mod Calm
