@@ -29,7 +29,7 @@ pub record IsCalm (c : Setting) (s : ChainState) : Type 0 where
   pub gap : (link : ℕ) → s.gap link ≡ false
   pub kept : (packet number : ℕ) → s.fate packet ≡ Lost number → ⊥
 
-next_below : (n k : ℕ) → k < n → next_of n k < n
+pub next_below : (n k : ℕ) → k < n → next_of n k < n
 next_below n k below = elim (apart_after n k below) [
   | inr alone ↦ subst (λ m. next_of m k < m) (sym alone) (let zero : k ≡ 0 = omega arith in subst (λ x. next_of 1 x < 1) (sym zero) (omega arith))
   | inl step ↦ step.1

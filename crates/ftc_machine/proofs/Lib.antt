@@ -47,3 +47,4 @@ pub mod Shapes
 pub mod Ended
 pub mod HasEach
 pub mod Counting
+pub mod Telling
