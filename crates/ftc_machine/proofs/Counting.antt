@@ -227,3 +227,10 @@ module _ (c : Setting) (good : IsGood c) (s : ChainState) (h : Inv c s) (t : IsT
     | inl empty ↦ empty
     | inr met ↦ absurd (legal.2 met.origin met.message met.there met.visited met.held)
   ]
+
+  -- where nothing is forwarded, it costs nothing there
+  pub none_begun : (p : ℕ) → MayHappen c s (Propagate p) → ((j q : ℕ) → s.forwarder j q ≡ false) → ArePaid c (next c s (Propagate p)) begun
+  none_begun p legal empty =
+      let new = fresh_message s.events None in
+      let all_in : s.entered ≡ count c = legal.0 in let number : p ≡ count c + s.propagates = legal.4 in
+      still_paid (next c s (Propagate p)) refl (λ q less was. ap is_some (other_message s.message p (Some new) q (λ e. omega arith)) ∙ was) (λ idle. inl empty)

@@ -48,3 +48,4 @@ pub mod Ended
 pub mod HasEach
 pub mod Counting
 pub mod Telling
+pub mod Few

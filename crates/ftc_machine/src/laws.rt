@@ -22,6 +22,7 @@ ghost use Rattle.ftc_machine.specs.Next.{next};
 ghost use Rattle.ftc_machine.specs.declared.fate.Fate.TheVariants as became;
 ghost use Rattle.ftc_machine.specs.Fates.{AreFates, MayLose};
 ghost use Rattle.ftc_machine.specs.Finish.{IsComplete};
+ghost use Rattle.ftc_machine.specs.Counts.{AreFew};
 ghost use Rattle.ftc_machine.specs.Quiet.{IsQuiet, IsQuietEvent, AreDone};
 ghost use Rattle.ftc_machine.specs.Run.{IsRun, IsFinished, state_after};
 ghost use Rattle.ftc_machine.specs.Moment.{IsSound};
@@ -92,4 +93,11 @@ pub fn quiet_links()
     ensures done { (setting : Setting) → IsSetting setting → IsQuiet setting → (journal : List AnEvent) →
         IsRun setting journal → IsFinished setting (state_after setting (opening setting) journal) →
         AreDone setting (state_after setting (opening setting) journal) }
+{}
+
+/// Messages without a packet are few: at most one for each packet and one for each crash and recovery, and
+/// one more. So the numbers of all messages fit 32 bits.
+pub fn few_propagates()
+    ensures { (setting : Setting) → IsSetting setting → (journal : List AnEvent) → IsRun setting journal →
+        AreFew setting journal }
 {}
