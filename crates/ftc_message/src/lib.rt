@@ -4,6 +4,9 @@
 
 mod bytes;
 mod fault;
+mod field;
+mod parts;
+mod writes;
 mod log;
 mod logs;
 mod message;
