@@ -8,4 +8,5 @@ pub mod WriteLaws
 pub mod LogLaws
 pub mod NeedLaws
 pub mod CommitLaws
+pub mod MessageLaws
 pub mod Members

@@ -1,5 +1,5 @@
 -- Reading from left to right, with the first fault that is met.
-use Rattle.std.specs.Prelude.{ℕ, zero, suc, ◌+◌, ◌-◌, ◌^◌, Bool, ◌==◌, nat_le, List, [], ◌∷◌, ◌++◌, length, slice_index_or, slice_set, bit_or, Option, Some, None, unwrap_or, Result, Ok, Err, if◌then◌else◌}
+use Rattle.std.specs.Prelude.{ℕ, zero, suc, ◌+◌, ◌-◌, ◌^◌, Bool, ◌==◌, nat_le, List, [], ◌∷◌, ◌++◌, length, slice_index_or, slice_set, bit_or, Option, Some, None, is_some, unwrap_or, Result, Ok, Err, if◌then◌else◌}
 use Rattle.std.specs.Str.{bytes_eq}
 use Rattle.ftc_base.specs.declared.limits.TheConstants.{MOST_SERVERS, MOST_PARTITIONS, MOST_KEY_BYTES, MOST_VALUE_BYTES, MOST_WRITES, MOST_CAPTURED}
 use Rattle.ftc_base.specs.declared.ask.Write.{Write}
@@ -220,16 +220,26 @@ packet_at is_there bytes = do
   packet ← taken_at size.0 size.1
   Ok ((if is_there then Some packet.0 else None), packet.1)
 
-unfoldable pub message_at : List ℕ → Result (Message × List ℕ) FieldFault
-message_at bytes = do
+-- what stands before the logs: the origin and the packet
+unfoldable pub front_at : List ℕ → Result ((ℕ × Option (List ℕ)) × List ℕ) FieldFault
+front_at bytes = do
   rest ← magic_at bytes
   kind ← within_at 0 1 rest
   origin ← number_at 4 kind.1
   packet ← packet_at (kind.0 == 0) origin.1
-  logs ← logs_at packet.1
-  needs ← needs_at (if kind.0 == 0 then MOST_SERVERS else 0) 0 logs.1
+  Ok ((origin.0, packet.0), packet.1)
+
+-- how many needs a message may have
+abbrev pub most_needs : Option (List ℕ) → ℕ
+most_needs packet = if is_some packet then MOST_SERVERS else 0
+
+unfoldable pub message_at : List ℕ → Result (Message × List ℕ) FieldFault
+message_at bytes = do
+  front ← front_at bytes
+  logs ← logs_at front.1
+  needs ← needs_at (most_needs front.0.1) 0 logs.1
   commits ← commits_at needs.1
-  Ok (record { origin = origin.0; packet = packet.0; logs = logs.0; needs = needs.0; commits = commits.0 }, commits.1)
+  Ok (record { origin = front.0.0; packet = front.0.1; logs = logs.0; needs = needs.0; commits = commits.0 }, commits.1)
 
 -- a message, and nothing behind it
 unfoldable pub whole_of : List ℕ → Result Message FieldFault
