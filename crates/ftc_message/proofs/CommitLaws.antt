@@ -1,9 +1,9 @@
 -- Commits, which are written as needs: what is read is spelled so, and what is spelled so is read.
-use Rattle.std.proofs.Common.{◌≡◌, ℕ, zero, suc, ◌+◌, ◌-◌, ◌^◌, ◌<◌, ◌≤◌, ◌==◌, ◌&&◌, ◌||◌, leb, max, Bool, true, false, cond, List, [], ◌∷◌, ◌++◌, length, get_or, map, Option, Some, None, Result, Ok, Err, refl, sym, ap, subst, ◌∙◌, ◌⊎◌, inl, inr, append_assoc, arith, if◌then◌else◌}
+use Rattle.std.proofs.Common.{◌≡◌, ℕ, zero, suc, ◌+◌, ◌-◌, ◌^◌, ◌<◌, ◌≤◌, ◌==◌, ◌&&◌, ◌||◌, leb, max, Bool, true, false, cond, List, [], ◌∷◌, ◌++◌, length, get_or, drop, map, Option, Some, None, Result, Ok, Err, refl, sym, ap, subst, ◌∙◌, ◌⊎◌, inl, inr, append_assoc, arith, if◌then◌else◌}
 use Rattle.std.specs.Prelude.{is_some, slice_set, replicate, unwrap_or, IfSome}
 use Rattle.std.specs.List.{AllByRecursion, flat_map, list_any}
 use Rattle.std.proofs.lemmas.Bool.{cases_lt, leb-true, le-leb, and_parts, and_from, eqb-true, eq-eqb, ne_eqb}
-use Rattle.std.proofs.lemmas.List.{ext_get_or, set_at, get_or_at, get_or_past, length-append, length-replicate, replicate-append-replicate, length-map}
+use Rattle.std.proofs.lemmas.List.{ext_get_or, drop_more, set_at, get_or_at, get_or_past, length-append, length-replicate, replicate-append-replicate, length-map}
 use Rattle.ftc_base.specs.declared.limits.TheConstants.{MOST_SERVERS, MOST_PARTITIONS}
 use Rattle.ftc_vector.specs.Vector.{by_partition, number_at, merged, IsVector}
 use Rattle.ftc_vector.specs.Commits.{by_group, vector_of, group_raised}
@@ -279,3 +279,43 @@ commits_at_again commits rest are =
     let started : no_commits ≡ replicate (length commits) zeros = zeros_commits ∙ ap (λ (k : ℕ). replicate k zeros) (sym are.size) in
     let back : with_known (known_from 0 commits) no_commits ≡ commits = ap (with_known (known_from 0 commits)) started ∙ known_back 0 [] commits refl each in
     rw (read, back) refl
+
+-- ---- for the code
+
+pub zero_number : (k : ℕ) → get_or {A = ℕ} (by_partition (λ _. 0)) k 0 ≡ 0
+zero_number k =
+    elim (cases_lt k MOST_PARTITIONS) [
+      | inl within ↦ get_or-by_partition {A = ℕ} (λ _. 0) k 0 within
+      | inr past ↦ get_or_past {X = ℕ} (by_partition (λ _. 0)) k 0 (omega (arith, length-by_partition {A = ℕ} (λ _. 0)))
+    ]
+
+pub none_mark : (k : ℕ) → get_or {A = Option ℕ} (by_partition (λ _. None)) k None ≡ None
+none_mark k =
+    elim (cases_lt k MOST_PARTITIONS) [
+      | inl within ↦ get_or-by_partition (λ _. None) k None within
+      | inr past ↦ get_or_past (by_partition (λ _. None)) k None (omega (arith, length-by_partition {A = Option ℕ} (λ _. None)))
+    ]
+
+pub not_zero-from : (vector : List ℕ) (marks : List (Option ℕ)) → length vector ≡ MOST_PARTITIONS → length marks ≡ MOST_PARTITIONS → ((k : ℕ) → k < MOST_PARTITIONS → get_or marks k None ≡ (if get_or vector k 0 == 0 then None else Some (get_or vector k 0))) → marks ≡ not_zero vector
+not_zero-from vector marks long size each = ext_get_or None marks (not_zero vector) (size ∙ sym (length-not_zero vector ∙ long)) (λ k within. each k (omega arith) ∙ sym (get_or-not_zero vector k))
+
+pub commits_read : (bytes rest : List ℕ) (ns : List Need) → IsBytes bytes → needs_at MOST_SERVERS 1 bytes ≡ Ok (ns, rest) → bytes ≡ commits_bytes (with_known ns no_commits) ++ rest
+unfolding commits_at
+commits_read bytes rest ns fits is = (commits_at_takes bytes (with_known ns no_commits, rest) fits (rw is refl)).0.parts
+
+known_place : (commits : List (List ℕ)) (group : ℕ) → group < length commits → drop group commits ≡ get_or commits group [] ∷ drop (group + 1) commits
+known_place commits group within = drop_more commits group [] within
+
+no_some : (marks : List (Option ℕ)) → marked marks ≡ 0 → list_any is_some marks ≡ false
+no_some [] none = refl
+no_some (None ∷ marks) none = no_some marks none
+no_some (Some number ∷ marks) none = absurd (omega arith)
+
+-- a group that has a number, and one that has none
+pub known_here : (commits : List (List ℕ)) (group : ℕ) → group < length commits → 1 ≤ marked (not_zero (get_or commits group [])) → known_from group (drop group commits) ≡ record { group = group; marks = not_zero (get_or commits group []) } ∷ known_from (group + 1) (drop (group + 1) commits)
+known_here commits group within some =
+    ap (known_from group) (known_place commits group within) ∙ rw (any_some (not_zero (get_or commits group [])) some) refl
+
+pub unknown_here : (commits : List (List ℕ)) (group : ℕ) → group < length commits → marked (not_zero (get_or commits group [])) ≡ 0 → known_from group (drop group commits) ≡ known_from (group + 1) (drop (group + 1) commits)
+unknown_here commits group within none =
+    ap (known_from group) (known_place commits group within) ∙ rw (no_some (not_zero (get_or commits group [])) none) refl

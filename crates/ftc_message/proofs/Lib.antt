@@ -6,6 +6,8 @@ pub mod PartLaws
 pub mod ItemLaws
 pub mod WriteLaws
 pub mod LogLaws
+pub mod Partitions
+pub mod Rising
 pub mod NeedLaws
 pub mod CommitLaws
 pub mod MessageLaws

@@ -153,3 +153,17 @@ logs_at_again ls rest spelled =
     let read = items_again logs None [] ls rest spelled.each (in_order_is None ls ∙ spelled.rising) in
     let text : logs_bytes ls ++ rest ≡ number_bytes 4 (length ls) ++ (flat_map log_bytes ls ++ rest) = append_assoc (number_bytes 4 (length ls)) (flat_map log_bytes ls) rest in
     ap logs_at text ∙ rw (number_again 4 (2 ^ 32) wide_4 (length ls) (flat_map log_bytes ls ++ rest) spelled.few, read.1) refl
+
+-- ---- a log that was read part by part
+
+pub record LogRead (last : Option (ℕ × ℕ)) (bytes rest : List ℕ) (log : Logged) : Type 0 where
+  pub takes : Takes bytes (log_bytes log) rest
+  pub spelled : IsLogSpelled log
+  pub follows : log_follows last log.origin log.group ≡ true
+
+pub log_read : (last : Option (ℕ × ℕ)) (bytes one two rest : List ℕ) (head : ℕ × ℕ) (parts : Parts) (ws : List Write) → IsBytes bytes → head_at last bytes ≡ Ok (head, one) → parts_at one ≡ Ok (parts, two) → writes_at two ≡ Ok (ws, rest)
+    → LogRead last bytes rest (record { group = head.1; origin = head.0; before = parts.before; changed = parts.changed; writes = ws })
+unfolding log_at
+log_read last bytes one two rest head parts ws fits first second third =
+    let read = log_at_takes last bytes (record { group = head.1; origin = head.0; before = parts.before; changed = parts.changed; writes = ws }, rest) fits (rw (first, second, third) refl) in
+    record { takes = read.0; spelled = read.1; follows = read.2 }

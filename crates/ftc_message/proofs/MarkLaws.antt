@@ -196,7 +196,7 @@ whole_read least count bytes middle x head some read =
     let counted : count ∷ marks_from 0 read.back ≡ marks_bytes read.back = ap (λ (n : ℕ). n ∷ marks_from 0 read.back) (sym read.all) in
     subst P (sym read.whole) (
       record { parts = both.parts ∙ ap (λ (text : List ℕ). text ++ x.1) counted; rest_fits = both.rest_fits },
-      record { size = read.size; some = omega (arith, read.all); each = read.each }
+      record { size = read.size; some = omega (arith, read.all); each = read.each },
     )
 
 pub marks_at_takes : (least : ℕ) (bytes : List ℕ) (x : List (Option ℕ) × List ℕ) → IsBytes bytes → marks_at least bytes ≡ Ok x → Takes bytes (marks_bytes x.0) x.1 × AreSpelled least x.0

@@ -10,6 +10,7 @@ use Rattle.std.proofs.lemmas.Slice.Eq.{bytes_eq-Decides}
 use Rattle.ftc_base.specs.declared.limits.TheConstants.{MOST_SERVERS, MOST_CAPTURED}
 use Rattle.ftc_message.specs.declared.fault.FrameCause.TheVariants.{Magic, Range, Trailing}
 use Rattle.ftc_message.specs.declared.fault.FieldFault.{FieldFault}
+use Rattle.ftc_message.specs.declared.fault.FrameFault.{FrameFault}
 use Rattle.ftc_message.specs.declared.need.Need.{Need}
 use Rattle.ftc_message.specs.declared.message.Message.{Message}
 use Rattle.ftc_message.specs.Logged.{Logged, needs_rise}
@@ -18,7 +19,7 @@ use Rattle.ftc_message.specs.WellFormed.{IsTyped, IsWellFormed}
 use Rattle.ftc_message.specs.Numbers.{number_bytes}
 use Rattle.ftc_message.specs.Spelling.{kind, magic, packet_bytes, logs_bytes, needs_bytes, commits_bytes, spelling}
 use Rattle.ftc_message.specs.Fields.{◌>>=◌, ◌>>◌, unless, within_at, taken_at, number_at}
-use Rattle.ftc_message.specs.Reading.{magic_at, packet_at, front_at, most_needs, logs_at, needs_at, commits_at, message_at, whole_of}
+use Rattle.ftc_message.specs.Reading.{magic_at, packet_at, front_at, most_needs, logs_at, needs_at, commits_at, message_at, whole_of, message_of}
 use Rattle.ftc_message.proofs.Fields.{IsBytes, Takes, Takes-then, bind_ok, test_ok, ok_is, within_takes, within_again, taken_takes, taken_again, number_takes, number_again, wide_4}
 use Rattle.ftc_message.proofs.LogLaws.{IsLogSpelled, AreLogsSpelled, each_mark, marked_some, some_marked, marks_are, logs_at_takes, logs_at_again}
 use Rattle.ftc_message.proofs.MarkLaws.{AreSpelled}
@@ -95,7 +96,7 @@ logs_typed : (ls : List Logged) → AllByRecursion IsLogSpelled ls → AllByRecu
 logs_typed [] each = (tt, tt)
 logs_typed (log ∷ ls) each = let rest = logs_typed ls each.1 in ((each.0.typed, rest.0), (each.0.some, rest.1))
 
-needs_spelled : (ns : List Need) → AllByRecursion IsNeed ns → AllByRecursion (λ need. MarksSome need.marks) ns → AllByRecursion (IsNeedSpelled 0) ns
+pub needs_spelled : (ns : List Need) → AllByRecursion IsNeed ns → AllByRecursion (λ need. MarksSome need.marks) ns → AllByRecursion (IsNeedSpelled 0) ns
 needs_spelled [] typed some = tt
 needs_spelled (need ∷ ns) typed some =
     (record { group = typed.0.group; marks = record { size = typed.0.marks.size; some = marked_some need.marks some.0.some.0 some.0.some.1; each = each_mark need.marks typed.0.marks.bounds } }, needs_spelled ns typed.1 some.1)
@@ -106,7 +107,7 @@ needs_typed (need ∷ ns) each =
     let rest = needs_typed ns each.1 in
     ((record { group = each.0.group; marks = marks_are 0 need.marks each.0.marks }, rest.0), (record { some = some_marked need.marks each.0.marks.some }, rest.1))
 
-rising_few : (from : ℕ) (ns : List Need) → from ≤ MOST_SERVERS → AllByRecursion IsNeed ns → needs_rise from ns ≡ true → from + length ns ≤ MOST_SERVERS
+pub rising_few : (from : ℕ) (ns : List Need) → from ≤ MOST_SERVERS → AllByRecursion IsNeed ns → needs_rise from ns ≡ true → from + length ns ≤ MOST_SERVERS
 rising_few from [] low each rising = omega arith
 rising_few from (need ∷ ns) low each rising =
     let order = and_parts (leb from need.group) (needs_rise (need.group + 1) ns) rising in
@@ -203,7 +204,7 @@ message_is bytes one two three rest origin packet ls ns commits x a b c d is =
       record {
         typed = record { origin = a.small; logs = record { each = typed_logs.0; rising = b.1.rising }; needs = record { each = typed_needs.0; rising = c.1.rising }; commits = d.1 };
         right = record { packet = a.few; few_logs = omega (arith, b.1.few); logs = typed_logs.1; needs = typed_needs.1; no_needs = no_needs packet (is_some packet) ns refl c.1.few };
-      }
+      },
     )
 
 pub message_takes : (bytes : List ℕ) (x : Message × List ℕ) → IsBytes bytes → message_at bytes ≡ Ok x → Takes bytes (spelling x.0) x.1 × IsSpelled x.0
@@ -258,3 +259,31 @@ unfolding whole_of
 whole_again message is =
     let read : message_at (spelling message) ≡ Ok (message, []) = ap message_at (sym (append-nil (spelling message))) ∙ message_again message [] is in
     rw read refl
+
+-- ---- what follows
+
+pub is_read : (message : Message) → IsTyped message → IsWellFormed message → message_of (spelling message) ≡ Ok message
+is_read message typed right = rw (whole_again message (record { typed = typed; right = right })) refl
+
+abbrev read_as : Message → Result Message FrameFault
+read_as message = Ok message
+
+pub no_fault : (message : Message) (fault : FrameFault) → IsTyped message → IsWellFormed message → message_of (spelling message) ≡ Err fault → ⊥
+no_fault message fault typed right wrong =
+    let clash : read_as message ≡ Err fault = sym (is_read message typed right) ∙ wrong in
+    cc
+
+pub same_message : (one other : Message) → IsTyped one → IsWellFormed one → IsTyped other → IsWellFormed other → spelling one ≡ spelling other → one ≡ other
+same_message one other typed_one right_one typed_other right_other same =
+    let both : read_as one ≡ read_as other = sym (is_read one typed_one right_one) ∙ ap message_of same ∙ is_read other typed_other right_other in
+    cc
+
+abbrev front_of : Message → List ℕ → Result (Message × List ℕ) FieldFault
+front_of message rest = Ok (message, rest)
+
+pub no_front : (one other : Message) (rest : List ℕ) → IsTyped one → IsWellFormed one → IsTyped other → IsWellFormed other → spelling one ++ rest ≡ spelling other → rest ≡ []
+no_front one other rest typed_one right_one typed_other right_other same =
+    let first : message_at (spelling one ++ rest) ≡ front_of one rest = message_again one rest (record { typed = typed_one; right = right_one }) in
+    let second : message_at (spelling other) ≡ front_of other [] = ap message_at (sym (append-nil (spelling other))) ∙ message_again other [] (record { typed = typed_other; right = right_other }) in
+    let both : front_of one rest ≡ front_of other [] = sym first ∙ ap message_at same ∙ second in
+    ap (λ (found : Message × List ℕ). found.1) (ok_is (one, rest) (other, []) both)

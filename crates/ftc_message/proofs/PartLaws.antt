@@ -125,7 +125,7 @@ behind_part : (count from k changed : ℕ) (front : List (Option ℕ)) (bytes : 
     → (read : Part × List ℕ) → PartRead from bytes read
     → times with_part count (state (read.0.partition + 1) (slice_set (front ++ blanks k) read.0.partition (Some read.0.number)) (changed_by read.0 changed)) read.1 ≡ Ok x
     → ((k' : ℕ) (front' : List (Option ℕ)) → length front' ≡ read.0.partition + 1 → read.0.partition + 1 + k' ≡ MOST_PARTITIONS → ((q : ℕ) → read.0.partition + 1 ≤ q → has (changed_by read.0 changed) q ≡ false)
-      → times with_part count (state (read.0.partition + 1) (front' ++ blanks k') (changed_by read.0 changed)) read.1 ≡ Ok x → PartsRead count (read.0.partition + 1) k' (changed_by read.0 changed) front' read.1 x)
+    → times with_part count (state (read.0.partition + 1) (front' ++ blanks k') (changed_by read.0 changed)) read.1 ≡ Ok x → PartsRead count (read.0.partition + 1) k' (changed_by read.0 changed) front' read.1 x)
     → PartsRead (suc count) from k changed front bytes x
 behind_part count from k changed front bytes x size within none read found is others =
     let place = read.0.partition in
@@ -169,9 +169,9 @@ up_to_more : (changed place set : ℕ) (is_changed : Bool) → has changed place
 up_to_more changed place set is_changed here before q =
     elim (cases_eq q place) [
       | inl at ↦
-        let outside : has set place ≡ false = before place ∙ rw (le-ltb place place (omega arith)) refl in
-        let inside : has (if is_changed then bit_or set (2 ^ place) else set) q ≡ is_changed = rw at (changed_here is_changed place set outside) in
-        inside ∙ rw (lt-ltb q (place + 1) (omega arith)) (sym here ∙ ap (λ (p : ℕ). has changed p) (sym at))
+          let outside : has set place ≡ false = before place ∙ rw (le-ltb place place (omega arith)) refl in
+          let inside : has (if is_changed then bit_or set (2 ^ place) else set) q ≡ is_changed = rw at (changed_here is_changed place set outside) in
+          inside ∙ rw (lt-ltb q (place + 1) (omega arith)) (sym here ∙ ap (λ (p : ℕ). has changed p) (sym at))
       | inr differs ↦ changed_there is_changed place set q differs ∙ before q ∙ ap (λ (b : Bool). b && has changed q) (below_same q place differs)
     ]
   where
@@ -264,9 +264,10 @@ whole_read count bytes middle x head some read marks =
     let last = x.0.1.changed in
     let both = Takes-then bytes (count ∷ []) middle (parts_from last 0 read.back) x.1 head read.takes in
     let counted : count ∷ parts_from last 0 read.back ≡ parts_bytes read.back last = ap (λ (n : ℕ). n ∷ parts_from last 0 read.back) (sym read.all) in
-    let T : List (Option ℕ) → Type 0 = λ m. Takes bytes (parts_bytes m last) x.1 in
-    (subst T (sym read.whole) (record { parts = both.parts ∙ ap (λ (text : List ℕ). text ++ x.1) counted; rest_fits = both.rest_fits }),
-      record { before = subst (AreSpelled 0) (sym read.whole) (record { size = read.size; some = omega (arith, read.all); each = read.each }); changed = marks })
+    let T : List (Option ℕ) → Type 0 = λ m. Takes bytes (parts_bytes m last) x.1 in (
+      subst T (sym read.whole) (record { parts = both.parts ∙ ap (λ (text : List ℕ). text ++ x.1) counted; rest_fits = both.rest_fits }),
+      record { before = subst (AreSpelled 0) (sym read.whole) (record { size = read.size; some = omega (arith, read.all); each = read.each }); changed = marks },
+    )
 
 no_marks_marked : IsMarked (blanks 64) 0
 no_marks_marked q is = absurd (false_is_not (sym (has_none q) ∙ is))

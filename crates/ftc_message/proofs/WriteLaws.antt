@@ -59,12 +59,12 @@ value_takes bytes x fits is =
     let first = within_takes 0 1 bytes tag.0 fits tag.1 in
     elim (chosen (tag.0.0 == 0) (Ok (None, tag.0.1)) (put_at tag.0.1) (Ok x) tag.2) [
       | inl delete ↦
-        let zero_is : tag.0.0 ≡ 0 = eqb-true tag.0.0 0 delete.0 in
-        let P : Option (List ℕ) × List ℕ → Type 0 = λ y. Takes bytes (value_bytes y.0) y.1 × IfSome y.0 (λ value. length value ≤ MOST_VALUE_BYTES) in
-        subst P (ok_is (None, tag.0.1) x delete.1) (subst (λ (n : ℕ). Takes bytes (n ∷ []) tag.0.1) zero_is first.0, tt)
+          let zero_is : tag.0.0 ≡ 0 = eqb-true tag.0.0 0 delete.0 in
+          let P : Option (List ℕ) × List ℕ → Type 0 = λ y. Takes bytes (value_bytes y.0) y.1 × IfSome y.0 (λ value. length value ≤ MOST_VALUE_BYTES) in
+          subst P (ok_is (None, tag.0.1) x delete.1) (subst (λ (n : ℕ). Takes bytes (n ∷ []) tag.0.1) zero_is first.0, tt)
       | inr put ↦
-        let one_is : tag.0.0 ≡ 1 = omega (arith, eqb-false tag.0.0 0 put.0, first.2) in
-        value_of_put bytes tag.0.1 x (subst (λ (n : ℕ). Takes bytes (n ∷ []) tag.0.1) one_is first.0) (put_takes tag.0.1 x first.0.rest_fits put.1)
+          let one_is : tag.0.0 ≡ 1 = omega (arith, eqb-false tag.0.0 0 put.0, first.2) in
+          value_of_put bytes tag.0.1 x (subst (λ (n : ℕ). Takes bytes (n ∷ []) tag.0.1) one_is first.0) (put_takes tag.0.1 x first.0.rest_fits put.1)
     ]
 
 value_again : (value : Option (List ℕ)) (rest : List ℕ) → IfSome value (λ v. length v ≤ MOST_VALUE_BYTES) → value_at (value_bytes value ++ rest) ≡ Ok (value, rest)

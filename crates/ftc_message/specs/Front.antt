@@ -25,3 +25,8 @@ IsTaken (Err fault) told = told ≡ Err fault
 abbrev pub IsFieldBy : {A B : Type 0} → (A → B) → Result (A × Bor (List ℕ)) FieldFault → Result (B × List ℕ) FieldFault → Type 0
 IsFieldBy view (Ok found) told = told ≡ Ok (view found.0, found.1.now)
 IsFieldBy view (Err fault) told = told ≡ Err fault
+
+-- the same of the bytes alone that are left
+abbrev pub IsRest : Result (Bor (List ℕ)) FieldFault → Result (List ℕ) FieldFault → Type 0
+IsRest (Ok rest) told = told ≡ Ok rest.now
+IsRest (Err fault) told = told ≡ Err fault

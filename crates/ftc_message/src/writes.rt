@@ -1,9 +1,7 @@
 //! The writes of a log.
 
-ghost use Rattle.std.specs.Prelude.{◌≡◌, ◌≤◌, ◌++◌, length, OnOk, IfSome};
-ghost use Rattle.std.specs.List.{AllByRecursion};
+ghost use Rattle.std.specs.Prelude.{◌≡◌, ◌++◌, OnOk};
 ghost use Rattle.ftc_message.specs.Logged.{key_follows};
-ghost use Rattle.ftc_message.specs.Bounds.{IsWrite};
 ghost use Rattle.ftc_message.specs.Spelling.{value_bytes, write_bytes, writes_bytes};
 ghost use Rattle.ftc_message.specs.Reading.{put_at, value_at, key_at, write_at, writes_at};
 ghost use Rattle.ftc_message.specs.Front.{IsField, IsFieldBy};
@@ -11,7 +9,7 @@ ghost use Rattle.ftc_message.specs.Front.{IsField, IsFieldBy};
 use crate::fault::{FieldFault, FrameCause};
 use crate::field::{fault_at, taken_at, within_at};
 use ftc_base::limits::{MOST_KEY_BYTES, MOST_VALUE_BYTES, MOST_WRITES};
-use ftc_base::{Key, Value, Write, Writes};
+use ftc_base::{Bytes, Key, NoMemory, Value, Write, Writes};
 
 /// The value of a put.
 #[tactic(auto, unfolding(crate::specs::Reading::put_at))]
@@ -94,4 +92,39 @@ pub fn writes_at(bytes: &[u8]) -> Result<(Writes, &[u8]), FieldFault>
         }
     }
     Ok((writes, rest))
+}
+
+/// Adds the bytes of what is put at a key, or of a delete.
+fn append_value(value: &Option<Value>, out: &mut Bytes) -> Result<(), NoMemory>
+    ensures { OnOk result (out.new ≡ out.old ++ value_bytes value.now) }
+{
+    match value {
+        None => out.append(&[0]),
+        Some(value) => {
+            let bytes = value.as_slice();
+            out.append(&[1, bytes.len() as u8])?;
+            out.append(bytes)
+        }
+    }
+}
+
+/// Adds a write's bytes.
+fn append_write(write: &Write, out: &mut Bytes) -> Result<(), NoMemory>
+    ensures { OnOk result (out.new ≡ out.old ++ write_bytes write.now) }
+{
+    let key = write.key.as_slice();
+    out.append(&[key.len() as u8])?;
+    out.append(key)?;
+    append_value(&write.value, out)
+}
+
+/// Adds the bytes of the writes of a log.
+pub fn append_writes(writes: &Writes, out: &mut Bytes) -> Result<(), NoMemory>
+    ensures { OnOk result (out.new ≡ out.old ++ writes_bytes writes.now.items) }
+{
+    out.append(&[writes.len() as u8])?;
+    for write in writes.as_slice() {
+        append_write(write, out)?;
+    }
+    Ok(())
 }
