@@ -1,5 +1,6 @@
-ghost use Rattle.std.specs.Prelude.{◌≡◌, ◌<◌, length, [], IfOk, IfSome, ◌≤◌};
-ghost use Rattle.std.specs.List.{AllByRecursion};
+ghost use Rattle.std.specs.Prelude.{◌≡◌, ℕ, true, Some, IfOk};
+ghost use Rattle.ftc_base.specs.Sets.{has};
+ghost use Rattle.ftc_vector.specs.Vector.{mark_at};
 ghost use Rattle.ftc_message.specs.Bounds.{MarksSome};
 ghost use Rattle.ftc_message.specs.WellFormed.{IsWellFormed};
 
@@ -21,11 +22,19 @@ const FRAME: [u8; 74] = [
 
 /// The number of partition 3.
 fn marks(number: u64) -> Marks
-    ensures { MarksSome result }
+    ensures here { mark_at result 3 ≡ Some number }
+    ensures some { MarksSome result }
 {
     let mut marks = Marks::new();
     marks.set(3, number);
     marks
+}
+
+/// Partition 3.
+fn changed() -> PartSet
+    ensures { (partition : ℕ) → has result partition ≡ true → partition ≡ 3 }
+{
+    PartSet::new().with(3)
 }
 
 /// The log that changed partition 3.
@@ -38,7 +47,7 @@ fn log() -> Log
         value: Value::new(&[0, 0, 0, 0, 0, 0, 0, 8]),
     });
     let group = ServerId::new(0).unwrap();
-    Log::new(group, 4, marks(7), PartSet::new().with(3), writes)
+    Log::new(group, 4, marks(7), changed(), writes)
 }
 
 /// What is known of the tail of group 2.
@@ -93,7 +102,7 @@ fn one_frame_both_ways(rt: HostRuntime) -> Result<(), Fail> {
     assert_eq!(rt; read.logs.len(), 1);
     let log = read.logs.at(0).copy();
     assert_eq!(rt; (log.group().number(), log.origin()), (0, 4));
-    assert!(rt; log.before() == &marks(7) && log.changed() == PartSet::new().with(3));
+    assert!(rt; log.before() == &marks(7) && log.changed() == changed());
     assert_eq!(rt;
         log.writes().as_slice(),
         [Write {

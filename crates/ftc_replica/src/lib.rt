@@ -1,0 +1,12 @@
+//! The replica that a member of a group has: the store of the group's middlebox, the vector of the
+//! changes in it, and the logs that others may still lack.
+#![tactic(auto)]
+
+mod covering;
+mod kept;
+mod laws;
+mod replica;
+
+pub use kept::Kept;
+pub use laws::covering;
+pub use replica::Replica;
