@@ -1,8 +1,13 @@
 -- What a replica of a group has.
 use Rattle.std.specs.Prelude.{ℕ, ◌∷◌, [], ◌++◌, List}
+use Rattle.std.specs.FinMap.{code}
+use Rattle.std.specs.Coded.{Coded, coded_ℕ, coded_list}
 use Rattle.ftc_store.specs.Store.{Content, written}
 use Rattle.ftc_vector.specs.Vector.{raised}
 use Rattle.ftc_message.specs.Logged.{Logged}
+
+abbrev pub content_code : Coded Content
+content_code = code (coded_list coded_ℕ) (coded_list coded_ℕ)
 
 -- the store's content and in how many partitions its keys lie, the vector, and the kept logs in the order of keeping
 pub record Held : Type 0 where

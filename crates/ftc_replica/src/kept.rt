@@ -3,7 +3,7 @@
 ghost use Rattle.std.specs.Prelude.{◌≡◌, ◌≤◌, ◌<◌, ◌+◌, ◌++◌, ◌==◌, [], ◌∷◌, length, IsOk, IfOk, OnOk, OnErr, slice_get, Some};
 ghost use Rattle.ftc_replica.specs.Kept.{missing};
 
-use crate::covering::covers_log;
+use crate::coverage::covers_log;
 use ftc_base::{Items, NoMemory};
 use ftc_message::{Log, LogList};
 use ftc_vector::Vector;

@@ -2,7 +2,7 @@
 //! changes in it, and the logs that others may still lack.
 #![tactic(auto)]
 
-mod covering;
+mod coverage;
 mod kept;
 mod laws;
 mod replica;
@@ -10,3 +10,6 @@ mod replica;
 pub use kept::Kept;
 pub use laws::covering;
 pub use replica::Replica;
+
+#[cfg(test)]
+mod tests;

@@ -8,7 +8,7 @@ ghost use Rattle.ftc_vector.specs.Order.{IsReady, IsCovered};
 ghost use Rattle.ftc_replica.specs.Kept.{missing};
 ghost use Rattle.ftc_replica.specs.Held.{applied};
 
-use crate::covering::covers_log;
+use crate::coverage::covers_log;
 use crate::kept::Kept;
 use ftc_base::NoMemory;
 use ftc_base::limits::MOST_PARTITIONS;
@@ -28,9 +28,12 @@ pub struct Replica {
 }
 
 impl Model for Replica {
-    ghost use Rattle.ftc_replica.specs.Held.{Held};
+    ghost use Rattle.std.specs.Coded.{codes};
+    ghost use Rattle.ftc_replica.specs.Held.{Held, content_code};
 
     ghost Value = { Held };
+
+    ghost coded = { Prim.hlevel (codes, content_code) };
 
     ghost view = { λ replica. record { content = replica.store.content; partitions = replica.store.partitions; vector = replica.vector; kept = replica.kept.items } };
 }
