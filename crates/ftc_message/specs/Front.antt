@@ -15,3 +15,18 @@ abbrev pub IsFront : {A : Type 0} → Result (A × Bor (List ℕ)) (Refuse Field
 IsFront (Ok found) told = told ≡ Ok (found.0, found.1.now)
 IsFront (Err (Bad fault)) told = told ≡ Err fault
 IsFront (Err NoMemory) told = ⊤
+
+-- the same of bytes that are taken as they are
+abbrev pub IsTaken : Result (Bor (List ℕ) × Bor (List ℕ)) FieldFault → Result (List ℕ × List ℕ) FieldFault → Type 0
+IsTaken (Ok found) told = told ≡ Ok (found.0.now, found.1.now)
+IsTaken (Err fault) told = told ≡ Err fault
+
+-- a call that takes no memory answers what the grammar says, its value seen so
+abbrev pub IsFieldBy : {A B : Type 0} → (A → B) → Result (A × Bor (List ℕ)) FieldFault → Result (B × List ℕ) FieldFault → Type 0
+IsFieldBy view (Ok found) told = told ≡ Ok (view found.0, found.1.now)
+IsFieldBy view (Err fault) told = told ≡ Err fault
+
+-- the same of the bytes alone that are left
+abbrev pub IsRest : Result (Bor (List ℕ)) FieldFault → Result (List ℕ) FieldFault → Type 0
+IsRest (Ok rest) told = told ≡ Ok rest.now
+IsRest (Err fault) told = told ≡ Err fault

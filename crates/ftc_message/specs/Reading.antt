@@ -1,5 +1,5 @@
 -- Reading from left to right, with the first fault that is met.
-use Rattle.std.specs.Prelude.{ℕ, zero, suc, ◌+◌, ◌-◌, ◌^◌, Bool, true, false, ◌==◌, nat_lt, nat_le, List, [], ◌∷◌, ◌++◌, length, map, slice_set, bit_or, Option, Some, None, unwrap_or, Result, Ok, Err, if◌then◌else◌}
+use Rattle.std.specs.Prelude.{ℕ, zero, suc, ◌+◌, ◌-◌, ◌^◌, Bool, ◌==◌, nat_le, List, [], ◌∷◌, ◌++◌, length, slice_index_or, slice_set, bit_or, Option, Some, None, is_some, unwrap_or, Result, Ok, Err, if◌then◌else◌}
 use Rattle.std.specs.Str.{bytes_eq}
 use Rattle.ftc_base.specs.declared.limits.TheConstants.{MOST_SERVERS, MOST_PARTITIONS, MOST_KEY_BYTES, MOST_VALUE_BYTES, MOST_WRITES, MOST_CAPTURED}
 use Rattle.ftc_base.specs.declared.ask.Write.{Write}
@@ -9,16 +9,21 @@ use Rattle.ftc_message.specs.declared.fault.FrameCause.TheVariants.{Magic, Range
 use Rattle.ftc_message.specs.declared.fault.FieldFault.{FieldFault}
 use Rattle.ftc_message.specs.declared.fault.FrameFault.{FrameFault}
 use Rattle.ftc_message.specs.declared.need.Need.{Need}
+use Rattle.ftc_message.specs.declared.parts.Part.{Part}
+use Rattle.ftc_message.specs.declared.parts.Parts.{Parts}
 use Rattle.ftc_message.specs.declared.message.Message.{Message}
 use Rattle.ftc_message.specs.Logged.{Logged, key_follows, log_follows}
 use Rattle.ftc_message.specs.Spelling.{magic}
 use Rattle.ftc_message.specs.Fields.{◌>>=◌, ◌>>◌, fault_at, unless, byte_at, within_at, taken_at, number_at, group_at}
 
--- ---- partitions
+-- so many steps, each of which reads from the front and adds to what was read so far
+unfoldable pub times : {S : Type 0} → (S → List ℕ → Result (S × List ℕ) FieldFault) → ℕ → S → List ℕ → Result (S × List ℕ) FieldFault
+times step zero so_far bytes = Ok (so_far, bytes)
+times step (suc count) so_far bytes = do
+  next ← step so_far bytes
+  times step count next.0 next.1
 
--- no partition has a number
-abbrev pub no_marks : List (Option ℕ)
-no_marks = by_partition (λ _. None)
+-- ---- partitions
 
 -- a partition, which is at least `from`
 unfoldable pub partition_at : ℕ → List ℕ → Result (ℕ × List ℕ) FieldFault
@@ -34,42 +39,60 @@ least_at least bytes = do
   unless (nat_le least number.0) bytes Range
   Ok number
 
--- so many partitions with their numbers, behind the marks so far
-unfoldable pub marks_on : ℕ → ℕ → ℕ → List (Option ℕ) → List ℕ → Result (List (Option ℕ) × List ℕ) FieldFault
-marks_on zero least from marks bytes = Ok (marks, bytes)
-marks_on (suc count) least from marks bytes = do
+-- a partition of a need, and its number
+unfoldable pub mark_at : ℕ → ℕ → List ℕ → Result ((ℕ × ℕ) × List ℕ) FieldFault
+mark_at least from bytes = do
   partition ← partition_at from bytes
   number ← least_at least partition.1
-  marks_on count least (partition.0 + 1) (slice_set marks partition.0 (Some number.0)) number.1
+  Ok ((partition.0, number.0), number.1)
+
+-- the partition from which on the next one may be, and the marks so far
+abbrev pub with_mark : ℕ → ℕ × List (Option ℕ) → List ℕ → Result ((ℕ × List (Option ℕ)) × List ℕ) FieldFault
+with_mark least so_far bytes = do
+  mark ← mark_at least so_far.0 bytes
+  Ok ((mark.0.0 + 1, slice_set so_far.1 mark.0.0 (Some mark.0.1)), mark.1)
+
+-- no partition has a number
+abbrev pub no_marks : List (Option ℕ)
+no_marks = by_partition (λ _. None)
 
 unfoldable pub marks_at : ℕ → List ℕ → Result (List (Option ℕ) × List ℕ) FieldFault
 marks_at least bytes = do
   count ← within_at 1 MOST_PARTITIONS bytes
-  marks_on count.0 least 0 no_marks count.1
+  marks ← times (with_mark least) count.0 (0, no_marks) count.1
+  Ok (marks.0.1, marks.1)
 
--- the partitions of a log: the numbers that they had before, and which are changed
-pub record Parts : Type 0 where
-  pub before : List (Option ℕ)
-  pub changed : ℕ
-
--- with that partition among the changed, where the flag is 1
-abbrev pub changed_by : ℕ → ℕ → ℕ → ℕ
-changed_by flag partition changed = if flag == 1 then bit_or changed (2 ^ partition) else changed
-
--- so many partitions with their flags and numbers, behind the parts so far
-unfoldable pub parts_on : ℕ → ℕ → Parts → List ℕ → Result (Parts × List ℕ) FieldFault
-parts_on zero from parts bytes = Ok (parts, bytes)
-parts_on (suc count) from parts bytes = do
+-- a partition of a log: its number before, and whether the log changes it
+unfoldable pub part_at : ℕ → List ℕ → Result (Part × List ℕ) FieldFault
+part_at from bytes = do
   partition ← partition_at from bytes
   flag ← within_at 0 1 partition.1
   number ← number_at 8 flag.1
-  parts_on count (partition.0 + 1)
-      (record { before = slice_set parts.before partition.0 (Some number.0); changed = changed_by flag.0 partition.0 parts.changed }) number.1
+  Ok (record { partition = partition.0; is_changed = flag.0 == 1; number = number.0 }, number.1)
+
+-- with one more member, where it is changed
+abbrev pub changed_by : Part → ℕ → ℕ
+changed_by part changed = if part.is_changed then bit_or changed (2 ^ part.partition) else changed
+
+-- no partition
+abbrev pub no_parts : Parts
+no_parts = record { before = no_marks; changed = 0 }
+
+-- with that partition besides
+abbrev pub plus_part : Part → Parts → Parts
+plus_part part parts = record { before = slice_set parts.before part.partition (Some part.number); changed = changed_by part parts.changed }
+
+-- the partition from which on the next one may be, and the partitions so far
+abbrev pub with_part : ℕ × Parts → List ℕ → Result ((ℕ × Parts) × List ℕ) FieldFault
+with_part so_far bytes = do
+  part ← part_at so_far.0 bytes
+  Ok ((part.0.partition + 1, plus_part part.0 so_far.1), part.1)
 
 unfoldable pub parts_at : List ℕ → Result (Parts × List ℕ) FieldFault
 parts_at bytes = do
   count ← within_at 1 MOST_PARTITIONS bytes
-  parts_on count.0 0 (record { before = no_marks; changed = 0 }) count.1
+  parts ← times with_part count.0 (0, no_parts) count.1
+  Ok (parts.0.1, parts.1)
 
 -- ---- logs
 
@@ -99,17 +122,17 @@ write_at last bytes = do
   value ← value_at key.1
   Ok (record { key = key.0; value = value.0 }, value.1)
 
--- so many writes, behind the writes so far
-unfoldable pub writes_on : ℕ → Option (List ℕ) → List Write → List ℕ → Result (List Write × List ℕ) FieldFault
-writes_on zero last writes bytes = Ok (writes, bytes)
-writes_on (suc count) last writes bytes = do
-  write ← write_at last bytes
-  writes_on count (Some write.0.key) (writes ++ write.0 ∷ []) write.1
+-- the last key, and the writes so far
+abbrev pub with_write : Option (List ℕ) × List Write → List ℕ → Result ((Option (List ℕ) × List Write) × List ℕ) FieldFault
+with_write so_far bytes = do
+  write ← write_at so_far.0 bytes
+  Ok ((Some write.0.key, so_far.1 ++ write.0 ∷ []), write.1)
 
 unfoldable pub writes_at : List ℕ → Result (List Write × List ℕ) FieldFault
 writes_at bytes = do
   count ← within_at 0 MOST_WRITES bytes
-  writes_on count.0 None [] count.1
+  writes ← times with_write count.0 (None, []) count.1
+  Ok (writes.0.1, writes.1)
 
 -- the origin and the group of a log, which is greater than the last one
 unfoldable pub head_at : Option (ℕ × ℕ) → List ℕ → Result ((ℕ × ℕ) × List ℕ) FieldFault
@@ -126,17 +149,17 @@ log_at last bytes = do
   writes ← writes_at parts.1
   Ok (record { group = head.0.1; origin = head.0.0; before = parts.0.before; changed = parts.0.changed; writes = writes.0 }, writes.1)
 
--- so many logs, behind the logs so far
-unfoldable pub logs_on : ℕ → Option (ℕ × ℕ) → List Logged → List ℕ → Result (List Logged × List ℕ) FieldFault
-logs_on zero last logs bytes = Ok (logs, bytes)
-logs_on (suc count) last logs bytes = do
-  log ← log_at last bytes
-  logs_on count (Some (log.0.origin, log.0.group)) (logs ++ log.0 ∷ []) log.1
+-- the origin and the group of the last log, and the logs so far
+abbrev pub with_log : Option (ℕ × ℕ) × List Logged → List ℕ → Result ((Option (ℕ × ℕ) × List Logged) × List ℕ) FieldFault
+with_log so_far bytes = do
+  log ← log_at so_far.0 bytes
+  Ok ((Some (log.0.origin, log.0.group), so_far.1 ++ log.0 ∷ []), log.1)
 
 unfoldable pub logs_at : List ℕ → Result (List Logged × List ℕ) FieldFault
 logs_at bytes = do
   count ← number_at 4 bytes
-  logs_on count.0 None [] count.1
+  logs ← times with_log count.0 (None, []) count.1
+  Ok (logs.0.1, logs.1)
 
 -- ---- needs and commits
 
@@ -148,18 +171,18 @@ need_at least from bytes = do
   marks ← marks_at least group.1
   Ok (record { group = group.0; marks = marks.0 }, marks.1)
 
--- so many needs, behind the needs so far
-unfoldable pub needs_on : ℕ → ℕ → ℕ → List Need → List ℕ → Result (List Need × List ℕ) FieldFault
-needs_on zero least from needs bytes = Ok (needs, bytes)
-needs_on (suc count) least from needs bytes = do
-  need ← need_at least from bytes
-  needs_on count least (need.0.group + 1) (needs ++ need.0 ∷ []) need.1
+-- the group from which on the next one may be, and the needs so far
+abbrev pub with_need : ℕ → ℕ × List Need → List ℕ → Result ((ℕ × List Need) × List ℕ) FieldFault
+with_need least so_far bytes = do
+  need ← need_at least so_far.0 bytes
+  Ok ((need.0.group + 1, so_far.1 ++ need.0 ∷ []), need.1)
 
 -- at most so many needs, with numbers that are at least `least`
 unfoldable pub needs_at : ℕ → ℕ → List ℕ → Result (List Need × List ℕ) FieldFault
 needs_at most least bytes = do
   count ← within_at 0 most bytes
-  needs_on count.0 least 0 [] count.1
+  needs ← times (with_need least) count.0 (0, []) count.1
+  Ok (needs.0.1, needs.1)
 
 -- nothing is known of any group
 abbrev pub no_commits : List (List ℕ)
@@ -167,7 +190,7 @@ no_commits = by_group (λ _. by_partition (λ _. 0))
 
 -- the marked numbers, and 0 elsewhere
 abbrev pub numbers_in : List (Option ℕ) → List ℕ
-numbers_in marks = map (λ mark. unwrap_or mark 0) marks
+numbers_in marks = by_partition (λ partition. unwrap_or (slice_index_or marks partition None) 0)
 
 -- what these entries say is known besides
 abbrev pub with_known : List Need → List (List ℕ) → List (List ℕ)
@@ -197,16 +220,26 @@ packet_at is_there bytes = do
   packet ← taken_at size.0 size.1
   Ok ((if is_there then Some packet.0 else None), packet.1)
 
-unfoldable pub message_at : List ℕ → Result (Message × List ℕ) FieldFault
-message_at bytes = do
+-- what stands before the logs: the origin and the packet
+unfoldable pub front_at : List ℕ → Result ((ℕ × Option (List ℕ)) × List ℕ) FieldFault
+front_at bytes = do
   rest ← magic_at bytes
   kind ← within_at 0 1 rest
   origin ← number_at 4 kind.1
   packet ← packet_at (kind.0 == 0) origin.1
-  logs ← logs_at packet.1
-  needs ← needs_at (if kind.0 == 0 then MOST_SERVERS else 0) 0 logs.1
+  Ok ((origin.0, packet.0), packet.1)
+
+-- how many needs a message may have
+abbrev pub most_needs : Option (List ℕ) → ℕ
+most_needs packet = if is_some packet then MOST_SERVERS else 0
+
+unfoldable pub message_at : List ℕ → Result (Message × List ℕ) FieldFault
+message_at bytes = do
+  front ← front_at bytes
+  logs ← logs_at front.1
+  needs ← needs_at (most_needs front.0.1) 0 logs.1
   commits ← commits_at needs.1
-  Ok (record { origin = origin.0; packet = packet.0; logs = logs.0; needs = needs.0; commits = commits.0 }, commits.1)
+  Ok (record { origin = front.0.0; packet = front.0.1; logs = logs.0; needs = needs.0; commits = commits.0 }, commits.1)
 
 -- a message, and nothing behind it
 unfoldable pub whole_of : List ℕ → Result Message FieldFault

@@ -3,14 +3,34 @@
 #![tactic(auto)]
 
 mod bytes;
+mod commits_bytes;
+mod decoding;
+mod encoding;
 mod fault;
+mod field;
+mod laws;
 mod log;
+mod log_bytes;
 mod logs;
+mod logs_bytes;
 mod message;
 mod need;
+mod need_bytes;
+mod part_bytes;
+mod parts;
+mod writes;
 
+pub use commits_bytes::{append_commits, commits_at};
+pub use decoding::decode;
+pub use encoding::encode;
 pub use fault::{FieldFault, FrameCause, FrameFault};
+pub use laws::{numbers, one_spelling, read_again};
 pub use log::Log;
+pub use log_bytes::{LogPlace, append_log, log_at};
 pub use logs::{LogList, Logs};
 pub use message::Message;
 pub use need::{Need, Needs};
+pub use need_bytes::{append_needs, needs_at};
+
+#[cfg(test)]
+mod tests;

@@ -1,0 +1,14 @@
+pub mod Steps
+pub mod Fields
+pub mod Blanks
+pub mod MarkLaws
+pub mod PartLaws
+pub mod ItemLaws
+pub mod WriteLaws
+pub mod LogLaws
+pub mod Partitions
+pub mod Rising
+pub mod NeedLaws
+pub mod CommitLaws
+pub mod MessageLaws
+pub mod Members

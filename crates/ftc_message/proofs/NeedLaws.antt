@@ -1,0 +1,75 @@
+-- Needs: what is read is spelled so, and what is spelled so is read.
+use Rattle.std.proofs.Common.{◌≡◌, ℕ, ◌+◌, ◌<◌, ◌≤◌, ◌&&◌, leb, Bool, true, List, [], ◌∷◌, ◌++◌, length, Option, Some, None, Result, Ok, Err, refl, sym, ap, subst, ◌∙◌, append_assoc, arith}
+use Rattle.std.specs.List.{AllByRecursion, flat_map}
+use Rattle.std.proofs.lemmas.Bool.{leb-true, le-leb}
+use Rattle.ftc_base.specs.declared.limits.TheConstants.{MOST_SERVERS}
+use Rattle.ftc_message.specs.declared.fault.FrameCause.TheVariants.{Order}
+use Rattle.ftc_message.specs.declared.need.Need.{Need}
+use Rattle.ftc_message.specs.Logged.{needs_rise}
+use Rattle.ftc_message.specs.Spelling.{marks_bytes, need_bytes, needs_bytes}
+use Rattle.ftc_message.specs.Fields.{◌>>=◌, ◌>>◌, unless, within_at, group_at}
+use Rattle.ftc_message.specs.Reading.{times, marks_at, need_at, with_need, needs_at}
+use Rattle.ftc_message.proofs.Fields.{IsBytes, Takes, Takes-then, bind_ok, test_ok, ok_is, within_takes, within_again, group_takes, group_again}
+use Rattle.ftc_message.proofs.MarkLaws.{AreSpelled, marks_at_takes, marks_at_again}
+use Rattle.ftc_message.proofs.ItemLaws.{Items, in_order, items_read, items_again}
+
+-- a need that has a spelling, with numbers that are at least `least`
+pub record IsNeedSpelled (least : ℕ) (need : Need) : Type 0 where
+  pub group : need.group < MOST_SERVERS
+  pub marks : AreSpelled least need.marks
+
+pub need_at_takes : (least from : ℕ) (bytes : List ℕ) (x : Need × List ℕ) → IsBytes bytes → need_at least from bytes ≡ Ok x → Takes bytes (need_bytes x.0) x.1 × IsNeedSpelled least x.0 × (leb from x.0.group ≡ true)
+unfolding need_at
+need_at_takes least from bytes x fits is =
+    let group = bind_ok (group_at bytes) (λ group. unless (leb from group.0) bytes Order >> (marks_at least group.1 >>= λ marks. Ok (record { group = group.0; marks = marks.0 }, marks.1))) x is in
+    let passed = test_ok (leb from group.0.0) bytes Order (marks_at least group.0.1 >>= λ marks. Ok (record { group = group.0.0; marks = marks.0 }, marks.1)) x group.2 in
+    let marks = bind_ok (marks_at least group.0.1) (λ marks. Ok (record { group = group.0.0; marks = marks.0 }, marks.1)) x passed.1 in
+    let first = group_takes bytes group.0 fits group.1 in
+    let second = marks_at_takes least group.0.1 marks.0 first.0.rest_fits marks.1 in
+    let P : Need × List ℕ → Type 0 = λ y. Takes bytes (need_bytes y.0) y.1 × IsNeedSpelled least y.0 × (leb from y.0.group ≡ true) in
+    subst P (ok_is (record { group = group.0.0; marks = marks.0.0 }, marks.0.1) x marks.2) (Takes-then bytes (group.0.0 ∷ []) group.0.1 (marks_bytes marks.0.0) marks.0.1 first.0 second.0, record { group = first.1; marks = second.1 }, passed.0)
+
+pub need_at_again : (least from : ℕ) (need : Need) (rest : List ℕ) → IsNeedSpelled least need → leb from need.group ≡ true → need_at least from (need_bytes need ++ rest) ≡ Ok (need, rest)
+unfolding need_at
+need_at_again least from need rest is follows =
+    rw (group_again need.group (marks_bytes need.marks ++ rest) is.group, follows, marks_at_again least need.marks rest is.marks) refl
+
+abbrev needs : ℕ → Items ℕ Need
+needs least = record {
+  item_at = need_at least;
+  place = λ need. need.group + 1;
+  item_bytes = need_bytes;
+  IsItem = IsNeedSpelled least;
+  follows = λ from need. leb from need.group;
+  takes = need_at_takes least;
+  again = need_at_again least;
+}
+
+in_order_is : (least from : ℕ) (ns : List Need) → in_order (needs least) from ns ≡ needs_rise from ns
+in_order_is least from [] = refl
+in_order_is least from (need ∷ ns) = ap (λ (b : Bool). leb from need.group && b) (in_order_is least (need.group + 1) ns)
+
+-- needs that have a spelling
+pub record AreNeedsSpelled (least most : ℕ) (ns : List Need) : Type 0 where
+  pub few : length ns ≤ most
+  pub each : AllByRecursion (IsNeedSpelled least) ns
+  pub rising : needs_rise 0 ns ≡ true
+
+pub needs_at_takes : (most least : ℕ) (bytes : List ℕ) (x : List Need × List ℕ) → IsBytes bytes → needs_at most least bytes ≡ Ok x → Takes bytes (needs_bytes x.0) x.1 × AreNeedsSpelled least most x.0
+unfolding needs_at
+needs_at_takes most least bytes x fits is =
+    let count = bind_ok (within_at 0 most bytes) (λ count. times (with_need least) count.0 (0, []) count.1 >>= λ ns. Ok (ns.0.1, ns.1)) x is in
+    let all = bind_ok (times (with_need least) count.0.0 (0, []) count.0.1) (λ ns. Ok (ns.0.1, ns.1)) x count.2 in
+    let head = within_takes 0 most bytes count.0 fits count.1 in
+    let read = items_read (needs least) count.0.0 0 [] count.0.1 all.0 head.0.rest_fits all.1 in
+    let counted : Takes bytes (length read.back ∷ []) count.0.1 = subst (λ (n : ℕ). Takes bytes (n ∷ []) count.0.1) (sym read.all) head.0 in
+    let both = Takes-then bytes (length read.back ∷ []) count.0.1 (flat_map need_bytes read.back) all.0.1 counted read.takes in
+    let P : List Need × List ℕ → Type 0 = λ y. Takes bytes (needs_bytes y.0) y.1 × AreNeedsSpelled least most y.0 in
+    let whole : (read.back, all.0.1) ≡ (all.0.0.1, all.0.1) = ap (λ (ns : List Need). (ns, all.0.1)) (sym read.whole) in
+    subst P (whole ∙ ok_is (all.0.0.1, all.0.1) x all.2) (both, record { few = omega (arith, read.all, head.2); each = read.each; rising = sym (in_order_is least 0 read.back) ∙ read.rising })
+
+pub needs_at_again : (most least : ℕ) (ns : List Need) (rest : List ℕ) → AreNeedsSpelled least most ns → needs_at most least (needs_bytes ns ++ rest) ≡ Ok (ns, rest)
+unfolding needs_at
+needs_at_again most least ns rest spelled =
+    let read = items_again (needs least) 0 [] ns rest spelled.each (in_order_is least 0 ns ∙ spelled.rising) in
+    rw (within_again 0 most (length ns) (flat_map need_bytes ns ++ rest) (omega arith) spelled.few, read.1) refl

@@ -1,0 +1,14 @@
+use Rattle.std.proofs.Common.{arith}
+use Rattle.ftc_vector.proofs.Partitions.{by_partition-from, length-by_partition}
+use Rattle.ftc_message.proofs.CommitLaws.{zero_number}
+use Rattle.ftc_message.proofs.commits_bytes.numbers_in.Goals as goal
+
+pub loop-partition-init : goal.loop-partition-init
+loop-partition-init c = record {
+  size = rw c.zero-vector.ensures (length-by_partition _);
+  below = λ k under. absurd (omega (arith, under));
+  rest = λ k _. rw c.zero-vector.ensures (zero_number k);
+}
+
+pub returns : goal.returns
+returns c = by_partition-from _ c.loop-partition.vector 0 c.loop-partition.invariant.size (λ k within. c.loop-partition.invariant.below k (omega (arith, within)))

@@ -1,0 +1,8 @@
+use Rattle.std.proofs.Common.{◌++◌, arith}
+use Rattle.ftc_message.specs.Spelling.{marks_bytes}
+use Rattle.ftc_message.proofs.Partitions.{marks_all}
+use Rattle.ftc_message.proofs.part_bytes.append_marks.Goals as goal
+
+pub returns : goal.returns
+returns c =
+    marks_all c.args.marks.now c.loop-partition.partition c.loop-partition.out (c.args.out.now ++ marks_bytes c.args.marks.now) (omega (arith, c.marked.ensures.bounds.size, c.loop-partition-test.false)) c.loop-partition.invariant

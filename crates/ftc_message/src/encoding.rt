@@ -1,0 +1,60 @@
+//! The frame of a message.
+
+ghost use Rattle.std.specs.Prelude.{◌≡◌, ◌≤◌, ◌++◌, length, OnOk, IfOk, IfSome};
+ghost use Rattle.ftc_message.specs.Spelling.{kind, packet_bytes, spelling};
+ghost use Rattle.ftc_message.specs.WellFormed.{IsTyped, IsWellFormed};
+
+use crate::bytes::append_word;
+use crate::commits_bytes::append_commits;
+use crate::logs_bytes::append_logs;
+use crate::message::Message;
+use crate::need_bytes::append_needs;
+use ftc_base::limits::MOST_CAPTURED;
+use ftc_base::{Bytes, NoMemory};
+use std::alloc::Global;
+
+/// What a frame begins with.
+pub(crate) const MAGIC: [u8; 4] = *b"FTC3";
+
+/// 0 with a packet, 1 without.
+fn kind(packet: &Option<Bytes>) -> u8
+    ensures { result ≡ kind packet.now }
+{
+    match packet {
+        None => 1,
+        Some(_) => 0,
+    }
+}
+
+/// Adds the packet's length and its bytes.
+fn append_packet(packet: &Option<Bytes>, out: &mut Bytes) -> Result<(), NoMemory>
+    requires { IfSome packet.now (λ packet. length packet ≤ MOST_CAPTURED) }
+    ensures { OnOk result (out.new ≡ out.old ++ packet_bytes packet.now) }
+{
+    match packet {
+        None => append_word(0, out),
+        Some(packet) => {
+            append_word(packet.len() as u32, out)?;
+            out.append(packet.as_slice())
+        }
+    }
+}
+
+/// The frame that spells the message.
+#[tactic(auto, unfolding(crate::specs::Spelling::spelling))]
+pub fn encode(alloc: Global, message: &Message) -> Result<Bytes, NoMemory>
+    requires { IsWellFormed message.now }
+    ensures spelled { IfOk result (λ frame. frame ≡ spelling message.now) }
+    // What the types of the message's fields hold.
+    ensures typed { OnOk result (IsTyped message.now) }
+{
+    let mut out = Bytes::new(alloc);
+    out.append(&MAGIC)?;
+    out.append(&[kind(&message.packet)])?;
+    append_word(message.origin, &mut out)?;
+    append_packet(&message.packet, &mut out)?;
+    append_logs(&message.logs, &mut out)?;
+    append_needs(&message.needs, &mut out)?;
+    append_commits(&message.commits, &mut out)?;
+    Ok(out)
+}

@@ -1,0 +1,47 @@
+//! What holds of messages and their frames.
+
+ghost use Rattle.std.specs.Prelude.{◌≡◌, ◌≤◌, ◌<◌, ◌^◌, ◌++◌, ℕ, true, List, [], length, Option, Ok, Err, slice_index};
+ghost use Rattle.std.specs.List.{AllByRecursion};
+ghost use Rattle.ftc_message.specs.Logged.{Logged, log_follows};
+ghost use Rattle.ftc_message.specs.Numbers.{number_bytes, number_of};
+ghost use Rattle.ftc_message.specs.Bounds.{IsLog, AreNeeds, AreCommits, MarksSome};
+ghost use Rattle.ftc_message.specs.WellFormed.{IsTyped, IsWellFormed};
+ghost use Rattle.ftc_message.specs.Spelling.{spelling, log_bytes, needs_bytes, commits_bytes};
+ghost use Rattle.ftc_message.specs.Reading.{log_at, needs_at, commits_at, message_of};
+
+use crate::fault::FrameFault;
+use crate::message::Message;
+use crate::need::Need;
+
+/// The bytes of a number are those that it was read from, and it is read again from its bytes.
+pub fn numbers()
+    ensures four { (bytes : List ℕ) → length bytes ≡ 4 → ((i : ℕ) → slice_index bytes i < 256) →
+        number_bytes 4 (number_of 4 bytes) ≡ bytes }
+    ensures four_again { (number : ℕ) → number < 2 ^ 32 → number_of 4 (number_bytes 4 number) ≡ number }
+    ensures eight { (bytes : List ℕ) → length bytes ≡ 8 → ((i : ℕ) → slice_index bytes i < 256) →
+        number_bytes 8 (number_of 8 bytes) ≡ bytes }
+    ensures eight_again { (number : ℕ) → number < 2 ^ 64 → number_of 8 (number_bytes 8 number) ≡ number }
+{}
+
+/// Two messages with one spelling are equal, and no spelling is a proper front of another. What spells
+/// a message is read as that message, so it has no fault.
+pub fn one_spelling()
+    ensures same { (one other : Message) → IsTyped one → IsWellFormed one → IsTyped other → IsWellFormed other →
+        spelling one ≡ spelling other → one ≡ other }
+    ensures front { (one other : Message) (rest : List ℕ) → IsTyped one → IsWellFormed one → IsTyped other → IsWellFormed other →
+        spelling one ++ rest ≡ spelling other → rest ≡ [] }
+    ensures read { (message : Message) → IsTyped message → IsWellFormed message → message_of (spelling message) ≡ Ok message }
+    ensures right { (message : Message) (fault : FrameFault) → IsTyped message → IsWellFormed message →
+        message_of (spelling message) ≡ Err fault → ⊥ }
+{}
+
+/// A log, needs and commits are read again from their bytes, whatever stands behind these.
+pub fn read_again()
+    ensures log { (last : Option (ℕ × ℕ)) (log : Logged) (rest : List ℕ) → IsLog log → MarksSome log.before →
+        log_follows last log.origin log.group ≡ true → log_at last (log_bytes log ++ rest) ≡ Ok (log, rest) }
+    ensures needs { (most : ℕ) (needs : List Need) (rest : List ℕ) → AreNeeds needs →
+        AllByRecursion (λ need. MarksSome need.marks) needs → length needs ≤ most →
+        needs_at most 0 (needs_bytes needs ++ rest) ≡ Ok (needs, rest) }
+    ensures commits { (commits : List (List ℕ)) (rest : List ℕ) → AreCommits commits →
+        commits_at (commits_bytes commits ++ rest) ≡ Ok (commits, rest) }
+{}

@@ -1,0 +1,83 @@
+//! The bytes of needs.
+
+ghost use Rattle.std.specs.Prelude.{◌≡◌, ◌≤◌, ◌++◌, true, length, OnOk, IfOk, nat_le};
+ghost use Rattle.ftc_message.specs.Bounds.{AreNeeds};
+ghost use Rattle.ftc_message.specs.Spelling.{need_bytes, needs_bytes};
+ghost use Rattle.ftc_message.specs.Reading.{need_at, needs_at};
+ghost use Rattle.ftc_message.specs.Front.{IsField, IsFront};
+
+use crate::fault::{FieldFault, FrameCause};
+use crate::field::{fault_at, group_at, within_at};
+use crate::need::{Need, Needs};
+use crate::part_bytes::append_marks;
+use crate::parts::marks_at;
+use ftc_base::{Bytes, NoMemory, Refuse};
+use std::alloc::Global;
+
+/// A need of a group that is at least `from`, with numbers that are at least `least`.
+#[tactic(auto, unfolding(crate::specs::Reading::need_at))]
+fn need_at(least: u64, from: u8, bytes: &[u8]) -> Result<(Need, &[u8]), FieldFault>
+    ensures value { IsField result (need_at least from bytes.now) }
+    ensures follows { IfOk result (λ found. nat_le from found.0.group ≡ true) }
+{
+    let (group, rest) = match group_at(bytes) {
+        Ok(found) => found,
+        Err(fault) => return Err(fault),
+    };
+    if group.number() < from {
+        return Err(fault_at(bytes, FrameCause::Order));
+    }
+    match marks_at(least, rest) {
+        Ok((marks, rest)) => Ok((Need { group, marks }, rest)),
+        Err(fault) => Err(fault),
+    }
+}
+
+/// The needs at the front and the bytes behind them: at most so many, with numbers that are at least
+/// `least`.
+#[tactic(auto, unfolding(crate::specs::Reading::needs_at))]
+pub fn needs_at(
+    alloc: Global,
+    most: u8,
+    least: u64,
+    bytes: &[u8],
+) -> Result<(Needs, &[u8]), Refuse<FieldFault>>
+    ensures value { IsFront result (needs_at most least bytes.now) }
+    ensures spelled { IfOk result (λ found. bytes.now ≡ needs_bytes found.0 ++ found.1.now) }
+{
+    let (count, after) = within_at(0, most, bytes)?;
+    let mut rest = after;
+    let mut from = 0;
+    let mut needs = Needs::new(alloc);
+    for _ in 0..count {
+        match need_at(least, from, rest) {
+            Ok((need, behind)) => {
+                from = need.group.number() + 1;
+                needs.push(need)?;
+                rest = behind;
+            }
+            Err(fault) => return Err(Refuse::Bad(fault)),
+        }
+    }
+    Ok((needs, rest))
+}
+
+/// Adds a need's bytes at the end.
+pub fn append_need(need: &Need, out: &mut Bytes) -> Result<(), NoMemory>
+    ensures { OnOk result (out.new ≡ out.old ++ need_bytes need.now) }
+{
+    out.append(&[need.group.number()])?;
+    append_marks(&need.marks, out)
+}
+
+/// Adds the needs' bytes at the end.
+pub fn append_needs(needs: &Needs, out: &mut Bytes) -> Result<(), NoMemory>
+    ensures added { OnOk result (out.new ≡ out.old ++ needs_bytes needs.now) }
+    ensures bounds { AreNeeds needs.now }
+{
+    out.append(&[needs.len() as u8])?;
+    for need in needs.as_slice() {
+        append_need(need, out)?;
+    }
+    Ok(())
+}

@@ -1,0 +1,225 @@
+ghost use Rattle.std.specs.Prelude.{◌≡◌, ℕ, true, Some, IfOk};
+ghost use Rattle.ftc_base.specs.Sets.{has};
+ghost use Rattle.ftc_vector.specs.Vector.{mark_at};
+ghost use Rattle.ftc_message.specs.Bounds.{MarksSome};
+ghost use Rattle.ftc_message.specs.WellFormed.{IsWellFormed};
+
+use crate::{FrameCause, Log, Logs, Message, Need, Needs, decode, encode};
+use ftc_base::{Bytes, Key, NoMemory, PartSet, Refuse, ServerId, Value, Write, Writes};
+use ftc_vector::{Commits, Marks, Vector};
+use std::alloc::Global;
+use std::process::Abort;
+use std::test::*;
+
+/// The frame of the message that `message` makes.
+const FRAME: [u8; 74] = [
+    0x46, 0x54, 0x43, 0x33, 0, 0, 0, 0, 4, 0, 0, 0, 2, 0xaa, 0xbb, // magic to packet
+    0, 0, 0, 1, 0, 0, 0, 0, 4, 1, 3, 1, 0, 0, 0, 0, 0, 0, 0, 7, // the log and its partition
+    1, 3, 0x6d, 0, 2, 1, 8, 0, 0, 0, 0, 0, 0, 0, 8, // the log's write
+    1, 0, 1, 3, 0, 0, 0, 0, 0, 0, 0, 8, // the need
+    1, 2, 1, 1, 0, 0, 0, 0, 0, 0, 0, 5, // the commit
+];
+
+/// The number of partition 3.
+fn marks(number: u64) -> Marks
+    ensures here { mark_at result 3 ≡ Some number }
+    ensures some { MarksSome result }
+{
+    let mut marks = Marks::new();
+    marks.set(3, number);
+    marks
+}
+
+/// Partition 3.
+fn changed() -> PartSet
+    ensures { (partition : ℕ) → has result partition ≡ true → partition ≡ 3 }
+{
+    PartSet::new().with(3)
+}
+
+/// The log that changed partition 3.
+fn log() -> Log
+    ensures { MarksSome result.before }
+{
+    let mut writes = Writes::new();
+    writes.push(Write {
+        key: Key::new(&[0x6d, 0, 2]).unwrap(),
+        value: Value::new(&[0, 0, 0, 0, 0, 0, 0, 8]),
+    });
+    let group = ServerId::new(0).unwrap();
+    Log::new(group, 4, marks(7), changed(), writes)
+}
+
+/// What is known of the tail of group 2.
+fn commits() -> Commits {
+    let mut vector = Vector::zero();
+    vector.set(1, 5);
+    let mut commits = Commits::new();
+    commits.raise(ServerId::new(2).unwrap(), &vector);
+    commits
+}
+
+fn message(alloc: Global) -> Result<Message, NoMemory>
+    ensures { IfOk result IsWellFormed }
+{
+    let mut packet = Bytes::new(alloc);
+    packet.append(&[0xaa, 0xbb])?;
+    let mut logs = Logs::new(alloc);
+    logs.push(log())?;
+    let mut needs = Needs::new(alloc);
+    needs.push(Need {
+        group: ServerId::new(0).unwrap(),
+        marks: marks(8),
+    })?;
+    Ok(Message {
+        origin: 4,
+        packet: Some(packet),
+        logs,
+        needs,
+        commits: commits(),
+    })
+}
+
+/// Where and how bytes are no frame.
+fn fault_of(rt: &impl Abort, alloc: Global, frame: &[u8]) -> Option<(u64, FrameCause)> {
+    match decode(alloc, frame) {
+        Ok(_) => None,
+        Err(Refuse::Bad(fault)) => Some((fault.at, fault.cause)),
+        Err(Refuse::NoMemory) => panic!(rt; "there is memory"),
+    }
+}
+
+#[test]
+fn one_frame_both_ways(rt: HostRuntime) -> Result<(), Fail> {
+    let frame = encode(rt.alloc(), &message(rt.alloc())?)?;
+    assert_eq!(rt; frame.as_slice(), FRAME.as_slice());
+    let read = decode(rt.alloc(), &FRAME).ok().ok_or("a frame")?;
+    assert_eq!(rt; read.origin, 4);
+    assert_eq!(rt;
+        read.packet.ok_or("a packet")?.as_slice(),
+        [0xaa, 0xbb].as_slice()
+    );
+    assert_eq!(rt; read.logs.len(), 1);
+    let log = read.logs.at(0).copy();
+    assert_eq!(rt; (log.group().number(), log.origin()), (0, 4));
+    assert!(rt; log.before() == &marks(7) && log.changed() == changed());
+    assert_eq!(rt;
+        log.writes().as_slice(),
+        [Write {
+            key: Key::new(&[0x6d, 0, 2]).unwrap(),
+            value: Value::new(&[0, 0, 0, 0, 0, 0, 0, 8]),
+        }]
+        .as_slice()
+    );
+    assert_eq!(rt;
+        read.needs.as_slice(),
+        [Need {
+            group: ServerId::new(0).unwrap(),
+            marks: marks(8),
+        }]
+        .as_slice()
+    );
+    assert!(rt; read.commits == commits());
+    Ok(())
+}
+
+#[test]
+fn one_byte_that_is_no_frame(rt: HostRuntime) {
+    let table = [
+        (0, 0x47, FrameCause::Magic),
+        (19, 0x10, FrameCause::Range),
+        (25, 0x40, FrameCause::Range),
+        (26, 0x02, FrameCause::Range),
+        (35, 0x09, FrameCause::Range),
+        (36, 0x00, FrameCause::Range),
+        (40, 0x02, FrameCause::Range),
+    ];
+    for (place, byte, cause) in table {
+        let mut frame = FRAME;
+        frame[place] = byte;
+        assert_eq!(rt;
+            fault_of(&rt, rt.alloc(), &frame),
+            Some((place as u64, cause))
+        );
+    }
+    for (size, at) in [(2, 0), (41, 41), (73, 66)] {
+        assert_eq!(rt;
+            fault_of(&rt, rt.alloc(), &FRAME[..size]),
+            Some((at, FrameCause::Cut))
+        );
+    }
+}
+
+#[test]
+fn other_bytes_that_are_no_frame(rt: HostRuntime) -> Result<(), Fail> {
+    let mut none = [
+        0x46, 0x54, 0x43, 0x33, 1, 0, 0, 0, 4, 0, 0, 0, 0, 0xff, 0xff, 0xff, 0xff,
+    ];
+    assert_eq!(rt;
+        fault_of(&rt, rt.alloc(), &none),
+        Some((17, FrameCause::Cut))
+    );
+    none[4] = 2;
+    assert_eq!(rt;
+        fault_of(&rt, rt.alloc(), &none),
+        Some((4, FrameCause::Range))
+    );
+    none[4] = 1;
+    none[12] = 1;
+    assert_eq!(rt;
+        fault_of(&rt, rt.alloc(), &none),
+        Some((9, FrameCause::Range))
+    );
+    let mut zero = FRAME;
+    zero[73] = 0;
+    assert_eq!(rt;
+        fault_of(&rt, rt.alloc(), &zero),
+        Some((66, FrameCause::Range))
+    );
+    let mut repeated = Bytes::new(rt.alloc());
+    repeated.append(&FRAME[..24])?;
+    repeated.append(&[2])?;
+    repeated.append(&FRAME[25..35])?;
+    repeated.append(&FRAME[25..])?;
+    assert_eq!(rt;
+        fault_of(&rt, rt.alloc(), repeated.as_slice()),
+        Some((35, FrameCause::Order))
+    );
+    let mut longer = Bytes::new(rt.alloc());
+    longer.append(&FRAME)?;
+    longer.append(&[0])?;
+    assert_eq!(rt;
+        fault_of(&rt, rt.alloc(), longer.as_slice()),
+        Some((74, FrameCause::Trailing))
+    );
+    Ok(())
+}
+
+/// Whether bytes are refused, or are the frame of the message that they are read as.
+fn is_refused_or_kept(alloc: Global, frame: &[u8]) -> Result<bool, NoMemory> {
+    match decode(alloc, frame) {
+        Ok(message) => Ok(encode(alloc, &message)?.as_slice() == frame),
+        Err(Refuse::Bad(_)) => Ok(true),
+        Err(Refuse::NoMemory) => Err(NoMemory),
+    }
+}
+
+#[test]
+fn more_than_a_thousand_changed_frames(rt: HostRuntime) -> Result<(), Fail> {
+    let bytes = [0, 1, 2, 3, 4, 7, 8, 9, 16, 17, 63, 64, 128, 255];
+    for place in 0..FRAME.len() {
+        for byte in bytes {
+            let mut frame = FRAME;
+            frame[place] = byte;
+            assert!(rt;
+                is_refused_or_kept(rt.alloc(), &frame)?,
+                "byte {place} is {byte}"
+            );
+        }
+        assert!(rt;
+            is_refused_or_kept(rt.alloc(), &FRAME[..place])?,
+            "{place} bytes"
+        );
+    }
+    Ok(())
+}

@@ -1,0 +1,6 @@
+-- the logs so far are copied
+use Rattle.std.proofs.Common.{◌≡◌, take}
+use Rattle.ftc_replica.proofs.kept.Kept.copy.Given as goal
+
+abbrev pub invariant-loop-log : goal.invariant-loop-log
+invariant-loop-log l = l.logs.items ≡ take l.log-index l.log-items

@@ -1,0 +1,15 @@
+//! The replica that a member of a group has: the store of the group's middlebox, the vector of the
+//! changes in it, and the logs that others may still lack.
+#![tactic(auto)]
+
+mod coverage;
+mod kept;
+mod laws;
+mod replica;
+
+pub use kept::Kept;
+pub use laws::covering;
+pub use replica::Replica;
+
+#[cfg(test)]
+mod tests;

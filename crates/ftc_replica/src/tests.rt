@@ -1,0 +1,114 @@
+ghost use Rattle.std.specs.Prelude.{◌≡◌, ◌<◌, ℕ, true, IsSome};
+ghost use Rattle.ftc_base.specs.Sets.{has};
+ghost use Rattle.ftc_vector.specs.Vector.{mark_at};
+
+use crate::Replica;
+use ftc_base::limits::MOST_PARTITIONS;
+use ftc_base::{Key, NoMemory, PartSet, ServerId, Value, Write, Writes};
+use ftc_message::Log;
+use ftc_vector::{Marks, Vector};
+use std::test::Fail;
+
+/// The number of one partition.
+fn marks(partition: u8, number: u64) -> Marks
+    requires { partition < MOST_PARTITIONS }
+    ensures { IsSome (mark_at result partition) }
+{
+    let mut marks = Marks::new();
+    marks.set(partition, number);
+    marks
+}
+
+/// The set of one partition.
+fn only(partition: u8) -> PartSet
+    requires { partition < MOST_PARTITIONS }
+    ensures { (p : ℕ) → has result p ≡ true → p ≡ partition }
+{
+    PartSet::new().with(partition)
+}
+
+/// The log of a packet that changed one partition, which had that number before. It puts the packet's
+/// number at a key.
+fn log(origin: u8, partition: u8, number: u64) -> Log
+    requires { partition < MOST_PARTITIONS }
+    ensures { (p : ℕ) → has result.changed p ≡ true → p ≡ partition }
+{
+    let mut writes = Writes::new();
+    writes.push(Write {
+        key: Key::new(&[partition]).unwrap(),
+        value: Value::new(&[origin]),
+    });
+    let group = ServerId::new(0).unwrap();
+    Log::new(
+        group,
+        u32::from(origin),
+        marks(partition, number),
+        only(partition),
+        writes,
+    )
+}
+
+/// Applies a log that changes one partition, where it is ready.
+fn apply(replica: &mut Replica, partition: u8, log: &Log) -> Result<bool, NoMemory>
+    requires within { partition < MOST_PARTITIONS }
+    requires only { (p : ℕ) → has log.now.changed p ≡ true → p ≡ partition }
+{
+    if !replica.ready(log) || replica.vector().at(partition) == u64::MAX {
+        return Ok(false);
+    }
+    replica.apply(log)?;
+    Ok(true)
+}
+
+#[test]
+fn logs_out_of_order(rt: HostRuntime) -> Result<(), Fail> {
+    let mut replica = Replica::new(rt.alloc(), 4);
+    let (x, y, z) = (log(5, 1, 0), log(6, 1, 1), log(7, 2, 0));
+    assert!(rt; replica.ready(&z) && !replica.ready(&y) && !replica.has(&x));
+    assert!(rt; apply(&mut replica, 2, &z)?);
+    assert!(rt; !apply(&mut replica, 1, &y)?);
+    assert!(rt; apply(&mut replica, 1, &x)?);
+    assert!(rt; replica.has(&x) && !replica.has(&y));
+    assert!(rt; apply(&mut replica, 1, &y)?);
+    let vector = replica.vector();
+    assert_eq!(rt;
+        [vector.at(0), vector.at(1), vector.at(2), vector.at(3)],
+        [0, 2, 1, 0]
+    );
+    assert!(rt; replica.has(&x) && replica.has(&y) && replica.has(&z));
+    let key = Key::new(&[1]).ok_or("a key")?;
+    assert_eq!(rt; replica.store().get(&key), Value::new(&[6]));
+    let missing = replica.kept().missing_after(rt.alloc(), &Vector::zero())?;
+    assert_eq!(rt; missing.len(), 3);
+    for (place, origin) in [(0, 7), (1, 5), (2, 6)] {
+        assert_eq!(rt; missing.as_slice()[place].origin(), origin);
+    }
+    Ok(())
+}
+
+#[test]
+fn what_the_tail_has_is_dropped(rt: HostRuntime) -> Result<(), Fail> {
+    let mut replica = Replica::new(rt.alloc(), 4);
+    for (origin, partition, number) in [(7, 2, 0), (5, 1, 0), (6, 1, 1)] {
+        assert!(rt; apply(&mut replica, partition, &log(origin, partition, number))?);
+    }
+    let mut commit = Vector::zero();
+    commit.set(1, 1);
+    replica.prune(&commit);
+    let copy = replica.kept().copy(rt.alloc())?;
+    assert_eq!(rt; copy.len(), 2);
+    assert_eq!(rt; (copy.at(0).origin(), copy.at(1).origin()), (7, 6));
+    let (store, vector, mut kept) = replica.split();
+    kept.reserve(1)?;
+    kept.add(log(8, 3, 0))?;
+    let again = Replica::of(store, vector, kept);
+    assert_eq!(rt;
+        again
+            .kept()
+            .missing_after(rt.alloc(), again.vector())?
+            .len(),
+        1
+    );
+    assert_eq!(rt; again.vector().at(1), 2);
+    Ok(())
+}
