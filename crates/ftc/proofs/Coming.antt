@@ -5,7 +5,7 @@ use Rattle.std.proofs.lemmas.Bool.{eqb-true, le-leb, lt-leb}
 use Rattle.std.proofs.lemmas.Option.{slice_get-get_or}
 use Rattle.ftc_base.specs.declared.refusal.Refuse.{Refuse}
 use Rattle.ftc_base.specs.declared.refusal.Refuse.TheVariants.{Bad}
-use Rattle.ftc_serial.specs.Refused.{IfBad}
+use Rattle.ftc_base.specs.Refused.{IfBad}
 use Rattle.ftc_mbox.specs.declared.rule.Rule.{Rule}
 use Rattle.ftc_mbox.specs.declared.rule.Rule.TheVariants as rule
 use Rattle.ftc_serial.specs.declared.position.Position.{Position}
@@ -117,8 +117,8 @@ visit_refused rules old new server packet known come same is =
     subst (λ (s : State). StoodStill (length rules) server packet old s) (sym same) (record { come = by.come; visited = by.visited; before = λ _ _. refl; others = λ _ _. refl })
 
 -- what a refusal tells
-pub if_bad : {A F P : Type 0} (r : Result A (Refuse F)) (refusal : Refuse F) (fault : F) → r ≡ Err refusal → refusal ≡ Bad fault → IfBad r P → P
-if_bad {P = P} r refusal fault err bad told = subst (λ r. IfBad r P) (err ∙ ap Err bad) told
+pub if_bad : {A F P : Type 0} (r : Result A (Refuse F)) (refusal : Refuse F) (fault : F) → r ≡ Err refusal → refusal ≡ Bad fault → IfBad r (λ _. P) → P
+if_bad {P = P} r refusal fault err bad told = subst (λ r. IfBad r (λ _. P)) (err ∙ ap Err bad) told
 
 -- the number of an id
 pub if_some : {A : Type 0} (o : Option A) (value told : A) → o ≡ Some value → IfSome o (λ x. x ≡ told) → value ≡ told

@@ -1,5 +1,6 @@
--- The address or the net that a word spells.
-use Rattle.std.specs.Prelude.{◌≡◌, ◌≤◌, ◌+◌, ◌*◌, ◌-◌, ◌/◌, ◌^◌, ◌==◌, ℕ, Bool, List, [], ◌∷◌, Option, Some, None, Result, Ok, Err, if◌then◌else◌, codes}
+-- The address or the net that a word spells, and the bytes of an address with a port.
+use Rattle.std.specs.Prelude.{◌≡◌, ◌≤◌, ◌+◌, ◌*◌, ◌-◌, ◌/◌, ◌^◌, ◌==◌, ℕ, Bool, List, [], ◌∷◌, ◌++◌, Option, Some, None, Result, Ok, Err, if◌then◌else◌, codes}
+use Rattle.std.specs.Int.{w16, w32, to_be_bytes}
 use Rattle.std.specs.List.{slice_split}
 use Rattle.std.specs.Str.{bytes_eq}
 use Rattle.ftc_base.specs.Number.{number_of}
@@ -51,3 +52,7 @@ pub record IsNet (net : Net) : Type 0 where
 -- an address is in a net where it has the net's bits up to the length
 abbrev pub contains : Net → ℕ → Bool
 contains net address = address / 2 ^ (32 - net.length) == net.base / 2 ^ (32 - net.length)
+
+-- an address and a port as 48 bits, the high bytes first
+abbrev pub endpoint : ℕ → ℕ → List ℕ
+endpoint address port = to_be_bytes w32 address ++ to_be_bytes w16 port

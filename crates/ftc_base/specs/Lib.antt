@@ -5,3 +5,4 @@ pub mod Text
 pub mod Number
 pub mod Endpoint
 pub mod Ask
+pub mod Refused

@@ -61,14 +61,6 @@ impl<T> Items<T> {
         self.held.is_empty()
     }
 
-    /// Makes room for so many more items.
-    pub fn reserve(&mut self, count: usize) -> Result<(), NoMemory>
-        ensures { self.new ≡ self.old }
-    {
-        self.held.reserve(count)?;
-        Ok(())
-    }
-
     /// Adds an item at the end.
     pub fn push(&mut self, item: T) -> Result<(), NoMemory>
     where

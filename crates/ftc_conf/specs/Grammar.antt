@@ -1,11 +1,9 @@
 -- Which chain a text spells, or the first fault of a text that spells none.
-use Rattle.std.specs.Prelude.{ℕ, ◌≡◌, ◌+◌, ⊤, Bool, true, false, not, ◌||◌, ◌==◌, nat_le, nat_lt, List, [], ◌∷◌, length, Option, Some, None, Result, Ok, Err, if◌then◌else◌, codes}
+use Rattle.std.specs.Prelude.{ℕ, ◌+◌, Bool, true, false, not, ◌||◌, ◌==◌, nat_le, nat_lt, List, [], ◌∷◌, length, Option, Some, None, Result, Ok, Err, if◌then◌else◌, codes}
 use Rattle.std.specs.List.{list_all}
 use Rattle.std.specs.Str.{bytes_eq}
 use Rattle.ftc_base.specs.Text.{words_of, lines_of}
 use Rattle.ftc_base.specs.declared.limits.TheConstants.{MOST_SERVERS, MOST_FIREWALL_LINES}
-use Rattle.ftc_base.specs.declared.refusal.Refuse.{Refuse}
-use Rattle.ftc_base.specs.declared.refusal.Refuse.TheVariants.{Bad, NoMemory}
 use Rattle.ftc_firewall.specs.declared.rule.FirewallRule.{FirewallRule}
 use Rattle.ftc_mbox.specs.Chain.{Chain}
 use Rattle.ftc_mbox.specs.declared.rule.Rule.TheVariants as rule
@@ -22,18 +20,6 @@ use Rattle.ftc_conf.specs.declared.draft.Draft.{Draft}
 use Rattle.ftc_conf.specs.Words.{◌>>=◌, ◌>>◌, unless, is_text_byte, is_comment}
 use Rattle.ftc_conf.specs.Forms.{no_words, failures_of, partitions_of, monitor_of, nat_of, fire_line_of, balance_of}
 use Rattle.ftc_conf.specs.Draft.{no_lines, servers, with_statement}
-
--- a call answers what the grammar says, unless memory was refused
-abbrev pub IsReading : {A F : Type 0} → Result A (Refuse F) → Result A F → Type 0
-IsReading (Ok value) told = told ≡ Ok value
-IsReading (Err (Bad fault)) told = told ≡ Err fault
-IsReading (Err NoMemory) told = ⊤
-
--- what holds of the fault, where a call was refused for one
-abbrev pub IfBad : {A F : Type 0} → Result A (Refuse F) → (F → Type 0) → Type 0
-IfBad (Ok value) P = ⊤
-IfBad (Err (Bad fault)) P = P fault
-IfBad (Err NoMemory) P = ⊤
 
 -- `allow` and `deny` are known only where a firewall stands directly before
 abbrev pub fire_line_form : Option FirewallRule → Bool → Result Form ChainCause

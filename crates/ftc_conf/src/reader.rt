@@ -1,8 +1,9 @@
 //! The chain of a text.
 
 ghost use Rattle.std.specs.Prelude.{◌≡◌, Ok, Err, IfOk};
+ghost use Rattle.ftc_base.specs.Refused.{IsReading, IfBad};
 ghost use Rattle.ftc_conf.specs.Draft.{IsDraft};
-ghost use Rattle.ftc_conf.specs.Grammar.{IsReading, IfBad, line_step, placed, chain_of};
+ghost use Rattle.ftc_conf.specs.Grammar.{line_step, placed, chain_of};
 
 use crate::adding::{add, no_lines};
 use crate::draft::Draft;

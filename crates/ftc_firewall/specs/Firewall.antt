@@ -1,18 +1,13 @@
 -- The rule of a firewall.
 use Rattle.std.specs.Prelude.{ℕ, Bool, ◌==◌, ◌&&◌, ◌||◌, nat_le, nat_lt, List, [], ◌∷◌, ◌++◌, Option, Some, None, if◌then◌else◌, codes, true, false}
-use Rattle.std.specs.Int.{w16, w32, to_be_bytes}
 use Rattle.ftc_base.specs.declared.ask.Answer.{Answer}
 use Rattle.ftc_base.specs.declared.ask.Ask.{Ask}
 use Rattle.ftc_base.specs.declared.ask.Ask.TheVariants.{Read}
 use Rattle.ftc_base.specs.Ask.{forward, filter_out, put}
-use Rattle.ftc_base.specs.Endpoint.{contains}
+use Rattle.ftc_base.specs.Endpoint.{contains, endpoint}
 use Rattle.ftc_packet.specs.declared.flow.Flow.{Flow}
 use Rattle.ftc_firewall.specs.declared.rule.FireLine.{FireLine}
 use Rattle.ftc_firewall.specs.declared.rule.FirewallRule.{FirewallRule}
-
--- An address and a port, in 48 bits.
-abbrev pub endpoint : ℕ → ℕ → List ℕ
-endpoint address port = to_be_bytes w32 address ++ to_be_bytes w16 port
 
 -- The source is the smaller end, by address and then port.
 abbrev pub source_is_smaller : Flow → Bool

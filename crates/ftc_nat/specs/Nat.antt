@@ -6,13 +6,9 @@ use Rattle.ftc_base.specs.declared.ask.Ask.{Ask}
 use Rattle.ftc_base.specs.declared.ask.Ask.TheVariants.{Read}
 use Rattle.ftc_base.specs.declared.ask.Change.TheVariants.{Source, Destination}
 use Rattle.ftc_base.specs.Ask.{number_in, forward, forward_changed, filter_out, put}
-use Rattle.ftc_base.specs.Endpoint.{contains}
+use Rattle.ftc_base.specs.Endpoint.{contains, endpoint}
 use Rattle.ftc_packet.specs.declared.flow.Flow.{Flow}
 use Rattle.ftc_nat.specs.declared.rule.NatRule.{NatRule}
-
--- An address and a port, in 48 bits.
-abbrev pub endpoint : ℕ → ℕ → List ℕ
-endpoint address port = to_be_bytes w32 address ++ to_be_bytes w16 port
 
 -- `f`, a protocol and an inside endpoint: the key at which the endpoint's outside port stands, in 16 bits.
 abbrev pub outside_port_key : ℕ → ℕ → ℕ → List ℕ

@@ -1,7 +1,8 @@
 //! The keys and values of a translator's store.
 
 ghost use Rattle.std.specs.Prelude.{◌≡◌, ◌≤◌, length};
-ghost use Rattle.ftc_nat.specs.Nat.{outside_port_key, next_port_key, inside_key, endpoint};
+ghost use Rattle.ftc_base.specs.Endpoint.{endpoint};
+ghost use Rattle.ftc_nat.specs.Nat.{outside_port_key, next_port_key, inside_key};
 
 use ftc_base::{Key, Value};
 

@@ -7,5 +7,4 @@ pub mod Held
 pub mod Packets
 pub mod Contents
 pub mod Waiting
-pub mod Refused
 pub mod Drive

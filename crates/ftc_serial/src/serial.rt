@@ -1,7 +1,7 @@
 //! The serial chain.
 
 ghost use Rattle.std.specs.Prelude.{◌≡◌, ◌<◌, ◌≤◌, ◌↔◌, length, OnOk, OnErr, IfOk, Some, None, IsSome, option_map};
-ghost use Rattle.ftc_serial.specs.Refused.{IfBad};
+ghost use Rattle.ftc_base.specs.Refused.{IfBad};
 
 use crate::advance::{has_passed, released_bytes, visited, waits};
 use crate::opening::{empty_stores, first_positions};
@@ -67,7 +67,7 @@ impl Serial {
     /// doesn't wait for it. A refused call leaves the chain as it was.
     pub fn visit(&mut self, server: ServerId, packet: PacketNo) -> Result<(), Refuse<NotWaiting>>
         ensures made { OnOk result (serial_step (rules_of self.old) (state_of self.old) (step.Visit server packet) ≡ Some (state_of self.new)) }
-        ensures refused { IfBad result (serial_step (rules_of self.old) (state_of self.old) (step.Visit server packet) ≡ None) }
+        ensures refused { IfBad result (λ _. serial_step (rules_of self.old) (state_of self.old) (step.Visit server packet) ≡ None) }
         ensures err { OnErr result (state_of self.new ≡ state_of self.old) }
         ensures rules { rules_of self.new ≡ rules_of self.old }
     {
@@ -94,7 +94,7 @@ impl Serial {
     /// hasn't. A refused call leaves the chain as it was.
     pub fn release(&mut self, packet: PacketNo) -> Result<(), Refuse<NotWaiting>>
         ensures made { OnOk result (serial_step (rules_of self.old) (state_of self.old) (step.Release packet) ≡ Some (state_of self.new)) }
-        ensures refused { IfBad result (serial_step (rules_of self.old) (state_of self.old) (step.Release packet) ≡ None) }
+        ensures refused { IfBad result (λ _. serial_step (rules_of self.old) (state_of self.old) (step.Release packet) ≡ None) }
         ensures err { OnErr result (state_of self.new ≡ state_of self.old) }
         ensures rules { rules_of self.new ≡ rules_of self.old }
     {

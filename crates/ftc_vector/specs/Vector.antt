@@ -1,5 +1,5 @@
 -- What each partition has: a number in a vector, a number or none in marks.
-use Rattle.std.specs.Prelude.{ℕ, ◌+◌, max, Bool, List, map, Option, Some, None, slice_index, slice_index_or, if◌then◌else◌}
+use Rattle.std.specs.Prelude.{◌≡◌, ◌<◌, ◌^◌, length, ℕ, ◌+◌, max, Bool, List, map, Option, Some, None, slice_index, slice_index_or, if◌then◌else◌}
 use Rattle.std.specs.List.{range_with_len}
 use Rattle.ftc_base.specs.Sets.{has}
 use Rattle.ftc_base.specs.declared.limits.TheConstants.{MOST_PARTITIONS}
@@ -15,6 +15,16 @@ number_at vector partition = slice_index vector partition
 -- the number that marks give a partition, where they give it one
 abbrev pub mark_at : List (Option ℕ) → ℕ → Option ℕ
 mark_at marks partition = slice_index_or marks partition None
+
+-- a number of 64 bits for each partition
+pub record IsVector (vector : List ℕ) : Type 0 where
+  pub size : length vector ≡ MOST_PARTITIONS
+  pub bounds : (partition : ℕ) → number_at vector partition < 2 ^ 64
+
+-- a number of 64 bits, or none, for each partition
+pub record AreMarks (marks : List (Option ℕ)) : Type 0 where
+  pub size : length marks ≡ MOST_PARTITIONS
+  pub bounds : (partition number : ℕ) → mark_at marks partition ≡ Some number → number < 2 ^ 64
 
 -- the greater number in each partition
 abbrev pub merged : List ℕ → List ℕ → List ℕ

@@ -1,6 +1,6 @@
 //! What the tails of the groups are known to have.
 
-ghost use Rattle.std.specs.Prelude.{◌≡◌};
+ghost use Rattle.std.specs.Prelude.{◌≡◌, length};
 ghost use Rattle.ftc_vector.specs.Vector.{by_partition};
 ghost use Rattle.ftc_vector.specs.Commits.{by_group, vector_of, all_merged, group_raised};
 
@@ -44,7 +44,8 @@ impl Commits {
 
     /// The vector of a group.
     pub fn of(&self, group: ServerId) -> &Vector
-        ensures { result.now ≡ vector_of self.now group }
+        ensures same { result.now ≡ vector_of self.now group }
+        ensures size { length self.now ≡ MOST_SERVERS }
     {
         &self.vectors[usize::from(group.number())]
     }

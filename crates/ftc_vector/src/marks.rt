@@ -2,7 +2,7 @@
 
 ghost use Rattle.std.specs.Prelude.{◌≡◌, ◌<◌, ℕ, true, slice_set, Some, None};
 ghost use Rattle.ftc_base.specs.Sets.{has};
-ghost use Rattle.ftc_vector.specs.Vector.{by_partition, mark_at, need_at, need_of as need_of_marks};
+ghost use Rattle.ftc_vector.specs.Vector.{by_partition, mark_at, need_at, need_of as need_of_marks, AreMarks};
 
 use crate::vector::PARTITIONS;
 use ftc_base::PartSet;
@@ -17,14 +17,14 @@ pub struct Marks {
 }
 
 impl Model for Marks {
-    ghost use Rattle.std.specs.Prelude.{◌≡◌, ℕ, List, Option, length};
-    ghost use Rattle.ftc_base.specs.declared.limits.TheConstants.{MOST_PARTITIONS};
+    ghost use Rattle.std.specs.Prelude.{ℕ, List, Option};
+    ghost use Rattle.ftc_vector.specs.Vector.{AreMarks};
 
     ghost Value = { List (Option ℕ) };
 
     ghost view = { λ marks. marks.numbers };
 
-    ghost invariant = { λ marks. length marks.numbers ≡ MOST_PARTITIONS };
+    ghost invariant = { λ marks. AreMarks marks.numbers };
 
     ghost inverse = { λ numbers. record { numbers = numbers } };
 }
@@ -50,7 +50,8 @@ impl Marks {
     /// The number of a partition, where it has one.
     pub fn at(&self, partition: u8) -> Option<u64>
         requires { partition < MOST_PARTITIONS }
-        ensures { result ≡ mark_at self.now partition }
+        ensures same { result ≡ mark_at self.now partition }
+        ensures bounds { AreMarks self.now }
     {
         self.numbers[usize::from(partition)]
     }

@@ -2,7 +2,7 @@
 
 ghost use Rattle.std.specs.Prelude.{◌≡◌, ◌<◌, ℕ, true, slice_set};
 ghost use Rattle.ftc_base.specs.Sets.{has};
-ghost use Rattle.ftc_vector.specs.Vector.{by_partition, number_at, merged, raised};
+ghost use Rattle.ftc_vector.specs.Vector.{by_partition, number_at, merged, raised, IsVector};
 
 use ftc_base::PartSet;
 use ftc_base::limits::MOST_PARTITIONS;
@@ -51,7 +51,8 @@ impl Vector {
     /// The number of a partition.
     pub fn at(&self, partition: u8) -> u64
         requires { partition < MOST_PARTITIONS }
-        ensures { result ≡ number_at self.now partition }
+        ensures same { result ≡ number_at self.now partition }
+        ensures bounds { IsVector self.now }
     {
         self.numbers[usize::from(partition)]
     }

@@ -1,0 +1,225 @@
+-- Reading from left to right, with the first fault that is met.
+use Rattle.std.specs.Prelude.{ℕ, zero, suc, ◌+◌, ◌-◌, ◌^◌, Bool, true, false, ◌==◌, nat_lt, nat_le, List, [], ◌∷◌, ◌++◌, length, map, slice_set, bit_or, Option, Some, None, unwrap_or, Result, Ok, Err, if◌then◌else◌}
+use Rattle.std.specs.Str.{bytes_eq}
+use Rattle.ftc_base.specs.declared.limits.TheConstants.{MOST_SERVERS, MOST_PARTITIONS, MOST_KEY_BYTES, MOST_VALUE_BYTES, MOST_WRITES, MOST_CAPTURED}
+use Rattle.ftc_base.specs.declared.ask.Write.{Write}
+use Rattle.ftc_vector.specs.Vector.{by_partition}
+use Rattle.ftc_vector.specs.Commits.{by_group, group_raised}
+use Rattle.ftc_message.specs.declared.fault.FrameCause.TheVariants.{Magic, Range, Order, Trailing}
+use Rattle.ftc_message.specs.declared.fault.FieldFault.{FieldFault}
+use Rattle.ftc_message.specs.declared.fault.FrameFault.{FrameFault}
+use Rattle.ftc_message.specs.declared.need.Need.{Need}
+use Rattle.ftc_message.specs.declared.message.Message.{Message}
+use Rattle.ftc_message.specs.Logged.{Logged, key_follows, log_follows}
+use Rattle.ftc_message.specs.Spelling.{magic}
+use Rattle.ftc_message.specs.Fields.{◌>>=◌, ◌>>◌, fault_at, unless, byte_at, within_at, taken_at, number_at, group_at}
+
+-- ---- partitions
+
+-- no partition has a number
+abbrev pub no_marks : List (Option ℕ)
+no_marks = by_partition (λ _. None)
+
+-- a partition, which is at least `from`
+unfoldable pub partition_at : ℕ → List ℕ → Result (ℕ × List ℕ) FieldFault
+partition_at from bytes = do
+  partition ← within_at 0 (MOST_PARTITIONS - 1) bytes
+  unless (nat_le from partition.0) bytes Order
+  Ok partition
+
+-- a number of 8 bytes, which is at least `least`
+unfoldable pub least_at : ℕ → List ℕ → Result (ℕ × List ℕ) FieldFault
+least_at least bytes = do
+  number ← number_at 8 bytes
+  unless (nat_le least number.0) bytes Range
+  Ok number
+
+-- so many partitions with their numbers, behind the marks so far
+unfoldable pub marks_on : ℕ → ℕ → ℕ → List (Option ℕ) → List ℕ → Result (List (Option ℕ) × List ℕ) FieldFault
+marks_on zero least from marks bytes = Ok (marks, bytes)
+marks_on (suc count) least from marks bytes = do
+  partition ← partition_at from bytes
+  number ← least_at least partition.1
+  marks_on count least (partition.0 + 1) (slice_set marks partition.0 (Some number.0)) number.1
+
+unfoldable pub marks_at : ℕ → List ℕ → Result (List (Option ℕ) × List ℕ) FieldFault
+marks_at least bytes = do
+  count ← within_at 1 MOST_PARTITIONS bytes
+  marks_on count.0 least 0 no_marks count.1
+
+-- the partitions of a log: the numbers that they had before, and which are changed
+pub record Parts : Type 0 where
+  pub before : List (Option ℕ)
+  pub changed : ℕ
+
+-- with that partition among the changed, where the flag is 1
+abbrev pub changed_by : ℕ → ℕ → ℕ → ℕ
+changed_by flag partition changed = if flag == 1 then bit_or changed (2 ^ partition) else changed
+
+-- so many partitions with their flags and numbers, behind the parts so far
+unfoldable pub parts_on : ℕ → ℕ → Parts → List ℕ → Result (Parts × List ℕ) FieldFault
+parts_on zero from parts bytes = Ok (parts, bytes)
+parts_on (suc count) from parts bytes = do
+  partition ← partition_at from bytes
+  flag ← within_at 0 1 partition.1
+  number ← number_at 8 flag.1
+  parts_on count (partition.0 + 1)
+      (record { before = slice_set parts.before partition.0 (Some number.0); changed = changed_by flag.0 partition.0 parts.changed }) number.1
+
+unfoldable pub parts_at : List ℕ → Result (Parts × List ℕ) FieldFault
+parts_at bytes = do
+  count ← within_at 1 MOST_PARTITIONS bytes
+  parts_on count.0 0 (record { before = no_marks; changed = 0 }) count.1
+
+-- ---- logs
+
+-- the value of a put
+unfoldable pub put_at : List ℕ → Result (Option (List ℕ) × List ℕ) FieldFault
+put_at bytes = do
+  size ← within_at 0 MOST_VALUE_BYTES bytes
+  value ← taken_at size.0 size.1
+  Ok (Some value.0, value.1)
+
+unfoldable pub value_at : List ℕ → Result (Option (List ℕ) × List ℕ) FieldFault
+value_at bytes = do
+  tag ← within_at 0 1 bytes
+  if tag.0 == 0 then Ok (None, tag.1) else put_at tag.1
+
+-- a key, which is greater than the last one
+unfoldable pub key_at : Option (List ℕ) → List ℕ → Result (List ℕ × List ℕ) FieldFault
+key_at last bytes = do
+  size ← within_at 1 MOST_KEY_BYTES bytes
+  key ← taken_at size.0 size.1
+  unless (key_follows last key.0) size.1 Order
+  Ok key
+
+unfoldable pub write_at : Option (List ℕ) → List ℕ → Result (Write × List ℕ) FieldFault
+write_at last bytes = do
+  key ← key_at last bytes
+  value ← value_at key.1
+  Ok (record { key = key.0; value = value.0 }, value.1)
+
+-- so many writes, behind the writes so far
+unfoldable pub writes_on : ℕ → Option (List ℕ) → List Write → List ℕ → Result (List Write × List ℕ) FieldFault
+writes_on zero last writes bytes = Ok (writes, bytes)
+writes_on (suc count) last writes bytes = do
+  write ← write_at last bytes
+  writes_on count (Some write.0.key) (writes ++ write.0 ∷ []) write.1
+
+unfoldable pub writes_at : List ℕ → Result (List Write × List ℕ) FieldFault
+writes_at bytes = do
+  count ← within_at 0 MOST_WRITES bytes
+  writes_on count.0 None [] count.1
+
+-- the origin and the group of a log, which is greater than the last one
+unfoldable pub head_at : Option (ℕ × ℕ) → List ℕ → Result ((ℕ × ℕ) × List ℕ) FieldFault
+head_at last bytes = do
+  group ← group_at bytes
+  origin ← number_at 4 group.1
+  unless (log_follows last origin.0 group.0) bytes Order
+  Ok ((origin.0, group.0), origin.1)
+
+unfoldable pub log_at : Option (ℕ × ℕ) → List ℕ → Result (Logged × List ℕ) FieldFault
+log_at last bytes = do
+  head ← head_at last bytes
+  parts ← parts_at head.1
+  writes ← writes_at parts.1
+  Ok (record { group = head.0.1; origin = head.0.0; before = parts.0.before; changed = parts.0.changed; writes = writes.0 }, writes.1)
+
+-- so many logs, behind the logs so far
+unfoldable pub logs_on : ℕ → Option (ℕ × ℕ) → List Logged → List ℕ → Result (List Logged × List ℕ) FieldFault
+logs_on zero last logs bytes = Ok (logs, bytes)
+logs_on (suc count) last logs bytes = do
+  log ← log_at last bytes
+  logs_on count (Some (log.0.origin, log.0.group)) (logs ++ log.0 ∷ []) log.1
+
+unfoldable pub logs_at : List ℕ → Result (List Logged × List ℕ) FieldFault
+logs_at bytes = do
+  count ← number_at 4 bytes
+  logs_on count.0 None [] count.1
+
+-- ---- needs and commits
+
+-- a need of a group that is at least `from`
+unfoldable pub need_at : ℕ → ℕ → List ℕ → Result (Need × List ℕ) FieldFault
+need_at least from bytes = do
+  group ← group_at bytes
+  unless (nat_le from group.0) bytes Order
+  marks ← marks_at least group.1
+  Ok (record { group = group.0; marks = marks.0 }, marks.1)
+
+-- so many needs, behind the needs so far
+unfoldable pub needs_on : ℕ → ℕ → ℕ → List Need → List ℕ → Result (List Need × List ℕ) FieldFault
+needs_on zero least from needs bytes = Ok (needs, bytes)
+needs_on (suc count) least from needs bytes = do
+  need ← need_at least from bytes
+  needs_on count least (need.0.group + 1) (needs ++ need.0 ∷ []) need.1
+
+-- at most so many needs, with numbers that are at least `least`
+unfoldable pub needs_at : ℕ → ℕ → List ℕ → Result (List Need × List ℕ) FieldFault
+needs_at most least bytes = do
+  count ← within_at 0 most bytes
+  needs_on count.0 least 0 [] count.1
+
+-- nothing is known of any group
+abbrev pub no_commits : List (List ℕ)
+no_commits = by_group (λ _. by_partition (λ _. 0))
+
+-- the marked numbers, and 0 elsewhere
+abbrev pub numbers_in : List (Option ℕ) → List ℕ
+numbers_in marks = map (λ mark. unwrap_or mark 0) marks
+
+-- what these entries say is known besides
+abbrev pub with_known : List Need → List (List ℕ) → List (List ℕ)
+with_known [] commits = commits
+with_known (known ∷ rest) commits = with_known rest (group_raised commits known.group (numbers_in known.marks))
+
+-- commits are written as needs whose numbers are at least 1
+unfoldable pub commits_at : List ℕ → Result (List (List ℕ) × List ℕ) FieldFault
+commits_at bytes = do
+  known ← needs_at MOST_SERVERS 1 bytes
+  Ok (with_known known.0 no_commits, known.1)
+
+-- ---- a message
+
+-- the bytes behind the magic
+unfoldable pub magic_at : List ℕ → Result (List ℕ) FieldFault
+magic_at bytes = do
+  front ← taken_at 4 bytes
+  unless (bytes_eq front.0 magic) bytes Magic
+  Ok front.1
+
+-- the packet of a frame of kind 0, and none of kind 1, whose length is 0
+unfoldable pub packet_at : Bool → List ℕ → Result (Option (List ℕ) × List ℕ) FieldFault
+packet_at is_there bytes = do
+  size ← number_at 4 bytes
+  unless (nat_le size.0 (if is_there then MOST_CAPTURED else 0)) bytes Range
+  packet ← taken_at size.0 size.1
+  Ok ((if is_there then Some packet.0 else None), packet.1)
+
+unfoldable pub message_at : List ℕ → Result (Message × List ℕ) FieldFault
+message_at bytes = do
+  rest ← magic_at bytes
+  kind ← within_at 0 1 rest
+  origin ← number_at 4 kind.1
+  packet ← packet_at (kind.0 == 0) origin.1
+  logs ← logs_at packet.1
+  needs ← needs_at (if kind.0 == 0 then MOST_SERVERS else 0) 0 logs.1
+  commits ← commits_at needs.1
+  Ok (record { origin = origin.0; packet = packet.0; logs = logs.0; needs = needs.0; commits = commits.0 }, commits.1)
+
+-- a message, and nothing behind it
+unfoldable pub whole_of : List ℕ → Result Message FieldFault
+whole_of frame = do
+  message ← message_at frame
+  unless (length message.1 == 0) message.1 Trailing
+  Ok message.0
+
+-- a fault that stands so many bytes before the end of so many, placed from the front
+abbrev pub placed : {A : Type 0} → ℕ → Result A FieldFault → Result A FrameFault
+placed size (Ok value) = Ok value
+placed size (Err fault) = Err (record { at = size - fault.left; cause = fault.cause })
+
+-- the message that a frame spells, or its first fault
+abbrev pub message_of : List ℕ → Result Message FrameFault
+message_of frame = placed (length frame) (whole_of frame)
