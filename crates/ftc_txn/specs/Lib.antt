@@ -1,1 +1,4 @@
 pub mod Slots
+pub mod Touched
+pub mod Head
+pub mod Steps
