@@ -1,1 +1,4 @@
 pub mod TouchedLists
+pub mod Kept
+pub mod KeptByCalls
+pub mod ReadSlots

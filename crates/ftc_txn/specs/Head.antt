@@ -6,6 +6,7 @@ use Rattle.std.specs.Coded.{Coded, code_by, coded×, coded_ℕ, coded_list, code
 use Rattle.ftc_base.specs.declared.ask.Answer.{Answer}
 use Rattle.ftc_base.specs.declared.ask.Write.{Write}
 use Rattle.ftc_base.specs.Partition.{partition_of}
+use Rattle.ftc_base.specs.declared.limits.TheConstants.{MOST_PARTITIONS}
 use Rattle.ftc_store.specs.Store.{Content}
 use Rattle.ftc_locks.specs.Locks.{Locks, holds, holds_exclusively, age_of, HoldsNothing}
 use Rattle.ftc_message.specs.Logged.{keys_rise}
@@ -57,8 +58,10 @@ pub record IsRunning (head : HeadState) (worker : ℕ) (running : Running) : Typ
   pub wounded : (by : ℕ) → running.wounded ≡ Some by → HoldsNothing head.locks worker
   pub answers : running.wounded ≡ None → AllByRecursion (IsCurrent head worker) running.answers
 
--- an idle slot has no lock, what runs is as it must be, and two slots that run have different ages
+-- there are 1 to 64 partitions, an idle slot has no lock, what runs is as it must be, and two slots that run have different ages
 pub record IsHead (head : HeadState) : Type 0 where
+  pub some : 1 ≤ head.partitions
+  pub within : head.partitions ≤ MOST_PARTITIONS
   pub idle : (worker : ℕ) → slot_at head.slots worker ≡ None → HoldsNothing head.locks worker
   pub running : (worker : ℕ) (running : Running) → slot_at head.slots worker ≡ Some running → IsRunning head worker running
   pub ages : (worker other : ℕ) (running another : Running) → worker ≢ other → slot_at head.slots worker ≡ Some running → slot_at head.slots other ≡ Some another → running.age ≢ another.age

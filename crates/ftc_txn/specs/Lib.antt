@@ -1,4 +1,5 @@
 pub mod Slots
 pub mod Touched
 pub mod Head
+pub mod Logs
 pub mod Steps

@@ -2,6 +2,8 @@
 use Rattle.std.specs.Prelude.{◌≡◌, ◌++◌, ℕ, Bool, List, [], ◌∷◌, Option, Some, None, slice_index_or, refl}
 use Rattle.std.specs.Coded.{Coded, code_by, coded×, coded_ℕ, coded_list, coded_option}
 use Rattle.ftc_base.specs.declared.ask.Answer.{Answer}
+use Rattle.ftc_txn.specs.declared.turn.Turn.{Turn}
+use Rattle.ftc_txn.specs.declared.turn.Turn.TheVariants.{Idle, Wounded, Unwounded}
 
 -- a slot that isn't idle runs for a packet with an age, has these answers, in order, and possibly was wounded by a worker
 pub record Running : Type 0 where
@@ -30,6 +32,20 @@ answered running answer = record running { answers = running.answers ++ answer �
 abbrev pub wounded_by : ℕ → Option Running → Option Running
 wounded_by worker None = None
 wounded_by worker (Some running) = Some (record running { wounded = Some worker })
+
+-- the worker that wounded what a slot runs, where it is wounded
+abbrev pub wounded_of : Option Running → Option ℕ
+wounded_of None = None
+wounded_of (Some running) = running.wounded
+
+abbrev pub wounded_at : List (Option Running) → ℕ → Option ℕ
+wounded_at slots worker = wounded_of (slot_at slots worker)
+
+-- how a slot stands
+abbrev pub IsTurn : Option Running → Turn → Type 0
+IsTurn slot Idle = slot ≡ None
+IsTurn slot (Wounded by) = (running : Running) × (slot ≡ Some running) × (running.wounded ≡ Some by)
+IsTurn slot (Unwounded age) = (running : Running) × (slot ≡ Some running) × (running.wounded ≡ None) × (running.age ≡ age)
 
 abbrev pub answer_code : Coded Answer
 answer_code =

@@ -2,7 +2,6 @@
 use Rattle.std.specs.Prelude.{◌≡◌, ◌≢◌, ◌<◌, ◌↔◌, ◌||◌, ℕ, Bool, true, false, List, [], Option, Some, None, IsNone, IfSome, slice_set}
 use Rattle.std.specs.List.{AllByRecursion}
 use Rattle.std.specs.FinMap.{get}
-use Rattle.ftc_base.specs.Sets.{has}
 use Rattle.ftc_base.specs.declared.ask.Answer.{Answer}
 use Rattle.ftc_base.specs.declared.ask.Write.{Write}
 use Rattle.ftc_base.specs.Partition.{partition_of}
@@ -11,7 +10,8 @@ use Rattle.ftc_locks.specs.Locks.{Locks, holds, holds_exclusively, age_of, confl
 use Rattle.ftc_message.specs.Logged.{Logged}
 use Rattle.ftc_txn.specs.Slots.{Running, slot_at, begun, restarted, answered, wounded_by}
 use Rattle.ftc_txn.specs.Head.{HeadState, RunsUnwounded, RunsWounded, next_age}
-use Rattle.ftc_txn.specs.Touched.{is_changed, vector_after, numbers_before}
+use Rattle.ftc_txn.specs.Touched.{vector_after}
+use Rattle.ftc_txn.specs.Logs.{IsLogOf}
 use Rattle.ftc_txn.specs.declared.answers.ReadAnswer.{ReadAnswer}
 use Rattle.ftc_txn.specs.declared.answers.ReadAnswer.TheVariants.{Value, Blocked, Wounded as WoundedRead, Idle as IdleRead, NotAsked}
 use Rattle.ftc_txn.specs.declared.answers.HeadCommit.{HeadCommit}
@@ -54,15 +54,6 @@ pub record HasRead (old new : HeadState) (worker : ℕ) (running : Running) (key
   pub others : (other : ℕ) → other ≢ worker → conflicts old.locks worker (partition_of old.partitions key) change other ≡ false → slot_at new.slots other ≡ slot_at old.slots other
   pub rest : new ≡ record old { locks = new.locks; slots = new.slots }
 
--- what a commit logs: its group and packet, the numbers before of the touched partitions, the changed partitions, and its
--- writes
-pub record IsLogOf (head : HeadState) (running : Running) (made : List Write) (log : Logged) : Type 0 where
-  pub group : log.group ≡ head.group
-  pub origin : log.origin ≡ running.packet
-  pub before : log.before ≡ numbers_before head.partitions running.answers head.vector
-  pub changed : (partition : ℕ) → has log.changed partition ≡ is_changed head.partitions made partition
-  pub writes : log.writes ≡ made
-
 -- a commit: each answer is what the content had just before, the writes are made, each changed partition's number is
 -- raised by 1, the locks are freed and the slot is idle; there is a log where there are answers
 pub record HasCommitted (old new : HeadState) (worker : ℕ) (running : Running) (writes : List Write) (log : Option Logged) : Type 0 where
@@ -70,7 +61,7 @@ pub record HasCommitted (old new : HeadState) (worker : ℕ) (running : Running)
   pub content : new.content ≡ written writes old.content
   pub vector : new.vector ≡ vector_after old.partitions writes old.vector
   pub no_log : IsNone log ↔ (running.answers ≡ [])
-  pub logged : IfSome log (IsLogOf old running writes)
+  pub logged : IfSome log (IsLogOf old.group old.partitions old.vector running writes)
   pub locks : IsFreed old.locks new.locks worker
   pub slots : new.slots ≡ slice_set old.slots worker None
   pub rest : new ≡ record old { content = new.content; vector = new.vector; locks = new.locks; slots = new.slots }

@@ -2,8 +2,12 @@
 #![tactic(auto)]
 
 mod answers;
+mod head;
+mod logged;
 mod slots;
 mod touched;
 mod transaction;
+mod turn;
 
 pub use answers::{HeadCommit, ReadAnswer};
+pub use head::Head;

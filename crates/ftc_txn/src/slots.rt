@@ -4,9 +4,10 @@ ghost use Rattle.std.specs.Prelude.{◌≡◌, ◌<◌, ℕ, true, false, Some, 
 ghost use Rattle.std.specs.List.{list_any};
 ghost use Rattle.std.specs.Option.{ForSome};
 ghost use Rattle.ftc_base.specs.Sets.{has};
-ghost use Rattle.ftc_txn.specs.Slots.{slot_at, begun, restarted, answered, wounded_by};
+ghost use Rattle.ftc_txn.specs.Slots.{slot_at, wounded_at, begun, restarted, answered, wounded_by, IsTurn};
 
 use crate::transaction::Transaction;
+use crate::turn::Turn;
 use ftc_base::limits::{MOST_READS, MOST_SLOTS};
 use ftc_base::{Answers, Key, PacketNo, Value, WorkerId, WorkerSet};
 use std::array;
@@ -57,9 +58,9 @@ fn restart(slot: &mut Option<Transaction>)
 }
 
 /// What a slot runs has one more answer.
-fn add(slot: &mut Option<Transaction>, key: Key, value: Option<Value>)
+fn add(slot: &mut Option<Transaction>, key: &Key, value: &Option<Value>)
     requires { ForSome slot.old (λ running. length running.answers < MOST_READS) }
-    ensures { IfSome slot.old (λ running. slot.new ≡ Some (answered running (record { key = key; value = value }))) }
+    ensures { IfSome slot.old (λ running. slot.new ≡ Some (answered running (record { key = key.now; value = value.now }))) }
 {
     match slot {
         Some(transaction) => transaction.add(key, value),
@@ -95,7 +96,8 @@ impl Slots {
 
     /// An idle slot begins a transaction.
     pub(crate) fn begin(&mut self, worker: WorkerId, packet: PacketNo, age: u64)
-        ensures { self.new ≡ slice_set self.old worker (Some (begun packet age)) }
+        ensures begun { self.new ≡ slice_set self.old worker (Some (begun packet age)) }
+        ensures within { worker < length self.old }
     {
         self.running[usize::from(worker.number())] = Some(Transaction::new(packet, age));
     }
@@ -109,10 +111,10 @@ impl Slots {
     }
 
     /// What a slot runs has one more answer.
-    pub(crate) fn add(&mut self, worker: WorkerId, key: Key, value: Option<Value>)
+    pub(crate) fn add(&mut self, worker: WorkerId, key: &Key, value: &Option<Value>)
         requires { ForSome (slot_at self.old worker) (λ running. length running.answers < MOST_READS) }
         ensures { IfSome (slot_at self.old worker) (λ running.
-            self.new ≡ slice_set self.old worker (Some (answered running (record { key = key; value = value })))) }
+            self.new ≡ slice_set self.old worker (Some (answered running (record { key = key.now; value = value.now })))) }
     {
         add(&mut self.running[usize::from(worker.number())], key, value);
     }
@@ -131,8 +133,53 @@ impl Slots {
 
     /// A slot is idle from now on.
     pub(crate) fn free(&mut self, worker: WorkerId)
-        ensures { self.new ≡ slice_set self.old worker None }
+        ensures idle { self.new ≡ slice_set self.old worker None }
+        ensures within { worker < length self.old }
     {
         self.running[usize::from(worker.number())] = None;
+    }
+
+    /// How a slot stands.
+    pub(crate) fn turn(&self, worker: WorkerId) -> Turn
+        ensures turn { IsTurn (slot_at self.now worker) result }
+        ensures size { length self.now ≡ MOST_SLOTS }
+        ensures within { worker < MOST_SLOTS }
+    {
+        let place = usize::from(worker.number());
+        match &self.running[place] {
+            None => Turn::Idle,
+            Some(transaction) => transaction.turn(),
+        }
+    }
+
+    /// The answers of what a slot runs.
+    pub(crate) fn answers(&self, worker: WorkerId) -> Option<&Answers>
+        ensures none { IsNone result ↔ (slot_at self.now worker ≡ None) }
+        ensures some { IfSome result (λ answers. IfSome (slot_at self.now worker) (λ running.
+            answers.now.items ≡ running.answers)) }
+    {
+        match &self.running[usize::from(worker.number())] {
+            None => None,
+            Some(transaction) => Some(transaction.answers()),
+        }
+    }
+
+    /// The worker that wounded what a slot runs.
+    pub(crate) fn wounded(&self, worker: WorkerId) -> Option<WorkerId>
+        ensures { result ≡ wounded_at self.now worker }
+    {
+        match &self.running[usize::from(worker.number())] {
+            None => None,
+            Some(transaction) => transaction.wounded(),
+        }
+    }
+
+    /// Takes what a slot runs, and leaves the slot idle.
+    pub(crate) fn finish(&mut self, worker: WorkerId) -> Transaction
+        requires { IsSome (slot_at self.old worker) }
+        ensures finished { slot_at self.old worker ≡ Some result }
+        ensures idle { self.new ≡ slice_set self.old worker None }
+    {
+        self.running[usize::from(worker.number())].take().unwrap()
     }
 }

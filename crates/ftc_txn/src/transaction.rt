@@ -1,8 +1,9 @@
 //! One packet transaction.
 
 ghost use Rattle.std.specs.Prelude.{◌≡◌, ◌<◌, Some, length};
-ghost use Rattle.ftc_txn.specs.Slots.{begun, restarted, answered};
+ghost use Rattle.ftc_txn.specs.Slots.{begun, restarted, answered, IsTurn};
 
+use crate::turn::Turn;
 use ftc_base::limits::MOST_READS;
 use ftc_base::{Answer, Answers, Key, PacketNo, Value, WorkerId};
 use std::marker::Model;
@@ -64,6 +65,16 @@ impl Transaction {
         self.wounded
     }
 
+    /// How its slot stands.
+    pub(crate) fn turn(&self) -> Turn
+        ensures { IsTurn (Some self.now) result }
+    {
+        match self.wounded {
+            Some(by) => Turn::Wounded { by },
+            None => Turn::Unwounded { age: self.age },
+        }
+    }
+
     /// It begins again with its age.
     pub(crate) fn restart(&mut self)
         ensures { self.new ≡ restarted self.old }
@@ -73,11 +84,14 @@ impl Transaction {
     }
 
     /// It has one more answer.
-    pub(crate) fn add(&mut self, key: Key, value: Option<Value>)
+    pub(crate) fn add(&mut self, key: &Key, value: &Option<Value>)
         requires { length self.old.answers < MOST_READS }
-        ensures { self.new ≡ answered self.old (record { key = key; value = value }) }
+        ensures { self.new ≡ answered self.old (record { key = key.now; value = value.now }) }
     {
-        self.answers.push(Answer { key, value });
+        self.answers.push(Answer {
+            key: *key,
+            value: *value,
+        });
     }
 
     /// That worker took a partition from it.
