@@ -1,17 +1,16 @@
 -- What every call keeps of a head.
-use Rattle.std.proofs.Common.{◌≡◌, ◌≢◌, ◌<◌, ◌≤◌, ◌+◌, ◌++◌, ℕ, Bool, true, false, List, [], ◌∷◌, length, get_or, Option, Some, None, refl, sym, ap, subst, ◌∙◌, inl, inr, ⊎_elim, arith, get_or-set_other, get_or-set_same}
-use Rattle.std.specs.Prelude.{◌⊎◌, slice_set, is_some, ◌||◌}
-use Rattle.std.specs.List.{AllByRecursion, list_any}
+use Rattle.std.proofs.Common.{◌≡◌, ◌≢◌, ◌<◌, ◌≤◌, ◌++◌, ℕ, Bool, true, false, List, [], ◌∷◌, length, Option, Some, None, refl, sym, ap, subst, ◌∙◌, inl, inr, ⊎_elim, get_or-set_other, get_or-set_same}
+use Rattle.std.specs.Prelude.{◌⊎◌, slice_set, is_some}
+use Rattle.std.specs.List.{AllByRecursion}
 use Rattle.std.specs.FinMap.{get}
-use Rattle.std.proofs.lemmas.Bool.{cases_eq, cases_lt, cases_Bool, false≢true}
+use Rattle.std.proofs.lemmas.Bool.{cases_eq, cases_lt, false≢true}
 use Rattle.std.proofs.lemmas.List.{get_or_past}
 use Rattle.std.proofs.lemmas.List.Folds.{list_any_at}
 use Rattle.ftc_base.specs.declared.ask.Answer.{Answer}
 use Rattle.ftc_base.specs.Partition.{partition_of}
-use Rattle.ftc_locks.specs.Locks.{Locks, holds, holds_exclusively, age_of, conflicts, HoldsNothing, SameHolding, SameHoldings}
-use Rattle.ftc_txn.specs.Slots.{Running, slot_at, begun, restarted, answered, wounded_by}
-use Rattle.ftc_txn.specs.Head.{HeadState, RunsUnwounded, IsCurrent, IsRunning, IsHead, some_run, next_age}
-use Rattle.ftc_txn.specs.Steps.{IsGranted, IsFreed, HasRead}
+use Rattle.ftc_locks.specs.Locks.{Locks, holds, age_of, HoldsNothing, SameHoldings}
+use Rattle.ftc_txn.specs.Slots.{Running, slot_at, wounded_by}
+use Rattle.ftc_txn.specs.Head.{HeadState, IsCurrent, IsRunning, IsHead, some_run}
 
 pub all_kept : {X : Type 0} (P Q : X → Type 0) → ((x : X) → P x → Q x) → (xs : List X) → AllByRecursion P xs → AllByRecursion Q xs
 all_kept P Q keep [] all = tt

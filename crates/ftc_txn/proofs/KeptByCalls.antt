@@ -1,6 +1,6 @@
 -- Each call keeps what holds of a head.
-use Rattle.std.proofs.Common.{◌≡◌, ◌≢◌, ◌<◌, ◌≤◌, ◌+◌, ◌++◌, ℕ, Bool, true, false, List, [], ◌∷◌, length, get_or, Option, Some, None, refl, sym, ap, subst, ◌∙◌, inl, inr, ⊎_elim, arith}
-use Rattle.std.specs.Prelude.{◌⊎◌, slice_set, if◌then◌else◌, nat_eq}
+use Rattle.std.proofs.Common.{◌≡◌, ◌≢◌, ◌<◌, ℕ, Bool, true, List, [], ◌∷◌, length, Option, Some, None, refl, sym, ap, subst, ◌∙◌, inl, inr, ⊎_elim, arith}
+use Rattle.std.specs.Prelude.{◌⊎◌, slice_set, nat_eq}
 use Rattle.std.specs.Cmp.Lexicographic.{pointwise}
 use Rattle.std.specs.List.{AllByRecursion}
 use Rattle.std.specs.FinMap.{get, get-insert, get-remove}
@@ -13,11 +13,10 @@ use Rattle.ftc_base.specs.declared.ask.Write.{Write}
 use Rattle.ftc_base.specs.Partition.{partition_of}
 use Rattle.ftc_store.specs.Store.{Content, changed, written}
 use Rattle.ftc_store.proofs.Lookups.{same_test}
-use Rattle.ftc_locks.specs.Locks.{Locks, holds, holds_exclusively, conflicts, HoldsNothing, SameHoldings, IsLockTable}
-use Rattle.ftc_message.specs.Logged.{Logged}
+use Rattle.ftc_locks.specs.Locks.{Locks, holds, holds_exclusively, conflicts, SameHoldings, IsLockTable}
 use Rattle.ftc_txn.specs.Slots.{Running, slot_at, begun, restarted, answered}
-use Rattle.ftc_txn.specs.Head.{HeadState, RunsUnwounded, RunsWounded, IsCurrent, IsRunning, IsHead, AreItsWrites, some_run, next_age}
-use Rattle.ftc_txn.specs.Steps.{begins, restarts, IsGranted, IsFreed, HasRead, HasCommitted, HasQuit}
+use Rattle.ftc_txn.specs.Head.{HeadState, RunsUnwounded, RunsWounded, IsCurrent, IsRunning, IsHead, AreItsWrites, next_age}
+use Rattle.ftc_txn.specs.Steps.{begins, restarts, IsGranted, IsFreed, HasRead, HasQuit}
 use Rattle.ftc_txn.proofs.Kept.{all_kept, all_push, not_both, none_or_some, slot_within, some_run_at, slot_set, slot_other, same_holdings, Stays, WasWounded, keeps}
 
 pub some_of : {A : Type 0} (o : Option A) (x y : A) → o ≡ Some x → o ≡ Some y → x ≡ y
@@ -42,11 +41,11 @@ begin_keeps old worker packet within valid none =
     (λ other running _ is. omega (arith, drawn_before old other running valid is))
     (λ is. absurd (none_or_some (slot_at new.slots worker) _ is here))
     (λ running is. subst (λ (r : Running). IsRunning new worker r) (some_of (slot_at new.slots worker) (begun packet (next_age old)) running here is) (record {
-  drawn = omega arith;
-  age = λ p held. not_both (holds old.locks worker p) ((valid.idle worker none).held p) held;
-  wounded = λ by is. absurd cc;
-  answers = λ _. tt;
-}))
+      drawn = omega arith;
+      age = λ p held. not_both (holds old.locks worker p) ((valid.idle worker none).held p) held;
+      wounded = λ by is. absurd cc;
+      answers = λ _. tt;
+    }))
     (λ running another other _ is other_is same_age.
     let age_is : next_age old ≡ running.age = ap (λ (r : Running). r.age) (some_of (slot_at new.slots worker) (begun packet (next_age old)) running here is) in
     omega (arith, drawn_before old other another valid other_is))
@@ -62,11 +61,11 @@ restart_keeps old worker by running valid runs =
     (λ other another _ is. (valid.running other another is).drawn)
     (λ is. absurd (none_or_some (slot_at new.slots worker) _ is here))
     (λ r is. subst (λ (r : Running). IsRunning new worker r) (some_of (slot_at new.slots worker) (restarted running) r here is) (record {
-  drawn = was.drawn;
-  age = was.age;
-  wounded = λ by is. absurd cc;
-  answers = λ _. tt;
-}))
+      drawn = was.drawn;
+      age = was.age;
+      wounded = λ by is. absurd cc;
+      answers = λ _. tt;
+    }))
     (λ r another other differs is other_is same_age.
     let age_is : running.age ≡ r.age = ap (λ (r : Running). r.age) (some_of (slot_at new.slots worker) (restarted running) r here is) in
     valid.ages worker other running another (λ e. differs (sym e)) runs.slot other_is (age_is ∙ same_age))
@@ -105,16 +104,16 @@ read_keeps old new worker running key change value valid runs read =
     (λ other another _ is. rw last (valid.running other another is).drawn)
     (λ is. absurd (none_or_some (slot_at new.slots worker) _ is read.answered))
     (λ r is. subst (λ (r : Running). IsRunning new worker r) (some_of (slot_at new.slots worker) (answered running answer) r read.answered is) (record {
-  drawn = rw last was.drawn;
-  age = λ _ _. read.locks.with_age;
-  wounded = λ by is. absurd (none_or_some running.wounded by runs.unwounded is);
-  answers = λ _. all_push (IsCurrent new worker) running.answers answer
-      (all_kept (IsCurrent old worker) (IsCurrent new worker) (λ a current. record {
-    value = rw content current.value;
-    held = rw partitions (still_held old new worker running.age (partition_of old.partitions key) change (partition_of old.partitions a.key) read.locks current.held);
-  }) running.answers (was.answers runs.unwounded))
-      (record { value = rw content (sym read.read); held = rw partitions read.locks.held });
-}))
+      drawn = rw last was.drawn;
+      age = λ _ _. read.locks.with_age;
+      wounded = λ by is. absurd (none_or_some running.wounded by runs.unwounded is);
+      answers = λ _. all_push (IsCurrent new worker) running.answers answer
+          (all_kept (IsCurrent old worker) (IsCurrent new worker) (λ a current. record {
+            value = rw content current.value;
+            held = rw partitions (still_held old new worker running.age (partition_of old.partitions key) change (partition_of old.partitions a.key) read.locks current.held);
+          }) running.answers (was.answers runs.unwounded))
+          (record { value = rw content (sym read.read); held = rw partitions read.locks.held });
+    }))
     (λ r another other differs is other_is same_age.
     let age_is : running.age ≡ r.age = ap (λ (r : Running). r.age) (some_of (slot_at new.slots worker) (answered running answer) r read.answered is) in
     valid.ages worker other running another (λ e. differs (sym e)) runs.slot other_is (age_is ∙ same_age))

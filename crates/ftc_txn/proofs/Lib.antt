@@ -2,3 +2,5 @@ pub mod TouchedLists
 pub mod Kept
 pub mod KeptByCalls
 pub mod ReadSlots
+pub mod Serially
+pub mod Writing

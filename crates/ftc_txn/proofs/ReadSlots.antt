@@ -1,6 +1,6 @@
 -- What a read that is granted leaves of the slots.
-use Rattle.std.proofs.Common.{◌≡◌, ◌≢◌, ◌<◌, ℕ, Bool, true, false, cond, List, Option, Some, None, length, refl, sym, ap, ◌∙◌}
-use Rattle.std.specs.Prelude.{slice_set, IfSome, ◌==◌}
+use Rattle.std.proofs.Common.{◌≡◌, ◌≢◌, ℕ, Bool, true, false, cond, List, Option, Some, refl, ◌∙◌}
+use Rattle.std.specs.Prelude.{slice_set, IfSome}
 use Rattle.std.proofs.lemmas.Bool.{cond-true, cond-false, eq-eqb}
 use Rattle.ftc_base.specs.declared.ask.Answer.{Answer}
 use Rattle.ftc_base.specs.Sets.{has}
@@ -27,9 +27,9 @@ read_slots old mid new worker set running answer test alike own runs wounds adde
     let mid_is : slot_at mid worker ≡ Some running = wounds worker ∙ cond-false _ _ _ (alike worker ∙ own) ∙ runs in
     let new_is = rw mid_is at added in
     record {
-  own = rw new_is (slot_set mid worker (Some (answered running answer)) (slot_within mid worker running mid_is));
-  wounded = λ other is.
-      let differs : other ≢ worker = λ same. not_both (test worker) own (rw (← same) is) in
-      rw new_is (slot_other mid worker other (Some (answered running answer)) differs) ∙ wounds other ∙ cond-true _ _ _ (alike other ∙ is);
-  others = λ other differs isnt. rw new_is (slot_other mid worker other (Some (answered running answer)) differs) ∙ wounds other ∙ cond-false _ _ _ (alike other ∙ isnt);
-}
+      own = rw new_is (slot_set mid worker (Some (answered running answer)) (slot_within mid worker running mid_is));
+      wounded = λ other is.
+          let differs : other ≢ worker = λ same. not_both (test worker) own (rw (← same) is) in
+          rw new_is (slot_other mid worker other (Some (answered running answer)) differs) ∙ wounds other ∙ cond-true _ _ _ (alike other ∙ is);
+      others = λ other differs isnt. rw new_is (slot_other mid worker other (Some (answered running answer)) differs) ∙ wounds other ∙ cond-false _ _ _ (alike other ∙ isnt);
+    }

@@ -1,7 +1,7 @@
 -- The partitions of one more key, and that what is changed is touched.
-use Rattle.std.proofs.Common.{◌≡◌, ◌<◌, ◌≤◌, ◌+◌, ◌++◌, ℕ, Bool, cond, Option, Some, None, true, false, List, [], ◌∷◌, length, take, get_or, refl, sym, ap, subst, ◌∙◌, inl, inr, arith}
+use Rattle.std.proofs.Common.{◌≡◌, ◌<◌, ◌≤◌, ◌+◌, ℕ, Bool, cond, Some, None, true, false, List, [], ◌∷◌, length, take, get_or, refl, sym, ap, ◌∙◌, inl, inr, arith}
 use Rattle.std.specs.Prelude.{◌==◌, ◌||◌, IsSome}
-use Rattle.std.specs.List.{AllByRecursion, Any, list_any}
+use Rattle.std.specs.List.{AllByRecursion, list_any}
 use Rattle.std.proofs.lemmas.Bool.{eqb-true, eq-eqb, or_cases}
 use Rattle.std.proofs.lemmas.List.{take_more}
 use Rattle.std.proofs.lemmas.List.Folds.{list_any-append, list_any_at}
@@ -46,7 +46,7 @@ touched_by_key partitions answers key found =
     list_any_at (λ (a : Answer). partition_of partitions key == partition_of partitions a.key) answers found.0 found.1 found.2
     (rw (found.3, found.4) (eq-eqb (partition_of partitions key) (partition_of partitions key) refl))
 
-changed_cases : (partitions : ℕ) (write : Write) (writes : List Write) (partition : ℕ) → is_changed partitions (write ∷ writes) partition ≡ ((partition == partition_of partitions write.key) || is_changed partitions writes partition)
+pub changed_cases : (partitions : ℕ) (write : Write) (writes : List Write) (partition : ℕ) → is_changed partitions (write ∷ writes) partition ≡ ((partition == partition_of partitions write.key) || is_changed partitions writes partition)
 unfolding is_changed
 changed_cases partitions write writes partition = refl
 

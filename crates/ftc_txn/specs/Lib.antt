@@ -3,3 +3,4 @@ pub mod Touched
 pub mod Head
 pub mod Logs
 pub mod Steps
+pub mod Runs

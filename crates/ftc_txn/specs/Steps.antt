@@ -2,7 +2,6 @@
 use Rattle.std.specs.Prelude.{◌≡◌, ◌≢◌, ◌<◌, ◌↔◌, ◌||◌, ℕ, Bool, true, false, List, [], Option, Some, None, IsNone, IfSome, slice_set}
 use Rattle.std.specs.List.{AllByRecursion}
 use Rattle.std.specs.FinMap.{get}
-use Rattle.ftc_base.specs.declared.ask.Answer.{Answer}
 use Rattle.ftc_base.specs.declared.ask.Write.{Write}
 use Rattle.ftc_base.specs.Partition.{partition_of}
 use Rattle.ftc_store.specs.Store.{written}
@@ -61,7 +60,7 @@ pub record HasCommitted (old new : HeadState) (worker : ℕ) (running : Running)
   pub content : new.content ≡ written writes old.content
   pub vector : new.vector ≡ vector_after old.partitions writes old.vector
   pub no_log : IsNone log ↔ (running.answers ≡ [])
-  pub logged : IfSome log (IsLogOf old.group old.partitions old.vector running writes)
+  pub logged : IfSome log (IsLogOf old.group old.partitions old.vector running.packet running.answers writes)
   pub locks : IsFreed old.locks new.locks worker
   pub slots : new.slots ≡ slice_set old.slots worker None
   pub rest : new ≡ record old { content = new.content; vector = new.vector; locks = new.locks; slots = new.slots }

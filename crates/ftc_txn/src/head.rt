@@ -1,7 +1,7 @@
 //! The head of a group: one server's own store, vector, locks and slots.
 
 ghost use Rattle.std.specs.Prelude.{◌≡◌, ◌<◌, ◌≤◌, ℕ, true, Some, None, IsNone, IfSome, ◌↔◌, length};
-ghost use Rattle.ftc_locks.specs.Locks.{HoldsNothing};
+ghost use Rattle.ftc_locks.specs.Locks.{HoldsNothing, IsLockTable};
 ghost use Rattle.ftc_vector.specs.Vector.{number_at};
 ghost use Rattle.ftc_txn.specs.Slots.{Running, slot_at, wounded_at};
 ghost use Rattle.ftc_txn.specs.Touched.{is_changed};
@@ -57,6 +57,7 @@ impl Head {
         ensures vector { result.vector ≡ vector }
         ensures idle { (worker : ℕ) → slot_at result.slots worker ≡ None }
         ensures free { (worker : ℕ) → HoldsNothing result.locks worker }
+        ensures last { result.last ≡ 0 }
     {
         Head {
             group,
@@ -74,7 +75,9 @@ impl Head {
         ensures content { result.now.content ≡ self.now.content }
         ensures partitions { result.now.partitions ≡ self.now.partitions }
         ensures valid { IsHead self.now }
+        ensures locks { IsLockTable self.now.locks }
     {
+        let _ = self.locks.partitions();
         &self.store
     }
 
@@ -115,6 +118,7 @@ impl Head {
         requires age { ages_left u64.MAX self.old ≡ true }
         ensures age { result ≡ next_age self.old }
         ensures begun { self.new ≡ begins self.old worker packet }
+        ensures slot { worker < length self.old.slots }
     {
         let age = if self.slots.some_run() {
             self.last + 1
@@ -150,13 +154,7 @@ impl Head {
     }
 
     /// What a slot runs, which isn't wounded, reads a key.
-    fn read_unwounded(
-        &mut self,
-        worker: WorkerId,
-        age: u64,
-        key: &Key,
-        change: bool,
-    ) -> ReadAnswer
+    fn read_unwounded(&mut self, worker: WorkerId, age: u64, key: &Key, change: bool) -> ReadAnswer
         requires { (running : Running) × RunsUnwounded self.old worker running × (running.age ≡ age)
             × (length running.answers < MOST_READS) }
         ensures { Reads self.old self.new worker key.now change result }

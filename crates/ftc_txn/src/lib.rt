@@ -3,6 +3,7 @@
 
 mod answers;
 mod head;
+mod laws;
 mod logged;
 mod slots;
 mod touched;
@@ -11,3 +12,7 @@ mod turn;
 
 pub use answers::{HeadCommit, ReadAnswer};
 pub use head::Head;
+pub use laws::transactions;
+
+#[cfg(test)]
+mod tests;

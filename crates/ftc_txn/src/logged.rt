@@ -39,7 +39,8 @@ pub(crate) fn log_writes(
         is_changed partitions writes.now.items partition ≡ true → number_at vector.old partition < u64.MAX }
     ensures vector { vector.new ≡ vector_after partitions writes.now.items vector.old }
     ensures no_log { IsNone result ↔ (transaction.now.answers ≡ []) }
-    ensures log { IfSome result (IsLogOf group partitions vector.old transaction.now writes.now.items) }
+    ensures log { IfSome result (IsLogOf group partitions vector.old transaction.now.packet
+        transaction.now.answers writes.now.items) }
 {
     let answers = transaction.answers();
     let touched = touched_by(answers, partitions);

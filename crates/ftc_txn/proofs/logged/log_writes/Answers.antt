@@ -1,10 +1,8 @@
-use Rattle.std.proofs.Common.{◌≡◌, ℕ, List, arith, sym, ap, subst, ◌∙◌, true}
-use Rattle.std.specs.Prelude.{IsSome}
+use Rattle.std.proofs.Common.{◌≡◌, ℕ, List, ap, ◌∙◌}
 use Rattle.ftc_base.specs.Sets.{has}
 use Rattle.ftc_base.specs.declared.ask.Answer.{Answer}
-use Rattle.ftc_vector.specs.Vector.{mark_at}
 use Rattle.ftc_txn.specs.Touched.{is_touched}
-use Rattle.ftc_txn.proofs.TouchedLists.{raised_is_after, marks_are_before, changed_is_marked}
+use Rattle.ftc_txn.proofs.TouchedLists.{changed_is_marked}
 use Rattle.ftc_txn.proofs.logged.log_writes.Goals as goal
 
 pub new-requires-clause-marked : goal.new-requires-clause-marked

@@ -1,4 +1,4 @@
-use Rattle.std.proofs.Common.{arith, sym, ◌∙◌}
+use Rattle.std.proofs.Common.{sym, ◌∙◌}
 use Rattle.ftc_txn.proofs.TouchedLists.{touched_none, touched_more}
 use Rattle.ftc_txn.proofs.touched.touched_by.Goals as goal
 

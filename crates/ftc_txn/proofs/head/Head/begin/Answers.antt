@@ -1,7 +1,6 @@
-use Rattle.std.proofs.Common.{◌≡◌, ℕ, ◌∙◌, refl, sym, List, Option}
+use Rattle.std.proofs.Common.{◌≡◌, ◌∙◌, sym}
 use Rattle.std.proofs.lemmas.Bool.{cond-true, cond-false}
-use Rattle.ftc_txn.specs.Head.{HeadState, IsHead, next_age}
-use Rattle.ftc_txn.specs.Slots.{Running, slot_at}
+use Rattle.ftc_txn.specs.Head.{next_age}
 use Rattle.ftc_txn.specs.contracts.head.Head.{the_view}
 use Rattle.ftc_txn.proofs.KeptByCalls.{begin_keeps}
 use Rattle.ftc_txn.proofs.head.Head.begin.Goals as goal
