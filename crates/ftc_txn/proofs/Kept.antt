@@ -71,7 +71,7 @@ pub record WasWounded (old new : HeadState) (by other : ℕ) : Type 0 where
   pub slot : slot_at new.slots other ≡ wounded_by by (slot_at old.slots other)
   pub nothing : HoldsNothing new.locks other
 
-wound_of : (by : ℕ) (slot : Option Running) (running : Running) → wounded_by by slot ≡ Some running → (before : Running) × (slot ≡ Some before) × (before.age ≡ running.age) × (running.wounded ≡ Some by)
+pub wound_of : (by : ℕ) (slot : Option Running) (running : Running) → wounded_by by slot ≡ Some running → (before : Running) × (slot ≡ Some before) × (before.age ≡ running.age) × (running.wounded ≡ Some by)
 wound_of by None running is = absurd cc
 wound_of by (Some before) running is =
     let same : record before { wounded = Some by } ≡ running = cc in

@@ -4,3 +4,4 @@ pub mod KeptByCalls
 pub mod ReadSlots
 pub mod Serially
 pub mod Writing
+pub mod StayedHoldings

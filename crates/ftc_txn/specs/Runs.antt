@@ -23,6 +23,13 @@ pub data Call : Type 0 where
   Commit : (worker : ℕ) (writes : List Write) (answer : HeadCommit) → Call
   Quit : (worker : ℕ) → Call
 
+-- whose slot calls
+abbrev pub caller : Call → ℕ
+caller (Begin worker packet) = worker
+caller (Read worker key change answer) = worker
+caller (Commit worker writes answer) = worker
+caller (Quit worker) = worker
+
 -- from old, the call may be answered so and leave new
 abbrev pub Step : HeadState → Call → HeadState → Type 0
 Step old (Begin worker packet) new = (worker < length old.slots) × (slot_at old.slots worker ≡ None) × (new ≡ begins old worker packet)
