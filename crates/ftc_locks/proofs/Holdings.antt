@@ -1,7 +1,7 @@
 -- Sets that stand in a list, one for each worker.
-use Rattle.std.proofs.Common.{◌≡◌, ◌≢◌, ◌<◌, ◌≤◌, ℕ, Bool, true, false, Option, None, Some, List, length, get_or, refl, ⊎_elim, ◌∙◌, sym, ap, arith}
+use Rattle.std.proofs.Common.{◌≡◌, ◌≢◌, ◌<◌, ◌≤◌, ℕ, Bool, true, false, Option, None, Some, List, length, get_or, refl, ⊎_elim, ◌∙◌, sym}
 use Rattle.std.specs.Prelude.{replicate, IfNone, ◌==◌, ◌&&◌, ◌||◌, not}
-use Rattle.std.proofs.lemmas.Bool.{false≢true, cases_lt, cases_Bool, and_parts, or_cases, eqb-false, not-true}
+use Rattle.std.proofs.lemmas.Bool.{false≢true, cases_lt, and_parts, or_cases, eqb-false, not-true}
 use Rattle.std.proofs.lemmas.List.{get_or_past, get_or-replicate, length-replicate}
 use Rattle.ftc_base.specs.Sets.{has}
 use Rattle.ftc_base.proofs.Members.{has-zero}

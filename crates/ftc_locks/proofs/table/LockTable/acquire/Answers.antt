@@ -1,8 +1,8 @@
-use Rattle.std.proofs.Common.{◌≢◌, arith, ⊎_elim, sym, ◌∙◌}
+use Rattle.std.proofs.Common.{◌≢◌, ⊎_elim, sym, ◌∙◌}
 use Rattle.std.proofs.lemmas.Bool.{cases_Bool}
 use Rattle.ftc_base.specs.Sets.{has}
 use Rattle.ftc_locks.specs.Locks.{HoldsNothing}
-use Rattle.ftc_locks.proofs.Holdings.{conflicts-nothing, conflicts-same, conflicts-other, conflicts-holds}
+use Rattle.ftc_locks.proofs.Holdings.{conflicts-nothing, conflicts-same, conflicts-other}
 use Rattle.ftc_locks.proofs.table.LockTable.acquire.Goals as goal
 
 pub grant-requires-clause-free : goal.grant-requires-clause-free

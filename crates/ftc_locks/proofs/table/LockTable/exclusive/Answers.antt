@@ -1,4 +1,4 @@
-use Rattle.std.proofs.Common.{arith, sym, ◌∙◌, ⊎_elim, rules}
+use Rattle.std.proofs.Common.{arith, sym, ◌∙◌, ⊎_elim}
 use Rattle.std.proofs.lemmas.Bool.{cases_lt, false≢true}
 use Rattle.ftc_locks.proofs.Holdings.{has-past}
 use Rattle.ftc_locks.proofs.table.LockTable.exclusive.Goals as goal
