@@ -1,1 +1,4 @@
 pub mod Grouping
+pub mod Joining
+pub mod Parts
+pub mod Letters

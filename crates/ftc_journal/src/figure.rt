@@ -54,7 +54,7 @@ fn name_of(word: &[u8]) -> Result<NameFigures, JournalCause>
     let Some((server, packet)) = split_part(word, b':') else {
         return Err(JournalCause::Word);
     };
-    if split_part(packet, b':').is_some() {
+    if let Some((_, _)) = split_part(packet, b':') {
         return Err(JournalCause::Word);
     }
     let server = figure_of(server)?;
