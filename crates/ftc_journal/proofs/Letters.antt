@@ -1,5 +1,5 @@
 -- Words of printed lines, and the bytes that don't stand in them.
-use Rattle.std.proofs.Common.{◌≡◌, ◌≤◌, ◌<◌, ℕ, zero, suc, ◌+◌, ◌-◌, ◌*◌, Bool, true, false, List, [], ◌∷◌, ◌++◌, length, get_or, ◌⊎◌, if◌then◌else◌, refl, sym, ap, ◌∙◌, arith, rules, Ok, Err, Option, Some, None, Result}
+use Rattle.std.proofs.Common.{◌≡◌, ◌≤◌, ◌<◌, ℕ, zero, suc, Bool, true, false, List, [], ◌∷◌, ◌++◌, length, get_or, ◌⊎◌, if◌then◌else◌, refl, sym, ap, ◌∙◌, arith, rules, Ok, Err, Option, Some, None, Result}
 use Rattle.std.specs.Prelude.{◌==◌, ◌&&◌, nat_le, nat_lt, not, decimal}
 use Rattle.std.specs.List.{AllByRecursion, list_all, join_with_byte, onto_first}
 use Rattle.std.proofs.lemmas.Bool.Decides.{nat_tests}
@@ -11,7 +11,6 @@ use Rattle.ftc_base.specs.declared.lexer.Lexical.{Lexical}
 use Rattle.ftc_base.specs.declared.lexer.Lexical.TheVariants.{NotNumber, TooLarge, NotAddress}
 use Rattle.ftc_base.proofs.ReadAgain.{read_again}
 use Rattle.ftc_journal.specs.declared.limits.TheConstants.{MOST_NUMBER}
-use Rattle.ftc_journal.specs.declared.fault.JournalCause.{JournalCause}
 use Rattle.ftc_journal.specs.declared.fault.JournalCause.TheVariants.{Range}
 use Rattle.ftc_journal.specs.Reading.{as_figure, figure_of, number_in, below}
 
@@ -132,10 +131,10 @@ number_spelled : (word : List ℕ) (n : ℕ) → number_of word MOST_NUMBER ≡ 
 number_spelled word n e = elim (is_numeral word) as (λ t. is_numeral word ≡ t → (if t then (if nat_le (decimal_from 0 word) MOST_NUMBER then Ok (decimal_from 0 word) else Err TooLarge) else Err NotNumber) ≡ Ok n → (word ≡ decimal n) × (n ≤ MOST_NUMBER)) [
   | true ↦ λ is. elim (nat_le (decimal_from 0 word) MOST_NUMBER) as (λ t. nat_le (decimal_from 0 word) MOST_NUMBER ≡ t → (if t then Ok (decimal_from 0 word) else Err TooLarge) ≡ Ok n → (word ≡ decimal n) × (n ≤ MOST_NUMBER)) [
     | true ↦ λ fits told.
-      let worth : decimal_from 0 word ≡ n = cc in
-      let small : decimal_from 0 word ≤ MOST_NUMBER = grind (arith, nat_tests) in
-      let made = numeral_is word is in
-      (sym (ap decimal (sym worth) ∙ decimal-digits_value own word made.digits made.some made.alone (omega arith)), omega arith)
+        let worth : decimal_from 0 word ≡ n = cc in
+        let small : decimal_from 0 word ≤ MOST_NUMBER = grind (arith, nat_tests) in
+        let made = numeral_is word is in
+        (sym (ap decimal (sym worth) ∙ decimal-digits_value own word made.digits made.some made.alone (omega arith)), omega arith)
     | false ↦ λ fits told. absurd cc
   ] refl
   | false ↦ λ is told. absurd cc

@@ -2,3 +2,6 @@ pub mod Grouping
 pub mod Joining
 pub mod Parts
 pub mod Letters
+pub mod Words
+pub mod Again
+pub mod Spelled

@@ -8,10 +8,8 @@ use Rattle.ftc_base.specs.declared.refusal.Refuse.{Refuse}
 use Rattle.ftc_base.specs.declared.refusal.Refuse.TheVariants.{Bad, NoMemory}
 use Rattle.ftc_base.specs.Refused.{IsReading, IfBad}
 use Rattle.ftc_journal.specs.declared.event.Event.{Event}
-use Rattle.ftc_journal.specs.declared.fault.JournalCause.{JournalCause}
-use Rattle.ftc_journal.specs.declared.fault.JournalCause.TheVariants.{Header, Word, Range, Cut}
+use Rattle.ftc_journal.specs.declared.fault.JournalCause.TheVariants.{Header, Word}
 use Rattle.ftc_journal.specs.declared.fault.JournalFault.{JournalFault}
-use Rattle.ftc_journal.specs.declared.figure.NameFigures.{NameFigures}
 use Rattle.ftc_journal.specs.declared.form.Version.{Version}
 use Rattle.ftc_journal.specs.Reading.{◌>>=◌, name_of, event_of, placed, events_from, lines_behind, journal_from, journal_of, version_of}
 use Rattle.ftc_journal.proofs.Joining.{joined, joined_none, one_more, none_more}
@@ -62,3 +60,10 @@ same_bad A NoMemory P bad = tt
 pub handed_on : {A : Type 0} (r : Result A (Refuse JournalFault)) (why : Refuse JournalFault) (P : JournalFault → Type 0) → IsErrAnd r (λ e. e ≡ why) → IfBad {A = Event} (Err why) P → IfBad r P
 handed_on (Ok value) why P is bad = tt
 handed_on {A} (Err e) why P is bad = subst (λ x. IfBad {A = A} (Err x) P) (sym is) (same_bad A why P bad)
+
+-- a line that says an event, and the lines behind it
+pub events_said : (version : Version) (place : ℕ) (line behind : List ℕ) (event : Event) (events : List Event) → event_of version (parts_of 32 line) ≡ Ok event → events_from version (place + 1) (parts_of 10 behind) ≡ Ok events → events_from version place (line ∷ parts_of 10 behind) ≡ Ok (event ∷ events)
+events_said version place line behind event events said later = events_more version place line behind ∙ rw (said, later) refl
+
+pub journal_said : (header lines : List ℕ) (version : Version) → version_of header ≡ Some version → journal_from (header ∷ parts_of 10 lines) ≡ events_from version 2 (parts_of 10 lines)
+journal_said header lines version known = journal_more header lines ∙ ap (λ (v : Option Version). lines_behind v (parts_of 10 lines)) known

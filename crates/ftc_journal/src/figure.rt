@@ -29,10 +29,7 @@ pub fn figure_of(word: &[u8]) -> Result<Option<u32>, JournalCause>
 }
 
 /// The numbers of some words, with one space between them.
-pub fn figures_of(
-    alloc: Global,
-    words: &[u8],
-) -> Result<Items<Option<u32>>, Refuse<JournalCause>>
+pub fn figures_of(alloc: Global, words: &[u8]) -> Result<Items<Option<u32>>, Refuse<JournalCause>>
     ensures { IsReading result (figures_of (parts_of 32 words.now)) }
 {
     let mut held = Items::new(alloc);

@@ -171,11 +171,7 @@ fn said_in(
 }
 
 /// The event of a line, without its line feed.
-pub fn event_of(
-    alloc: Global,
-    version: Version,
-    line: &[u8],
-) -> Result<Event, Refuse<JournalCause>>
+pub fn event_of(alloc: Global, version: Version, line: &[u8]) -> Result<Event, Refuse<JournalCause>>
     ensures { IsReading result (event_of version (parts_of 32 line.now)) }
 {
     let Some((first, words)) = split_part(line, b' ') else {
