@@ -7,17 +7,16 @@ use Rattle.std.proofs.lemmas.Bool.Decides.{nat_tests}
 use Rattle.ftc_base.specs.Text.{lines_of, words_of}
 use Rattle.ftc_base.specs.declared.limits.TheConstants.{MOST_SCRIPT_BYTES}
 use Rattle.ftc_ring.specs.Ring.{RingShape, IsRing}
-use Rattle.ftc_ring.specs.Live.{IsLive, IsDown, IsAdmissible, gone_of}
+use Rattle.ftc_ring.specs.Live.{IsLive, IsDown, gone_of}
 use Rattle.ftc_ring.proofs.Nearest.{gone_none}
 use Rattle.ftc_script.specs.declared.fault.ScriptCause.{ScriptCause}
-use Rattle.ftc_script.specs.declared.fault.ScriptCause.TheVariants.{Word, Order, Past, NotUp, NotDown, GroupGone, LeftDown, Link, TooLong}
+use Rattle.ftc_script.specs.declared.fault.ScriptCause.TheVariants.{Order, Past, NotUp, NotDown, Link, TooLong}
 use Rattle.ftc_script.specs.declared.fault.ScriptFault.{ScriptFault}
-use Rattle.ftc_script.specs.declared.line.ScriptLine.{ScriptLine}
 use Rattle.ftc_script.specs.declared.line.ScriptLine.TheVariants.{Crash, Recover}
 use Rattle.ftc_script.specs.declared.line.LoseLine.{LoseLine}
 use Rattle.ftc_script.specs.declared.statement.Statement.{Statement}
 use Rattle.ftc_script.specs.declared.statement.Statement.TheVariants as said
-use Rattle.ftc_script.specs.Steps.{all_live, with_at, live_after_all, last_of, IsInTurn, IsCrash, AreSteps}
+use Rattle.ftc_script.specs.Steps.{all_live, with_at, last_of, IsInTurn, IsCrash}
 use Rattle.ftc_script.specs.Script.{ScriptShape, IsScript, IsLose}
 use Rattle.ftc_script.specs.Words.{◌>>=◌, ◌>>◌, unless, statement_of}
 use Rattle.ftc_script.specs.Grammar.{ScriptDraft, no_lines, live_in, with_step, with_lose, in_turn, unless_gone, may_crash, may_recover, lose_line, add, line_step, fault_at, placed, down_of, finished, finish, script_from, script_of, IsDraft}

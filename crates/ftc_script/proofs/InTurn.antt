@@ -1,8 +1,8 @@
 -- Steps one after the other, and which servers are live behind them.
-use Rattle.std.proofs.Common.{◌≡◌, ◌<◌, ◌≤◌, ◌==◌, ℕ, zero, suc, ◌+◌, Bool, true, false, List, [], ◌∷◌, ◌++◌, Option, Some, None, take, if◌then◌else◌, refl, sym, ap, subst, add-one, ◌∙◌, arith}
+use Rattle.std.proofs.Common.{◌≡◌, ◌==◌, ℕ, zero, suc, ◌+◌, Bool, true, false, List, [], ◌∷◌, ◌++◌, Some, take, if◌then◌else◌, refl, ap, subst, add-one}
 use Rattle.std.specs.Prelude.{slice_get}
 use Rattle.ftc_ring.specs.Ring.{RingShape}
-use Rattle.ftc_ring.specs.Live.{IsLive, IsAdmissible}
+use Rattle.ftc_ring.specs.Live.{IsAdmissible}
 use Rattle.ftc_ring.proofs.Nearest.{more_live}
 use Rattle.ftc_script.specs.declared.line.ScriptLine.{ScriptLine}
 use Rattle.ftc_script.specs.declared.line.ScriptLine.TheVariants.{Crash, Recover}

@@ -1,5 +1,5 @@
 -- Texts of printed words: their lines and words are found again.
-use Rattle.std.proofs.Common.{◌≡◌, ◌≤◌, ℕ, zero, suc, ◌+◌, ◌-◌, ◌*◌, Bool, true, false, List, [], ◌∷◌, ◌++◌, length, get_or, refl, ap, ◌∙◌, arith, rules, Ok}
+use Rattle.std.proofs.Common.{◌≡◌, ◌≤◌, ℕ, zero, suc, Bool, true, false, List, [], ◌∷◌, ◌++◌, length, get_or, refl, ap, ◌∙◌, arith, rules, Ok}
 use Rattle.std.specs.Prelude.{◌==◌, ◌&&◌, nat_le, nat_lt, decimal}
 use Rattle.std.specs.List.{AllByRecursion, list_all, join_with_byte, onto_first}
 use Rattle.std.proofs.lemmas.Bool.Decides.{nat_tests}

@@ -1,27 +1,27 @@
 -- The plain text of a script's lines reads as that script.
-use Rattle.std.proofs.Common.{◌≡◌, ◌≤◌, ◌<◌, ℕ, zero, suc, ◌+◌, Bool, true, false, cond, List, [], ◌∷◌, ◌++◌, length, refl, ap, subst, ◌∙◌, sym, arith, rules, Option, Some, None, Result, Ok, Err, append-nil, if◌then◌else◌}
-use Rattle.std.specs.Prelude.{nat_le, nat_lt, not, codes, decimal, map}
+use Rattle.std.proofs.Common.{◌≡◌, ◌≤◌, ◌<◌, ℕ, zero, suc, ◌+◌, Bool, true, false, List, [], ◌∷◌, ◌++◌, length, refl, ap, subst, ◌∙◌, sym, arith, rules, Option, None, Result, Ok, append-nil}
+use Rattle.std.specs.Prelude.{nat_le, nat_lt, not, codes, map}
 use Rattle.std.specs.List.{AllByRecursion, join_with_byte, find, range_with_len}
 use Rattle.std.proofs.lemmas.List.{append_assoc}
 use Rattle.std.proofs.lemmas.Bool.Decides.{nat_tests}
 use Rattle.ftc_base.specs.Text.{lines_of, words_of}
-use Rattle.ftc_base.specs.declared.limits.TheConstants.{MOST_SERVERS, MOST_SCRIPT_BYTES}
+use Rattle.ftc_base.specs.declared.limits.TheConstants.{MOST_SCRIPT_BYTES}
 use Rattle.ftc_ring.specs.Ring.{RingShape, IsRing}
-use Rattle.ftc_ring.specs.Live.{IsLive, gone_of}
+use Rattle.ftc_ring.specs.Live.{gone_of}
 use Rattle.ftc_ring.proofs.Nearest.{gone_none}
 use Rattle.ftc_script.specs.declared.limits.TheConstants.{MOST_NUMBER}
 use Rattle.ftc_script.specs.declared.fault.ScriptCause.{ScriptCause}
-use Rattle.ftc_script.specs.declared.fault.ScriptCause.TheVariants.{TooLong, NotUp}
+use Rattle.ftc_script.specs.declared.fault.ScriptCause.TheVariants.{NotUp}
 use Rattle.ftc_script.specs.declared.fault.ScriptFault.{ScriptFault}
 use Rattle.ftc_script.specs.declared.line.ScriptLine.{ScriptLine}
 use Rattle.ftc_script.specs.declared.line.ScriptLine.TheVariants.{Crash, Recover}
 use Rattle.ftc_script.specs.declared.line.LoseLine.{LoseLine}
 use Rattle.ftc_script.specs.declared.statement.Statement.{Statement}
 use Rattle.ftc_script.specs.declared.statement.Statement.TheVariants as said
-use Rattle.ftc_script.specs.Steps.{at_of, all_live, with_at, live_after, live_after_all, last_of, IsStep, AreSteps}
+use Rattle.ftc_script.specs.Steps.{all_live, with_at, live_after, live_after_all, last_of, IsStep, AreSteps}
 use Rattle.ftc_script.specs.Script.{ScriptShape, IsScript, IsLose}
 use Rattle.ftc_script.specs.Words.{◌>>◌, unless, statement_of}
-use Rattle.ftc_script.specs.Grammar.{ScriptDraft, no_lines, live_in, with_step, with_lose, unless_gone, may_crash, add, line_step, placed, down_of, finish, finished, script_from, script_of, fault_at}
+use Rattle.ftc_script.specs.Grammar.{ScriptDraft, no_lines, live_in, with_step, with_lose, unless_gone, may_crash, add, line_step, placed, down_of, finish, script_from, script_of}
 use Rattle.ftc_script.specs.Plain.{words_in, plain_text, steps_in, loses_in}
 use Rattle.ftc_script.proofs.InTurn.{live_push, last_push}
 use Rattle.ftc_script.proofs.Letters.{IsPlainWord, lines_of-line, words_of-join, line_bytes-join, plain, plain_number, number_word-decimal}

@@ -78,7 +78,13 @@ impl Draft {
         ensures value { result ≡ gone_of ring.now (with_at (live_in self.now) server false) }
         ensures none { IfNone result (IsAdmissible ring.now (with_at (live_in self.now) server false)) }
     {
-        let down = down_behind(self.down, ScriptLine::Crash { at: self.last, server });
+        let down = down_behind(
+            self.down,
+            ScriptLine::Crash {
+                at: self.last,
+                server,
+            },
+        );
         ring.gone(down)
     }
 

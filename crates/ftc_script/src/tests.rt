@@ -1,6 +1,6 @@
 //! Scripts with the answers that they have to get.
 
-use crate::{ScriptCause, ScriptLine, read_script};
+use crate::{Script, ScriptCause, ScriptFault, ScriptLine, read_script};
 use ftc_base::{Refuse, ServerId};
 use ftc_ring::Ring;
 use std::alloc::Global;
@@ -10,14 +10,25 @@ use std::test::Fail;
 /// A text and what is wrong with it: the line and the number of the cause.
 type Case = (&'static str, Option<(u32, u8)>);
 
-/// What is wrong with a script for so many servers, of which one may be down, and so many packets.
-/// Memory that is refused counts as line 0.
-fn fault_of(rt: &impl Abort, alloc: Global, servers: u8, packets: u32, text: &[u8]) -> Option<(u32, u8)> {
-    let ring = Ring::new(servers, 1).expect(rt, "a ring");
-    match read_script(alloc, text, &ring, packets) {
-        Ok(_) => None,
-        Err(Refuse::Bad(fault)) => Some((fault.line, fault.cause.code())),
-        Err(Refuse::NoMemory) => Some((0, 0)),
+/// What is wrong, where a script was refused for a fault.
+fn fault_in(answer: Result<Script, Refuse<ScriptFault>>) -> Option<ScriptFault> {
+    match answer.err() {
+        Some(Refuse::Bad(fault)) => Some(fault),
+        _ => None,
+    }
+}
+
+/// What is wrong with a script for three servers, of which one may be down, and one packet.
+fn fault_of(rt: &impl Abort, alloc: Global, text: &[u8]) -> Option<ScriptFault> {
+    let ring = Ring::new(3, 1).expect(rt, "a ring");
+    fault_in(read_script(alloc, text, &ring, 1))
+}
+
+/// Its line and the number of its cause.
+fn place_of(fault: Option<ScriptFault>) -> Option<(u32, u8)> {
+    match fault {
+        Some(fault) => Some((fault.line, fault.cause.code())),
+        None => None,
     }
 }
 
@@ -25,7 +36,10 @@ const SCRIPTS: [Case; 22] = [
     ("", None),
     ("# fail\n \t\r\n\nlose 2 0", None),
     ("at 1 crash 0\n\nat\t1  recover 0\n", None),
-    ("at 0 crash 0\nat 0 recover 0\nat 1 crash 1\nat 1 recover 1\n", None),
+    (
+        "at 0 crash 0\nat 0 recover 0\nat 1 crash 1\nat 1 recover 1\n",
+        None,
+    ),
     ("fail 0\n", Some((1, 1))),
     ("at 0 crash 0 0\n", Some((1, 1))),
     ("at 0 crash\n", Some((1, 1))),
@@ -49,26 +63,33 @@ const SCRIPTS: [Case; 22] = [
 #[test]
 fn the_first_faulty_line_is_named(rt: HostRuntime) {
     for (text, wanted) in SCRIPTS {
-        assert_eq!(rt; fault_of(&rt, rt.alloc(), 3, 1, text.as_bytes()), wanted, "{text}");
+        assert_eq!(rt;
+            place_of(fault_of(&rt, rt.alloc(), text.as_bytes())),
+            wanted,
+            "{text}"
+        );
     }
 }
 
 #[test]
-fn the_smallest_group_and_server_are_named(rt: HostRuntime) -> Result<(), Fail> {
-    let ring = Ring::new(3, 1).expect(&rt, "a ring");
+fn the_smallest_group_and_server_are_named(rt: HostRuntime) {
     let group = ServerId::new(1).expect(&rt, "a group");
-    let gone = match read_script(rt.alloc(), b"at 0 crash 1\nat 0 crash 2\n", &ring, 1) {
-        Err(Refuse::Bad(fault)) => fault.cause == ScriptCause::GroupGone { group },
-        _ => false,
-    };
-    assert!(rt; gone);
+    let gone = fault_of(&rt, rt.alloc(), b"at 0 crash 1\nat 0 crash 2\n");
+    assert_eq!(rt;
+        gone,
+        Some(ScriptFault {
+            line: 2,
+            cause: ScriptCause::GroupGone { group }
+        })
+    );
     let server = ServerId::new(2).expect(&rt, "a server");
-    let down = match read_script(rt.alloc(), b"at 0 crash 2", &ring, 1) {
-        Err(Refuse::Bad(fault)) => fault.cause == ScriptCause::LeftDown { server },
-        _ => false,
-    };
-    assert!(rt; down);
-    Ok(())
+    assert_eq!(rt;
+        fault_of(&rt, rt.alloc(), b"at 0 crash 2"),
+        Some(ScriptFault {
+            line: 2,
+            cause: ScriptCause::LeftDown { server }
+        })
+    );
 }
 
 #[test]
@@ -96,8 +117,11 @@ fn an_accepted_script_tells_its_lines(rt: HostRuntime) -> Result<(), Fail> {
 #[test]
 fn a_script_may_be_too_long(rt: HostRuntime) -> Result<(), Fail> {
     let mut text = vec![in rt.alloc(); b' '; 1_048_577]?;
-    assert_eq!(rt; fault_of(&rt, rt.alloc(), 3, 1, text.as_slice()), Some((1, 9)));
+    assert_eq!(rt;
+        place_of(fault_of(&rt, rt.alloc(), text.as_slice())),
+        Some((1, 9))
+    );
     text.truncate(1_048_576);
-    assert_eq!(rt; fault_of(&rt, rt.alloc(), 3, 1, text.as_slice()), None);
+    assert_eq!(rt; place_of(fault_of(&rt, rt.alloc(), text.as_slice())), None);
     Ok(())
 }
