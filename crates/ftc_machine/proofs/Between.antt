@@ -1,6 +1,6 @@
 -- A recovery of server m between the nearest live servers r and t.
-use Rattle.std.proofs.Common.{◌≡◌, ◌≢◌, ℕ, ◌+◌, ◌-◌, ◌<◌, ◌≤◌, ◌==◌, ◌&&◌, ◌||◌, if◌then◌else◌, Bool, true, false, cond, not, List, ◌∷◌, ◌⊎◌, inl, inr, refl, sym, ap, subst, ◌∙◌, arith, nat_le, leb-true, leb-false, le-leb, eqb-true, eq-eqb}
-use Rattle.std.proofs.lemmas.Bool.{true≢false, eqb-false, cases_eq, cases_lt, cases_Bool, and_parts, and_from, cases_order, lt-leb}
+use Rattle.std.proofs.Common.{◌≡◌, ℕ, ◌+◌, ◌-◌, ◌<◌, ◌≤◌, if◌then◌else◌, Bool, true, false, ◌⊎◌, inl, inr, refl, sym, subst, ◌∙◌, arith, le-leb}
+use Rattle.std.proofs.lemmas.Bool.{true≢false, cases_eq, cases_lt, and_from, cases_order, lt-leb}
 use Rattle.ftc_machine.proofs.Carrying.{AreCarried, has_left, has_more}
 use Rattle.ftc_machine.specs.State.{ChainState}
 use Rattle.ftc_machine.specs.Trace.{Has, IsTouching}
@@ -9,7 +9,6 @@ use Rattle.ftc_machine.proofs.Premises.{IsAdmissible}
 use Rattle.ftc_machine.proofs.Ring.{IsLastLive, IsNextLive, apart_cases}
 use Rattle.ftc_machine.proofs.Undone.{IsUndone}
 use Rattle.ftc_machine.specs.Setting.{Setting, servers}
-use Rattle.ftc_serial.specs.Serial.{after}
 use Rattle.ftc_ring.specs.Ring.{apart}
 use Rattle.ftc_machine.specs.Changes.{is_touching}
 use Rattle.ftc_serial.specs.Removal.{left_of}
@@ -35,9 +34,9 @@ module _ (c : Setting) (s : ChainState) (m r t : ℕ) (inside : m < (servers c))
       elim (cases_order (apart n r z) (apart n r m)) [
         | inl same ↦ let e : z ≡ m = omega arith in subst (λ v. s.up v ≡ false) (sym e) down
         | inr other ↦ elim other [
-            | inl less ↦ before.between z lt (omega arith) (omega arith)
-            | inr more ↦ after.between z lt (omega arith) (elim between.1 [ inl same ↦ omega arith | inr less ↦ omega arith ])
-          ]
+          | inl less ↦ before.between z lt (omega arith) (omega arith)
+          | inr more ↦ after.between z lt (omega arith) (elim between.1 [ inl same ↦ omega arith | inr less ↦ omega arith ])
+        ]
       ]
 
   -- the live server t is the first live one from a head between
@@ -47,11 +46,11 @@ module _ (c : Setting) (s : ChainState) (m r t : ℕ) (inside : m < (servers c))
       elim (cases_lt (apart n i z) (apart n i t)) [
         | inr more ↦ more
         | inl less ↦
-          let ri = apart_cases n r i before.below il in let iz = apart_cases n i z il lt in let it = apart_cases n i t il after.below in
-          let rz = apart_cases n r z before.below lt in let rt = apart_cases n r t before.below after.below in
-          let pos : 0 < apart n r i = between.0 in
-          let zb : IsBetween n r t z = elim between.1 [ inl same ↦ (omega arith, inl same) | inr nearer ↦ (omega arith, inr (omega arith)) ] in
-          absurd (true≢false (sym live ∙ between_down z lt zb))
+            let ri = apart_cases n r i before.below il in let iz = apart_cases n i z il lt in let it = apart_cases n i t il after.below in
+            let rz = apart_cases n r z before.below lt in let rt = apart_cases n r t before.below after.below in
+            let pos : 0 < apart n r i = between.0 in
+            let zb : IsBetween n r t z = elim between.1 [ inl same ↦ (omega arith, inl same) | inr nearer ↦ (omega arith, inr (omega arith)) ] in
+            absurd (true≢false (sym live ∙ between_down z lt zb))
       ]
 
   pub member_after : IsAdmissible c s.up → (i : ℕ) → i < (servers c) → IsBetween (servers c) r t i → apart (servers c) i t ≤ c.failures
@@ -68,10 +67,10 @@ module _ (c : Setting) (s : ChainState) (m r t : ℕ) (inside : m < (servers c))
       elim (cases_lt (apart n i t) ((j - i) + apart n j x)) [
         | inl behind ↦ h.wake i j q is le touching t after.below after.live member behind
         | inr ahead ↦
-          let first : apart n i t ≤ apart n i x = first_after i x il between xl live in
-          let it = apart_cases n i t il after.below in let ix = apart_cases n i x il xl in let jx = apart_cases n j x jl xl in
-          let same : x ≡ t = omega arith in
-          ready same i q (h.together i j q is le touching (omega arith))
+            let first : apart n i t ≤ apart n i x = first_after i x il between xl live in
+            let it = apart_cases n i t il after.below in let ix = apart_cases n i x il xl in let jx = apart_cases n j x jl xl in
+            let same : x ≡ t = omega arith in
+            ready same i q (h.together i j q is le touching (omega arith))
       ]
 
   pub fetched_r : (j p : ℕ) → apart (servers c) j m ≤ c.failures → apart (servers c) r m ≤ apart (servers c) j m → In (s.lists r) j p → In (list_got c s m r t) j p
@@ -88,13 +87,16 @@ module _ (c : Setting) (s : ChainState) (m r t : ℕ) (inside : m < (servers c))
       let had = carried_had admissible logs x xl live ready h in
       let stood : (i q : ℕ) → IsTouching (left_of gone s.trace) i q → IsTouching s.trace i q = λ i q t'. (visit_stood gone (λ o. is_touching o ≡ true) s.trace i q t').0 in
       record {
-        member = λ j q is. let w = h.member j q is in
-          (w.0, w.1, visit_left gone (λ o. is_touching o ≡ true) s.trace j q w.2 (elim (gone j q) as (λ b. gone j q ≡ b → b ≡ false) [
+        member = λ j q is. let w = h.member j q is in (
+          w.0,
+          w.1,
+          visit_left gone (λ o. is_touching o ≡ true) s.trace j q w.2 (elim (gone j q) as (λ b. gone j q ≡ b → b ≡ false) [
             | true ↦ λ g. let u = undone j q g in absurd (u.2.3 (had u.0 j q is u.1 u.2.0 (u.2.1, u.2.2)))
             | false ↦ λ g. refl
-          ] refl));
+          ] refl),
+        );
         wake = λ i j q is le t' y lt. with_at_cases (λ (b : Bool). b ≡ true → apart n i y ≤ c.failures → apart n i y < (j - i) + apart n j x → Has c.partitions (left_of gone s.trace) (with_at s.lists m (list_got c s m r t) y) i q) s.up m true y
-          (λ e u member behind.
+            (λ e u member behind.
             let touching = stood i q t' in let jl : j < n = (h.member j q is).0 in let il : i < n = omega arith in
             let im_member : apart n i m ≤ c.failures = subst (λ v. apart n i v ≤ c.failures) e member in
             let im_behind : apart n i m < (j - i) + apart n j x = subst (λ v. apart n i v < (j - i) + apart n j x) e behind in
@@ -107,7 +109,7 @@ module _ (c : Setting) (s : ChainState) (m r t : ℕ) (inside : m < (servers c))
                   (had i j q is le touching (omega arith, between_by i il head))
             ] in
             has_left c.partitions s.trace gone _ i q (with_at_cases (λ (v : Visits). Has c.partitions s.trace v i q) s.lists m (list_got c s m r t) y (λ _. got) (λ ne. absurd (ne e))))
-          (λ ne live_y member behind. has_left c.partitions s.trace gone _ i q
+            (λ ne live_y member behind. has_left c.partitions s.trace gone _ i q
             (with_at_cases (λ (v : Visits). Has c.partitions s.trace v i q) s.lists m (list_got c s m r t) y (λ e. absurd (ne e)) (λ _. h.wake i j q is le (stood i q t') y lt live_y member behind)));
         together = λ i j q is le t' near. h.together i j q is le (stood i q t') near;
       }
@@ -120,9 +122,9 @@ module _ (c : Setting) (s : ChainState) (m r t : ℕ) (inside : m < (servers c))
           elim (cases_eq r t) [
             | inl same ↦ inl same
             | inr other ↦ elim (cases_lt (apart n r i) (apart n r t)) [
-                | inl less ↦ inr less
-                | inr more ↦
+              | inl less ↦ inr less
+              | inr more ↦
                   let tm = apart_cases n t m after.below inside in
                   absurd (true≢false (sym after.live ∙ before.between t after.below (omega arith) (omega arith)))
-              ]
+            ]
           ]

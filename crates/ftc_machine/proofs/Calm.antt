@@ -1,5 +1,5 @@
 -- Where no server crashes and no link loses anything, all servers stay up, there is never a gap, and nothing is lost.
-use Rattle.std.proofs.Common.{◌≡◌, ℕ, ◌+◌, ◌<◌, ◌==◌, ◌&&◌, ◌||◌, ◌⊎◌, if◌then◌else◌, Bool, true, false, not, List, [], ◌∷◌, inl, inr, refl, sym, ap, subst, ◌∙◌, arith, Some, None, lt-ltb}
+use Rattle.std.proofs.Common.{◌≡◌, ℕ, ◌<◌, ◌&&◌, ◌||◌, ◌⊎◌, Bool, true, false, not, List, [], ◌∷◌, inl, inr, refl, sym, ap, subst, ◌∙◌, arith, lt-ltb}
 use Rattle.std.specs.List.{AllByRecursion}
 use Rattle.std.proofs.lemmas.Bool.{true≢false}
 use Rattle.ftc_ring.specs.Ring.{next_of}
@@ -8,8 +8,8 @@ use Rattle.ftc_journal.specs.declared.event.Event.TheVariants.{Apply, Carry, Cra
 use Rattle.ftc_serial.proofs.Functions.{with_at_cases}
 use Rattle.ftc_machine.specs.declared.fate.Fate.{Fate}
 use Rattle.ftc_machine.specs.declared.fate.Fate.TheVariants.{Released, Filtered, Lost, Inside}
-use Rattle.ftc_machine.specs.Setting.{Setting, servers, count, IsSetting}
-use Rattle.ftc_machine.specs.State.{ChainState, Message, Where, Held, Queued, opening}
+use Rattle.ftc_machine.specs.Setting.{Setting, servers, IsSetting}
+use Rattle.ftc_machine.specs.State.{ChainState, Message, opening}
 use Rattle.ftc_machine.specs.Legal.{MayHappen, MayLeave, IsNextLine, is_sent}
 use Rattle.ftc_machine.specs.Next.{next, is_away}
 use Rattle.ftc_machine.specs.Run.{AreLegal, IsRun, IsFinished, state_after}
@@ -21,7 +21,6 @@ use Rattle.ftc_machine.proofs.Ring.{apart_after}
 use Rattle.ftc_machine.proofs.Awake.{IsUp}
 use Rattle.ftc_machine.proofs.Losing.{lost_by}
 use Rattle.ftc_machine.proofs.Complete.{IsReached, keeps_reached, opens_reached, completes}
-use Rattle.ftc_machine.specs.Finish.{IsComplete}
 
 pub record IsCalm (c : Setting) (s : ChainState) : Type 0 where
   pub lines : s.lines ≡ []
@@ -82,9 +81,11 @@ module _ (c : Setting) (good : IsGood c) (quiet : IsQuiet c) (s : ChainState) (r
   keeps_calm (Apply k p j q) legal = record { lines = calm.lines; up = calm.up; gap = calm.gap; kept = calm.kept }
   keeps_calm (Visit k p w) legal = record { lines = calm.lines; up = calm.up; gap = calm.gap; kept = none_lost (Visit k p w) legal }
   keeps_calm (Pass k p) legal = record {
-    lines = calm.lines; up = calm.up; kept = none_lost (Pass k p) legal;
+    lines = calm.lines;
+    up = calm.up;
+    kept = none_lost (Pass k p) legal;
     gap = λ l. with_at_cases (λ v. v ≡ false) s.gap k _ l
-      (λ same. both (s.gap k) (is_sent c k) (is_away c s k false) (calm.gap k) (stays k (here k p legal.0 legal.1))) (λ other. calm.gap l);
+        (λ same. both (s.gap k) (is_sent c k) (is_away c s k false) (calm.gap k) (stays k (here k p legal.0 legal.1))) (λ other. calm.gap l);
   }
     where
       both : (g b a : Bool) → g ≡ false → a ≡ false → (g || (b && a)) ≡ false

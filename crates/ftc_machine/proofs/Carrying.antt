@@ -1,6 +1,6 @@
 -- What a message carries: where its logs have been, each live member has what they say, and the logs of one packet go together.
-use Rattle.std.proofs.Common.{◌≡◌, ◌≢◌, ℕ, ◌+◌, ◌-◌, ◌<◌, ◌≤◌, ◌==◌, ◌&&◌, ◌||◌, if◌then◌else◌, Bool, true, false, cond, not, List, ◌∷◌, ◌⊎◌, inl, inr, refl, sym, ap, subst, ◌∙◌, arith, nat_le, leb-true, leb-false, le-leb, eqb-true, eq-eqb}
-use Rattle.std.proofs.lemmas.Bool.{true≢false, eqb-false, cases_eq, cases_lt, cases_Bool, and_parts, and_from, or_cases, not-true, or_left, or_right, not_from_false, cases_order}
+use Rattle.std.proofs.Common.{◌≡◌, ◌≢◌, ℕ, ◌+◌, ◌-◌, ◌<◌, ◌≤◌, ◌==◌, ◌&&◌, Bool, true, false, not, List, ◌∷◌, inl, inr, refl, sym, subst, arith, eqb-true}
+use Rattle.std.proofs.lemmas.Bool.{eqb-false, cases_lt, and_parts, and_from, not-true, not_from_false}
 use Rattle.ftc_serial.specs.Serial.{Entry, Visited}
 use Rattle.ftc_machine.specs.Trace.{Has, IsInTrace, IsTouching}
 use Rattle.ftc_machine.specs.Visits.{In, Visits, just}
@@ -21,8 +21,8 @@ pub has_left : (part : ℕ) (trace : List Entry) (gone set : Visits) (j p : ℕ)
 has_left part trace gone set j p h = record {
   changing = λ is. h.changing (visit_stood gone (λ o. is_changing part o ≡ true) trace j p is).0;
   other = λ not_changing q before.
-    let stays : gone j p ≡ false = (visit_stood gone (λ o. Unit {0}) trace j p (before_last part (left_of gone trace) j q p before)).1 in
-    h.other (λ is. not_changing (visit_left gone (λ o. is_changing part o ≡ true) trace j p is stays)) q (before_left gone part trace j q p before);
+      let stays : gone j p ≡ false = (visit_stood gone (λ o. Unit {0}) trace j p (before_last part (left_of gone trace) j q p before)).1 in
+      h.other (λ is. not_changing (visit_left gone (λ o. is_changing part o ≡ true) trace j p is stays)) q (before_left gone part trace j q p before);
 }
 
 -- another visit in the trace
@@ -60,11 +60,11 @@ module _ (c : Setting) (small : c.failures < (servers c)) where
       → AreCarried c trace up has logs x → AreCarried c (Visited k p o ∷ trace) up has logs x
   visited trace up has logs x k p o earlier h =
       let old : (i j q : ℕ) → In logs j q → i ≤ j → IsTouching (Visited k p o ∷ trace) i q → IsTouching trace i q × ((k ≡ i) × (p ≡ q) → ⊥) = λ i j q is le t.
-          let not_new : (k ≡ i) × (p ≡ q) → ⊥ = λ e.
-              let stands : IsInTrace (λ o. Unit {0}) trace j p = stands_map _ (λ o. Unit {0}) (λ o t. tt) trace j p (subst (λ v. IsTouching trace j v) (sym e.1) (h.member j q is).2) in
-              let below : j < k = earlier j stands in
-              let same : k ≡ i = e.0 in omega arith in
-          (elim t [ inl here ↦ absurd (not_new (here.0, here.1)) | inr there ↦ there ], not_new) in
+      let not_new : (k ≡ i) × (p ≡ q) → ⊥ = λ e.
+      let stands : IsInTrace (λ o. Unit {0}) trace j p = stands_map _ (λ o. Unit {0}) (λ o t. tt) trace j p (subst (λ v. IsTouching trace j v) (sym e.1) (h.member j q is).2) in
+      let below : j < k = earlier j stands in
+      let same : k ≡ i = e.0 in omega arith in
+      (elim t [ inl here ↦ absurd (not_new (here.0, here.1)) | inr there ↦ there ], not_new) in
       record {
         member = λ j q is. let m = h.member j q is in (m.0, m.1, inr m.2);
         wake = λ i j q is le t y below live m less. let w = old i j q is le t in has_grown c.partitions trace k p o (has y) i q w.1 (h.wake i j q is le w.0 y below live m less);
@@ -91,30 +91,35 @@ module _ (c : Setting) (small : c.failures < (servers c)) where
   passes trace up has logs k below ready h =
       let n = (servers c) in let f = c.failures in let m = next_of n k in
       let parts : (j q : ℕ) → In (λ j q. logs j q && not (is_tail c j k)) j q → In logs j q × (j < n) × (apart n j k < f) × IsTouching trace j q × (apart n j m ≡ apart n j k + 1) =
-          λ j q is. let a = and_parts _ _ is in let w = h.member j q a.0 in
-            let no_tail : apart n j k ≢ f = eqb-false _ _ (not-true _ a.1) in
-            let less : apart n j k < f = omega (arith, w.1) in
-            (a.0, w.0, less, w.2, elim (apart_after n k below) [
-              | inr just ↦ absurd (omega arith)
-              | inl step ↦ let jk = apart_cases n j k w.0 below in let jm = apart_cases n j m w.0 step.1 in let s = step.0 in omega arith
-            ]) in
+      λ j q is. let a = and_parts _ _ is in let w = h.member j q a.0 in
+      let no_tail : apart n j k ≢ f = eqb-false _ _ (not-true _ a.1) in
+      let less : apart n j k < f = omega (arith, w.1) in (
+        a.0,
+        w.0,
+        less,
+        w.2,
+        elim (apart_after n k below) [
+          | inr just ↦ absurd (omega arith)
+          | inl step ↦ let jk = apart_cases n j k w.0 below in let jm = apart_cases n j m w.0 step.1 in let s = step.0 in omega arith
+        ],
+      ) in
       record {
         member = λ j q is. let w = parts j q is in (w.1, omega (arith, w.2, w.4), w.3);
         wake = λ i j q is le t y lt live member less.
-          let w = parts j q is in
-          let jb : j < n = w.1 in let iy = apart_cases n i y (omega arith) lt in let ik = apart_cases n i k (omega arith) below in let jk = apart_cases n j k jb below in
-          let far : apart n j m ≡ apart n j k + 1 = w.4 in
-          elim (cases_lt (apart n i y) ((j - i) + apart n j k)) [
-            | inl behind ↦ h.wake i j q w.0 le t y lt live member behind
-            | inr here ↦
-              let same : y ≡ k = omega arith in
-              subst (λ v. Has c.partitions trace (has v) i q) (sym same) (ready i q (h.together i j q w.0 le t (omega arith)))
-          ];
+            let w = parts j q is in
+            let jb : j < n = w.1 in let iy = apart_cases n i y (omega arith) lt in let ik = apart_cases n i k (omega arith) below in let jk = apart_cases n j k jb below in
+            let far : apart n j m ≡ apart n j k + 1 = w.4 in
+            elim (cases_lt (apart n i y) ((j - i) + apart n j k)) [
+              | inl behind ↦ h.wake i j q w.0 le t y lt live member behind
+              | inr here ↦
+                  let same : y ≡ k = omega arith in
+                  subst (λ v. Has c.partitions trace (has v) i q) (sym same) (ready i q (h.together i j q w.0 le t (omega arith)))
+            ];
         together = λ i j q is le t near.
-          let w = parts j q is in let jb : j < n = w.1 in let far : apart n j m ≡ apart n j k + 1 = w.4 in
-          let ik = apart_cases n i k (omega arith) below in let jk = apart_cases n j k jb below in
-          let no_tail : apart n i k ≢ f = omega arith in
-          and_from _ _ (h.together i j q w.0 le t (omega arith)) (not_from_false _ (false_from_ne (apart n i k) f no_tail));
+            let w = parts j q is in let jb : j < n = w.1 in let far : apart n j m ≡ apart n j k + 1 = w.4 in
+            let ik = apart_cases n i k (omega arith) below in let jk = apart_cases n j k jb below in
+            let no_tail : apart n i k ≢ f = omega arith in
+            and_from _ _ (h.together i j q w.0 le t (omega arith)) (not_from_false _ (false_from_ne (apart n i k) f no_tail));
       }
     where
       false_from_ne : (a b : ℕ) → a ≢ b → (a == b) ≡ false

@@ -1,20 +1,18 @@
 -- What is so of a finished run.
-use Rattle.std.proofs.Common.{◌≡◌, ◌≢◌, ℕ, zero, suc, ◌+◌, ◌<◌, ◌≤◌, Bool, true, false, List, [], ◌∷◌, refl, sym, ap, subst, ◌∙◌, arith, inl, inr, leb-true, eqb-true, Option, Some, None, ◌↔◌}
+use Rattle.std.proofs.Common.{◌≡◌, ◌≢◌, ℕ, ◌+◌, ◌<◌, ◌≤◌, true, false, List, [], ◌∷◌, refl, sym, ap, subst, ◌∙◌, arith, inl, inr, leb-true, Some, None, ◌↔◌}
 use Rattle.std.specs.List.{AllByRecursion}
-use Rattle.std.proofs.lemmas.Bool.{true≢false, cases_eq, cases_lt, cases_Bool}
+use Rattle.std.proofs.lemmas.Bool.{cases_eq, cases_lt, cases_Bool}
 use Rattle.std.proofs.lemmas.Option.{none-some}
-use Rattle.ftc_ring.specs.Ring.{apart, next_of, previous_of}
 use Rattle.ftc_journal.specs.declared.event.Event.{Event}
 use Rattle.ftc_journal.specs.declared.event.Event.TheVariants as event
 use Rattle.ftc_script.specs.declared.line.ScriptLine.{ScriptLine}
 use Rattle.ftc_script.specs.declared.line.ScriptLine.TheVariants.{Crash, Recover}
 use Rattle.ftc_script.specs.Steps.{at_of, live_after_all}
-use Rattle.ftc_serial.specs.Serial.{Entry}
 use Rattle.ftc_machine.specs.declared.fate.Fate.TheVariants.{Inside}
 use Rattle.ftc_machine.specs.Setting.{Setting, servers, count, is_member, IsSetting}
 use Rattle.ftc_machine.specs.Visits.{In}
-use Rattle.ftc_machine.specs.Trace.{IsChanging, content_of}
-use Rattle.ftc_machine.specs.State.{ChainState, Message, Withheld, opening}
+use Rattle.ftc_machine.specs.Trace.{IsChanging}
+use Rattle.ftc_machine.specs.State.{ChainState, Message, opening}
 use Rattle.ftc_machine.specs.Legal.{IsLegal, MayHappen}
 use Rattle.ftc_machine.specs.Recovery.{undone_visits}
 use Rattle.ftc_machine.specs.Next.{next}
@@ -24,7 +22,6 @@ use Rattle.ftc_machine.specs.Finish.{IsComplete}
 use Rattle.ftc_machine.proofs.Premises.{IsGood}
 use Rattle.ftc_machine.proofs.Supposed.{is_good, opens_fit}
 use Rattle.ftc_machine.proofs.Places.{serial_of}
-use Rattle.ftc_machine.proofs.Ring.{apart_before, apart_cases}
 use Rattle.ftc_machine.proofs.Stores.{store_all}
 use Rattle.ftc_machine.proofs.Sound.{serial_runs}
 use Rattle.ftc_machine.proofs.Finished.{IsLive, keeps_live, live_opens, stuck, no_messages, quiet_gaps}
@@ -109,15 +106,20 @@ module _ (c : Setting) (good : IsGood c) (s : ChainState) (r : IsReached c s) (f
   none_withheld : (packet : ℕ) → s.withheld packet ≡ None
   none_withheld packet = elim (s.withheld packet) as (λ o. s.withheld packet ≡ o → o ≡ None) [
     | None ↦ λ e. refl
-    | Some w ↦ λ e. absurd (stop (event.Propagate (count c + s.propagates))
-        (all_in, all_up, (λ q m there v place. no_message q m there),
-        inr (record { messages = gone; gaps = gaps; packet = packet; withheld = λ none_there. none-some w (sym none_there ∙ e) }), refl))
+    | Some w ↦ λ e. absurd (stop (event.Propagate (count c + s.propagates)) (
+      all_in,
+      all_up,
+      (λ q m there v place. no_message q m there),
+      inr (record { messages = gone; gaps = gaps; packet = packet; withheld = λ none_there. none-some w (sym none_there ∙ e) }),
+      refl,
+    ))
   ] refl
 
   same_lists : (group server packet : ℕ) → server < servers c → is_member c group server ≡ true → group < servers c → In (s.lists server) group packet ↔ IsChanging c.partitions s.trace group packet
   same_lists group server packet below member group_below = (
     (λ is. (r.live.inv.world.lists.listed server group packet is).1),
-    λ changing. full c s r.live all_up gone gaps no_logs group server packet below group_below (leb-true _ _ member) changing)
+    λ changing. full c s r.live all_up gone gaps no_logs group server packet below group_below (leb-true _ _ member) changing,
+  )
 
   no_inside : (packet : ℕ) → packet < count c → s.fate packet ≢ Inside
   no_inside packet below is =
@@ -140,7 +142,7 @@ module _ (c : Setting) (good : IsGood c) (s : ChainState) (r : IsReached c s) (f
     end = serial_of c s.trace;
     serial = serial_runs c s.trace r.live.inv.world.serial;
     stores = λ group server below member group_below.
-      store_all c good.sound s.trace r.live.inv.world.serial group (s.lists server group) (λ packet changing. (same_lists group server packet below member group_below).1 changing);
+        store_all c good.sound s.trace r.live.inv.world.serial group (s.lists server group) (λ packet changing. (same_lists group server packet below member group_below).1 changing);
     fates = no_inside;
   }
 

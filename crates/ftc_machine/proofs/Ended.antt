@@ -1,6 +1,6 @@
 -- How many of the packets that have entered have no message any more.
-use Rattle.std.proofs.Common.{◌≡◌, ◌≢◌, ℕ, zero, suc, ◌+◌, ◌<◌, ◌≤◌, if◌then◌else◌, Bool, true, false, refl, sym, ap, subst, ◌∙◌, arith, inl, inr, Option, Some, None, is_some}
-use Rattle.std.proofs.lemmas.Bool.{true≢false, cases_eq}
+use Rattle.std.proofs.Common.{◌≡◌, ℕ, zero, suc, ◌+◌, ◌<◌, ◌≤◌, if◌then◌else◌, Bool, true, false, refl, sym, ap, subst, ◌∙◌, arith, inl, inr, Option, is_some}
+use Rattle.std.proofs.lemmas.Bool.{cases_eq}
 use Rattle.ftc_machine.specs.State.{Message}
 
 -- one for a packet without a message
@@ -31,14 +31,14 @@ pub ended_one : (n : ℕ) (old new : ℕ → Option Message) → ((p : ℕ) → 
 ended_one zero old new fewer p less was gone = absurd (omega arith)
 ended_one (suc n) old new fewer p less was gone = elim (cases_eq p n) [
   | inl same ↦
-    let rest = ended_more n old new (λ q below. fewer q (omega arith)) in
-    let before : one_if (is_some (old n)) ≡ 0 = ap (λ (b : Bool). one_if b) (ap (λ x. is_some (old x)) (sym same) ∙ was) in
-    let behind : one_if (is_some (new n)) ≡ 1 = ap (λ (b : Bool). one_if b) (ap (λ x. is_some (new x)) (sym same) ∙ gone) in
-    omega arith
+      let rest = ended_more n old new (λ q below. fewer q (omega arith)) in
+      let before : one_if (is_some (old n)) ≡ 0 = ap (λ (b : Bool). one_if b) (ap (λ x. is_some (old x)) (sym same) ∙ was) in
+      let behind : one_if (is_some (new n)) ≡ 1 = ap (λ (b : Bool). one_if b) (ap (λ x. is_some (new x)) (sym same) ∙ gone) in
+      omega arith
   | inr other ↦
-    let rest = ended_one n old new (λ q below. fewer q (omega arith)) p (omega arith) was gone in
-    let here = one_more (is_some (old n)) (is_some (new n)) (fewer n (omega arith)) in
-    omega arith
+      let rest = ended_one n old new (λ q below. fewer q (omega arith)) p (omega arith) was gone in
+      let here = one_more (is_some (old n)) (is_some (new n)) (fewer n (omega arith)) in
+      omega arith
 ]
 
 pub ended_most : (n : ℕ) (message : ℕ → Option Message) → ended n message ≤ n

@@ -1,7 +1,7 @@
 -- A release, and a crash.
-use Rattle.std.proofs.Common.{◌≡◌, ◌≢◌, ℕ, suc, ◌+◌, ◌-◌, ◌<◌, ◌≤◌, ◌==◌, ◌&&◌, ◌||◌, if◌then◌else◌, nat_le, nat_lt, Bool, true, false, cond, not, List, [], ◌∷◌, ◌⊎◌, inl, inr, refl, sym, ap, subst, ◌∙◌, arith, ◌↔◌, eqb-true, Option, Some, None, is_some, eq-eqb, ltb-true, lt-ltb}
-use Rattle.std.proofs.lemmas.Bool.{true≢false, eqb-false, cases_eq, cases_lt, cases_Bool, and_parts, and_from, or_left, or_right, or_cases, or_parts, not-true, ne_eqb}
-use Rattle.std.proofs.lemmas.Option.{none-some, same_Some}
+use Rattle.std.proofs.Common.{◌≡◌, ◌≢◌, ℕ, ◌+◌, ◌-◌, ◌==◌, if◌then◌else◌, true, false, not, List, ◌∷◌, inl, inr, refl, sym, ap, subst, ◌∙◌, arith, Option, Some, None}
+use Rattle.std.proofs.lemmas.Bool.{true≢false, eqb-false, and_parts, not-true}
+use Rattle.std.proofs.lemmas.Option.{none-some}
 use Rattle.ftc_script.specs.declared.line.ScriptLine.TheVariants as script_line
 use Rattle.ftc_machine.specs.State.{ChainState, Message, Withheld}
 use Rattle.ftc_journal.specs.declared.event.Event.TheVariants.{Crash, Release}
@@ -23,8 +23,6 @@ use Rattle.ftc_ring.specs.Ring.{next_of}
 use Rattle.ftc_serial.specs.Words.{with_at}
 use Rattle.ftc_serial.proofs.Functions.{with_at_cases}
 use Rattle.ftc_machine.proofs.World.{world_down, world_given}
-use Rattle.ftc_machine.proofs.Carrying as carrying
-use Rattle.ftc_machine.proofs.Between as between
 
 module _ (c : Setting) (good : IsGood c) (s : ChainState) (h : Inv c s) where
   -- a packet whose needs are all known is safe
@@ -34,8 +32,8 @@ module _ (c : Setting) (good : IsGood c) (s : ChainState) (h : Inv c s) where
       record {
         changing = λ is. ((knows_safe c s h ((servers c) - 1) i p (has.changing is)).within y lt live member near).changing is;
         other = λ not_changing q before.
-          let safe = knows_safe c s h ((servers c) - 1) i q (has.other not_changing q before) in
-          (safe.within y lt live member near).changing safe.changing;
+            let safe = knows_safe c s h ((servers c) - 1) i q (has.other not_changing q before) in
+            (safe.within y lt live member near).changing safe.changing;
       }
 
   pub releases : (p : ℕ) → MayHappen c s (Release p) → Inv c (next c s (Release p))
@@ -46,7 +44,7 @@ module _ (c : Setting) (good : IsGood c) (s : ChainState) (h : Inv c s) where
       let world = world_given c good.some good.sound s.trace s.up s.lists h.world p (bytes_withheld (s.withheld p)) here (due_safe p w due) in
       let old : (P : Outcome → Type 0) (i q : ℕ) → IsInTrace P trace' i q → IsInTrace P s.trace i q = λ P i q t. elim t [ inl at ↦ absurd at | inr there ↦ there ] in
       let place : (q : ℕ) → ((q ≡ p) → ⊥) → (serial_of c trace').place q ≡ (serial_of c s.trace).place q =
-          λ q ne. with_at_cases (λ v. v ≡ (serial_of c s.trace).place q) (serial_of c s.trace).place p Released q (λ e. absurd (ne e)) (λ _. refl) in
+      λ q ne. with_at_cases (λ v. v ≡ (serial_of c s.trace).place q) (serial_of c s.trace).place p Released q (λ e. absurd (ne e)) (λ _. refl) in
       let moves : (i q d : ℕ) → IsWithin c s.trace s.up s.lists i q d → IsWithin c trace' s.up s.lists i q d = λ i q d v. within_given c s.trace s.up s.lists i q d v p (bytes_withheld (s.withheld p)) in
       record {
         world = world;
@@ -56,8 +54,8 @@ module _ (c : Setting) (good : IsGood c) (s : ChainState) (h : Inv c s) where
           carried = carried_given c s.trace s.up s.lists m.logs _ p _ m_old.carried;
           told = λ a b is. let safe = m_old.told a b is in record { changing = inr safe.changing; within = moves a b n safe.within };
           under_way = λ bytes is. under_way_moves c s.trace trace' s.up s.up s.lists s.lists q m bytes
-            (place q (λ e. none-some bytes (sym (h.single p w m due.0 (subst (λ x. s.message x ≡ Some m) e e')) ∙ is)))
-            (λ i t. old _ i q t) (λ i d t v. moves i q d v) (m_old.under_way bytes is);
+              (place q (λ e. none-some bytes (sym (h.single p w m due.0 (subst (λ x. s.message x ≡ Some m) e e')) ∙ is)))
+              (λ i t. old _ i q t) (λ i d t v. moves i q d v) (m_old.under_way bytes is);
         };
         entered = h.entered;
         forward = carried_given c s.trace s.up s.lists s.forwarder _ p _ h.forward;
@@ -95,10 +93,10 @@ module _ (c : Setting) (good : IsGood c) (s : ChainState) (h : Inv c s) where
         withheld = λ q w. elim (k + 1 == n) as (λ b. k + 1 == n ≡ b → (if b then None else s.withheld q) ≡ Some w → IsWithheld c s.trace up' q w) [
           | true ↦ λ t is. absurd (none-some w is)
           | false ↦ λ t is. let x = h.withheld q w is in record {
-              place = x.place;
-              live = with_at_cases (λ b. b ≡ true) s.up k false (n - 1) (λ e. let ne : k + 1 ≢ n = eqb-false _ _ t in let some' = good.some in absurd (ne (omega arith))) (λ ne. x.live);
-              needs = x.needs;
-            }
+            place = x.place;
+            live = with_at_cases (λ b. b ≡ true) s.up k false (n - 1) (λ e. let ne : k + 1 ≢ n = eqb-false _ _ t in let some' = good.some in absurd (ne (omega arith))) (λ ne. x.live);
+            needs = x.needs;
+          }
         ] refl;
         single = λ q w m. elim (k + 1 == n) as (λ b. (if b then None else s.withheld q) ≡ Some w → drop_if (λ (x : Message). is_at c k x.place) (s.message q) ≡ Some m → m.packet ≡ None) [
           | true ↦ λ is e. absurd (none-some w is)

@@ -1,7 +1,7 @@
 -- The induction: every state of a run.
-use Rattle.std.proofs.Common.{◌≡◌, ◌≢◌, ℕ, suc, ◌+◌, ◌-◌, ◌<◌, ◌≤◌, ◌==◌, ◌&&◌, ◌||◌, if◌then◌else◌, nat_le, nat_lt, Bool, true, false, cond, not, List, [], ◌∷◌, ◌⊎◌, inl, inr, refl, sym, ap, subst, ◌∙◌, arith, ◌↔◌, eqb-true, Option, Some, None, is_some, eq-eqb, ltb-true, lt-ltb}
-use Rattle.std.proofs.lemmas.Bool.{true≢false, eqb-false, cases_eq, cases_lt, cases_Bool, and_parts, and_from, or_left, or_right, or_cases, or_parts, not-true, ne_eqb}
-use Rattle.std.proofs.lemmas.Option.{none-some, same_Some}
+use Rattle.std.proofs.Common.{List, [], ◌∷◌, sym, ap, ltb-true}
+use Rattle.std.proofs.lemmas.Bool.{true≢false}
+use Rattle.std.proofs.lemmas.Option.{none-some}
 use Rattle.std.specs.Prelude.{option_map}
 use Rattle.std.proofs.lemmas.Option.{slice_get-get_or}
 use Rattle.ftc_serial.specs.declared.position.Position.TheVariants as position
@@ -20,8 +20,6 @@ use Rattle.ftc_ring.specs.Ring.{next_of}
 use Rattle.ftc_machine.specs.Visits.{no_visits}
 use Rattle.ftc_machine.proofs.Recovering.{recovers_event}
 use Rattle.ftc_machine.proofs.Visiting.{visits}
-use Rattle.ftc_machine.proofs.Carrying as carrying
-use Rattle.ftc_machine.proofs.Between as between
 use Rattle.ftc_machine.proofs.Inv as inv
 use Rattle.ftc_machine.proofs.SmallEvents as small
 

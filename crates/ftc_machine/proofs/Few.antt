@@ -1,6 +1,6 @@
 -- A run has few messages without a packet.
-use Rattle.std.proofs.Common.{◌≡◌, ◌≢◌, ℕ, zero, suc, ◌+◌, ◌<◌, ◌≤◌, ◌==◌, ◌&&◌, ◌||◌, ◌⊎◌, if◌then◌else◌, Bool, true, false, List, [], ◌∷◌, length, filter, refl, sym, ap, subst, ◌∙◌, arith, inl, inr, eq-eqb, Option, Some, None}
-use Rattle.std.proofs.lemmas.Bool.{true≢false, cases_Bool, cases_eq, and_from, or_right}
+use Rattle.std.proofs.Common.{◌≡◌, ◌≢◌, ℕ, ◌+◌, ◌<◌, ◌≤◌, ◌&&◌, if◌then◌else◌, Bool, true, false, List, [], ◌∷◌, length, refl, sym, ap, subst, ◌∙◌, arith, inl, inr, eq-eqb, Some, None}
+use Rattle.std.proofs.lemmas.Bool.{true≢false, cases_Bool, and_from, or_right}
 use Rattle.std.proofs.lemmas.Option.{none-some, same_Some}
 use Rattle.ftc_ring.specs.Ring.{apart}
 use Rattle.ftc_journal.specs.declared.event.VisitName.{VisitName}
@@ -11,18 +11,16 @@ use Rattle.ftc_script.specs.declared.line.ScriptLine.TheVariants as script_line
 use Rattle.ftc_serial.proofs.Functions.{with_at_cases}
 use Rattle.ftc_machine.specs.Setting.{Setting, servers, count, is_tail, IsSetting}
 use Rattle.ftc_machine.specs.Visits.{In}
-use Rattle.ftc_machine.specs.Trace.{IsChanging}
-use Rattle.ftc_machine.specs.State.{ChainState, Message, Withheld, opening}
+use Rattle.ftc_machine.specs.State.{ChainState, Message, opening}
 use Rattle.ftc_machine.specs.Legal.{IsNextLine, MayHappen, IsLegal, IsStalled}
 use Rattle.ftc_machine.specs.Next.{next, fresh_message, lines_behind}
 use Rattle.ftc_machine.specs.Run.{AreLegal, IsRun, state_after}
-use Rattle.ftc_machine.specs.Counts.{is_propagate, propagates_in, AreFew}
+use Rattle.ftc_machine.specs.Counts.{propagates_in, AreFew}
 use Rattle.ftc_machine.proofs.Premises.{IsGood}
 use Rattle.ftc_machine.proofs.Supposed.{is_good}
 use Rattle.ftc_machine.proofs.Inv.{each_message}
 use Rattle.ftc_machine.proofs.Pending.{same_message}
 use Rattle.ftc_machine.proofs.Stores.{stands_below}
-use Rattle.ftc_machine.proofs.Finished.{IsLive}
 use Rattle.ftc_machine.proofs.Full.{full}
 use Rattle.ftc_machine.proofs.Complete.{IsReached, keeps_reached, opens_reached}
 use Rattle.ftc_machine.proofs.Shapes.{AreShaped, keeps_shapes, opens_shaped}
@@ -58,18 +56,24 @@ module _ (c : Setting) (is : IsSetting c) (s : ChainState) (n : IsCounted c s) w
       let number : p ≡ count c + s.propagates = legal.4 in
       let all = full c s reached.live legal.1 stalled.messages stalled.gaps empty in
       record {
-        up = legal.1; entered = legal.0; gaps = stalled.gaps; forwarder = empty; full = all;
+        up = legal.1;
+        entered = legal.0;
+        gaps = stalled.gaps;
+        forwarder = empty;
+        full = all;
         bare = each_message (λ q m. (m.packet ≡ None) × ((j x : ℕ) → In m.logs j x → ⊥) × (count c ≤ q)) s.message p (Some new)
-          (λ m e. subst (λ (y : Message). (y.packet ≡ None) × ((j x : ℕ) → In y.logs j x → ⊥) × (count c ≤ p)) (same_Some new m e) (refl, (λ j x log. true≢false (sym log)), omega arith))
-          (λ q m e. absurd (none-some m (sym (stalled.messages q) ∙ e)));
+            (λ m e. subst (λ (y : Message). (y.packet ≡ None) × ((j x : ℕ) → In y.logs j x → ⊥) × (count c ≤ p)) (same_Some new m e) (refl, (λ j x log. true≢false (sym log)), omega arith))
+            (λ q m e. absurd (none-some m (sym (stalled.messages q) ∙ e)));
         single = λ q r m x e e'. only q m e ∙ sym (only r x e');
         told = λ packet w held. record {
-          origin = p; message = new; there = same_message s.message p (Some new);
+          origin = p;
+          message = new;
+          there = same_message s.message p (Some new);
           tells = λ group x tail changing le far.
-            let first : tail ≡ 0 = omega arith in
-            let below : group < servers c = stands_below c good.some _ s.trace reached.live.inv.world.serial group x changing in
-            let at : apart (servers c) group 0 ≡ c.failures = ap (apart (servers c) group) (sym first) ∙ far in
-            or_right (s.known 0 group x) (is_tail c group 0 && s.lists 0 group x)
+              let first : tail ≡ 0 = omega arith in
+              let below : group < servers c = stands_below c good.some _ s.trace reached.live.inv.world.serial group x changing in
+              let at : apart (servers c) group 0 ≡ c.failures = ap (apart (servers c) group) (sym first) ∙ far in
+              or_right (s.known 0 group x) (is_tail c group 0 && s.lists 0 group x)
               (and_from (is_tail c group 0) (s.lists 0 group x) (eq-eqb (apart (servers c) group 0) c.failures at) (all group 0 x good.some below (omega arith) changing));
         };
       }
@@ -94,28 +98,41 @@ module _ (c : Setting) (is : IsSetting c) (s : ChainState) (n : IsCounted c s) w
       let live = reached.live in
       elim (cases_Bool n.paid.busy) [
         | inl busy ↦ record {
-            reached = keeps_reached c good s reached (Propagate p) legal; shaped = keeps_shapes c good s live.inv live.timed reached.fated shaped (Propagate p) legal;
-            begun = n.begun + 1; quiet = n.quiet; both = let was = n.both in omega arith;
-            paid = one_begun c good s live.inv live.timed live.numbered reached.fated shaped n.begun n.paid p legal busy;
-            still = false; spare = omega arith; is_still = λ wrong. absurd (true≢false (sym wrong));
-          }
+          reached = keeps_reached c good s reached (Propagate p) legal;
+          shaped = keeps_shapes c good s live.inv live.timed reached.fated shaped (Propagate p) legal;
+          begun = n.begun + 1;
+          quiet = n.quiet;
+          both = let was = n.both in omega arith;
+          paid = one_begun c good s live.inv live.timed live.numbered reached.fated shaped n.begun n.paid p legal busy;
+          still = false;
+          spare = omega arith;
+          is_still = λ wrong. absurd (true≢false (sym wrong));
+        }
         | inr free ↦
-          let empty = none_forwarded c good s live.inv live.timed live.numbered reached.fated shaped n.begun n.paid p legal free in
-          elim legal.3 [
-            | inl log ↦ absurd (true≢false (sym log.2 ∙ empty log.0 log.1))
-            | inr stalled ↦ record {
-                reached = keeps_reached c good s reached (Propagate p) legal; shaped = keeps_shapes c good s live.inv live.timed reached.fated shaped (Propagate p) legal;
-                begun = n.begun; quiet = n.quiet + 1; both = let was = n.both in omega arith;
+            let empty = none_forwarded c good s live.inv live.timed live.numbered reached.fated shaped n.begun n.paid p legal free in
+            elim legal.3 [
+              | inl log ↦ absurd (true≢false (sym log.2 ∙ empty log.0 log.1))
+              | inr stalled ↦ record {
+                reached = keeps_reached c good s reached (Propagate p) legal;
+                shaped = keeps_shapes c good s live.inv live.timed reached.fated shaped (Propagate p) legal;
+                begun = n.begun;
+                quiet = n.quiet + 1;
+                both = let was = n.both in omega arith;
                 paid = none_begun c good s live.inv live.timed live.numbered reached.fated shaped n.begun n.paid p legal empty;
-                still = true; spare = omega arith; is_still = λ _. stalled_still p legal empty stalled;
+                still = true;
+                spare = omega arith;
+                is_still = λ _. stalled_still p legal empty stalled;
               }
-          ]
+            ]
       ]
 
   line_counted : (e : Event) → MayHappen c s e → (e ≢ Propagate (count c + s.propagates)) → (next c s e).propagates ≡ s.propagates → length (next c s e).lines + 1 ≡ length s.lines → IsCounted c (next c s e)
   line_counted e legal other same lines = record {
-    reached = keeps_reached c good s reached e legal; shaped = keeps_shapes c good s reached.live.inv reached.live.timed reached.fated shaped e legal;
-    begun = n.begun; quiet = n.quiet; both = same ∙ n.both;
+    reached = keeps_reached c good s reached e legal;
+    shaped = keeps_shapes c good s reached.live.inv reached.live.timed reached.fated shaped e legal;
+    begun = n.begun;
+    quiet = n.quiet;
+    both = same ∙ n.both;
     paid = pays c good s reached.live.inv reached.live.timed reached.live.numbered reached.fated shaped n.begun n.paid e legal other;
     still = false;
     spare = let one : (if n.still then 1 else 0) ≤ 1 = elim n.still as (λ b. (if b then 1 else 0) ≤ 1) [ true ↦ omega arith | false ↦ omega arith ] in let old = n.spare in omega arith;
@@ -125,8 +142,11 @@ module _ (c : Setting) (is : IsSetting c) (s : ChainState) (n : IsCounted c s) w
   same_counted : (e : Event) → IsLegal c s e → (e ≢ Propagate (count c + s.propagates)) → ((k : ℕ) → e ≢ Crash k) → ((k : ℕ) (undone : List VisitName) → e ≢ Recover k undone)
       → (next c s e).propagates ≡ s.propagates → (next c s e).lines ≡ s.lines → IsCounted c (next c s e)
   same_counted e legal other no_crash no_recover same lines = record {
-    reached = keeps_reached c good s reached e legal.0; shaped = keeps_shapes c good s reached.live.inv reached.live.timed reached.fated shaped e legal.0;
-    begun = n.begun; quiet = n.quiet; both = same ∙ n.both;
+    reached = keeps_reached c good s reached e legal.0;
+    shaped = keeps_shapes c good s reached.live.inv reached.live.timed reached.fated shaped e legal.0;
+    begun = n.begun;
+    quiet = n.quiet;
+    both = same ∙ n.both;
     paid = pays c good s reached.live.inv reached.live.timed reached.live.numbered reached.fated shaped n.begun n.paid e legal.0 other;
     still = n.still;
     spare = subst (λ l. n.quiet + length l ≤ length c.lines + (if n.still then 1 else 0)) (sym lines) n.spare;
@@ -158,9 +178,15 @@ module _ (c : Setting) (is : IsSetting c) (s : ChainState) (n : IsCounted c s) w
 
 pub opens_counted : (c : Setting) → IsSetting c → IsCounted c (opening c)
 opens_counted c is = record {
-  reached = opens_reached c is; shaped = opens_shaped c; begun = 0; quiet = 0; both = refl;
+  reached = opens_reached c is;
+  shaped = opens_shaped c;
+  begun = 0;
+  quiet = 0;
+  both = refl;
   paid = record { busy = false; paid = omega arith; idle = λ _. inl (λ j q. refl) };
-  still = false; spare = omega arith; is_still = λ wrong. absurd (true≢false (sym wrong));
+  still = false;
+  spare = omega arith;
+  is_still = λ wrong. absurd (true≢false (sym wrong));
 }
 
 pub counted_on : (c : Setting) → IsSetting c → (journal : List Event) (s : ChainState) → IsCounted c s → AreLegal c s journal → IsCounted c (state_after c s journal)

@@ -1,11 +1,8 @@
 -- The whole invariant, and what a finished state has.
-use Rattle.std.proofs.Common.{◌≡◌, ◌≢◌, ℕ, suc, ◌+◌, ◌-◌, ◌<◌, ◌≤◌, ◌==◌, ◌&&◌, ◌||◌, if◌then◌else◌, nat_le, nat_lt, Bool, true, false, cond, not, List, [], ◌∷◌, ◌⊎◌, inl, inr, refl, sym, ap, subst, ◌∙◌, arith, ◌↔◌, eqb-true, Option, Some, None, is_some, eq-eqb, ltb-true, lt-ltb}
-use Rattle.std.proofs.lemmas.Bool.{true≢false, eqb-false, cases_eq, cases_lt, cases_Bool, and_parts, and_from, or_left, or_right, or_cases, or_parts, not-true, ne_eqb}
+use Rattle.std.proofs.Common.{◌≡◌, ◌≢◌, ℕ, suc, ◌+◌, ◌<◌, ◌==◌, ◌&&◌, if◌then◌else◌, Bool, true, false, not, List, [], ◌∷◌, ◌⊎◌, inl, inr, refl, sym, ap, subst, ◌∙◌, arith, Option, Some, None}
+use Rattle.std.proofs.lemmas.Bool.{true≢false, eqb-false, cases_lt, cases_Bool, and_parts, not-true, ne_eqb}
 use Rattle.std.proofs.lemmas.Option.{none-some, same_Some}
-use Rattle.std.specs.List.{list_any}
-use Rattle.std.proofs.lemmas.Bool.{not_from_false, le-leb, false_from_ne_true}
-use Rattle.std.proofs.Common.{lt_irrefl, zero}
-use Rattle.std.proofs.lemmas.Bool.{leb-true}
+use Rattle.std.proofs.Common.{zero}
 use Rattle.std.proofs.Common.{zero-le}
 use Rattle.ftc_script.specs.declared.line.ScriptLine.TheVariants as script_line
 use Rattle.ftc_journal.specs.declared.event.Event.TheVariants.{Apply, Carry, Crash, Enter, Lose, Pass, Propagate, Pull, Recover, Release, Take, Visit}
@@ -21,7 +18,6 @@ use Rattle.ftc_machine.specs.Known.{IsDue}
 use Rattle.ftc_machine.specs.Legal.{IsLegal, MayHappen, MayLeave, is_sent}
 use Rattle.ftc_machine.proofs.Soon.{IsSoonAll, apply_soon, carry_soon, crash_soon, fresh_soon, left_soon, pull_soon, recover_soon, take_soon, visit_soon}
 use Rattle.ftc_machine.specs.Setting.{Setting, count, is_member, packet_at, servers}
-use Rattle.ftc_serial.specs.Serial.{after}
 use Rattle.ftc_machine.proofs.Ring.{apart_after, apart_cases, last_live, next_live}
 use Rattle.ftc_machine.proofs.SmallEvents.{fit_next, fit_now}
 use Rattle.ftc_machine.specs.Recovery.{following_live, previous_live}
@@ -35,8 +31,6 @@ use Rattle.ftc_machine.proofs.Progress.{no_message}
 use Rattle.ftc_machine.proofs.Listed.{undone_listed}
 use Rattle.ftc_serial.specs.Words.{with_at}
 use Rattle.ftc_serial.proofs.Functions.{with_at_cases}
-use Rattle.ftc_machine.proofs.Carrying as carrying
-use Rattle.ftc_machine.proofs.Between as between
 
 pub record IsLive (c : Setting) (s : ChainState) : Type 0 where
   pub inv : Inv c s
@@ -74,21 +68,21 @@ module _ (c : Setting) (good : IsGood c) (s : ChainState) (l : IsLive c s) where
   pull_more k legal x j q i =
       let n = (servers c) in let m = next_of n k in
       with_at_cases (λ (v : Visits). In v j q) s.lists m (pulled_list c s k m) x
-        (λ e.
-          let i_m : In (s.lists m) j q = subst (λ v. In (s.lists v) j q) e i in
-          let kl = inv.world.inside k legal.0 in
-          elim (cases_Bool (is_member c j k && is_member c j m && not (j == m))) [
-            | inr f ↦ ap (λ b. if b then s.lists k j q else s.lists m j q) f ∙ i_m
-            | inl t' ↦
-              let w = inv.world.nest.member m j q i_m in
-              let own : j ≢ m = eqb-false j m (not-true _ (and_parts _ _ t').1) in
-              let in_k : In (s.lists k) j q = elim (apart_after n k kl) [
-                | inr just' ↦ absurd (inv.gaps k legal.2 just')
-                | inl step ↦ let st = step.0 in let jm = apart_cases n j m w.2 step.1 in let jk = apart_cases n j k w.2 kl in inv.world.nest.nested j k m q kl legal.0 (omega arith) i_m
-              ] in
-              ap (λ b. if b then s.lists k j q else s.lists m j q) t' ∙ in_k
-          ])
-        (λ ne. i)
+      (λ e.
+      let i_m : In (s.lists m) j q = subst (λ v. In (s.lists v) j q) e i in
+      let kl = inv.world.inside k legal.0 in
+      elim (cases_Bool (is_member c j k && is_member c j m && not (j == m))) [
+        | inr f ↦ ap (λ b. if b then s.lists k j q else s.lists m j q) f ∙ i_m
+        | inl t' ↦
+            let w = inv.world.nest.member m j q i_m in
+            let own : j ≢ m = eqb-false j m (not-true _ (and_parts _ _ t').1) in
+            let in_k : In (s.lists k) j q = elim (apart_after n k kl) [
+              | inr just' ↦ absurd (inv.gaps k legal.2 just')
+              | inl step ↦ let st = step.0 in let jm = apart_cases n j m w.2 step.1 in let jk = apart_cases n j k w.2 kl in inv.world.nest.nested j k m q kl legal.0 (omega arith) i_m
+            ] in
+            ap (λ b. if b then s.lists k j q else s.lists m j q) t' ∙ in_k
+      ])
+      (λ ne. i)
 
   left_both : (k p : ℕ) (lost : Bool) (m : Message) → MayLeave c s k p m → AreSeen c (ticked (sent_on c s k p lost)) (with_at seen p (s.lists k))
   left_both k p lost m leaves q m' = with_at_cases (λ v. v ≡ Some m' → (y : ℕ) → From (servers c) m'.place y → IsSeenAt c s.trace s.up s.lists y (target (servers c) m'.place) m'.logs (with_at seen p (s.lists k) q)) s.message p (if is_sent c k && not (is_away c s k lost) then sent_message c s k (s.message p) else None) q
@@ -97,8 +91,13 @@ module _ (c : Setting) (good : IsGood c) (s : ChainState) (l : IsLive c s) where
 
   with_parts : (e : Event) → MayHappen c s e → (seen' : ℕ → Visits) → AreSeen c (next c s e) seen' → IsSoonAll c (next c s e) seen' → IsLive c (next c s e)
   with_parts e legal seen' ok' soon' = record {
-    inv = keeps c good s inv e legal; timed = keeps_time c good s inv timed e legal; numbered = keeps_numbers c s numbered e legal; pending = keeps_pending c good s inv l.pending numbered e legal;
-    seen = seen'; ok = ok'; soon = soon';
+    inv = keeps c good s inv e legal;
+    timed = keeps_time c good s inv timed e legal;
+    numbered = keeps_numbers c s numbered e legal;
+    pending = keeps_pending c good s inv l.pending numbered e legal;
+    seen = seen';
+    ok = ok';
+    soon = soon';
   }
 
   pub keeps_live : (e : Event) → MayHappen c s e → IsLive c (next c s e)
@@ -129,10 +128,10 @@ module _ (c : Setting) (good : IsGood c) (s : ChainState) (l : IsLive c s) where
       let by = seen_by c good s inv seen ok k r t fit.0 down before after admissible (names undone) exact in
       let seen' : ℕ → Visits = λ x. by (s.message x) (seen x) in
       with_parts (Recover k undone) legal seen'
-        (λ q m e y from. let w = kept_some c s t (s.message q) m e in recover_seen c good s inv seen ok k r t fit.0 down before after admissible (names undone) exact q m w.0 w.1 y from)
-        (recover_soon c good s inv timed seen ok soon k undone r t seen' (λ x m e away j q i.
-          let i' : In (by (Some m) (seen x)) j q = subst (λ v. In (by v (seen x)) j q) e i in
-          (and_parts (seen x j q) (not (names undone j q)) (ap (λ b. if b then s.lists t j q else (seen x j q && not (names undone j q))) (sym (ne_eqb (target (servers c) m.place) t away)) ∙ i')).0))
+      (λ q m e y from. let w = kept_some c s t (s.message q) m e in recover_seen c good s inv seen ok k r t fit.0 down before after admissible (names undone) exact q m w.0 w.1 y from)
+      (recover_soon c good s inv timed seen ok soon k undone r t seen' (λ x m e away j q i.
+      let i' : In (by (Some m) (seen x)) j q = subst (λ v. In (by v (seen x)) j q) e i in
+      (and_parts (seen x j q) (not (names undone j q)) (ap (λ b. if b then s.lists t j q else (seen x j q && not (names undone j q))) (sym (ne_eqb (target (servers c) m.place) t away)) ∙ i')).0))
 
 pub live_runs : (c : Setting) → IsGood c → (es : List Event) (s : ChainState) → IsLive c s → AreLegal c s es → IsLive c (state_after c s es)
 live_runs c good [] s h legal = h
@@ -164,7 +163,10 @@ module _ (c : Setting) (good : IsGood c) (s : ChainState) (l : IsLive c s) (all_
   no_messages p = elim (s.message p) as (λ o. s.message p ≡ o → o ≡ None) [ None ↦ λ e. refl | Some m ↦ λ e. absurd (no_message c good s l.inv l.timed l.seen l.ok l.soon all_up no_lines (stuck c s finished) p m e) ] refl
 
   pub quiet_gaps : (k : ℕ) → k < (servers c) → s.gap k ≡ false
-  quiet_gaps k kl = elim (cases_Bool (s.gap k)) [ inr g ↦ g | inl g ↦ absurd (elim (apart_after (servers c) k kl) [
-    | inr just' ↦ l.inv.gaps k g just'
-    | inl step ↦ stuck c s finished (Pull k) (all_up k kl, all_up (next_of (servers c) k) step.1, g)
-  ]) ]
+  quiet_gaps k kl = elim (cases_Bool (s.gap k)) [
+    | inr g ↦ g
+    | inl g ↦ absurd (elim (apart_after (servers c) k kl) [
+      | inr just' ↦ l.inv.gaps k g just'
+      | inl step ↦ stuck c s finished (Pull k) (all_up k kl, all_up (next_of (servers c) k) step.1, g)
+    ])
+  ]

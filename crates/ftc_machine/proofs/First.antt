@@ -1,8 +1,8 @@
 -- The first live member of a group, in the form that the proofs use.
-use Rattle.std.proofs.Common.{◌≡◌, ◌≢◌, ℕ, ◌+◌, ◌<◌, ◌≤◌, Bool, true, false, ◌⊎◌, inl, inr, refl, sym, ap, subst, ◌∙◌, arith, Option, Some, None, unwrap_or, le-leb, leb-true, ◌↔◌}
-use Rattle.std.proofs.lemmas.Bool.{true≢false, cases_lt, false_from_ne_true}
+use Rattle.std.proofs.Common.{◌≡◌, ℕ, ◌<◌, true, false, refl, sym, ◌∙◌, arith, Option, Some, None, unwrap_or, le-leb}
+use Rattle.std.proofs.lemmas.Bool.{true≢false, false_from_ne_true}
 use Rattle.ftc_ring.specs.Ring.{apart, IsRing}
-use Rattle.ftc_ring.specs.Live.{IsFirstLive, first_live_of, IsGone}
+use Rattle.ftc_ring.specs.Live.{IsFirstLive, first_live_of}
 use Rattle.ftc_ring.proofs.Nearest.{first_found, first_none}
 use Rattle.ftc_machine.specs.Setting.{Setting, servers, shape, is_member}
 use Rattle.ftc_machine.specs.State.{ChainState}

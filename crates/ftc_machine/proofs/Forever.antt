@@ -1,7 +1,6 @@
 -- What was released stays, and a run goes on.
-use Rattle.std.proofs.Common.{◌≡◌, ◌≢◌, ℕ, suc, ◌+◌, ◌-◌, ◌<◌, ◌≤◌, ◌==◌, ◌&&◌, ◌||◌, if◌then◌else◌, nat_le, nat_lt, Bool, true, false, cond, not, List, [], ◌∷◌, ◌⊎◌, inl, inr, refl, sym, ap, subst, ◌∙◌, arith, ◌↔◌, eqb-true, Option, Some, None, is_some, eq-eqb, ltb-true, lt-ltb}
-use Rattle.std.proofs.lemmas.Bool.{true≢false, eqb-false, cases_eq, cases_lt, cases_Bool, and_parts, and_from, or_left, or_right, or_cases, or_parts, not-true, ne_eqb}
-use Rattle.std.proofs.lemmas.Option.{none-some, same_Some}
+use Rattle.std.proofs.Common.{◌≡◌, ◌≢◌, ℕ, ◌<◌, ◌≤◌, false, List, [], ◌∷◌, inr, refl, sym, subst, ◌∙◌, arith}
+use Rattle.std.proofs.lemmas.Bool.{true≢false}
 use Rattle.std.proofs.Common.{◌++◌}
 use Rattle.std.proofs.lemmas.Bool.{false_from_ne_true}
 use Rattle.ftc_script.specs.declared.line.ScriptLine.TheVariants as script_line
@@ -10,7 +9,7 @@ use Rattle.ftc_journal.specs.declared.event.Event.TheVariants.{Apply, Carry, Cra
 use Rattle.ftc_machine.specs.Run.{AreLegal, state_after}
 use Rattle.ftc_machine.specs.State.{ChainState}
 use Rattle.ftc_journal.specs.declared.event.Event.{Event}
-use Rattle.ftc_serial.specs.Serial.{Given, after}
+use Rattle.ftc_serial.specs.Serial.{Given}
 use Rattle.ftc_machine.proofs.Inv.{Inv}
 use Rattle.ftc_machine.proofs.Premises.{IsGood}
 use Rattle.ftc_machine.specs.Trace.{IsInTrace}
@@ -52,11 +51,11 @@ kept_forever c good s h (Recover k undone) legal p bytes given j st =
     let t = following_live c s k in let r = previous_live c s k in
     let exact = undone_listed c s k undone legal.1 good.some before.below after.below h.world.serial in
     visit_left (names undone) Somehow s.trace j p st (false_from_ne_true (names undone j p) (λ g.
-      let u = (exact j p).0 g in
-      let jl : j < n = stands_below c good.some Somehow s.trace h.world.serial j p st in
-      let i = u.0 in let le : i ≤ j = u.1 in let il : i < n = omega arith in
-      let it = apart_cases n i t il after.below in
-      u.2.3 (h.world.released p bytes given i u.2.0 t after.below after.live (member_after c s k r t fit.0 down before after admissible i il (u.2.1, u.2.2)) (omega arith))))
+    let u = (exact j p).0 g in
+    let jl : j < n = stands_below c good.some Somehow s.trace h.world.serial j p st in
+    let i = u.0 in let le : i ≤ j = u.1 in let il : i < n = omega arith in
+    let it = apart_cases n i t il after.below in
+    u.2.3 (h.world.released p bytes given i u.2.0 t after.below after.live (member_after c s k r t fit.0 down before after admissible i il (u.2.1, u.2.2)) (omega arith))))
 
 -- a run goes on by one event
 pub run_on : (c : Setting) (es : List Event) (e : Event) (s : ChainState) → AreLegal c s es → IsLegal c (state_after c s es) e → AreLegal c s (es ++ e ∷ [])

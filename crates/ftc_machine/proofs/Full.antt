@@ -1,5 +1,5 @@
 -- Where no message and no log is under way, no link has a gap and all servers are up, the lists are full.
-use Rattle.std.proofs.Common.{◌≡◌, ◌≢◌, ℕ, zero, suc, ◌+◌, ◌<◌, ◌≤◌, Bool, true, false, refl, sym, ap, subst, ◌∙◌, arith, inl, inr, Option, Some, None}
+use Rattle.std.proofs.Common.{◌≡◌, ℕ, zero, suc, ◌<◌, ◌≤◌, true, false, refl, sym, subst, ◌∙◌, arith, inl, inr, Some, None}
 use Rattle.std.proofs.lemmas.Bool.{true≢false}
 use Rattle.std.proofs.lemmas.Option.{none-some}
 use Rattle.ftc_ring.specs.Ring.{apart, next_of, previous_of}
@@ -27,20 +27,20 @@ module _ (c : Setting) (s : ChainState) (l : IsLive c s) (all_up : (server : ℕ
       elim (apart_before n server below) [
         | inr alone ↦ absurd (omega arith)
         | inl step ↦
-          let y = previous_of n server in
-          let yl : y < n = step.1 in
-          let st = step.0 in
-          let before = apart_cases n group y group_below yl in
-          let near : apart n group y ≡ d = omega arith in
-          let next_is : next_of n y ≡ server = elim (apart_after n y yl) [ inr alone ↦ absurd (omega arith) | inl more ↦ let st2 = more.0 in let nl = more.1 in omega arith ] in
-          let had = along d group y packet near yl group_below (omega arith) changing in
-          elim (l.pending y group packet had (omega arith) (subst (λ k. s.up k ≡ true) (sym next_is) (all_up server below)) (gaps y yl)) [
-            | inl there ↦ subst (λ k. In (s.lists k) group packet) next_is there
-            | inr way ↦ absurd (elim way [
+            let y = previous_of n server in
+            let yl : y < n = step.1 in
+            let st = step.0 in
+            let before = apart_cases n group y group_below yl in
+            let near : apart n group y ≡ d = omega arith in
+            let next_is : next_of n y ≡ server = elim (apart_after n y yl) [ inr alone ↦ absurd (omega arith) | inl more ↦ let st2 = more.0 in let nl = more.1 in omega arith ] in
+            let had = along d group y packet near yl group_below (omega arith) changing in
+            elim (l.pending y group packet had (omega arith) (subst (λ k. s.up k ≡ true) (sym next_is) (all_up server below)) (gaps y yl)) [
+              | inl there ↦ subst (λ k. In (s.lists k) group packet) next_is there
+              | inr way ↦ absurd (elim way [
                 | inl by ↦ no_message by.origin by.by by.there
                 | inr by ↦ true≢false (sym by.1 ∙ no_logs group packet)
               ])
-          ]
+            ]
       ]
 
   pub full : (group server packet : ℕ) → server < servers c → group < servers c → apart (servers c) group server ≤ c.failures → IsChanging c.partitions s.trace group packet → In (s.lists server) group packet

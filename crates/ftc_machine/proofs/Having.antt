@@ -1,9 +1,9 @@
 -- When a set has a visit.
-use Rattle.std.proofs.Common.{◌≡◌, ◌≢◌, ℕ, ◌+◌, ◌-◌, ◌<◌, ◌≤◌, ◌==◌, ◌&&◌, ◌||◌, if◌then◌else◌, Bool, true, false, cond, not, List, ◌∷◌, ◌⊎◌, inl, inr, refl, sym, ap, subst, ◌∙◌, arith, nat_le}
-use Rattle.std.proofs.lemmas.Bool.{true≢false, cases_eq, cases_lt, false_from_ne_true, true_from_ne_false}
+use Rattle.std.proofs.Common.{◌≡◌, ℕ, ◌<◌, ◌≤◌, ◌==◌, ◌&&◌, if◌then◌else◌, Bool, true, false, not, List, ◌∷◌, inl, inr, refl, sym, subst, ◌∙◌, arith}
+use Rattle.std.proofs.lemmas.Bool.{true≢false, cases_eq, cases_lt, true_from_ne_false}
 use Rattle.ftc_machine.proofs.Listing.{AreLists}
 use Rattle.ftc_machine.specs.State.{ChainState}
-use Rattle.ftc_serial.specs.Serial.{Entry, Given, after}
+use Rattle.ftc_serial.specs.Serial.{Entry, Given}
 use Rattle.ftc_machine.specs.Trace.{Has, IsBefore, IsChanging, IsTouching}
 use Rattle.ftc_machine.specs.Visits.{In, Visits}
 use Rattle.ftc_machine.proofs.Between.{IsBetween, fetched_r, fetched_t}
@@ -80,16 +80,18 @@ module _ (c : Setting) (s : ChainState) (m r t : ℕ) (inside : m < (servers c))
   between_by i il head =
       let n = (servers c) in
       let im = apart_cases n i m il inside in let rm = apart_cases n r m before.below inside in let ri = apart_cases n r i before.below il in
-      let mt = apart_cases n m t inside after.below in let rt = apart_cases n r t before.below after.below in
-      (omega arith, elim (cases_eq r t) [
-        | inl same ↦ inl same
-        | inr other ↦ elim (cases_lt (apart n r i) (apart n r t)) [
+      let mt = apart_cases n m t inside after.below in let rt = apart_cases n r t before.below after.below in (
+        omega arith,
+        elim (cases_eq r t) [
+          | inl same ↦ inl same
+          | inr other ↦ elim (cases_lt (apart n r i) (apart n r t)) [
             | inl less ↦ inr less
             | inr more ↦
-              let tm = apart_cases n t m after.below inside in
-              absurd (true≢false (sym after.live ∙ before.between t after.below (omega arith) (omega arith)))
+                let tm = apart_cases n t m after.below inside in
+                absurd (true≢false (sym after.live ∙ before.between t after.below (omega arith) (omega arith)))
           ]
-      ])
+        ],
+      )
 
   -- what is left and has its head between, t has
   pub left_had : (gone : Visits) → ((j p : ℕ) → IsUndone c s r t j p → In gone j p) → (i p : ℕ) → IsTouching (left_of gone s.trace) i p → IsBetween (servers c) r t i → Has c.partitions s.trace (s.lists t) i p

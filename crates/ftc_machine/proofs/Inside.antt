@@ -1,6 +1,6 @@
 -- Where a packet is that is inside.
-use Rattle.std.proofs.Common.{◌≡◌, ◌≢◌, ℕ, ◌+◌, ◌<◌, ◌≤◌, ◌==◌, ◌&&◌, ◌||◌, ◌⊎◌, if◌then◌else◌, nat_lt, Bool, true, false, not, List, [], ◌∷◌, refl, sym, ap, subst, ◌∙◌, arith, inl, inr, eqb-true, eq-eqb, Option, Some, None, is_some}
-use Rattle.std.proofs.lemmas.Bool.{true≢false, cases_eq, cases_Bool, eqb-false, ne_eqb, and_from, and_parts, or_left, or_right}
+use Rattle.std.proofs.Common.{◌≡◌, ℕ, ◌+◌, ◌<◌, ◌≤◌, ◌==◌, ◌&&◌, ◌||◌, ◌⊎◌, if◌then◌else◌, nat_lt, Bool, true, false, not, List, [], ◌∷◌, refl, sym, ap, subst, ◌∙◌, arith, inl, inr, eqb-true, eq-eqb, Option, Some, None, is_some}
+use Rattle.std.proofs.lemmas.Bool.{true≢false, cases_Bool, eqb-false, and_parts, or_left}
 use Rattle.std.proofs.lemmas.Option.{none-some, same_Some}
 use Rattle.ftc_ring.specs.Ring.{next_of}
 use Rattle.ftc_journal.specs.declared.event.VisitName.{VisitName}
@@ -12,7 +12,7 @@ use Rattle.ftc_serial.specs.Words.{AnyOf}
 use Rattle.ftc_serial.specs.Trace.{names}
 use Rattle.ftc_serial.specs.Removal.{is_taken, left_of}
 use Rattle.ftc_machine.proofs.Standing.{left_stood, stands_left, visit_left, visit_stood}
-use Rattle.ftc_machine.specs.Fates.{IsDropped, IsGiven, IsRelease, IsCarried, IsBuffered, AreFates}
+use Rattle.ftc_machine.specs.Fates.{IsDropped, IsGiven, IsRelease, AreFates}
 use Rattle.ftc_serial.specs.Take.{Outcome}
 use Rattle.ftc_serial.proofs.Functions.{with_at_cases}
 use Rattle.ftc_machine.specs.declared.fate.Fate.{Fate}
@@ -24,7 +24,6 @@ use Rattle.ftc_machine.specs.Recovery.{is_dropped, following_live}
 use Rattle.ftc_machine.specs.Next.{next, sent_on, is_away, has_packet, loses_packet, is_at, is_undone_drop, drop_if, fresh_message, taken_message, visited_message, visited_at, sent_message, withheld_of, withheld_packet, outcome_at, fate_by}
 use Rattle.ftc_machine.proofs.Premises.{IsGood, ticked}
 use Rattle.ftc_machine.proofs.Inv.{Inv, each_message}
-use Rattle.ftc_machine.proofs.Pending.{same_message, other_message}
 use Rattle.ftc_machine.proofs.Waiting.{IsTimed}
 
 -- it came by the ring link, or is on it
@@ -76,7 +75,10 @@ fate_kept trace entered entered' p fate carried carried' held less more same f =
   carried_inside = λ x. f.carried_inside (sym same ∙ x);
   held_inside = f.held_inside;
   waiting = λ le. f.waiting (more le);
-  filtered = f.filtered; dropped = f.dropped; released = f.released; given = f.given;
+  filtered = f.filtered;
+  dropped = f.dropped;
+  released = f.released;
+  given = f.given;
 }
 
 -- a packet that was inside, entered, and is lost
@@ -125,16 +127,16 @@ module _ (c : Setting) (good : IsGood c) (s : ChainState) (h : Inv c s) (t : IsT
   take_fated : (k p : ℕ) → MayHappen c s (Take k p) → AreFated c (next c s (Take k p))
   take_fated k p legal =
       let moved : (m : Message) → taken_message c s k (s.message p) ≡ Some m → IsPast (servers c) m.place → IsPast (servers c) legal.0.place = λ m e is.
-          let same : record legal.0 { place = Held (next_of (servers c) k) false (k + 1 == servers c); since = s.events } ≡ m = same_Some _ m (sym (ap (taken_message c s k) legal.1) ∙ e) in
-          let ring : (k + 1 == servers c) ≡ true = subst (λ (x : Message). IsPast (servers c) x.place) (sym same) is in
-          subst (λ w. IsPast (servers c) w) (sym legal.2) (eqb-true (k + 1) (servers c) ring) in
+      let same : record legal.0 { place = Held (next_of (servers c) k) false (k + 1 == servers c); since = s.events } ≡ m = same_Some _ m (sym (ap (taken_message c s k) legal.1) ∙ e) in
+      let ring : (k + 1 == servers c) ≡ true = subst (λ (x : Message). IsPast (servers c) x.place) (sym same) is in
+      subst (λ w. IsPast (servers c) w) (sym legal.2) (eqb-true (k + 1) (servers c) ring) in
       let packet : (m : Message) → taken_message c s k (s.message p) ≡ Some m → m.packet ≡ legal.0.packet = λ m e. ap (λ (x : Message). x.packet) (sym (same_Some _ m (sym (ap (taken_message c s k) legal.1) ∙ e))) in
       record {
         fates = still (with_at s.message p (taken_message c s k (s.message p))) (at_same p (taken_message c s k (s.message p)) (taken (s.message p)));
         bare = each_message (λ q m. IsPast (servers c) m.place → m.packet ≡ None) s.message p (taken_message c s k (s.message p)) (λ m e is. packet m e ∙ f.bare p legal.0 legal.1 (moved m e is)) f.bare;
         past = λ q w m held there'. each_message (λ x m. (v : Withheld) → s.withheld x ≡ Some v → IsPast (servers c) m.place) s.message p (taken_message c s k (s.message p))
             (λ m e v held. let was = subst (λ x. IsPast (servers c) x) legal.2 (f.past p v legal.0 held legal.1) in
-              subst (λ (x : Message). IsPast (servers c) x.place) (same_Some _ m (sym (ap (taken_message c s k) legal.1) ∙ e)) (eq-eqb (k + 1) (servers c) was))
+            subst (λ (x : Message). IsPast (servers c) x.place) (same_Some _ m (sym (ap (taken_message c s k) legal.1) ∙ e)) (eq-eqb (k + 1) (servers c) was))
             (λ x m there v held. f.past x v m held there) q m there' w held;
         buffered = f.buffered;
       }
@@ -171,17 +173,17 @@ module _ (c : Setting) (good : IsGood c) (s : ChainState) (h : Inv c s) (t : IsT
       let new : Message = fresh_message s.events (Some (packet_at c p)) in
       let o : Option Message = if s.up 0 then Some new else s.message p in
       let is_new : (m : Message) → o ≡ Some m → IsPast (servers c) m.place → m.packet ≡ None = λ m.
-          elim (s.up 0) as (λ b. (if b then Some new else s.message p) ≡ Some m → IsPast (servers c) m.place → m.packet ≡ None) [
-            | true ↦ λ e is. let wrong : false ≡ true = subst (λ (x : Message). IsPast (servers c) x.place) (sym (same_Some new m e)) is in absurd (true≢false (sym wrong))
-            | false ↦ λ e is. nowhere p far m e
-          ] in
+      elim (s.up 0) as (λ b. (if b then Some new else s.message p) ≡ Some m → IsPast (servers c) m.place → m.packet ≡ None) [
+        | true ↦ λ e is. let wrong : false ≡ true = subst (λ (x : Message). IsPast (servers c) x.place) (sym (same_Some new m e)) is in absurd (true≢false (sym wrong))
+        | false ↦ λ e is. nowhere p far m e
+      ] in
       record {
         fates = λ q. elim (q == p) as (λ b. q == p ≡ b →
             IsFate s.trace (s.entered + 1) q (if b then (if s.up 0 then s.fate p else Lost s.events) else s.fate q) (has_packet (if b then o else s.message q)) (is_some (s.withheld q))) [
-          | true ↦ λ e. let same : q ≡ p = eqb-true q p e in let at : q ≡ s.entered = same ∙ legal.0 in entering q p same at far (f.fates q) (not_withheld p far)
-          | false ↦ λ e. let ne = eqb-false q p e in let e0 : p ≡ s.entered = legal.0 in
-              fate_kept s.trace s.entered (s.entered + 1) q (s.fate q) (has_packet (s.message q)) (has_packet (s.message q)) (is_some (s.withheld q)) (λ l. omega arith) (λ l. omega arith) refl (f.fates q)
-        ] refl;
+              | true ↦ λ e. let same : q ≡ p = eqb-true q p e in let at : q ≡ s.entered = same ∙ legal.0 in entering q p same at far (f.fates q) (not_withheld p far)
+              | false ↦ λ e. let ne = eqb-false q p e in let e0 : p ≡ s.entered = legal.0 in
+                  fate_kept s.trace s.entered (s.entered + 1) q (s.fate q) (has_packet (s.message q)) (has_packet (s.message q)) (is_some (s.withheld q)) (λ l. omega arith) (λ l. omega arith) refl (f.fates q)
+            ] refl;
         bare = each_message (λ q m. IsPast (servers c) m.place → m.packet ≡ None) s.message p o is_new f.bare;
         past = λ q w m held there'. each_message (λ x m. (v : Withheld) → s.withheld x ≡ Some v → IsPast (servers c) m.place) s.message p o
             (λ m e v held. absurd (none-some v (sym (not_withheld p far) ∙ held))) (λ x m there v held. f.past x v m held there) q m there' w held;
@@ -195,22 +197,25 @@ module _ (c : Setting) (good : IsGood c) (s : ChainState) (h : Inv c s) (t : IsT
           let held : is_some (s.withheld q) ≡ false = ap is_some (ap s.withheld same ∙ no_held) in
           elim (s.up 0) as (λ b. IsFate s.trace (s.entered + 1) q (if b then s.fate p else Lost s.events) (has_packet (if b then Some (fresh_message s.events (Some (packet_at c p))) else s.message p)) (is_some (s.withheld q))) [
             | true ↦ subst (λ x. IsFate s.trace (s.entered + 1) q (s.fate x) true (is_some (s.withheld q))) same (record {
-                inside = λ l is. inl refl;
-                carried_inside = λ x. was;
-                held_inside = λ x. was;
-                waiting = λ le. absurd (omega arith);
-                filtered = old.filtered; dropped = old.dropped; released = old.released; given = old.given;
-              })
+              inside = λ l is. inl refl;
+              carried_inside = λ x. was;
+              held_inside = λ x. was;
+              waiting = λ le. absurd (omega arith);
+              filtered = old.filtered;
+              dropped = old.dropped;
+              released = old.released;
+              given = old.given;
+            })
             | false ↦ record {
-                inside = λ l is. absurd (cc);
-                carried_inside = λ x. absurd (true≢false (sym x ∙ not_carried p far));
-                held_inside = λ x. absurd (true≢false (sym x ∙ held));
-                waiting = λ le. absurd (omega arith);
-                filtered = λ k is. absurd (cc);
-                dropped = λ k is. let e1 = old.dropped k is in absurd (cc);
-                released = λ is. absurd (cc);
-                given = λ is. let e1 = old.given is in absurd (cc);
-              }
+              inside = λ l is. absurd (cc);
+              carried_inside = λ x. absurd (true≢false (sym x ∙ not_carried p far));
+              held_inside = λ x. absurd (true≢false (sym x ∙ held));
+              waiting = λ le. absurd (omega arith);
+              filtered = λ k is. absurd (cc);
+              dropped = λ k is. let e1 = old.dropped k is in absurd (cc);
+              released = λ is. absurd (cc);
+              given = λ is. let e1 = old.given is in absurd (cc);
+            }
           ]
 
   release_fated : (p : ℕ) → MayHappen c s (Release p) → AreFated c (next c s (Release p))
@@ -221,28 +226,31 @@ module _ (c : Setting) (good : IsGood c) (s : ChainState) (h : Inv c s) (t : IsT
       record {
         fates = λ q. elim (q == p) as (λ b. q == p ≡ b →
             IsFate (Given p bytes ∷ s.trace) s.entered q (if b then Released else s.fate q) (has_packet (s.message q)) (is_some (if b then None else s.withheld q))) [
-          | true ↦ λ e. let same : q ≡ p = eqb-true q p e in
-              let old = f.fates q in let inside : s.fate q ≡ Inside = ap s.fate same ∙ was in
-              let entered = f.buffered p w there in
-              record {
-                inside = λ l is. absurd (cc);
-                carried_inside = λ x. let is = packet_there (s.message q) x in
-                    absurd (none-some is.1 (sym (h.single q w is.0 (ap s.withheld same ∙ there) is.2) ∙ is.3));
-                held_inside = λ x. absurd (true≢false (sym x));
-                waiting = λ le. absurd (omega arith);
-                filtered = λ k is. absurd (cc);
-                dropped = λ k is. elim is [ inl none_here ↦ absurd none_here | inr more ↦ let e1 = old.dropped k more in absurd (cc) ];
-                released = λ is. inl (sym same);
-                given = λ is. refl;
+              | true ↦ λ e. let same : q ≡ p = eqb-true q p e in
+                  let old = f.fates q in let inside : s.fate q ≡ Inside = ap s.fate same ∙ was in
+                  let entered = f.buffered p w there in
+                  record {
+                    inside = λ l is. absurd (cc);
+                    carried_inside = λ x. let is = packet_there (s.message q) x in
+                        absurd (none-some is.1 (sym (h.single q w is.0 (ap s.withheld same ∙ there) is.2) ∙ is.3));
+                    held_inside = λ x. absurd (true≢false (sym x));
+                    waiting = λ le. absurd (omega arith);
+                    filtered = λ k is. absurd (cc);
+                    dropped = λ k is. elim is [ inl none_here ↦ absurd none_here | inr more ↦ let e1 = old.dropped k more in absurd (cc) ];
+                    released = λ is. inl (sym same);
+                    given = λ is. refl;
+                  }
+              | false ↦ λ e. let ne = eqb-false q p e in let old = f.fates q in record {
+                inside = old.inside;
+                carried_inside = old.carried_inside;
+                held_inside = old.held_inside;
+                waiting = old.waiting;
+                filtered = λ k is. inr (old.filtered k is);
+                dropped = λ k is. elim is [ inl none_here ↦ absurd none_here | inr more ↦ old.dropped k more ];
+                released = λ is. inr (old.released is);
+                given = λ is. elim is [ inl here ↦ absurd (ne (sym here)) | inr more ↦ old.given more ];
               }
-          | false ↦ λ e. let ne = eqb-false q p e in let old = f.fates q in record {
-              inside = old.inside; carried_inside = old.carried_inside; held_inside = old.held_inside; waiting = old.waiting;
-              filtered = λ k is. inr (old.filtered k is);
-              dropped = λ k is. elim is [ inl none_here ↦ absurd none_here | inr more ↦ old.dropped k more ];
-              released = λ is. inr (old.released is);
-              given = λ is. elim is [ inl here ↦ absurd (ne (sym here)) | inr more ↦ old.given more ];
-            }
-        ] refl;
+            ] refl;
         bare = f.bare;
         past = λ q v m held there'. with_at_cases (λ x. x ≡ Some v → IsPast (servers c) m.place) s.withheld p None q (λ e gone. absurd (none-some v gone)) (λ ne is. f.past q v m is there') held;
         buffered = λ q v held. with_at_cases (λ x. x ≡ Some v → q < s.entered) s.withheld p None q (λ e gone. absurd (none-some v gone)) (λ ne is. f.buffered q v is) held;
@@ -257,24 +265,27 @@ module _ (c : Setting) (good : IsGood c) (s : ChainState) (h : Inv c s) (t : IsT
       let was : s.fate p ≡ Inside = (f.fates p).carried_inside (carries (s.message p) m legal.1 there bytes) in
       let new = visited_message c k p o (s.message p) in
       let is_new : (n : Message) → new ≡ Some n → (n.place ≡ visited_at m.place) × (n.packet ≡ o.packet) = λ n e.
-          let same = same_Some _ n (sym (ap (visited_message c k p o) there) ∙ e) in (ap (λ (x : Message). x.place) (sym same), ap (λ (x : Message). x.packet) (sym same)) in
+      let same = same_Some _ n (sym (ap (visited_message c k p o) there) ∙ e) in (ap (λ (x : Message). x.place) (sym same), ap (λ (x : Message). x.packet) (sym same)) in
       let not_past : (n : Message) → new ≡ Some n → IsPast (servers c) n.place → ⊥ = λ n e is.
-          let at : IsPast (servers c) (visited_at (Held k false legal.2)) = subst (λ x. IsPast (servers c) x) ((is_new n e).0 ∙ ap visited_at legal.4) is in
-          none-some legal.1 (sym (f.bare p m there (subst (λ x. IsPast (servers c) x) (sym legal.4) at)) ∙ bytes) in
+      let at : IsPast (servers c) (visited_at (Held k false legal.2)) = subst (λ x. IsPast (servers c) x) ((is_new n e).0 ∙ ap visited_at legal.4) is in
+      none-some legal.1 (sym (f.bare p m there (subst (λ x. IsPast (servers c) x) (sym legal.4) at)) ∙ bytes) in
       let entered : p < s.entered = h.entered p m legal.1 there bytes in
       let held : is_some (s.withheld p) ≡ false = not_held p m legal.1 there bytes in
       record {
         fates = λ q. elim (q == p) as (λ b. q == p ≡ b →
             IsFate (Visited k p o ∷ s.trace) s.entered q (if b then fate_by k (s.fate p) o.packet else s.fate q) (has_packet (if b then new else s.message q)) (is_some (s.withheld q))) [
-          | true ↦ λ e. let same : q ≡ p = eqb-true q p e in visited q k p o same entered was (ap (λ x. is_some (s.withheld x)) same ∙ held) (ap has_packet (ap (visited_message c k p o) there))
-          | false ↦ λ e. let ne = eqb-false q p e in let old = f.fates q in record {
-              inside = old.inside; carried_inside = old.carried_inside; held_inside = old.held_inside; waiting = old.waiting;
-              filtered = λ j is. inr (old.filtered j is);
-              dropped = λ j is. elim is [ inl here ↦ absurd (ne (sym here.1)) | inr more ↦ old.dropped j more ];
-              released = λ is. inr (old.released is);
-              given = λ is. elim is [ inl none_here ↦ absurd none_here | inr more ↦ old.given more ];
-            }
-        ] refl;
+              | true ↦ λ e. let same : q ≡ p = eqb-true q p e in visited q k p o same entered was (ap (λ x. is_some (s.withheld x)) same ∙ held) (ap has_packet (ap (visited_message c k p o) there))
+              | false ↦ λ e. let ne = eqb-false q p e in let old = f.fates q in record {
+                inside = old.inside;
+                carried_inside = old.carried_inside;
+                held_inside = old.held_inside;
+                waiting = old.waiting;
+                filtered = λ j is. inr (old.filtered j is);
+                dropped = λ j is. elim is [ inl here ↦ absurd (ne (sym here.1)) | inr more ↦ old.dropped j more ];
+                released = λ is. inr (old.released is);
+                given = λ is. elim is [ inl none_here ↦ absurd none_here | inr more ↦ old.given more ];
+              }
+            ] refl;
         bare = each_message (λ q n. IsPast (servers c) n.place → n.packet ≡ None) s.message p new (λ n e is. absurd (not_past n e is)) f.bare;
         past = λ q v n held' there'. each_message (λ x n. (v : Withheld) → s.withheld x ≡ Some v → IsPast (servers c) n.place) s.message p new
             (λ n e v is. absurd (none-some legal.1 (sym (h.single p v m is there) ∙ bytes))) (λ x n there v is. f.past x v n is there) q n there' v held';
@@ -286,6 +297,7 @@ module _ (c : Setting) (good : IsGood c) (s : ChainState) (h : Inv c s) (t : IsT
         | inr isnt ↦ isnt
         | inl held ↦ let v = withheld_there (s.withheld p) held in absurd (none-some bytes (sym (h.single p v.0 m v.1 there) ∙ packet))
       ]
+
       visited : (q k p : ℕ) (o : Outcome) → q ≡ p → p < s.entered → s.fate p ≡ Inside → is_some (s.withheld q) ≡ false → has_packet (visited_message c k p o (s.message p)) ≡ is_some o.packet
           → IsFate (Visited k p o ∷ s.trace) s.entered q (fate_by k (s.fate p) o.packet) (has_packet (visited_message c k p o (s.message p))) (is_some (s.withheld q))
       visited q k p o same entered was no_held packet =
@@ -293,25 +305,25 @@ module _ (c : Setting) (good : IsGood c) (s : ChainState) (h : Inv c s) (t : IsT
           let carried' = has_packet (visited_message c k p o (s.message p)) in
           elim (o.packet) as (λ v. o.packet ≡ v → carried' ≡ is_some v → IsFate (Visited k p o ∷ s.trace) s.entered q (fate_by k (s.fate p) v) carried' (is_some (s.withheld q))) [
             | None ↦ λ e no_packet. record {
-                inside = λ l is. absurd (cc);
-                carried_inside = λ x. absurd (true≢false (sym x ∙ no_packet));
-                held_inside = λ x. absurd (true≢false (sym x ∙ no_held));
-                waiting = λ le. absurd (omega arith);
-                filtered = λ j is. inl ((cc), sym same, e);
-                dropped = λ j is. elim is [ inl here ↦ ap Filtered here.0 | inr more ↦ let e1 = old.dropped j more in absurd (cc) ];
-                released = λ is. absurd (cc);
-                given = λ is. elim is [ inl none_here ↦ absurd none_here | inr more ↦ let e1 = old.given more in absurd (cc) ];
-              }
+              inside = λ l is. absurd (cc);
+              carried_inside = λ x. absurd (true≢false (sym x ∙ no_packet));
+              held_inside = λ x. absurd (true≢false (sym x ∙ no_held));
+              waiting = λ le. absurd (omega arith);
+              filtered = λ j is. inl ((cc), sym same, e);
+              dropped = λ j is. elim is [ inl here ↦ ap Filtered here.0 | inr more ↦ let e1 = old.dropped j more in absurd (cc) ];
+              released = λ is. absurd (cc);
+              given = λ is. elim is [ inl none_here ↦ absurd none_here | inr more ↦ let e1 = old.given more in absurd (cc) ];
+            }
             | Some bytes ↦ λ e packet. record {
-                inside = λ l is. inl packet;
-                carried_inside = λ x. was;
-                held_inside = λ x. was;
-                waiting = λ le. absurd (omega arith);
-                filtered = λ j is. absurd (cc);
-                dropped = λ j is. elim is [ inl here ↦ absurd (none-some bytes (sym here.2 ∙ e)) | inr more ↦ let e1 = old.dropped j more in absurd (cc) ];
-                released = λ is. absurd (cc);
-                given = λ is. elim is [ inl none_here ↦ absurd none_here | inr more ↦ let e1 = old.given more in absurd (cc) ];
-              }
+              inside = λ l is. inl packet;
+              carried_inside = λ x. was;
+              held_inside = λ x. was;
+              waiting = λ le. absurd (omega arith);
+              filtered = λ j is. absurd (cc);
+              dropped = λ j is. elim is [ inl here ↦ absurd (none-some bytes (sym here.2 ∙ e)) | inr more ↦ let e1 = old.dropped j more in absurd (cc) ];
+              released = λ is. absurd (cc);
+              given = λ is. elim is [ inl none_here ↦ absurd none_here | inr more ↦ let e1 = old.given more in absurd (cc) ];
+            }
           ] refl packet
 
   -- ---- pass and lose
@@ -329,7 +341,7 @@ module _ (c : Setting) (good : IsGood c) (s : ChainState) (h : Inv c s) (t : IsT
       let x : Fate = if away && not last && has_packet (s.message p) then Lost s.events else s.fate p in
       let held' : Option Withheld = if last then withheld_of s (s.message p) else s.withheld p in
       let sent_is : (n : Message) → o ≡ Some n → (n.place ≡ Queued k) × (n.packet ≡ (if last then None else m.packet)) = λ n e.
-          by_sent k last sends m n (sym o_is ∙ e) in
+      by_sent k last sends m n (sym o_is ∙ e) in
       record {
         fates = λ q. elim (q == p) as (λ b. q == p ≡ b → IsFate s.trace s.entered q (if b then x else s.fate q) (has_packet (if b then o else s.message q)) (is_some (if b then held' else s.withheld q))) [
           | true ↦ λ e. let same : q ≡ p = eqb-true q p e in subst (λ y. IsFate s.trace s.entered y x (has_packet o) (is_some held')) (sym same)
@@ -372,13 +384,14 @@ module _ (c : Setting) (good : IsGood c) (s : ChainState) (h : Inv c s) (t : IsT
           → IsFate s.trace s.entered p (if away && not last && is_some m.packet then Lost s.events else s.fate p) (has_packet (if sent && not away then sent_message c s k (Some m) else None)) (is_some (if last then withheld_packet s m m.packet else s.withheld p))
       gone k p m last sent away last_is sent_is there no_held = elim (m.packet) as (λ v. m.packet ≡ v
           → IsFate s.trace s.entered p (if away && not last && is_some v then Lost s.events else s.fate p) (has_packet (if sent && not away then sent_message c s k (Some m) else None)) (is_some (if last then withheld_packet s m v else s.withheld p))) [
-        | None ↦ λ none_there. bare last away sent none_there
-        | Some bytes ↦ λ packet. with_bytes bytes packet last away sent last_is sent_is
-      ] refl
+            | None ↦ λ none_there. bare last away sent none_there
+            | Some bytes ↦ λ packet. with_bytes bytes packet last away sent last_is sent_is
+          ] refl
         where
           sent_none : (v : Option (List ℕ)) (b : Bool) → v ≡ None → is_some (if b then None else v) ≡ false
           sent_none v true e = refl
           sent_none v false e = ap is_some e
+
           bare : (last away sent : Bool) → m.packet ≡ None → IsFate s.trace s.entered p (if away && not last && false then Lost s.events else s.fate p) (has_packet (if sent && not away then sent_message c s k (Some m) else None)) (is_some (if last then None else s.withheld p))
           bare last away sent none_there =
               let carried_none : has_packet (s.message p) ≡ false = ap has_packet there ∙ ap is_some none_there in
@@ -393,13 +406,16 @@ module _ (c : Setting) (good : IsGood c) (s : ChainState) (h : Inv c s) (t : IsT
               sends_none : (b : Bool) → m.packet ≡ None → has_packet (if b then sent_message c s k (Some m) else None) ≡ false
               sends_none true e = sent_none m.packet (k + 1 == servers c) e
               sends_none false e = refl
+
               holds_none : (b : Bool) → is_some (if b then None else s.withheld p) ≡ false
               holds_none true = refl
               holds_none false = ap is_some no_held
+
               not_lost : (a b : Bool) → (if a && not b && false then Lost s.events else s.fate p) ≡ s.fate p
               not_lost true true = refl
               not_lost true false = refl
               not_lost false b = refl
+
           still_in : (bytes : List ℕ) → m.packet ≡ Some bytes → (carried' held' : Bool) → (carried' ≡ true) ⊎ (held' ≡ true) → IsFate s.trace s.entered p (s.fate p) carried' held'
           still_in bytes packet carried' held' one_is =
               let old = f.fates p in
@@ -410,8 +426,12 @@ module _ (c : Setting) (good : IsGood c) (s : ChainState) (h : Inv c s) (t : IsT
                 carried_inside = λ x. was;
                 held_inside = λ x. was;
                 waiting = λ le. absurd (omega arith);
-                filtered = old.filtered; dropped = old.dropped; released = old.released; given = old.given;
+                filtered = old.filtered;
+                dropped = old.dropped;
+                released = old.released;
+                given = old.given;
               }
+
           with_bytes : (bytes : List ℕ) → m.packet ≡ Some bytes → (last away sent : Bool) → (k + 1 == servers c) ≡ last → is_sent c k ≡ sent
               → IsFate s.trace s.entered p (if away && not last && true then Lost s.events else s.fate p) (has_packet (if sent && not away then sent_message c s k (Some m) else None)) (is_some (if last then Some (record { since = s.events; bytes = bytes; needs = m.needs }) else s.withheld p))
           with_bytes bytes packet true true sent last_is sent_is = still_in bytes packet _ true (inr refl)
@@ -463,9 +483,11 @@ module _ (c : Setting) (good : IsGood c) (s : ChainState) (h : Inv c s) (t : IsT
       kept_drop : (test : Message → Bool) (o : Option Message) (m : Message) → drop_if test o ≡ Some m → o ≡ Some m
       kept_drop test None m e = absurd (none-some m e)
       kept_drop test (Some n) m e = elim (test n) as (λ b. (if b then None else Some n) ≡ Some m → Some n ≡ Some m) [ true ↦ λ x. absurd (none-some m x) | false ↦ λ x. x ] e
+
       holds_none : (last : Bool) (o : Option Withheld) → is_some o ≡ false → is_some (if last then None else o) ≡ false
       holds_none true o is = refl
       holds_none false o is = is
+
       crashed : (q : ℕ) (loses last : Bool) → loses_packet (λ m. is_at c k m.place) (s.message q) ≡ loses
           → IsFate s.trace s.entered q (if loses || (last && is_some (s.withheld q)) then Lost s.events else s.fate q) (has_packet (drop_if (λ m. is_at c k m.place) (s.message q))) (is_some (if last then None else s.withheld q))
       crashed q true last is =
@@ -484,12 +506,12 @@ module _ (c : Setting) (good : IsGood c) (s : ChainState) (h : Inv c s) (t : IsT
             | None ↦ λ e. subst (λ x. IsFate s.trace s.entered q (s.fate q) (has_packet (drop_if (λ m. is_at c k m.place) (s.message q))) x) (ap is_some e)
                 (fate_kept s.trace s.entered s.entered q (s.fate q) (has_packet (s.message q)) _ (is_some (s.withheld q)) (λ l. l) (λ l. l) (test_false (λ m. is_at c k m.place) (s.message q) is) (f.fates q))
             | Some w ↦ λ e.
-              let old = f.fates q in
-              let none_carried : has_packet (s.message q) ≡ false = elim (cases_Bool (has_packet (s.message q))) [
-                | inr isnt ↦ isnt
-                | inl has ↦ let there = packet_there (s.message q) has in absurd (none-some there.1 (sym (h.single q w there.0 e there.2) ∙ there.3))
-              ] in
-              fate_lost s.trace s.entered q s.events (s.fate q) (has_packet (s.message q)) (is_some (s.withheld q)) _ false (f.buffered q w e) (old.held_inside (some_withheld (s.withheld q) w e))
+                let old = f.fates q in
+                let none_carried : has_packet (s.message q) ≡ false = elim (cases_Bool (has_packet (s.message q))) [
+                  | inr isnt ↦ isnt
+                  | inl has ↦ let there = packet_there (s.message q) has in absurd (none-some there.1 (sym (h.single q w there.0 e there.2) ∙ there.3))
+                ] in
+                fate_lost s.trace s.entered q s.events (s.fate q) (has_packet (s.message q)) (is_some (s.withheld q)) _ false (f.buffered q w e) (old.held_inside (some_withheld (s.withheld q) w e))
                 (test_false (λ m. is_at c k m.place) (s.message q) is ∙ none_carried) refl old
           ] refl
 
@@ -528,7 +550,10 @@ module _ (c : Setting) (good : IsGood c) (s : ChainState) (h : Inv c s) (t : IsT
       -- in what is left of the trace
       lost_left : (q e : ℕ) (carried held : Bool) → IsFate s.trace s.entered q (Lost e) carried held → IsFate (left_of (names undone) s.trace) s.entered q (Lost e) carried held
       lost_left q e carried held old = record {
-        inside = old.inside; carried_inside = old.carried_inside; held_inside = old.held_inside; waiting = old.waiting;
+        inside = old.inside;
+        carried_inside = old.carried_inside;
+        held_inside = old.held_inside;
+        waiting = old.waiting;
         filtered = λ j is. absurd (cc);
         dropped = λ j is. old.dropped j (dropped_stood q j is).0;
         released = λ is. absurd (cc);
@@ -552,10 +577,10 @@ module _ (c : Setting) (good : IsGood c) (s : ChainState) (h : Inv c s) (t : IsT
             waiting = λ le. absurd (not_inside (old.waiting le));
             filtered = λ i e. absurd (cc);
             dropped = λ i left.
-              let stood = dropped_stood q i left in
-              let e1 : s.fate q ≡ Filtered i = old.dropped i stood.0 in
-              let e2 : j ≡ i = cc in
-              absurd (true≢false (sym undoes ∙ (ap (λ x. names undone x q) e2 ∙ stood.1)));
+                let stood = dropped_stood q i left in
+                let e1 : s.fate q ≡ Filtered i = old.dropped i stood.0 in
+                let e2 : j ≡ i = cc in
+                absurd (true≢false (sym undoes ∙ (ap (λ x. names undone x q) e2 ∙ stood.1)));
             released = λ e. absurd (cc);
             given = λ left. let e1 = old.given (given_stood q left) in absurd (cc);
           }
@@ -630,6 +655,7 @@ are_fates c s f = record {
     λ where_it_is. elim where_it_is [
       | inl by ↦ old.carried_inside (carries (s.message p) by.message by.bytes by.there by.carries)
       | inr by ↦ old.held_inside (some_withheld (s.withheld p) by.withheld by.there)
-    ]);
+    ],
+  );
   waiting = λ p le. let old = f.fates p in old.waiting le;
 }

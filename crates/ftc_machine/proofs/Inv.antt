@@ -1,7 +1,7 @@
 -- What holds of every state of a run, and what each event does to it.
-use Rattle.std.proofs.Common.{◌≡◌, ◌≢◌, ℕ, suc, ◌+◌, ◌-◌, ◌<◌, ◌≤◌, ◌==◌, ◌&&◌, ◌||◌, if◌then◌else◌, nat_le, nat_lt, Bool, true, false, cond, not, List, [], ◌∷◌, ◌⊎◌, inl, inr, refl, sym, ap, subst, ◌∙◌, arith, ◌↔◌, eqb-true, Option, Some, None, is_some, eq-eqb, ltb-true, lt-ltb}
-use Rattle.std.proofs.lemmas.Bool.{true≢false, eqb-false, cases_eq, cases_lt, cases_Bool, and_parts, and_from, or_left, or_right, or_cases, or_parts, not-true, ne_eqb}
-use Rattle.std.proofs.lemmas.Option.{none-some, same_Some}
+use Rattle.std.proofs.Common.{◌≡◌, ◌≢◌, ℕ, ◌+◌, ◌-◌, ◌<◌, ◌≤◌, ◌&&◌, if◌then◌else◌, Bool, true, false, List, inl, inr, refl, sym, ap, subst, ◌∙◌, arith, eqb-true, Option, Some, None}
+use Rattle.std.proofs.lemmas.Bool.{true≢false, and_parts, or_cases}
+use Rattle.std.proofs.lemmas.Option.{same_Some}
 use Rattle.ftc_machine.proofs.Carrying.{AreCarried}
 use Rattle.ftc_machine.proofs.Premises.{AreFit, IsGood}
 use Rattle.ftc_machine.specs.State.{ChainState, Held, Message, Queued, Where, Withheld}
@@ -23,8 +23,6 @@ use Rattle.ftc_machine.proofs.Passed.{some_stands}
 use Rattle.ftc_machine.proofs.Standing.{visited_earlier}
 use Rattle.ftc_serial.specs.Words.{with_at}
 use Rattle.ftc_serial.proofs.Functions.{with_at_cases}
-use Rattle.ftc_machine.proofs.Carrying as carrying
-use Rattle.ftc_machine.proofs.Between as between
 
 abbrev pub target : ℕ → Where → ℕ
 target n (Held k visited by_ring) = k
@@ -107,13 +105,13 @@ pub knows_safe : (c : Setting) (s : ChainState) → Inv c s → (k j q : ℕ) �
 knows_safe c s h k j q is = elim (or_cases (s.known k j q) (is_tail c j k && s.lists k j q) is) [
   | inl known ↦ h.known k j q known
   | inr tail ↦
-    let a = and_parts (is_tail c j k) (s.lists k j q) tail in
-    let far : apart (servers c) j k ≡ c.failures = eqb-true _ _ a.0 in
-    let changing = (h.world.lists.listed k j q a.1).1 in
-    record {
-      changing = changing;
-      within = λ y lt live member near. in_has c.partitions s.trace (s.lists y) j q changing (h.world.nest.nested j y k q lt live (omega arith) a.1);
-    }
+      let a = and_parts (is_tail c j k) (s.lists k j q) tail in
+      let far : apart (servers c) j k ≡ c.failures = eqb-true _ _ a.0 in
+      let changing = (h.world.lists.listed k j q a.1).1 in
+      record {
+        changing = changing;
+        within = λ y lt live member near. in_has c.partitions s.trace (s.lists y) j q changing (h.world.nest.nested j y k q lt live (omega arith) a.1);
+      }
 ]
 
 pub carried_none : (c : Setting) (trace : List Entry) (up : ℕ → Bool) (has : ℕ → Visits) (x : ℕ) → AreCarried c trace up has no_visits x
@@ -139,14 +137,14 @@ module _ (c : Setting) (good : IsGood c) (s : ChainState) (h : Inv c s) where
   enter_steady p first few true m e =
       let same : fresh_message s.events (Some (packet_at c p)) ≡ m = same_Some _ _ e in
       subst (λ v. IsSteady c s.trace s.up s.lists p v) same (empty_steady c s.trace s.up s.lists p _ refl refl (λ bytes is.
-        let waits : (serial_of c s.trace).place p ≡ Waits 0 (packet_at c p) = h.unentered p (omega arith) few in
-        record {
-          place = waits ∙ ap (Waits 0) (same_Some _ _ is);
-          within = λ i less. absurd (omega arith);
-          together = λ i less. absurd (omega arith);
-          own = tt;
-          needs = λ i t. let less : i < 0 = visited_earlier c s.trace 0 p (packet_at c p) h.world.serial waits i (some_stands _ s.trace i p t) in absurd (omega arith);
-        }))
+      let waits : (serial_of c s.trace).place p ≡ Waits 0 (packet_at c p) = h.unentered p (omega arith) few in
+      record {
+        place = waits ∙ ap (Waits 0) (same_Some _ _ is);
+        within = λ i less. absurd (omega arith);
+        together = λ i less. absurd (omega arith);
+        own = tt;
+        needs = λ i t. let less : i < 0 = visited_earlier c s.trace 0 p (packet_at c p) h.world.serial waits i (some_stands _ s.trace i p t) in absurd (omega arith);
+      }))
   enter_steady p first few false m e = h.messages p m e
 
   enter_packet : (p : ℕ) → p ≡ s.entered → p < (count c) → (b : Bool) → (m : Message) → (if b then Some (fresh_message s.events (Some (packet_at c p))) else s.message p) ≡ Some m → (w : Withheld) → s.withheld p ≡ Some w → m.packet ≡ None

@@ -1,6 +1,6 @@
 -- A message leaves a server.
-use Rattle.std.proofs.Common.{◌≡◌, ◌≢◌, ℕ, suc, ◌+◌, ◌-◌, ◌<◌, ◌≤◌, ◌==◌, ◌&&◌, ◌||◌, if◌then◌else◌, nat_le, nat_lt, Bool, true, false, cond, not, List, [], ◌∷◌, ◌⊎◌, inl, inr, refl, sym, ap, subst, ◌∙◌, arith, ◌↔◌, eqb-true, Option, Some, None, is_some, eq-eqb, ltb-true, lt-ltb}
-use Rattle.std.proofs.lemmas.Bool.{true≢false, eqb-false, cases_eq, cases_lt, cases_Bool, and_parts, and_from, or_left, or_right, or_cases, or_parts, not-true, ne_eqb}
+use Rattle.std.proofs.Common.{◌≡◌, ◌≢◌, ℕ, ◌+◌, ◌-◌, ◌<◌, ◌≤◌, ◌==◌, ◌&&◌, ◌||◌, if◌then◌else◌, nat_lt, Bool, true, false, not, List, inl, inr, refl, sym, ap, subst, ◌∙◌, arith, eqb-true, Option, Some, None, eq-eqb, ltb-true}
+use Rattle.std.proofs.lemmas.Bool.{eqb-false, cases_lt, and_parts, and_from, or_left, or_cases, not-true, ne_eqb}
 use Rattle.std.proofs.lemmas.Option.{none-some, same_Some}
 use Rattle.std.proofs.lemmas.Bool.{not_from_false}
 use Rattle.ftc_machine.proofs.Carrying.{AreCarried, passes}
@@ -24,8 +24,6 @@ use Rattle.ftc_machine.specs.Next.{is_away, logs_sent, next, sent_message, sent_
 use Rattle.ftc_machine.specs.Known.{knows}
 use Rattle.ftc_serial.specs.Words.{with_at}
 use Rattle.ftc_serial.proofs.Functions.{with_at_cases}
-use Rattle.ftc_machine.proofs.Carrying as carrying
-use Rattle.ftc_machine.proofs.Between as between
 
 module _ (c : Setting) (good : IsGood c) (s : ChainState) (h : Inv c s) (k p : ℕ) (m : Message) (leaves : MayLeave c s k p m) where
   open leaves use {there, visited as was, held, ready}
@@ -74,37 +72,37 @@ module _ (c : Setting) (good : IsGood c) (s : ChainState) (h : Inv c s) (k p : �
     carried = sent_carried;
     told = λ j q is. knows_safe c s h k j q is;
     under_way = λ bytes is.
-      let n = (servers c) in let f = c.failures in let below : k < n = kl in
-      let w = sent_way (k + 1 == n) refl bytes is (next_of n k) refl in
-      let u = (h.messages p m there).under_way bytes w.2 in
-      let within = subst (λ x. (i : ℕ) → i < x → IsTouching s.trace i p → IsWithin c s.trace s.up s.lists i p (x - i)) at u.within in
-      let together = subst (λ x. (i : ℕ) → i < x → IsTouching s.trace i p → x - i ≤ f → In m.logs i p) at u.together in
-      let next' : next_of n k ≡ k + 1 = w.1 in
-      let own = own_log bytes w.2 in
-      record {
-        place = w.0;
-        within = λ i less touching y yl live_y member near.
-          let il : i < n = omega arith in let iy = apart_cases n i y il yl in let ik = apart_cases n i k il kl in
-          elim (cases_lt i k) [
-            | inr last ↦
-              let same : i ≡ y = omega arith in
-              subst (λ v. Has c.partitions s.trace (s.lists v) i p) same (head_has c s.trace s.up s.lists h.world.lists h.world.nest i p (subst (λ v. s.up v ≡ true) (sym same) live_y))
-            | inl before ↦ elim (cases_lt (apart n i y) (k - i)) [
-                | inl near' ↦ within i before touching y yl live_y member near'
-                | inr far ↦ let same : k ≡ y = omega arith in subst (λ v. Has c.partitions s.trace (s.lists v) i p) same (ready i p (together i before touching (omega arith)))
-              ]
-          ];
-        together = λ i less touching near.
-          let il : i < n = omega arith in let ik = apart_cases n i k il kl in
-          or_left (m.logs i p && not (is_tail c i k)) ((k == 0) && s.forwarder i p) (and_from (m.logs i p) (not (is_tail c i k))
-            (elim (cases_lt i k) [
-              | inl before ↦ together i before touching (omega arith)
-              | inr last ↦ let same : k ≡ i = omega arith in let some' : 0 < f = omega arith in subst (λ v. In m.logs v p) same (own (subst (λ v. IsTouching s.trace v p) (sym same) touching) some')
-            ])
-            (not_from_false _ (ne_eqb (apart n i k) f (λ e. let eq : apart n i k ≡ f = e in let bad : n < n = omega arith in omega arith))));
-        own = tt;
-        needs = λ i t. and_from (not (k + 1 == n)) (m.needs i) (not_from_false _ w.3) (u.needs i t);
-      };
+        let n = (servers c) in let f = c.failures in let below : k < n = kl in
+        let w = sent_way (k + 1 == n) refl bytes is (next_of n k) refl in
+        let u = (h.messages p m there).under_way bytes w.2 in
+        let within = subst (λ x. (i : ℕ) → i < x → IsTouching s.trace i p → IsWithin c s.trace s.up s.lists i p (x - i)) at u.within in
+        let together = subst (λ x. (i : ℕ) → i < x → IsTouching s.trace i p → x - i ≤ f → In m.logs i p) at u.together in
+        let next' : next_of n k ≡ k + 1 = w.1 in
+        let own = own_log bytes w.2 in
+        record {
+          place = w.0;
+          within = λ i less touching y yl live_y member near.
+              let il : i < n = omega arith in let iy = apart_cases n i y il yl in let ik = apart_cases n i k il kl in
+              elim (cases_lt i k) [
+                | inr last ↦
+                    let same : i ≡ y = omega arith in
+                    subst (λ v. Has c.partitions s.trace (s.lists v) i p) same (head_has c s.trace s.up s.lists h.world.lists h.world.nest i p (subst (λ v. s.up v ≡ true) (sym same) live_y))
+                | inl before ↦ elim (cases_lt (apart n i y) (k - i)) [
+                  | inl near' ↦ within i before touching y yl live_y member near'
+                  | inr far ↦ let same : k ≡ y = omega arith in subst (λ v. Has c.partitions s.trace (s.lists v) i p) same (ready i p (together i before touching (omega arith)))
+                ]
+              ];
+          together = λ i less touching near.
+              let il : i < n = omega arith in let ik = apart_cases n i k il kl in
+              or_left (m.logs i p && not (is_tail c i k)) ((k == 0) && s.forwarder i p) (and_from (m.logs i p) (not (is_tail c i k))
+              (elim (cases_lt i k) [
+                | inl before ↦ together i before touching (omega arith)
+                | inr last ↦ let same : k ≡ i = omega arith in let some' : 0 < f = omega arith in subst (λ v. In m.logs v p) same (own (subst (λ v. IsTouching s.trace v p) (sym same) touching) some')
+              ])
+              (not_from_false _ (ne_eqb (apart n i k) f (λ e. let eq : apart n i k ≡ f = e in let bad : n < n = omega arith in omega arith))));
+          own = tt;
+          needs = λ i t. and_from (not (k + 1 == n)) (m.needs i) (not_from_false _ w.3) (u.needs i t);
+        };
   }
 
   left_steady : (lost : Bool) (b : Bool) (o : Option Message) → s.message p ≡ o → (m' : Message) → (if b then sent_message c s k o else None) ≡ Some m' → IsSteady c s.trace s.up s.lists p m'
@@ -169,7 +167,7 @@ module _ (c : Setting) (good : IsGood c) (s : ChainState) (h : Inv c s) (k p : �
             (λ e is. subst (λ x. IsWithheld c s.trace s.up x w) (sym e) (withheld_now (k + 1 == n) refl w is)) (λ ne is. h.withheld q w is);
         single = λ q w x. with_at_cases (λ (o : Option Withheld). o ≡ Some w → with_at s.message p (if b then sent_message c s k (s.message p) else None) q ≡ Some x → x.packet ≡ None) s.withheld p (if k + 1 == n then withheld_of s (s.message p) else s.withheld p) q
             (λ e is. with_at_cases (λ (o : Option Message). o ≡ Some x → x.packet ≡ None) s.message p (if b then sent_message c s k (s.message p) else None) q
-              (λ _ m_is. single_now (k + 1 == n) w x is (left_packet b (s.message p) refl x m_is)) (λ ne. absurd (ne e)))
+            (λ _ m_is. single_now (k + 1 == n) w x is (left_packet b (s.message p) refl x m_is)) (λ ne. absurd (ne e)))
             (λ ne is. with_at_cases (λ (o : Option Message). o ≡ Some x → x.packet ≡ None) s.message p (if b then sent_message c s k (s.message p) else None) q (λ e. absurd (ne e)) (λ _ m_is. h.single q w x is m_is));
         unentered = h.unentered;
         known = h.known;
@@ -177,9 +175,9 @@ module _ (c : Setting) (good : IsGood c) (s : ChainState) (h : Inv c s) (k p : �
             (λ e g. elim (or_cases (s.gap k) (is_sent c k && is_away c s k lost) g) [
               | inl old ↦ h.gaps k old
               | inr new ↦ λ just'. let f0 : c.failures < n = good.small in let k0 : k < n = kl in elim (or_cases (not (k + 1 == n)) (nat_lt 0 c.failures) (and_parts (is_sent c k) _ new).0) [
-                  | inl far ↦ let ne : k + 1 ≢ n = eqb-false _ _ (not-true _ far) in omega arith
-                  | inr more ↦ let some' : 0 < c.failures = ltb-true _ _ more in omega arith
-                ]
+                | inl far ↦ let ne : k + 1 ≢ n = eqb-false _ _ (not-true _ far) in omega arith
+                | inr more ↦ let some' : 0 < c.failures = ltb-true _ _ more in omega arith
+              ]
             ])
             (λ ne g. h.gaps l g);
       }

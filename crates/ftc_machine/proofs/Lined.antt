@@ -1,6 +1,5 @@
 -- The lines that are still to be done.
-use Rattle.std.proofs.Common.{◌≡◌, ◌≢◌, ℕ, ◌+◌, ◌<◌, ◌≤◌, Bool, true, false, List, [], ◌∷◌, refl, sym, ap, subst, ◌∙◌, arith, inl, inr, lt-ltb, ltb-true, zero-le}
-use Rattle.std.proofs.lemmas.Bool.{cases_eq}
+use Rattle.std.proofs.Common.{◌≡◌, ◌≢◌, ℕ, ◌+◌, ◌<◌, ◌≤◌, Bool, true, false, List, [], ◌∷◌, refl, ap, subst, ◌∙◌, arith, lt-ltb}
 use Rattle.std.specs.List.{AllByRecursion}
 use Rattle.ftc_ring.specs.Ring.{RingShape}
 use Rattle.ftc_journal.specs.declared.event.Event.{Event}

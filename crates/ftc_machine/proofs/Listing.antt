@@ -1,11 +1,11 @@
 -- Lists hold changing visits of the trace, a live head has all of its middlebox, and lists are closed under `before`.
-use Rattle.std.proofs.Common.{◌≡◌, ℕ, ◌+◌, ◌-◌, ◌<◌, ◌≤◌, ◌==◌, ◌&&◌, ◌||◌, if◌then◌else◌, Bool, true, false, cond, not, List, [], ◌∷◌, ◌⊎◌, inl, inr, refl, sym, ap, subst, ◌∙◌, arith, Option, Some, None, eqb-true, eq-eqb, nat_le, le-leb, leb-true, leb-false}
-use Rattle.std.proofs.lemmas.Bool.{true≢false, cases_Bool, or_cases, or_left, or_right, and_parts, and_from, eqb-false, not-true}
+use Rattle.std.proofs.Common.{◌≡◌, ℕ, ◌==◌, Bool, true, false, List, ◌∷◌, ◌⊎◌, inl, inr, refl, sym, subst, eqb-true, eq-eqb}
+use Rattle.std.proofs.lemmas.Bool.{true≢false, or_cases, or_left, or_right, and_parts, and_from}
 use Rattle.ftc_serial.specs.Serial.{Entry, Given, Visited}
 use Rattle.ftc_machine.specs.Visits.{In, Visits, just, no_visits, union}
 use Rattle.ftc_machine.specs.Trace.{IsBefore, IsChanging, IsInTrace}
 use Rattle.ftc_serial.specs.Take.{Outcome}
-use Rattle.ftc_machine.specs.Setting.{Setting, servers}
+use Rattle.ftc_machine.specs.Setting.{Setting}
 use Rattle.ftc_machine.proofs.Standing.{before_last, before_left, meets_changing, stands_map, visit_left, visit_stood}
 use Rattle.ftc_machine.specs.Changes.{is_changing}
 use Rattle.ftc_serial.specs.Removal.{left_of}
@@ -67,23 +67,23 @@ module _ (c : Setting) where
         ];
         heads = λ j q live changing. elim changing [
           | inl here ↦ let b : is_changing c.partitions o ≡ true = here.2 in
-            subst (λ y. In (with_at has k (union (has k) (just k p (is_changing c.partitions o))) y) j q) here.0
+              subst (λ y. In (with_at has k (union (has k) (just k p (is_changing c.partitions o))) y) j q) here.0
               (subst (λ y. In (with_at has k (union (has k) (just k p (is_changing c.partitions o))) k) y q) here.0
-                (subst (λ y. In (with_at has k (union (has k) (just k p (is_changing c.partitions o))) k) k y) here.1 (gets has k k p (is_changing c.partitions o) b)))
+              (subst (λ y. In (with_at has k (union (has k) (just k p (is_changing c.partitions o))) k) k y) here.1 (gets has k k p (is_changing c.partitions o) b)))
           | inr there ↦ kept has k k p (is_changing c.partitions o) j j q (h.heads j q live there)
         ];
         closed = λ x j a b i before. kept has k k p (is_changing c.partitions o) x j a (elim before [
           | inl here ↦
-            let first : IsChanging c.partitions trace j a = meets_changing c.partitions o trace j a here.1.1 in
-            elim (gained has k k p (is_changing c.partitions o) x j b i) [
-              | inl old ↦ absurd (new x b (subst (λ y. In (has x) y b) (sym here.1.0) old) (sym here.0))
-              | inr n ↦ let own : In (has k) k a = h.heads k a awake (subst (λ y. IsChanging c.partitions trace y a) (sym n.1) first) in
-                subst (λ y. In (has y) j a) (sym n.0) (subst (λ y. In (has k) y a) n.1 own)
-            ]
+              let first : IsChanging c.partitions trace j a = meets_changing c.partitions o trace j a here.1.1 in
+              elim (gained has k k p (is_changing c.partitions o) x j b i) [
+                | inl old ↦ absurd (new x b (subst (λ y. In (has x) y b) (sym here.1.0) old) (sym here.0))
+                | inr n ↦ let own : In (has k) k a = h.heads k a awake (subst (λ y. IsChanging c.partitions trace y a) (sym n.1) first) in
+                    subst (λ y. In (has y) j a) (sym n.0) (subst (λ y. In (has k) y a) n.1 own)
+              ]
           | inr there ↦ elim (gained has k k p (is_changing c.partitions o) x j b i) [
-              | inl old ↦ h.closed x j a b old there
-              | inr n ↦ absurd (fresh (subst (λ y. IsInTrace (λ o. Unit {0}) trace k y) n.2 (subst (λ y. IsInTrace (λ o. Unit {0}) trace y b) (sym n.1) (before_last c.partitions trace j a b there))))
-            ]
+            | inl old ↦ h.closed x j a b old there
+            | inr n ↦ absurd (fresh (subst (λ y. IsInTrace (λ o. Unit {0}) trace k y) n.2 (subst (λ y. IsInTrace (λ o. Unit {0}) trace y b) (sym n.1) (before_last c.partitions trace j a b there))))
+          ]
         ]);
       }
 

@@ -6,7 +6,7 @@ use Rattle.ftc_journal.specs.declared.event.Event.{Event}
 use Rattle.ftc_journal.specs.declared.event.Event.TheVariants.{Apply, Carry, Crash, Enter, Lose, Pass, Propagate, Pull, Recover, Release, Take, Visit}
 use Rattle.ftc_serial.proofs.Functions.{with_at_cases}
 use Rattle.ftc_machine.specs.declared.fate.Fate.{Fate}
-use Rattle.ftc_machine.specs.declared.fate.Fate.TheVariants.{Released, Filtered, Lost, Inside}
+use Rattle.ftc_machine.specs.declared.fate.Fate.TheVariants.{Released, Lost}
 use Rattle.ftc_machine.specs.Setting.{Setting, servers}
 use Rattle.ftc_machine.specs.State.{ChainState}
 use Rattle.ftc_machine.specs.Next.{next, has_packet, is_away, fate_by, outcome_at}
@@ -25,11 +25,11 @@ left : (c : Setting) (s : ChainState) (k p packet number : ℕ) (lost : Bool)
     → (s.fate packet ≡ Lost number) ⊎ ((number ≡ s.events) × (is_away c s k lost ≡ true))
 left c s k p packet number lost =
     with_at_cases (λ v. v ≡ Lost number → (s.fate packet ≡ Lost number) ⊎ ((number ≡ s.events) × (is_away c s k lost ≡ true))) s.fate p _ packet
-      (λ same is. elim (by_test (is_away c s k lost && not (k + 1 == servers c) && has_packet (s.message p)) s.events number (s.fate p) is) [
-        | inl old ↦ inl (ap s.fate same ∙ old)
-        | inr new ↦ inr (new.0, first (is_away c s k lost) (not (k + 1 == servers c)) (has_packet (s.message p)) new.1)
-      ])
-      (λ other is. inl is)
+    (λ same is. elim (by_test (is_away c s k lost && not (k + 1 == servers c) && has_packet (s.message p)) s.events number (s.fate p) is) [
+      | inl old ↦ inl (ap s.fate same ∙ old)
+      | inr new ↦ inr (new.0, first (is_away c s k lost) (not (k + 1 == servers c)) (has_packet (s.message p)) new.1)
+    ])
+    (λ other is. inl is)
   where
     first : (a b d : Bool) → (a && b && d) ≡ true → a ≡ true
     first true b d is = refl
@@ -39,16 +39,16 @@ pub lost_by : (c : Setting) (s : ChainState) (e : Event) (packet number : ℕ) �
     → (s.fate packet ≡ Lost number) ⊎ ((number ≡ s.events) × MayLose c s e)
 lost_by c s (Enter p) packet number is =
     with_at_cases (λ v. v ≡ Lost number → (s.fate packet ≡ Lost number) ⊎ ((number ≡ s.events) × (s.up 0 ≡ false))) s.fate p _ packet
-      (λ same is. elim (s.up 0) as (λ b. (if b then s.fate p else Lost s.events) ≡ Lost number → (s.fate packet ≡ Lost number) ⊎ ((number ≡ s.events) × (b ≡ false))) [
-        | true ↦ λ old. inl (ap s.fate same ∙ old)
-        | false ↦ λ new. inr (same_event s.events number new, refl)
-      ] is)
-      (λ other is. inl is) is
+    (λ same is. elim (s.up 0) as (λ b. (if b then s.fate p else Lost s.events) ≡ Lost number → (s.fate packet ≡ Lost number) ⊎ ((number ≡ s.events) × (b ≡ false))) [
+      | true ↦ λ old. inl (ap s.fate same ∙ old)
+      | false ↦ λ new. inr (same_event s.events number new, refl)
+    ] is)
+    (λ other is. inl is) is
 lost_by c s (Take k p) packet number is = inl is
 lost_by c s (Apply k p j q) packet number is = inl is
 lost_by c s (Visit k p w) packet number is =
     with_at_cases (λ v. v ≡ Lost number → (s.fate packet ≡ Lost number) ⊎ ((number ≡ s.events) × MayLose c s (Visit k p w))) s.fate p _ packet
-      (λ same is. inl (ap s.fate same ∙ before (outcome_at c s k p).packet is)) (λ other is. inl is) is
+    (λ same is. inl (ap s.fate same ∙ before (outcome_at c s k p).packet is)) (λ other is. inl is) is
   where
     before : (o : Option (Rattle.std.proofs.Common.List ℕ)) → fate_by k (s.fate p) o ≡ Lost number → s.fate p ≡ Lost number
     before None is = absurd (cc)
@@ -65,4 +65,4 @@ lost_by c s (Pull k) packet number is = inl is
 lost_by c s (Propagate p) packet number is = inl is
 lost_by c s (Release p) packet number is =
     with_at_cases (λ v. v ≡ Lost number → (s.fate packet ≡ Lost number) ⊎ ((number ≡ s.events) × MayLose c s (Release p))) s.fate p Released packet
-      (λ same is. absurd (cc)) (λ other is. inl is) is
+    (λ same is. absurd (cc)) (λ other is. inl is) is

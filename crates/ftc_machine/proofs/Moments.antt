@@ -1,9 +1,7 @@
 -- The trace now: the visits that don't stand can be taken out.
-use Rattle.std.proofs.Common.{◌≡◌, ◌≢◌, ℕ, suc, ◌+◌, ◌-◌, ◌<◌, ◌≤◌, ◌==◌, ◌&&◌, ◌||◌, if◌then◌else◌, nat_le, nat_lt, Bool, true, false, cond, not, List, [], ◌∷◌, ◌⊎◌, inl, inr, refl, sym, ap, subst, ◌∙◌, arith, ◌↔◌, eqb-true, Option, Some, None, is_some, eq-eqb, ltb-true, lt-ltb}
-use Rattle.std.proofs.lemmas.Bool.{true≢false, eqb-false, cases_eq, cases_lt, cases_Bool, and_parts, and_from, or_left, or_right, or_cases, or_parts, not-true, ne_eqb}
-use Rattle.std.proofs.lemmas.Option.{none-some, same_Some}
-use Rattle.std.proofs.lemmas.Bool.{le-leb, leb-true, ltb-false, true_from_ne_false, false_from_ne_true}
-use Rattle.std.proofs.Common.{zero}
+use Rattle.std.proofs.Common.{◌≡◌, ℕ, ◌+◌, ◌-◌, ◌<◌, ◌≤◌, ◌==◌, ◌&&◌, if◌then◌else◌, Bool, true, false, cond, not, List, [], ◌∷◌, inl, inr, refl, sym, ap, subst, ◌∙◌, arith, eqb-true}
+use Rattle.std.proofs.lemmas.Bool.{true≢false, cases_eq, cases_lt}
+use Rattle.std.proofs.lemmas.Bool.{leb-true, false_from_ne_true}
 use Rattle.ftc_ring.specs.Ring.{IsRing}
 use Rattle.ftc_machine.specs.Moment.{first_live}
 use Rattle.ftc_machine.proofs.First.{IsFirst, first_there}
@@ -17,8 +15,8 @@ use Rattle.ftc_machine.proofs.Inv.{Inv}
 use Rattle.ftc_machine.proofs.Premises.{IsAdmissible, IsGood}
 use Rattle.ftc_serial.specs.History.{IsAlike, IsClosedHistory}
 use Rattle.ftc_machine.proofs.Places.{IsSerial, serial_of}
-use Rattle.ftc_machine.specs.Changes.{Meets, changes}
-use Rattle.ftc_serial.specs.Take.{Outcome, taken}
+use Rattle.ftc_machine.specs.Changes.{Meets}
+use Rattle.ftc_serial.specs.Take.{Outcome}
 use Rattle.ftc_machine.specs.Setting.{Setting, servers, shape}
 use Rattle.ftc_machine.proofs.Passed.{Somehow, some_stands}
 use Rattle.ftc_serial.specs.Removal.{Takes, left_of}
@@ -32,8 +30,6 @@ use Rattle.ftc_machine.proofs.Stores.{stands_below, store_all, touching_changing
 use Rattle.ftc_machine.proofs.Removed.{taken_out}
 use Rattle.ftc_store.specs.Store.{written}
 use Rattle.ftc_machine.proofs.Changing.{written_changed}
-use Rattle.ftc_machine.proofs.Carrying as carrying
-use Rattle.ftc_machine.proofs.Between as between
 
 -- a set of visits with which go those that they are before, and the later ones of their packets, none of which is released
 closed_by : (c : Setting) → 0 < (servers c) → (trace : List Entry) (gone : Visits)
@@ -55,12 +51,12 @@ closed_by c some trace gone before later released (e ∷ older) is lift up' =
     ]
     takes (Visited k q o) is lift lifts stands (Visited j p u) a goes why = elim why [
       | inl b ↦
-        let changes = written_changed c.partitions u b.0 b.1 in
-        let named : IsBefore c.partitions trace j p q = lift j p q (inl (refl, (b.2.0, among (λ v. Meets c.partitions v o) older j p u a (b.0, changes, b.2.1)))) in
-        subst (λ v. gone v q ≡ true) (sym b.2.0) (before j p q goes named)
+          let changes = written_changed c.partitions u b.0 b.1 in
+          let named : IsBefore c.partitions trace j p q = lift j p q (inl (refl, (b.2.0, among (λ v. Meets c.partitions v o) older j p u a (b.0, changes, b.2.1)))) in
+          subst (λ v. gone v q ≡ true) (sym b.2.0) (before j p q goes named)
       | inr same ↦
-        let below : j < k = visited_earlier c older k q is.0.0 is.1 is.0.1 j (subst (λ v. IsInTrace Somehow older j v) same (among Somehow older j p u a tt)) in
-        subst (λ v. gone k v ≡ true) same (later j k p goes below (lifts _ (among Somehow older j p u a tt)) (subst (λ v. IsInTrace Somehow trace k v) (sym same) (any_map _ (IsVisit Somehow k q) (λ x i. subst (IsVisit Somehow k q) (sym i) (refl, refl, tt)) trace stands)))
+          let below : j < k = visited_earlier c older k q is.0.0 is.1 is.0.1 j (subst (λ v. IsInTrace Somehow older j v) same (among Somehow older j p u a tt)) in
+          subst (λ v. gone k v ≡ true) same (later j k p goes below (lifts _ (among Somehow older j p u a tt)) (subst (λ v. IsInTrace Somehow trace k v) (sym same) (any_map _ (IsVisit Somehow k q) (λ x i. subst (IsVisit Somehow k q) (sym i) (refl, refl, tt)) trace stands)))
     ]
 
 -- the store of a set that has no visit that is taken out
@@ -71,10 +67,10 @@ store_left gone (Visited k p o ∷ older) j set apart_cases =
     let rest = store_left gone older j set (λ q st. apart_cases q (inr st)) in
     elim (gone k p) as (λ b. gone k p ≡ b → (if (k == j) && set p then written o.writes (content_of older set j) else content_of older set j) ≡ content_of (cond (not b) (Visited k p o ∷ left_of gone older) (left_of gone older)) set j) [
       | true ↦ λ g. elim (k == j) as (λ t. k == j ≡ t → (if t && set p then written o.writes (content_of older set j) else content_of older set j) ≡ content_of (left_of gone older) set j) [
-          | true ↦ λ e. let kj = eqb-true k j e in
+        | true ↦ λ e. let kj = eqb-true k j e in
             subst (λ b. (if true && b then written o.writes (content_of older set j) else content_of older set j) ≡ content_of (left_of gone older) set j) (sym (apart_cases p (inl (kj, refl, tt)) (subst (λ v. gone v p ≡ true) kj g))) rest
-          | false ↦ λ e. rest
-        ] refl
+        | false ↦ λ e. rest
+      ] refl
       | false ↦ λ g. ap (λ v. if (k == j) && set p then written o.writes v else v) rest
     ] refl
 
@@ -98,16 +94,16 @@ module _ (c : Setting) (good : IsGood c) (ring : IsRing (shape c)) (s : ChainSta
       elim (cases_lt (apart n i m) ((j - i) + 1)) [
         | inl near ↦ h.world.passed i j p le touching (some_stands _ s.trace j p (h.world.lists.listed k j p is).1) m first.inside first.up member near
         | inr far ↦
-          let im = apart_cases n i m il first.inside in let jm = apart_cases n j m jl first.inside in let jk = apart_cases n j k jl w.1 in let ik = apart_cases n i k il w.1 in
-          let nearer : apart n j m ≤ apart n j k = elim (cases_lt (apart n j k) (apart n j m)) [
-            | inl less ↦ absurd (true≢false (sym w.0 ∙ first.first k w.1 (omega arith)))
-            | inr more ↦ more
-          ] in
-          let had : In (s.lists m) j p = h.world.nest.nested j m k p first.inside first.up nearer is in
-          elim (cases_eq i j) [
-            | inl same ↦ subst (λ v. Has c.partitions s.trace (s.lists m) v p) (sym same) (in_has c.partitions s.trace (s.lists m) j p (h.world.lists.listed k j p is).1 had)
-            | inr other ↦ h.world.earlier m i j p had (omega arith) touching member
-          ]
+            let im = apart_cases n i m il first.inside in let jm = apart_cases n j m jl first.inside in let jk = apart_cases n j k jl w.1 in let ik = apart_cases n i k il w.1 in
+            let nearer : apart n j m ≤ apart n j k = elim (cases_lt (apart n j k) (apart n j m)) [
+              | inl less ↦ absurd (true≢false (sym w.0 ∙ first.first k w.1 (omega arith)))
+              | inr more ↦ more
+            ] in
+            let had : In (s.lists m) j p = h.world.nest.nested j m k p first.inside first.up nearer is in
+            elim (cases_eq i j) [
+              | inl same ↦ subst (λ v. Has c.partitions s.trace (s.lists m) v p) (sym same) (in_has c.partitions s.trace (s.lists m) j p (h.world.lists.listed k j p is).1 had)
+              | inr other ↦ h.world.earlier m i j p had (omega arith) touching member
+            ]
       ]
 
   -- a visit that some live server has stands
@@ -124,16 +120,16 @@ module _ (c : Setting) (good : IsGood c) (ring : IsRing (shape c)) (s : ChainSta
     closed : IsClosedHistory c.partitions fallen s.trace
     closed = closed_by c good.some s.trace fallen
         (λ j p q goes b.
-          let first = touched _ j p (before_first c.partitions s.trace j p q b) in
-          let touching = before_touching c.partitions s.trace j p q b in
-          let jl = below _ j q touching in
-          let live = first_live_by j jl in
-          (exact j q (touched _ j q touching)).1 (λ standing. (exact j p first).0 goes
-            (stands_had live.0 j p (has_before c s.trace s.up s.lists h.world.lists h.world.nest live.0 j p q (standing j live.0 (omega arith) touching live.1) b))))
+        let first = touched _ j p (before_first c.partitions s.trace j p q b) in
+        let touching = before_touching c.partitions s.trace j p q b in
+        let jl = below _ j q touching in
+        let live = first_live_by j jl in
+        (exact j q (touched _ j q touching)).1 (λ standing. (exact j p first).0 goes
+        (stands_had live.0 j p (has_before c s.trace s.up s.lists h.world.lists h.world.nest live.0 j p q (standing j live.0 (omega arith) touching live.1) b))))
         (λ j k p goes less st_j st_k. (exact k p st_k).1 (λ standing. (exact j p st_j).0 goes (λ i m le touching first. standing i m (omega arith) touching first)))
         (λ j p bytes goes st given. (exact j p st).0 goes (λ i m le touching first.
-          let il = below _ i p touching in let im = apart_cases (servers c) i m il first.inside in
-          h.world.released p bytes given i touching m first.inside first.up (leb-true _ _ first.member) (omega arith)))
+        let il = below _ i p touching in let im = apart_cases (servers c) i m il first.inside in
+        h.world.released p bytes given i touching m first.inside first.up (leb-true _ _ first.member) (omega arith)))
         s.trace h.world.serial (λ j p q b. b) (λ P a. a)
 
     pub out : IsSerial c (left_of fallen s.trace) × IsAlike c.partitions fallen (serial_of c s.trace) (serial_of c (left_of fallen s.trace)) s.trace
@@ -143,8 +139,7 @@ module _ (c : Setting) (good : IsGood c) (ring : IsRing (shape c)) (s : ChainSta
     first_store j k jl first =
         store_left fallen s.trace j (s.lists k j) (λ p st g. false_from_ne_true (s.lists k j p) (λ is. true≢false (sym g ∙ upright j p st (stands_had k j p is))))
         ∙ store_all c good.sound (left_of fallen s.trace) out.0 j (s.lists k j) (λ p changing.
-          let was = visit_stood fallen _ s.trace j p changing in
-          let touching = touching_changing c good.sound s.trace h.world.serial j p was.0 in
-          let had : Has c.partitions s.trace (s.lists k) j p = has_stable c.partitions s.trace (s.lists k) j p (λ lacks. true≢false (sym ((exact j p (touched _ j p was.0)).1 (λ standing. lacks (standing j k (omega arith) touching first))) ∙ was.1)) in
-          had.changing was.0)
-
+        let was = visit_stood fallen _ s.trace j p changing in
+        let touching = touching_changing c good.sound s.trace h.world.serial j p was.0 in
+        let had : Has c.partitions s.trace (s.lists k) j p = has_stable c.partitions s.trace (s.lists k) j p (λ lacks. true≢false (sym ((exact j p (touched _ j p was.0)).1 (λ standing. lacks (standing j k (omega arith) touching first))) ∙ was.1)) in
+        had.changing was.0)

@@ -1,12 +1,11 @@
 -- What is not yet everywhere is on its way.
-use Rattle.std.proofs.Common.{◌≡◌, ◌≢◌, ℕ, suc, ◌+◌, ◌-◌, ◌<◌, ◌≤◌, ◌==◌, ◌&&◌, ◌||◌, if◌then◌else◌, nat_le, nat_lt, Bool, true, false, cond, not, List, [], ◌∷◌, ◌⊎◌, inl, inr, refl, sym, ap, subst, ◌∙◌, arith, ◌↔◌, eqb-true, Option, Some, None, is_some, eq-eqb, ltb-true, lt-ltb}
-use Rattle.std.proofs.lemmas.Bool.{true≢false, eqb-false, cases_eq, cases_lt, cases_Bool, and_parts, and_from, or_left, or_right, or_cases, or_parts, not-true, ne_eqb}
+use Rattle.std.proofs.Common.{◌≡◌, ◌≢◌, ℕ, suc, ◌+◌, ◌<◌, ◌≤◌, ◌==◌, ◌&&◌, ◌||◌, if◌then◌else◌, nat_lt, Bool, true, false, not, List, [], ◌∷◌, ◌⊎◌, inl, inr, refl, sym, ap, subst, ◌∙◌, arith, ◌↔◌, Option, Some, None, is_some, eq-eqb, lt-ltb}
+use Rattle.std.proofs.lemmas.Bool.{true≢false, eqb-false, cases_eq, cases_Bool, and_from, or_left, or_right, or_parts, ne_eqb}
 use Rattle.std.proofs.lemmas.Option.{none-some, same_Some}
 use Rattle.std.specs.List.{list_any}
 use Rattle.std.proofs.lemmas.Bool.{not_from_false, le-leb, false_from_ne_true}
 use Rattle.std.proofs.Common.{lt_irrefl, zero}
 use Rattle.std.proofs.lemmas.Bool.{leb-true}
-use Rattle.ftc_script.specs.declared.line.ScriptLine.TheVariants as script_line
 use Rattle.ftc_journal.specs.declared.event.Event.TheVariants.{Apply, Carry, Crash, Enter, Lose, Pass, Propagate, Pull, Recover, Release, Take, Visit}
 use Rattle.ftc_machine.proofs.Premises.{AreFit, IsGood, ticked}
 use Rattle.ftc_machine.specs.Run.{AreLegal, state_after}
@@ -34,8 +33,6 @@ use Rattle.ftc_machine.proofs.Standing.{visited_earlier}
 use Rattle.ftc_machine.proofs.Visiting.{visits}
 use Rattle.ftc_serial.specs.Words.{with_at}
 use Rattle.ftc_serial.proofs.Functions.{with_at_cases}
-use Rattle.ftc_machine.proofs.Carrying as carrying
-use Rattle.ftc_machine.proofs.Between as between
 
 -- a log at server y or the next, or on the link between them
 abbrev pub IsNear : ℕ → ℕ → Where → Type 0
@@ -75,9 +72,9 @@ module _ (c : Setting) (s : ChainState) (h : Inv c s) where
       → (IsOnWay c (with_at s.message p o) forwarder' y j q → G) → G
   on_way p o forwarder' y j q way here forward other = elim way [
     | inl by ↦ elim (cases_eq by.origin p) [
-        | inl same ↦ here by.by (subst (λ v. s.message v ≡ Some by.by) same by.there) by.log by.near
-        | inr ne ↦ other (inl (record { origin = by.origin; by = by.by; there = other_message s.message p o by.origin ne ∙ by.there; log = by.log; near = by.near }))
-      ]
+      | inl same ↦ here by.by (subst (λ v. s.message v ≡ Some by.by) same by.there) by.log by.near
+      | inr ne ↦ other (inl (record { origin = by.origin; by = by.by; there = other_message s.message p o by.origin ne ∙ by.there; log = by.log; near = by.near }))
+    ]
     | inr f ↦ forward f.0 f.1
   ]
 
@@ -99,11 +96,11 @@ module _ (c : Setting) (good : IsGood c) (s : ChainState) (h : Inv c s) (pending
     | inl had ↦ inl had
     | inr way ↦ on_way c s h p (taken_message c s l (s.message p)) s.forwarder y j q way
         (λ m e log near.
-          let same : legal.0 ≡ m = same_Some _ _ (sym legal.1 ∙ e) in
-          let queued : m.place ≡ Queued l = subst (λ (x : Message). x.place ≡ Queued l) same legal.2 in
-          let at : l ≡ y = subst (λ w. IsNear (servers c) y w) queued near in
-          let new : Message = record m { place = Held (next_of (servers c) l) false (l + 1 == (servers c)); since = s.events } in
-          inr (inl (record { origin = p; by = new; there = same_message s.message p _ ∙ ap (taken_message c s l) e; log = log; near = inr (ap (next_of (servers c)) at) })))
+        let same : legal.0 ≡ m = same_Some _ _ (sym legal.1 ∙ e) in
+        let queued : m.place ≡ Queued l = subst (λ (x : Message). x.place ≡ Queued l) same legal.2 in
+        let at : l ≡ y = subst (λ w. IsNear (servers c) y w) queued near in
+        let new : Message = record m { place = Held (next_of (servers c) l) false (l + 1 == (servers c)); since = s.events } in
+        inr (inl (record { origin = p; by = new; there = same_message s.message p _ ∙ ap (taken_message c s l) e; log = log; near = inr (ap (next_of (servers c)) at) })))
         (λ z f. inr (inr (z, f))) (λ w. inr w)
   ]
 
@@ -113,10 +110,12 @@ module _ (c : Setting) (good : IsGood c) (s : ChainState) (h : Inv c s) (pending
       elim (gained s.lists k a b true y j q is) [
         | inl old ↦ elim (pending y j q old less live gap) [ inl had ↦ inl (more (next_of (servers c) y) had) | inr way ↦ inr way ]
         | inr n ↦ inr (inl (record {
-            origin = p; by = legal.0; there = legal.1.0;
-            log = subst (λ v. In legal.0.logs v q) n.1 (subst (λ v. In legal.0.logs a v) (sym n.2) legal.2);
-            near = subst (λ w. IsNear (servers c) y w) (sym legal.1.3) (inl (sym n.0));
-          }))
+          origin = p;
+          by = legal.0;
+          there = legal.1.0;
+          log = subst (λ v. In legal.0.logs v q) n.1 (subst (λ v. In legal.0.logs a v) (sym n.2) legal.2);
+          near = subst (λ w. IsNear (servers c) y w) (sym legal.1.3) (inl (sym n.0));
+        }))
       ]
 
   visit_pends : (k p w : ℕ) → MayHappen c s (Visit k p w) → IsPending c (next c s (Visit k p w))
@@ -127,28 +126,30 @@ module _ (c : Setting) (good : IsGood c) (s : ChainState) (h : Inv c s) (pending
       let new : Message = record { place = visited_at m.place; since = m.since; packet = o.packet; logs = union m.logs (just k p log); needs = λ i. is_some o.packet && (m.needs i || ((i == k) && is_touching o)); known = m.known } in
       let there : with_at s.message p (visited_message c k p o (s.message p)) p ≡ Some new = same_message s.message p _ ∙ ap (visited_message c k p o) legal.3 in
       let near' : (n : Message) → n ≡ m → IsNear (servers c) y n.place → IsNear (servers c) y (visited_at m.place) = λ n e near.
-          subst (λ v. IsNear (servers c) y (visited_at v)) (sym legal.4) (subst (λ v. IsNear (servers c) y v) (ap (λ (x : Message). x.place) e ∙ legal.4) near) in
+      subst (λ v. IsNear (servers c) y (visited_at v)) (sym legal.4) (subst (λ v. IsNear (servers c) y v) (ap (λ (x : Message). x.place) e ∙ legal.4) near) in
       elim (gained s.lists k k p (is_changing c.partitions o) y j q is) [
         | inl old ↦ elim (pending y j q old less live gap) [
-            | inl had ↦ inl (more (next_of (servers c) y) had)
-            | inr way ↦ on_way c s h p (visited_message c k p o (s.message p)) s.forwarder y j q way
-                (λ n e log' near. let same : n ≡ m = same_Some n m (sym e ∙ legal.3) in
-                  inr (inl (record { origin = p; by = new; there = there; log = or_left (m.logs j q) (just k p log j q) (subst (λ (x : Message). In x.logs j q) same log'); near = near' n same near })))
-                (λ z f. inr (inr (z, f))) (λ v. inr v)
-          ]
+          | inl had ↦ inl (more (next_of (servers c) y) had)
+          | inr way ↦ on_way c s h p (visited_message c k p o (s.message p)) s.forwarder y j q way
+              (λ n e log' near. let same : n ≡ m = same_Some n m (sym e ∙ legal.3) in
+              inr (inl (record { origin = p; by = new; there = there; log = or_left (m.logs j q) (just k p log j q) (subst (λ (x : Message). In x.logs j q) same log'); near = near' n same near })))
+              (λ z f. inr (inr (z, f))) (λ v. inr v)
+        ]
         | inr n ↦
-          let legal' : World c (Visited k p o ∷ s.trace) s.up (with_at s.lists k (union (s.lists k) (just k p (is_changing c.partitions o)))) = (visits c good s h k p m legal.1 by_ring legal.3 legal.4 legal.5 legal.6 w).world in
-          let touching : is_touching o ≡ true = elim (touching_changing c good.sound (Visited k p o ∷ s.trace) legal'.serial k p (inl (refl, refl, n.3))) [
-            | inl here ↦ here.2
-            | inr old ↦ let fresh = visited_earlier c s.trace k p legal'.serial.0.0 h.world.serial legal'.serial.0.1 k (some_stands _ s.trace k p old) in absurd (lt_irrefl k fresh)
-          ] in
-          let some' : 0 < c.failures = omega arith in
-          let in_log : In new.logs k p = or_right (m.logs k p) (just k p log k p) (and_from ((k == k) && (p == p)) log (and_from (k == k) (p == p) (eq-eqb k k refl) (eq-eqb p p refl)) (and_from (is_touching o) (nat_lt 0 c.failures) touching (lt-ltb 0 c.failures some'))) in
-          inr (inl (record {
-            origin = p; by = new; there = there;
-            log = subst (λ v. In new.logs v q) n.1 (subst (λ v. In new.logs k v) (sym n.2) in_log);
-            near = subst (λ v. IsNear (servers c) y (visited_at v)) (sym legal.4) (inl (sym n.0));
-          }))
+            let legal' : World c (Visited k p o ∷ s.trace) s.up (with_at s.lists k (union (s.lists k) (just k p (is_changing c.partitions o)))) = (visits c good s h k p m legal.1 by_ring legal.3 legal.4 legal.5 legal.6 w).world in
+            let touching : is_touching o ≡ true = elim (touching_changing c good.sound (Visited k p o ∷ s.trace) legal'.serial k p (inl (refl, refl, n.3))) [
+              | inl here ↦ here.2
+              | inr old ↦ let fresh = visited_earlier c s.trace k p legal'.serial.0.0 h.world.serial legal'.serial.0.1 k (some_stands _ s.trace k p old) in absurd (lt_irrefl k fresh)
+            ] in
+            let some' : 0 < c.failures = omega arith in
+            let in_log : In new.logs k p = or_right (m.logs k p) (just k p log k p) (and_from ((k == k) && (p == p)) log (and_from (k == k) (p == p) (eq-eqb k k refl) (eq-eqb p p refl)) (and_from (is_touching o) (nat_lt 0 c.failures) touching (lt-ltb 0 c.failures some'))) in
+            inr (inl (record {
+              origin = p;
+              by = new;
+              there = there;
+              log = subst (λ v. In new.logs v q) n.1 (subst (λ v. In new.logs k v) (sym n.2) in_log);
+              near = subst (λ v. IsNear (servers c) y (visited_at v)) (sym legal.4) (inl (sym n.0));
+            }))
       ]
 
   carry_pends : (p : ℕ) → MayHappen c s (Carry p) → IsPending c (next c s (Carry p))
@@ -156,14 +157,14 @@ module _ (c : Setting) (good : IsGood c) (s : ChainState) (h : Inv c s) (pending
     | inl had ↦ inl had
     | inr way ↦ on_way c s h p None (union s.forwarder (λ j q. logs_of (s.message p) j q && not (is_tail c j 0))) y j q way
         (λ m e log near.
-          let same : legal.0 ≡ m = same_Some _ _ (sym legal.1 ∙ e) in
-          let at : IsNear (servers c) y (Held 0 legal.2 true) = subst (λ w. IsNear (servers c) y w) (ap (λ (x : Message). x.place) (sym same) ∙ legal.3) near in
-          elim at [
-            | inl here ↦
+        let same : legal.0 ≡ m = same_Some _ _ (sym legal.1 ∙ e) in
+        let at : IsNear (servers c) y (Held 0 legal.2 true) = subst (λ w. IsNear (servers c) y w) (ap (λ (x : Message). x.place) (sym same) ∙ legal.3) near in
+        elim at [
+          | inl here ↦
               let not_tail : apart (servers c) j 0 ≢ c.failures = λ t. let l0 : apart (servers c) j 0 < c.failures = subst (λ v. apart (servers c) j v < c.failures) (sym here) less in lt_irrefl c.failures (subst (λ v. v < c.failures) t l0) in
               inr (inr (sym here, or_right (s.forwarder j q) _ (and_from _ _ (subst (λ v. In (logs_of v) j q) (sym e) log) (not_from_false _ (ne_eqb _ _ not_tail)))))
-            | inr there ↦ inl (subst (λ v. In (s.lists v) j q) there ((legal.4 j q (subst (λ (x : Message). In x.logs j q) (sym same) log)).changing (h.world.lists.listed y j q is).1))
-          ])
+          | inr there ↦ inl (subst (λ v. In (s.lists v) j q) there ((legal.4 j q (subst (λ (x : Message). In x.logs j q) (sym same) log)).changing (h.world.lists.listed y j q is).1))
+        ])
         (λ z f. inr (inr (z, or_left (s.forwarder j q) _ f))) (λ w. inr w)
   ]
 
@@ -182,21 +183,21 @@ module _ (c : Setting) (good : IsGood c) (s : ChainState) (h : Inv c s) (pending
         | inr other ↦ sym (other_message s.gap k _ y other) ∙ gap
       ] in
       let sent : (x : Message) → s.message p ≡ Some x → y ≡ k → In (logs_sent c s k x) j q → IsOnWay c (sent_on c s k p lost).message (sent_on c s k p lost).forwarder y j q = λ x e at log.
-          let goes : b ≡ true = and_from (is_sent c k) (not (is_away c s k lost)) sends (not_from_false _ (gap_k at)) in
-          let new : Message = record { place = Queued k; since = s.events; packet = if k + 1 == n then None else x.packet; logs = logs_sent c s k x; needs = λ i. not (k + 1 == n) && x.needs i; known = knows c s k } in
-          inl (record { origin = p; by = new; there = same_message s.message p _ ∙ (ap (λ t. if t then sent_message c s k (s.message p) else None) goes ∙ ap (sent_message c s k) e); log = log; near = sym at }) in
+      let goes : b ≡ true = and_from (is_sent c k) (not (is_away c s k lost)) sends (not_from_false _ (gap_k at)) in
+      let new : Message = record { place = Queued k; since = s.events; packet = if k + 1 == n then None else x.packet; logs = logs_sent c s k x; needs = λ i. not (k + 1 == n) && x.needs i; known = knows c s k } in
+      inl (record { origin = p; by = new; there = same_message s.message p _ ∙ (ap (λ t. if t then sent_message c s k (s.message p) else None) goes ∙ ap (sent_message c s k) e); log = log; near = sym at }) in
       elim (pending y j q is less live old_gap) [
         | inl had ↦ inl had
         | inr way ↦ on_way c s h p (if b then sent_message c s k (s.message p) else None) (λ a x. not (k == 0) && s.forwarder a x) y j q way
             (λ x e log near.
-              let same : m ≡ x = same_Some _ _ (sym leaves.there ∙ e) in
-              let at : IsNear n y (Held k leaves.visited false) = subst (λ w. IsNear n y w) (ap (λ (x : Message). x.place) (sym same) ∙ leaves.held) near in
-              elim at [
-                | inl here ↦
+            let same : m ≡ x = same_Some _ _ (sym leaves.there ∙ e) in
+            let at : IsNear n y (Held k leaves.visited false) = subst (λ w. IsNear n y w) (ap (λ (x : Message). x.place) (sym same) ∙ leaves.held) near in
+            elim at [
+              | inl here ↦
                   let not_tail : apart n j k ≢ c.failures = λ t. lt_irrefl c.failures (subst (λ v. v < c.failures) t (subst (λ v. apart n j v < c.failures) (sym here) less)) in
                   inr (sent x e (sym here) (or_left (x.logs j q && not (is_tail c j k)) _ (and_from (x.logs j q) _ log (not_from_false _ (ne_eqb _ _ not_tail)))))
-                | inr there ↦ inl (subst (λ v. In (s.lists v) j q) there ((leaves.ready j q (subst (λ (x : Message). In x.logs j q) (sym same) log)).changing (h.world.lists.listed y j q is).1))
-              ])
+              | inr there ↦ inl (subst (λ v. In (s.lists v) j q) there ((leaves.ready j q (subst (λ (x : Message). In x.logs j q) (sym same) log)).changing (h.world.lists.listed y j q is).1))
+            ])
             (λ z f. elim (cases_eq k 0) [
               | inl zero' ↦ inr (sent m leaves.there (z ∙ sym zero') (or_right (m.logs j q && not (is_tail c j k)) _ (and_from (k == 0) (s.forwarder j q) (eq-eqb k 0 zero') f)))
               | inr more ↦ inr (inr (z, and_from (not (k == 0)) (s.forwarder j q) (not_from_false _ (ne_eqb k 0 more)) f))
@@ -213,13 +214,15 @@ module _ (c : Setting) (good : IsGood c) (s : ChainState) (h : Inv c s) (pending
       elim (pending y j q old less (sym (other_message s.up k false _ next_ne) ∙ live) gap) [
         | inl had ↦ inl (subst (λ (v : Visits). In v j q) (sym (other_message s.lists k no_visits (next_of n y) next_ne)) had)
         | inr way ↦ elim way [
-            | inl by ↦ inr (inl (record {
-                origin = by.origin; by = by.by;
-                there = ap (drop_if (λ (x : Message). is_at c k x.place)) by.there ∙ ap (λ b. if b then None else Some by.by) (away by.by.place by.near y_ne next_ne);
-                log = by.log; near = by.near;
-              }))
-            | inr f ↦ inr (inr (f.0, and_from (not (k == 0)) (s.forwarder j q) (not_from_false _ (ne_eqb k 0 (λ e. y_ne (f.0 ∙ sym e)))) f.1))
-          ]
+          | inl by ↦ inr (inl (record {
+            origin = by.origin;
+            by = by.by;
+            there = ap (drop_if (λ (x : Message). is_at c k x.place)) by.there ∙ ap (λ b. if b then None else Some by.by) (away by.by.place by.near y_ne next_ne);
+            log = by.log;
+            near = by.near;
+          }))
+          | inr f ↦ inr (inr (f.0, and_from (not (k == 0)) (s.forwarder j q) (not_from_false _ (ne_eqb k 0 (λ e. y_ne (f.0 ∙ sym e)))) f.1))
+        ]
       ]
     where
       away : (w : Where) → IsNear (servers c) y w → y ≢ k → next_of (servers c) y ≢ k → is_at c k w ≡ false
@@ -239,13 +242,15 @@ module _ (c : Setting) (good : IsGood c) (s : ChainState) (h : Inv c s) (pending
       elim (pending y j q old less (sym (other_message s.up k true _ next_ne) ∙ live) low.0) [
         | inl had ↦ inl (subst (λ (v : Visits). In v j q) (sym (other_message s.lists k (list_got c s k r t) (next_of n y) next_ne)) had)
         | inr way ↦ elim way [
-            | inl by ↦ inr (inl (record {
-                origin = by.origin; by = by.by;
-                there = ap (drop_if (is_dropped c s t)) by.there ∙ ap (λ b. if b then None else Some by.by) (stays by.by.logs by.by.place by.near y_net next_net);
-                log = by.log; near = by.near;
-              }))
-            | inr f ↦ inr (inr f)
-          ]
+          | inl by ↦ inr (inl (record {
+            origin = by.origin;
+            by = by.by;
+            there = ap (drop_if (is_dropped c s t)) by.there ∙ ap (λ b. if b then None else Some by.by) (stays by.by.logs by.by.place by.near y_net next_net);
+            log = by.log;
+            near = by.near;
+          }))
+          | inr f ↦ inr (inr f)
+        ]
       ]
     where
       stays : (logs : Visits) (w : Where) → IsNear (servers c) y w → y ≢ t → next_of (servers c) y ≢ t → is_dropped_at c s t logs w ≡ false
@@ -260,54 +265,54 @@ module _ (c : Setting) (good : IsGood c) (s : ChainState) (h : Inv c s) (pending
       elim (apart_after n l ll) [
         | inr just' ↦ absurd (several just')
         | inl step ↦
-          let st = step.0 in
-          let here : In (with_at s.lists m (pulled_list c s l m) y) j q = is in
-          let changing : IsChanging c.partitions s.trace j q = with_at_cases (λ (v : Visits). In v j q → IsChanging c.partitions s.trace j q) s.lists m (pulled_list c s l m) y
-              (λ e i. elim (from j q i) [ inl a ↦ (h.world.lists.listed l j q a.0).1 | inr b ↦ (h.world.lists.listed m j q b).1 ])
-              (λ ne i. (h.world.lists.listed y j q i).1) here in
-          let jl : j < n = stands_below c good.some _ s.trace h.world.serial j q changing in
-          let yl : y < n = with_at_cases (λ (v : Visits). In v j q → y < n) s.lists m (pulled_list c s l m) y (λ e i. subst (λ v. v < n) (sym e) step.1) (λ ne i. (h.world.nest.member y j q i).1) here in
-          elim (apart_after n y yl) [
-            | inr just' ↦ absurd (several just')
-            | inl after' ↦
-              let af = after'.0 in
-              elim (cases_eq y m) [
-                | inl at_m ↦
-                  let i_m : In (pulled_list c s l m) j q = subst (λ (v : Visits). In v j q) (ap (with_at s.lists m (pulled_list c s l m)) at_m ∙ same_message s.lists m (pulled_list c s l m)) here in
-                  let m_ne_l : m ≢ l = λ e. let ee : next_of n l ≡ l = e in omega arith in
-                  let gap_m : (s.gap m || list_any (is_news c s l m) s.trace) ≡ false = sym (ap (λ b. if b then false else (if m == m then s.gap m || list_any (is_news c s l m) s.trace else s.gap m)) (ne_eqb m l m_ne_l) ∙ ap (λ b. if b then s.gap m || list_any (is_news c s l m) s.trace else s.gap m) (eq-eqb m m refl)) ∙ subst (λ v. (if v == l then false else (if v == m then s.gap m || list_any (is_news c s l m) s.trace else s.gap v)) ≡ false) at_m gap in
-                  let parts' = or_parts (s.gap m) (list_any (is_news c s l m) s.trace) gap_m in
-                  let less_m : apart n j m < c.failures = subst (λ v. apart n j v < c.failures) at_m less in
-                  let had : In (s.lists m) j q = elim (cases_Bool (s.lists m j q)) [
-                    | inl yes' ↦ yes'
-                    | inr lacks ↦ absurd (true≢false (sym (newly l m j q s.trace changing i_m lacks (ne_eqb _ _ (λ t. lt_irrefl c.failures (subst (λ v. v < c.failures) t less_m)))) ∙ parts'.1))
-                  ] in
-                  let after_ne : next_of n m ≢ m = λ e. let e1 : y ≡ next_of n l = at_m in let e2 : next_of n y ≡ y = ap (next_of n) at_m ∙ (e ∙ sym at_m) in omega arith in
-                  elim (pending m j q had less_m (subst (λ v. s.up (next_of n v) ≡ true) at_m live) parts'.0) [
-                    | inl next' ↦ inl (subst (λ v. In (with_at s.lists m (pulled_list c s l m) (next_of n v)) j q) (sym at_m) (subst (λ (v : Visits). In v j q) (sym (other_message s.lists m (pulled_list c s l m) (next_of n m) after_ne)) next'))
-                    | inr way ↦ inr (subst (λ v. IsOnWay c s.message s.forwarder v j q) (sym at_m) way)
+            let st = step.0 in
+            let here : In (with_at s.lists m (pulled_list c s l m) y) j q = is in
+            let changing : IsChanging c.partitions s.trace j q = with_at_cases (λ (v : Visits). In v j q → IsChanging c.partitions s.trace j q) s.lists m (pulled_list c s l m) y
+            (λ e i. elim (from j q i) [ inl a ↦ (h.world.lists.listed l j q a.0).1 | inr b ↦ (h.world.lists.listed m j q b).1 ])
+            (λ ne i. (h.world.lists.listed y j q i).1) here in
+            let jl : j < n = stands_below c good.some _ s.trace h.world.serial j q changing in
+            let yl : y < n = with_at_cases (λ (v : Visits). In v j q → y < n) s.lists m (pulled_list c s l m) y (λ e i. subst (λ v. v < n) (sym e) step.1) (λ ne i. (h.world.nest.member y j q i).1) here in
+            elim (apart_after n y yl) [
+              | inr just' ↦ absurd (several just')
+              | inl after' ↦
+                  let af = after'.0 in
+                  elim (cases_eq y m) [
+                    | inl at_m ↦
+                        let i_m : In (pulled_list c s l m) j q = subst (λ (v : Visits). In v j q) (ap (with_at s.lists m (pulled_list c s l m)) at_m ∙ same_message s.lists m (pulled_list c s l m)) here in
+                        let m_ne_l : m ≢ l = λ e. let ee : next_of n l ≡ l = e in omega arith in
+                        let gap_m : (s.gap m || list_any (is_news c s l m) s.trace) ≡ false = sym (ap (λ b. if b then false else (if m == m then s.gap m || list_any (is_news c s l m) s.trace else s.gap m)) (ne_eqb m l m_ne_l) ∙ ap (λ b. if b then s.gap m || list_any (is_news c s l m) s.trace else s.gap m) (eq-eqb m m refl)) ∙ subst (λ v. (if v == l then false else (if v == m then s.gap m || list_any (is_news c s l m) s.trace else s.gap v)) ≡ false) at_m gap in
+                        let parts' = or_parts (s.gap m) (list_any (is_news c s l m) s.trace) gap_m in
+                        let less_m : apart n j m < c.failures = subst (λ v. apart n j v < c.failures) at_m less in
+                        let had : In (s.lists m) j q = elim (cases_Bool (s.lists m j q)) [
+                          | inl yes' ↦ yes'
+                          | inr lacks ↦ absurd (true≢false (sym (newly l m j q s.trace changing i_m lacks (ne_eqb _ _ (λ t. lt_irrefl c.failures (subst (λ v. v < c.failures) t less_m)))) ∙ parts'.1))
+                        ] in
+                        let after_ne : next_of n m ≢ m = λ e. let e1 : y ≡ next_of n l = at_m in let e2 : next_of n y ≡ y = ap (next_of n) at_m ∙ (e ∙ sym at_m) in omega arith in
+                        elim (pending m j q had less_m (subst (λ v. s.up (next_of n v) ≡ true) at_m live) parts'.0) [
+                          | inl next' ↦ inl (subst (λ v. In (with_at s.lists m (pulled_list c s l m) (next_of n v)) j q) (sym at_m) (subst (λ (v : Visits). In v j q) (sym (other_message s.lists m (pulled_list c s l m) (next_of n m) after_ne)) next'))
+                          | inr way ↦ inr (subst (λ v. IsOnWay c s.message s.forwarder v j q) (sym at_m) way)
+                        ]
+                    | inr not_m ↦
+                        let old : In (s.lists y) j q = subst (λ (v : Visits). In v j q) (other_message s.lists m (pulled_list c s l m) y not_m) here in
+                        elim (cases_eq y l) [
+                          | inl at_l ↦
+                              let jy = apart_cases n j y jl yl in let jm = apart_cases n j m jl step.1 in
+                              let e_l : y ≡ l = at_l in
+                              let far : apart n j m ≡ apart n j y + 1 = omega (arith, good.small) in
+                              let own : j ≢ m = λ e. let ee : j ≡ next_of n l = e in omega (arith, good.small) in
+                              let test : is_member c j l && is_member c j m && not (j == m) ≡ true = and_from _ _ (and_from _ _ (le-leb _ _ (subst (λ v. apart n j v ≤ c.failures) at_l (omega arith))) (le-leb _ _ (omega arith))) (not_from_false _ (ne_eqb j m own)) in
+                              let got : In (pulled_list c s l m) j q = ap (λ b. if b then s.lists l j q else s.lists m j q) test ∙ subst (λ v. In (s.lists v) j q) at_l old in
+                              inl (subst (λ v. In (with_at s.lists m (pulled_list c s l m) (next_of n v)) j q) (sym at_l) (subst (λ (v : Visits). In v j q) (sym (same_message s.lists m (pulled_list c s l m))) got))
+                          | inr not_l ↦
+                              let after_ne : next_of n y ≢ m = λ e. let ee : next_of n y ≡ next_of n l = e in not_l (omega arith) in
+                              let gap_y : s.gap y ≡ false = sym (ap (λ b. if b then false else (if y == m then s.gap m || list_any (is_news c s l m) s.trace else s.gap y)) (ne_eqb y l not_l) ∙ ap (λ b. if b then s.gap m || list_any (is_news c s l m) s.trace else s.gap y) (ne_eqb y m not_m)) ∙ gap in
+                              elim (pending y j q old less live gap_y) [
+                                | inl next' ↦ inl (subst (λ (v : Visits). In v j q) (sym (other_message s.lists m (pulled_list c s l m) (next_of n y) after_ne)) next')
+                                | inr way ↦ inr way
+                              ]
+                        ]
                   ]
-                | inr not_m ↦
-                  let old : In (s.lists y) j q = subst (λ (v : Visits). In v j q) (other_message s.lists m (pulled_list c s l m) y not_m) here in
-                  elim (cases_eq y l) [
-                    | inl at_l ↦
-                      let jy = apart_cases n j y jl yl in let jm = apart_cases n j m jl step.1 in
-                      let e_l : y ≡ l = at_l in
-                      let far : apart n j m ≡ apart n j y + 1 = omega (arith, good.small) in
-                      let own : j ≢ m = λ e. let ee : j ≡ next_of n l = e in omega (arith, good.small) in
-                      let test : is_member c j l && is_member c j m && not (j == m) ≡ true = and_from _ _ (and_from _ _ (le-leb _ _ (subst (λ v. apart n j v ≤ c.failures) at_l (omega arith))) (le-leb _ _ (omega arith))) (not_from_false _ (ne_eqb j m own)) in
-                      let got : In (pulled_list c s l m) j q = ap (λ b. if b then s.lists l j q else s.lists m j q) test ∙ subst (λ v. In (s.lists v) j q) at_l old in
-                      inl (subst (λ v. In (with_at s.lists m (pulled_list c s l m) (next_of n v)) j q) (sym at_l) (subst (λ (v : Visits). In v j q) (sym (same_message s.lists m (pulled_list c s l m))) got))
-                    | inr not_l ↦
-                      let after_ne : next_of n y ≢ m = λ e. let ee : next_of n y ≡ next_of n l = e in not_l (omega arith) in
-                      let gap_y : s.gap y ≡ false = sym (ap (λ b. if b then false else (if y == m then s.gap m || list_any (is_news c s l m) s.trace else s.gap y)) (ne_eqb y l not_l) ∙ ap (λ b. if b then s.gap m || list_any (is_news c s l m) s.trace else s.gap y) (ne_eqb y m not_m)) ∙ gap in
-                      elim (pending y j q old less live gap_y) [
-                        | inl next' ↦ inl (subst (λ (v : Visits). In v j q) (sym (other_message s.lists m (pulled_list c s l m) (next_of n y) after_ne)) next')
-                        | inr way ↦ inr way
-                      ]
-                  ]
-              ]
-          ]
+            ]
       ]
     where
       from : (j q : ℕ) → In (pulled_list c s l (next_of (servers c) l)) j q → (In (s.lists l) j q × (is_member c j l && is_member c j (next_of (servers c) l) && not (j == next_of (servers c) l) ≡ true)) ⊎ In (s.lists (next_of (servers c) l)) j q
@@ -405,23 +410,23 @@ module _ (c : Setting) (good : IsGood c) (s : ChainState) (h : IsComplete c s) (
       elim (apart_before n y yl) [
         | inr just' ↦ absurd (omega arith)
         | inl step ↦
-          let x = previous_of n y in
-          let st = step.0 in let xl = step.1 in let jx = apart_cases n j x jl xl in
-          elim (apart_after n x xl) [
-            | inr just' ↦ absurd (omega arith)
-            | inl step' ↦
-              let st' = step'.0 in
-              let next' : next_of n x ≡ y = omega arith in
-              let near : apart n j x ≡ d = omega arith in
-              let before = spread d j x q xl near (omega arith) changing in
-              elim (h.pending x j q before (omega arith) (subst (λ v. s.up v ≡ true) (sym next') (all_up y yl)) (no_gaps x)) [
-                | inl had ↦ subst (λ v. In (s.lists v) j q) next' had
-                | inr way ↦ elim way [
-                    | inl by ↦ absurd (none-some by.by (sym (no_messages by.origin) ∙ by.there))
-                    | inr f ↦ absurd (true≢false (sym f.1 ∙ no_logs j q))
+            let x = previous_of n y in
+            let st = step.0 in let xl = step.1 in let jx = apart_cases n j x jl xl in
+            elim (apart_after n x xl) [
+              | inr just' ↦ absurd (omega arith)
+              | inl step' ↦
+                  let st' = step'.0 in
+                  let next' : next_of n x ≡ y = omega arith in
+                  let near : apart n j x ≡ d = omega arith in
+                  let before = spread d j x q xl near (omega arith) changing in
+                  elim (h.pending x j q before (omega arith) (subst (λ v. s.up v ≡ true) (sym next') (all_up y yl)) (no_gaps x)) [
+                    | inl had ↦ subst (λ v. In (s.lists v) j q) next' had
+                    | inr way ↦ elim way [
+                      | inl by ↦ absurd (none-some by.by (sym (no_messages by.origin) ∙ by.there))
+                      | inr f ↦ absurd (true≢false (sym f.1 ∙ no_logs j q))
+                    ]
                   ]
-              ]
-          ]
+            ]
       ]
 
   -- a member's list is the changing visits of the trace

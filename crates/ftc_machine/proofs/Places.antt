@@ -1,15 +1,15 @@
 -- Where packets are on the serial chain, and what a legal entry of the trace is, in the form that the proofs use.
-use Rattle.std.proofs.Common.{◌≡◌, ℕ, ◌+◌, ◌<◌, ◌==◌, if◌then◌else◌, Bool, true, false, List, [], ◌∷◌, length, get_or, Option, Some, None, refl, sym, ap, ◌∙◌, subst}
-use Rattle.std.specs.Prelude.{slice_get, slice_index_or, option_map}
+use Rattle.std.proofs.Common.{◌≡◌, ℕ, ◌+◌, ◌<◌, if◌then◌else◌, Bool, List, [], ◌∷◌, Option, Some, None, refl, sym, ap, ◌∙◌, subst}
+use Rattle.std.specs.Prelude.{option_map}
 use Rattle.std.proofs.lemmas.Option.{slice_get-get_or, get_or_from_slice_get, slice_get_within}
 use Rattle.ftc_mbox.specs.declared.rule.Rule.{Rule}
 use Rattle.ftc_mbox.specs.declared.rule.Rule.TheVariants.{Pass}
 use Rattle.ftc_serial.specs.declared.position.Position.{Position}
 use Rattle.ftc_serial.specs.declared.position.Position.TheVariants as position
-use Rattle.ftc_serial.specs.Take.{Outcome, taken}
+use Rattle.ftc_serial.specs.Take.{taken}
 use Rattle.ftc_serial.specs.Serial.{State, Entry, Visited, Given, after, position_after}
 use Rattle.ftc_serial.specs.Serial as serial
-use Rattle.ftc_serial.specs.Entries.{IsLegal, Touches, WritesIn}
+use Rattle.ftc_serial.specs.Entries.{IsLegal, Touches}
 use Rattle.ftc_serial.specs.History.{IsHistory}
 use Rattle.ftc_serial.specs.History as history
 use Rattle.ftc_serial.proofs.Legal.{legal_visit, visit_legal, legal_release, release_legal}

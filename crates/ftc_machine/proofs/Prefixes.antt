@@ -1,9 +1,9 @@
 -- The parts of a run.
-use Rattle.std.proofs.Common.{◌≡◌, ℕ, List, [], ◌∷◌, ◌++◌, if◌then◌else◌, true, false, inl, inr, refl, sym, subst, ap}
+use Rattle.std.proofs.Common.{◌≡◌, ℕ, List, [], ◌∷◌, ◌++◌, false, inl, inr, refl, sym, subst, ap}
 use Rattle.ftc_journal.specs.declared.event.Event.{Event}
 use Rattle.ftc_journal.specs.declared.event.Event.TheVariants as event
 use Rattle.ftc_serial.specs.Words.{AnyOf}
-use Rattle.ftc_serial.specs.Serial.{Entry, Given, Visited}
+use Rattle.ftc_serial.specs.Serial.{Entry, Given}
 use Rattle.ftc_serial.specs.Trace.{names}
 use Rattle.ftc_serial.specs.Removal.{Taken, is_taken, left_of}
 use Rattle.ftc_machine.specs.Setting.{Setting, IsSetting}
@@ -72,7 +72,7 @@ kept_after c good packet bytes (e ∷ after) s h legal given =
 pub kept_on : (c : Setting) → IsSetting c → (before after : List Event) → IsRun c (before ++ after) → (packet : ℕ) (bytes : List ℕ)
     → AnyOf (λ entry. entry ≡ Given packet bytes) (state_after c (opening c) before).trace
     → AnyOf (λ entry. entry ≡ Given packet bytes) (state_after c (opening c) (before ++ after)).trace
-      × ((server : ℕ) → IsSomeVisit (state_after c (opening c) before).trace server packet → IsSomeVisit (state_after c (opening c) (before ++ after)).trace server packet)
+    × ((server : ℕ) → IsSomeVisit (state_after c (opening c) before).trace server packet → IsSomeVisit (state_after c (opening c) (before ++ after)).trace server packet)
 kept_on c is before after run packet bytes given =
     let good = is_good c is in
     let reached = state_after c (opening c) before in

@@ -1,13 +1,8 @@
 -- Where nothing may happen, nothing is under way.
-use Rattle.std.proofs.Common.{◌≡◌, ◌≢◌, ℕ, suc, ◌+◌, ◌-◌, ◌<◌, ◌≤◌, ◌==◌, ◌&&◌, ◌||◌, if◌then◌else◌, nat_le, nat_lt, Bool, true, false, cond, not, List, [], ◌∷◌, ◌⊎◌, inl, inr, refl, sym, ap, subst, ◌∙◌, arith, ◌↔◌, eqb-true, Option, Some, None, is_some, eq-eqb, ltb-true, lt-ltb}
-use Rattle.std.proofs.lemmas.Bool.{true≢false, eqb-false, cases_eq, cases_lt, cases_Bool, and_parts, and_from, or_left, or_right, or_cases, or_parts, not-true, ne_eqb}
-use Rattle.std.proofs.lemmas.Option.{none-some, same_Some}
-use Rattle.std.specs.List.{list_any}
-use Rattle.std.proofs.lemmas.Bool.{not_from_false, le-leb, false_from_ne_true}
+use Rattle.std.proofs.Common.{◌≡◌, ◌≢◌, ℕ, suc, ◌+◌, ◌<◌, ◌≤◌, Bool, true, false, List, [], ◌∷◌, ◌⊎◌, inl, inr, refl, sym, ap, subst, ◌∙◌, arith, Option, Some, None}
+use Rattle.std.proofs.lemmas.Bool.{true≢false, cases_eq, cases_lt, cases_Bool}
 use Rattle.std.proofs.Common.{lt_irrefl, zero}
-use Rattle.std.proofs.lemmas.Bool.{leb-true}
 use Rattle.std.specs.List.{AllByRecursion}
-use Rattle.ftc_script.specs.declared.line.ScriptLine.TheVariants as script_line
 use Rattle.ftc_journal.specs.declared.event.Event.TheVariants.{Apply, Carry, Enter, Lose, Pass, Propagate, Pull, Take, Visit}
 use Rattle.ftc_machine.proofs.Carrying.{AreCarried}
 use Rattle.ftc_machine.proofs.Waiting.{AreSeen, From, IsHeldAt, IsRinged, IsSeenAt, IsTimed}
@@ -34,9 +29,6 @@ use Rattle.ftc_machine.proofs.Ring.{apart_after, apart_before, apart_cases}
 use Rattle.ftc_machine.proofs.Standing.{before_first, meets_changing, visited_earlier}
 use Rattle.ftc_machine.proofs.Having.{head_has}
 use Rattle.ftc_machine.specs.Changes.{is_changing}
-use Rattle.ftc_machine.proofs.Visiting.{visits}
-use Rattle.ftc_machine.proofs.Carrying as carrying
-use Rattle.ftc_machine.proofs.Between as between
 
 -- in a true trace a pair stands once, and a packet's visits stand in the order of the chain
 before_within : (c : Setting) (part : ℕ) (e : Entry) (older : List Entry) → IsSerial c (e ∷ older) → (j a b : ℕ) → IsInTrace Somehow older j b → IsBefore part (e ∷ older) j a b → IsBefore part older j a b
@@ -81,6 +73,7 @@ module _ (c : Setting) (good : IsGood c) (s : ChainState) (h : Inv c s) (t : IsT
             | inr kept' ↦ stuck (Pass k p) (m, l, inl kept')
             | inl lost ↦ elim (cases_Bool (is_sent c k)) [ inl sends ↦ stuck (Lose k p) (m, l, sends, lost) | inr quiet ↦ stuck (Pass k p) (m, l, inr quiet) ]
           ]
+
       by_packet : (packet : Option (List ℕ)) → m.packet ≡ packet → (w : Bool) → m.place ≡ Held k w false → ⊥
       by_packet None no_visits' w place = leave w place (inr no_visits')
       by_packet (Some bytes) some' true place = leave true place (inl refl)
@@ -89,10 +82,15 @@ module _ (c : Setting) (good : IsGood c) (s : ChainState) (h : Inv c s) (t : IsT
   -- nothing is queued
   no_queue : (b p : ℕ) (m : Message) (l : ℕ) → s.message p ≡ Some m → m.place ≡ Queued l → m.since < b → ⊥
   no_queue zero p m l at place less = absurd (omega arith)
-  no_queue (suc b) p m l at place less = stuck (Take l p) (m, at, place, λ q m' at' place'. elim (cases_lt m'.since m.since) [
-    | inl sooner ↦ absurd (no_queue b q m' l at' place' (omega arith))
-    | inr more ↦ more
-  ])
+  no_queue (suc b) p m l at place less = stuck (Take l p) (
+    m,
+    at,
+    place,
+    λ q m' at' place'. elim (cases_lt m'.since m.since) [
+      | inl sooner ↦ absurd (no_queue b q m' l at' place' (omega arith))
+      | inr more ↦ more
+    ],
+  )
 
   head_ready : (j q : ℕ) → j < (servers c) → Has c.partitions s.trace (s.lists j) j q
   head_ready j q jl = head_has c s.trace s.up s.lists h.world.lists h.world.nest j q (all_up j jl)
@@ -107,9 +105,9 @@ module _ (c : Setting) (good : IsGood c) (s : ChainState) (h : Inv c s) (t : IsT
   no_logs j q log = elim (cases_lt s.entered (count c)) [
     | inl less ↦ stuck (Enter s.entered) (refl, less, subst (λ l. AllByRecursion (λ (line : ScriptLine). at_of line ≢ s.entered) l) (sym no_lines) tt)
     | inr more ↦
-      let bounded = t.bounded in
-      let all_in : s.entered ≡ (count c) = omega arith in
-      stuck (Propagate ((count c) + s.propagates)) (all_in, all_up, (λ q' m at v place. none_at_0 q' m v at place), inl (j, q, log), refl)
+        let bounded = t.bounded in
+        let all_in : s.entered ≡ (count c) = omega arith in
+        stuck (Propagate ((count c) + s.propagates)) (all_in, all_up, (λ q' m at v place. none_at_0 q' m v at place), inl (j, q, log), refl)
   ]
 
   module _ (b : ℕ) (ih : (p : ℕ) (m : Message) → s.message p ≡ Some m → m.since < b → ⊥) (p : ℕ) (m : Message) (at : s.message p ≡ Some m) (less : m.since < suc b)
@@ -125,54 +123,60 @@ module _ (c : Setting) (good : IsGood c) (s : ChainState) (h : Inv c s) (t : IsT
         elim st [
           | inr there ↦ older_seen j q there changing i member
           | inl at_head ↦ elim (cases_Bool (s.lists k j q)) [
-              | inl had ↦ had
-              | inr lacks ↦ elim (cases_eq j k) [
-                  | inl own ↦ absurd (true≢false (sym (subst (λ x. In (s.lists x) j q) own (h.world.lists.heads j q (subst (λ x. s.up x ≡ true) (sym own) (all_up k kl)) changing)) ∙ lacks))
-                  | inr other ↦
-                    let in_y : In (s.lists y) j q = elim (w.here j q i) [
-                      | inl a ↦ a
-                      | inr b' ↦ elim b' [ inl x ↦ absurd (true≢false (sym x ∙ lacks)) | inr d ↦ absurd (true≢false (sym (all_up y yl) ∙ d)) ]
-                    ] in
-                    let jl = (h.world.nest.member y j q in_y).2 in
-                    let jy = apart_cases (servers c) j y jl yl in let jk = apart_cases (servers c) j k jl kl in
-                    let less' : apart (servers c) j y < c.failures = elim (apart_after (servers c) y yl) [
-                      | inr just' ↦ absurd (several just')
-                      | inl step ↦ let st' = step.0 in let e1 : next_of (servers c) y ≡ k = next' in omega arith
-                    ] in
-                    let no_gap : s.gap y ≡ false = elim (cases_Bool (s.gap y)) [ inr g ↦ g | inl g ↦ absurd (stuck (Pull y) (all_up y yl, subst (λ x. s.up x ≡ true) (sym next') (all_up k kl), g)) ] in
-                    let here : IsInTrace Somehow (e ∷ older) j q = some_stands _ (e ∷ older) j q (inl at_head) in
-                    let in_older : (P : Outcome → Type 0) (a : ℕ) → a < j → IsInTrace P s.trace a q → IsInTrace P older a q = λ P a lt st'. elim (lift2 P a j q (omega arith) here st') [
-                      | inl hd ↦ let eq : a ≡ j = one_visit P (λ o. is_changing c.partitions o ≡ true) a q j q e hd at_head in absurd (omega arith)
-                      | inr old ↦ old
-                    ] in
-                    let apply : (o : ℕ) (b' : Message) (v r : Bool) → s.message o ≡ Some b' → b'.place ≡ Held k v r → In b'.logs j q → ⊥ = λ o b' v r there place log.
-                        let carried = subst (λ x. AreCarried c s.trace s.up s.lists b'.logs x) (ap (target (servers c)) place) (h.messages o b' there).carried in
-                        stuck (Apply k o j q) (b', (there, v, r, place), log, changing, lacks,
-                          (λ a bf. older_seen j a (before_older c.partitions e older j a q (lift j a q here bf)) (before_first c.partitions s.trace j a q bf) (w.closed j a q i bf) member),
-                          λ a lt log'. let cm = carried.member a q log' in elim (cases_eq a k) [
-                            | inl own ↦ subst (λ x. Has c.partitions s.trace (s.lists k) x q) (sym own) (head_ready k q kl)
-                            | inr ne ↦
-                              let hs = w.earlier a j q i lt cm.2 cm.1 ne in
-                              record {
-                                changing = λ is'. older_seen a q (in_older (λ o. is_changing c.partitions o ≡ true) a lt is') is' (hs.changing is') cm.1;
-                                other = λ nc x bf. older_seen a x (before_first c.partitions older a x q (lift' a x q (some_stands _ older a q (in_older _ a lt cm.2)) bf)) (before_first c.partitions s.trace a x q bf) (hs.other nc x bf) cm.1;
-                              }
-                          ]) in
-                    elim (soon y j q in_y less' (subst (λ x. s.up x ≡ true) (sym next') (all_up k kl)) no_gap) [
-                      | inl had ↦ subst (λ x. In (s.lists x) j q) next' had
-                      | inr way ↦ elim way [
-                          | inr f ↦ absurd (no_logs j q f.1)
-                          | inl by ↦ absurd (elim (by.by.place) as (λ w. by.by.place ≡ w → IsNear (servers c) y w → (IsHeldAt y w → by.by.since < m.since) → ⊥) [
-                              | Held i' v r ↦ λ place near sooner. elim near [
-                                  | inl at_y ↦ let sn = sooner at_y in ih by.origin by.by by.there (omega arith)
-                                  | inr at_k ↦ apply by.origin by.by v r by.there (place ∙ ap (λ x. Held x v r) (at_k ∙ next')) by.log
-                                ]
-                              | Queued l ↦ λ place near sooner. no_queue (suc by.by.since) by.origin by.by l by.there place (omega arith)
-                            ] refl by.near (λ held. by.sooner held p m at from i))
+            | inl had ↦ had
+            | inr lacks ↦ elim (cases_eq j k) [
+              | inl own ↦ absurd (true≢false (sym (subst (λ x. In (s.lists x) j q) own (h.world.lists.heads j q (subst (λ x. s.up x ≡ true) (sym own) (all_up k kl)) changing)) ∙ lacks))
+              | inr other ↦
+                  let in_y : In (s.lists y) j q = elim (w.here j q i) [
+                    | inl a ↦ a
+                    | inr b' ↦ elim b' [ inl x ↦ absurd (true≢false (sym x ∙ lacks)) | inr d ↦ absurd (true≢false (sym (all_up y yl) ∙ d)) ]
+                  ] in
+                  let jl = (h.world.nest.member y j q in_y).2 in
+                  let jy = apart_cases (servers c) j y jl yl in let jk = apart_cases (servers c) j k jl kl in
+                  let less' : apart (servers c) j y < c.failures = elim (apart_after (servers c) y yl) [
+                    | inr just' ↦ absurd (several just')
+                    | inl step ↦ let st' = step.0 in let e1 : next_of (servers c) y ≡ k = next' in omega arith
+                  ] in
+                  let no_gap : s.gap y ≡ false = elim (cases_Bool (s.gap y)) [ inr g ↦ g | inl g ↦ absurd (stuck (Pull y) (all_up y yl, subst (λ x. s.up x ≡ true) (sym next') (all_up k kl), g)) ] in
+                  let here : IsInTrace Somehow (e ∷ older) j q = some_stands _ (e ∷ older) j q (inl at_head) in
+                  let in_older : (P : Outcome → Type 0) (a : ℕ) → a < j → IsInTrace P s.trace a q → IsInTrace P older a q = λ P a lt st'. elim (lift2 P a j q (omega arith) here st') [
+                    | inl hd ↦ let eq : a ≡ j = one_visit P (λ o. is_changing c.partitions o ≡ true) a q j q e hd at_head in absurd (omega arith)
+                    | inr old ↦ old
+                  ] in
+                  let apply : (o : ℕ) (b' : Message) (v r : Bool) → s.message o ≡ Some b' → b'.place ≡ Held k v r → In b'.logs j q → ⊥ = λ o b' v r there place log.
+                  let carried = subst (λ x. AreCarried c s.trace s.up s.lists b'.logs x) (ap (target (servers c)) place) (h.messages o b' there).carried in
+                  stuck (Apply k o j q) (
+                    b',
+                    (there, v, r, place),
+                    log,
+                    changing,
+                    lacks,
+                    (λ a bf. older_seen j a (before_older c.partitions e older j a q (lift j a q here bf)) (before_first c.partitions s.trace j a q bf) (w.closed j a q i bf) member),
+                    λ a lt log'. let cm = carried.member a q log' in elim (cases_eq a k) [
+                      | inl own ↦ subst (λ x. Has c.partitions s.trace (s.lists k) x q) (sym own) (head_ready k q kl)
+                      | inr ne ↦
+                          let hs = w.earlier a j q i lt cm.2 cm.1 ne in
+                          record {
+                            changing = λ is'. older_seen a q (in_older (λ o. is_changing c.partitions o ≡ true) a lt is') is' (hs.changing is') cm.1;
+                            other = λ nc x bf. older_seen a x (before_first c.partitions older a x q (lift' a x q (some_stands _ older a q (in_older _ a lt cm.2)) bf)) (before_first c.partitions s.trace a x q bf) (hs.other nc x bf) cm.1;
+                          }
+                    ],
+                  ) in
+                  elim (soon y j q in_y less' (subst (λ x. s.up x ≡ true) (sym next') (all_up k kl)) no_gap) [
+                    | inl had ↦ subst (λ x. In (s.lists x) j q) next' had
+                    | inr way ↦ elim way [
+                      | inr f ↦ absurd (no_logs j q f.1)
+                      | inl by ↦ absurd (elim (by.by.place) as (λ w. by.by.place ≡ w → IsNear (servers c) y w → (IsHeldAt y w → by.by.since < m.since) → ⊥) [
+                        | Held i' v r ↦ λ place near sooner. elim near [
+                          | inl at_y ↦ let sn = sooner at_y in ih by.origin by.by by.there (omega arith)
+                          | inr at_k ↦ apply by.origin by.by v r by.there (place ∙ ap (λ x. Held x v r) (at_k ∙ next')) by.log
                         ]
+                        | Queued l ↦ λ place near sooner. no_queue (suc by.by.since) by.origin by.by l by.there place (omega arith)
+                      ] refl by.near (λ held. by.sooner held p m at from i))
                     ]
-                ]
+                  ]
             ]
+          ]
         ]
 
     ready_by : (x_is : target (servers c) m.place ≡ k) → IsReady c s k m
@@ -182,12 +186,12 @@ module _ (c : Setting) (good : IsGood c) (s : ChainState) (h : Inv c s) (t : IsT
         elim (cases_eq j k) [
           | inl own ↦ subst (λ x. Has c.partitions s.trace (s.lists k) x q) (sym own) (head_ready k q kl)
           | inr other ↦
-            let member = (carried.member j q log).1 in
-            let had = w.has_logs j q log other in
-            record {
-              changing = λ is. all j q is is (had.changing is) member;
-              other = λ not_changing a bf. let first = before_first c.partitions s.trace j a q bf in all j a first first (had.other not_changing a bf) member;
-            }
+              let member = (carried.member j q log).1 in
+              let had = w.has_logs j q log other in
+              record {
+                changing = λ is. all j q is is (had.changing is) member;
+                other = λ not_changing a bf. let first = before_first c.partitions s.trace j a q bf in all j a first first (had.other not_changing a bf) member;
+              }
         ]
 
   -- messages that came before time b are none
@@ -199,19 +203,19 @@ module _ (c : Setting) (good : IsGood c) (s : ChainState) (h : Inv c s) (t : IsT
       elim (cases_eq n 1) [
         | inl just' ↦ goes p m k v r at place (λ j q log. let jl = (carried.member j q log).0 in let same : k ≡ j = omega arith in subst (λ x. Has c.partitions s.trace (s.lists k) x q) same (head_ready k q kl))
         | inr several ↦ elim (apart_before n k kl) [
-            | inr just' ↦ absurd (several just')
-            | inl step ↦
+          | inr just' ↦ absurd (several just')
+          | inl step ↦
               let y = previous_of n k in
               elim (apart_after n y step.1) [
                 | inr just' ↦ absurd (several just')
                 | inl step' ↦
-                  let st = step.0 in let st' = step'.0 in let yl = step.1 in
-                  let next' : next_of n y ≡ k = omega arith in
-                  let from : From n m.place y = subst (λ w. From n w y) (sym place) (yl, next', left_one) in
-                  let w = subst (λ x. IsSeenAt c s.trace s.up s.lists y x m.logs (seen p)) (ap (target n) place) (ok p m at y from) in
-                  goes p m k v r at place (ready_by b ih p m at less k y kl yl next' several from w (ap (target n) place))
+                    let st = step.0 in let st' = step'.0 in let yl = step.1 in
+                    let next' : next_of n y ≡ k = omega arith in
+                    let from : From n m.place y = subst (λ w. From n w y) (sym place) (yl, next', left_one) in
+                    let w = subst (λ x. IsSeenAt c s.trace s.up s.lists y x m.logs (seen p)) (ap (target n) place) (ok p m at y from) in
+                    goes p m k v r at place (ready_by b ih p m at less k y kl yl next' several from w (ap (target n) place))
               ]
-          ]
+        ]
       ]
 
   pub none_before : (b p : ℕ) (m : Message) → s.message p ≡ Some m → m.since < b → ⊥
@@ -219,12 +223,12 @@ module _ (c : Setting) (good : IsGood c) (s : ChainState) (h : Inv c s) (t : IsT
   none_before (suc b) p m at less =
       elim (m.place) as (λ w. m.place ≡ w → ⊥) [
         | Held k v r ↦ λ place. elim (cases_Bool r) [
-            | inl ring ↦ held_goes b (none_before b) p m at less k v r place (inl ring)
-            | inr other ↦ elim (cases_eq k 0) [
-                | inl zero' ↦ none_at_0 p m v at (place ∙ (ap (λ x. Held x v r) zero' ∙ ap (λ x. Held 0 v x) other))
-                | inr more ↦ held_goes b (none_before b) p m at less k v r place (inr more)
-              ]
+          | inl ring ↦ held_goes b (none_before b) p m at less k v r place (inl ring)
+          | inr other ↦ elim (cases_eq k 0) [
+            | inl zero' ↦ none_at_0 p m v at (place ∙ (ap (λ x. Held x v r) zero' ∙ ap (λ x. Held 0 v x) other))
+            | inr more ↦ held_goes b (none_before b) p m at less k v r place (inr more)
           ]
+        ]
         | Queued l ↦ λ place. no_queue (suc m.since) p m l at place (omega arith)
       ] refl
 

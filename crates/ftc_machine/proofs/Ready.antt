@@ -1,5 +1,5 @@
 -- The test that a message is ready says that each of its logs is had.
-use Rattle.std.proofs.Common.{◌≡◌, ℕ, ◌==◌, ◌&&◌, ◌||◌, if◌then◌else◌, Bool, true, false, cond, not, List, [], ◌∷◌, ◌⊎◌, inl, inr, refl, sym, ap, subst, ◌∙◌, arith, eq-eqb, eqb-true}
+use Rattle.std.proofs.Common.{◌≡◌, ℕ, ◌==◌, ◌&&◌, ◌||◌, if◌then◌else◌, Bool, true, false, not, List, [], ◌∷◌, inl, inr, refl, sym, subst, ◌∙◌, eq-eqb, eqb-true}
 use Rattle.std.specs.List.{list_any, list_all}
 use Rattle.std.proofs.lemmas.Bool.{true≢false, and_parts, and_from, or_cases, or_left, or_right, not_from_true}
 use Rattle.ftc_base.specs.declared.ask.Answer.{Answer}
@@ -26,9 +26,9 @@ had_by part set j p o (Visited k q v ∷ older) all h =
     let a = and_parts (is_had_if_met part set j o (Visited k q v)) (list_all (is_had_if_met part set j o) older) all in
     elim h [
       | inl here ↦ elim (or_cases (not ((k == j) && meets part v o)) (set j q) a.0) [
-          | inl no_meet ↦ absurd (true≢false (sym no_meet ∙ not_from_true _ (and_from _ _ (eq-eqb k j here.0) (meets_true part v o here.2))))
-          | inr is ↦ subst (λ x. In set j x) here.1 is
-        ]
+        | inl no_meet ↦ absurd (true≢false (sym no_meet ∙ not_from_true _ (and_from _ _ (eq-eqb k j here.0) (meets_true part v o here.2))))
+        | inr is ↦ subst (λ x. In set j x) here.1 is
+      ]
       | inr there ↦ had_by part set j p o older a.1 there
     ]
 
@@ -46,10 +46,10 @@ each_had part set wanted j q is (Visited k x o ∷ older) h =
     let a = and_parts (not (wanted k x) || (if is_changing part o then set k x else list_all (is_had_if_met part set k o) older)) (has_each part older set wanted) h in
     let rest = each_had part set wanted j q is older a.1 in
     let says : k ≡ j → x ≡ q → (is_changing part o ≡ true → In set k x) × (is_changing part o ≡ false → list_all (is_had_if_met part set k o) older ≡ true) = λ e e'.
-        elim (or_cases (not (wanted k x)) (if is_changing part o then set k x else list_all (is_had_if_met part set k o) older) a.0) [
-          | inl not_wanted ↦ absurd (true≢false (sym not_wanted ∙ not_from_true _ (subst (λ u. wanted u x ≡ true) (sym e) (subst (λ u. wanted j u ≡ true) (sym e') is))))
-          | inr says ↦ entry_says (is_changing part o) _ _ says
-        ] in
+    elim (or_cases (not (wanted k x)) (if is_changing part o then set k x else list_all (is_had_if_met part set k o) older) a.0) [
+      | inl not_wanted ↦ absurd (true≢false (sym not_wanted ∙ not_from_true _ (subst (λ u. wanted u x ≡ true) (sym e) (subst (λ u. wanted j u ≡ true) (sym e') is))))
+      | inr says ↦ entry_says (is_changing part o) _ _ says
+    ] in
     record {
       changing = λ c. elim c [
         | inl here ↦ subst (λ u. In set u q) here.0 (subst (λ u. In set k u) here.1 ((says here.0 here.1).0 here.2))
@@ -57,8 +57,8 @@ each_had part set wanted j q is (Visited k x o ∷ older) h =
       ];
       other = λ n p b. elim b [
         | inl here ↦
-          let unchanging : is_changing part o ≡ false = elim (is_changing part o) as (λ t. is_changing part o ≡ t → t ≡ false) [ true ↦ λ e. absurd (n (inl (here.1.0, here.0, e))) | false ↦ λ e. refl ] refl in
-          had_by part set j p o older (subst (λ u. list_all (is_had_if_met part set u o) older ≡ true) here.1.0 ((says here.1.0 here.0).1 unchanging)) here.1.1
+            let unchanging : is_changing part o ≡ false = elim (is_changing part o) as (λ t. is_changing part o ≡ t → t ≡ false) [ true ↦ λ e. absurd (n (inl (here.1.0, here.0, e))) | false ↦ λ e. refl ] refl in
+            had_by part set j p o older (subst (λ u. list_all (is_had_if_met part set u o) older ≡ true) here.1.0 ((says here.1.0 here.0).1 unchanging)) here.1.1
         | inr there ↦ rest.other (λ c. n (inr c)) p there
       ];
     }

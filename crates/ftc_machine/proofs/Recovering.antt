@@ -1,12 +1,11 @@
 -- A recovery.
-use Rattle.std.proofs.Common.{◌≡◌, ◌≢◌, ℕ, suc, ◌+◌, ◌-◌, ◌<◌, ◌≤◌, ◌==◌, ◌&&◌, ◌||◌, if◌then◌else◌, nat_le, nat_lt, Bool, true, false, cond, not, List, [], ◌∷◌, ◌⊎◌, inl, inr, refl, sym, ap, subst, ◌∙◌, arith, ◌↔◌, eqb-true, Option, Some, None, is_some, eq-eqb, ltb-true, lt-ltb}
-use Rattle.std.proofs.lemmas.Bool.{true≢false, eqb-false, cases_eq, cases_lt, cases_Bool, and_parts, and_from, or_left, or_right, or_cases, or_parts, not-true, ne_eqb}
-use Rattle.std.proofs.lemmas.Option.{none-some, same_Some}
+use Rattle.std.proofs.Common.{◌≡◌, ◌≢◌, ℕ, ◌+◌, ◌-◌, ◌<◌, ◌≤◌, ◌==◌, ◌&&◌, Bool, true, false, not, List, inl, inr, refl, sym, subst, ◌∙◌, arith, ◌↔◌, eqb-true, Some, eq-eqb}
+use Rattle.std.proofs.lemmas.Bool.{true≢false, cases_eq, cases_lt, and_from, or_cases}
 use Rattle.ftc_script.specs.declared.line.ScriptLine.TheVariants as script_line
 use Rattle.ftc_machine.proofs.Carrying.{AreCarried}
 use Rattle.ftc_machine.proofs.Premises.{AreFit, IsAdmissible, IsGood, ticked}
 use Rattle.ftc_machine.specs.State.{ChainState, Held, Message, Queued, Where, Withheld}
-use Rattle.ftc_serial.specs.Serial.{Entry, after}
+use Rattle.ftc_serial.specs.Serial.{Entry}
 use Rattle.ftc_machine.specs.Trace.{Has, IsInTrace, IsTouching, has_each}
 use Rattle.ftc_machine.specs.Visits.{In, Visits, union}
 use Rattle.ftc_machine.proofs.Inv.{Inv, IsSafe, IsSteady, IsWithheld, expected, knows_safe, target, under_way_moves}
@@ -38,8 +37,6 @@ use Rattle.ftc_machine.proofs.Listed.{undone_listed}
 use Rattle.ftc_machine.proofs.Standing.{visit_left, visit_stood, visited_earlier}
 use Rattle.ftc_serial.specs.Words.{with_at}
 use Rattle.ftc_serial.proofs.Functions.{with_at_cases}
-use Rattle.ftc_machine.proofs.Carrying as carrying
-use Rattle.ftc_machine.proofs.Between as between
 
 module _ (c : Setting) (good : IsGood c) (s : ChainState) (h : Inv c s) (m r t : ℕ) (inside : m < (servers c)) (down : s.up m ≡ false)
     (before : IsLastLive (servers c) s.up m r) (after : IsNextLive (servers c) s.up m t) (admissible : IsAdmissible c s.up)
@@ -75,12 +72,12 @@ module _ (c : Setting) (good : IsGood c) (s : ChainState) (h : Inv c s) (m r t :
   safe_moves j q safe =
       let stays : gone j q ≡ false = elim (gone j q) as (λ b. gone j q ≡ b → b ≡ false) [
         | true ↦ λ g.
-          let u = (exact j q).0 g in
-          let between = between_of j q u (some_stands _ s.trace j q safe.changing) in
-          let jl = below _ j q safe.changing in
-          let jt = apart_cases (servers c) j t jl after.below in
-          let had = safe.within t after.below after.live (member_after c s m r t inside down before after admissible j jl between) (omega arith) in
-          absurd (lacks c s good.some good.sound h.world.lists h.world.nest h.world.serial h.world.passed h.world.earlier h.world.released admissible m r t inside down before after j q u safe.changing (had.changing safe.changing))
+            let u = (exact j q).0 g in
+            let between = between_of j q u (some_stands _ s.trace j q safe.changing) in
+            let jl = below _ j q safe.changing in
+            let jt = apart_cases (servers c) j t jl after.below in
+            let had = safe.within t after.below after.live (member_after c s m r t inside down before after admissible j jl between) (omega arith) in
+            absurd (lacks c s good.some good.sound h.world.lists h.world.nest h.world.serial h.world.passed h.world.earlier h.world.released admissible m r t inside down before after j q u safe.changing (had.changing safe.changing))
         | false ↦ λ g. refl
       ] refl in
       let changing = visit_left gone (λ o. is_changing c.partitions o ≡ true) s.trace j q safe.changing stays in
@@ -90,11 +87,14 @@ module _ (c : Setting) (good : IsGood c) (s : ChainState) (h : Inv c s) (m r t :
       → AreCarried c s.trace s.up s.lists logs x → AreCarried c trace' up' has' logs x
   unfolding trace'
   carried_by logs x had a = record {
-    member = λ j q is. let w = a.member j q is in
-      (w.0, w.1, visit_left gone (λ o. is_touching o ≡ true) s.trace j q w.2 (elim (gone j q) as (λ b. gone j q ≡ b → b ≡ false) [
+    member = λ j q is. let w = a.member j q is in (
+      w.0,
+      w.1,
+      visit_left gone (λ o. is_touching o ≡ true) s.trace j q w.2 (elim (gone j q) as (λ b. gone j q ≡ b → b ≡ false) [
         | true ↦ λ g. let u = (exact j q).0 g in absurd (u.2.3 (had u.0 j q is u.1 u.2.0 (u.2.1, u.2.2)))
         | false ↦ λ g. refl
-      ] refl));
+      ] refl),
+    );
     wake = λ i j q is le t'. moves i q _ t' (a.wake i j q is le (stood _ i q t'));
     together = λ i j q is le t'. a.together i j q is le (stood _ i q t');
   }
@@ -109,16 +109,16 @@ module _ (c : Setting) (good : IsGood c) (s : ChainState) (h : Inv c s) (m r t :
       elim (cases_lt (apart n i t) ((j - i) + apart n j x)) [
         | inl behind ↦ h.forward.wake i j q is le touching t after.below after.live member behind
         | inr ahead ↦
-          let zero' : 0 < n = good.some in
-          let first : apart n i t ≤ apart n i 0 = first_after c s m r t inside down before after i 0 il between zero' (h.forward_live j q is) in
-          elim (apart_after n 0 zero') [
-            | inr just' ↦ let e : 0 ≡ m = omega arith in absurd (true≢false (sym (h.forward_live j q is) ∙ subst (λ v. s.up v ≡ false) (sym e) down))
-            | inl step ↦
-              let st = step.0 in let small = good.small in let far : apart n j x ≤ c.failures = w.1 in
-              let it = apart_cases n i t il after.below in let i0 = apart_cases n i 0 il zero' in let ix = apart_cases n i x il step.1 in let jx = apart_cases n j x jl step.1 in let j0 = apart_cases n j 0 jl zero' in
-              let pos : 0 < apart n j x = h.forward_far j q is in
-              absurd (omega arith)
-          ]
+            let zero' : 0 < n = good.some in
+            let first : apart n i t ≤ apart n i 0 = first_after c s m r t inside down before after i 0 il between zero' (h.forward_live j q is) in
+            elim (apart_after n 0 zero') [
+              | inr just' ↦ let e : 0 ≡ m = omega arith in absurd (true≢false (sym (h.forward_live j q is) ∙ subst (λ v. s.up v ≡ false) (sym e) down))
+              | inl step ↦
+                  let st = step.0 in let small = good.small in let far : apart n j x ≤ c.failures = w.1 in
+                  let it = apart_cases n i t il after.below in let i0 = apart_cases n i 0 il zero' in let ix = apart_cases n i x il step.1 in let jx = apart_cases n j x jl step.1 in let j0 = apart_cases n j 0 jl zero' in
+                  let pos : 0 < apart n j x = h.forward_far j q is in
+                  absurd (omega arith)
+            ]
       ]) h.forward
 
   -- a message that stays is at a live server, and where that is t it is ready
@@ -158,16 +158,16 @@ module _ (c : Setting) (good : IsGood c) (s : ChainState) (h : Inv c s) (m r t :
       elim (cases_eq i x) [
         | inl same ↦ true≢false (sym live ∙ between_down c s m r t inside down before after x xl (subst (λ v. IsBetween N r t v) same between))
         | inr other ↦
-          let less : i < x = omega arith in
-          let member = member_after c s m r t inside down before after admissible i il between in
-          elim (cases_lt (apart N i t) (x - i)) [
-            | inl near ↦ root.3 (way.within i less root.0 t after.below after.live member near)
-            | inr far ↦
-              let first : apart N i t ≤ apart N i x = first_after c s m r t inside down before after i x il between xl live in
-              let it = apart_cases N i t il after.below in let ix = apart_cases N i x il xl in
-              let same : x ≡ t = omega arith in
-              root.3 (ready_at n.logs n.place stays same i q (way.together i less root.0 (omega arith)))
-          ]
+            let less : i < x = omega arith in
+            let member = member_after c s m r t inside down before after admissible i il between in
+            elim (cases_lt (apart N i t) (x - i)) [
+              | inl near ↦ root.3 (way.within i less root.0 t after.below after.live member near)
+              | inr far ↦
+                  let first : apart N i t ≤ apart N i x = first_after c s m r t inside down before after i x il between xl live in
+                  let it = apart_cases N i t il after.below in let ix = apart_cases N i x il xl in
+                  let same : x ≡ t = omega arith in
+                  root.3 (ready_at n.logs n.place stays same i q (way.together i less root.0 (omega arith)))
+            ]
       ]
 
   message_kept : (q : ℕ) (n : Message) → s.message q ≡ Some n → is_dropped c s t n ≡ false → IsSteady c trace' up' has' q n
@@ -194,13 +194,13 @@ module _ (c : Setting) (good : IsGood c) (s : ChainState) (h : Inv c s) (m r t :
       let live : s.up last.0 ≡ true = subst (λ v. s.up v ≡ true) (sym at) old.live in
       record {
         place = place_kept c s good.some good.sound h.world admissible m r t inside down before after gone exact q (λ j st u.
-          let i = u.0 in let root = u.2 in let le : i ≤ j = u.1 in
-          let jl : j < N = below Somehow j q st in let il : i < N = omega arith in
-          let ll : last.0 < N = omega arith in
-          let between : IsBetween N r t i = (root.1, root.2) in
-          let first : apart N i t ≤ apart N i last.0 = first_after c s m r t inside down before after i last.0 il between ll live in
-          let ix = apart_cases N i last.0 il ll in
-          root.3 (h.world.passed i last.0 q (omega arith) root.0 last.2 t after.below after.live (member_after c s m r t inside down before after admissible i il between) (omega arith))) ∙ old.place;
+            let i = u.0 in let root = u.2 in let le : i ≤ j = u.1 in
+            let jl : j < N = below Somehow j q st in let il : i < N = omega arith in
+            let ll : last.0 < N = omega arith in
+            let between : IsBetween N r t i = (root.1, root.2) in
+            let first : apart N i t ≤ apart N i last.0 = first_after c s m r t inside down before after i last.0 il between ll live in
+            let ix = apart_cases N i last.0 il ll in
+            root.3 (h.world.passed i last.0 q (omega arith) root.0 last.2 t after.below after.live (member_after c s m r t inside down before after admissible i il between) (omega arith))) ∙ old.place;
         live = with_at_cases (λ b. b ≡ true) s.up m true (N - 1) (λ _. refl) (λ _. old.live);
         needs = λ i t'. old.needs i (stood _ i q t');
       }
@@ -240,5 +240,5 @@ module _ (c : Setting) (good : IsGood c) (s : ChainState) (h : Inv c s) where
       let z = admissible k fit.0 in
       let other : z.0 ≢ k = λ e. true≢false (sym z.2 ∙ subst (λ v. s.up v ≡ false) (sym e) down) in
       recovers c good s h k (previous_live c s k) (following_live c s k) fit.0 down
-        (last_live (servers c) s.up k fit.0 z.0 z.1 z.2 other) (next_live (servers c) s.up k fit.0 z.0 z.1 z.2 other) admissible (names undone) (undone_listed c s k undone legal.1 good.some (last_live (servers c) s.up k fit.0 z.0 z.1 z.2 other).below (next_live (servers c) s.up k fit.0 z.0 z.1 z.2 other).below h.world.serial) undone refl fit.2
-        (stays_awake c good.some s (Recover k undone) legal h.awake)
+      (last_live (servers c) s.up k fit.0 z.0 z.1 z.2 other) (next_live (servers c) s.up k fit.0 z.0 z.1 z.2 other) admissible (names undone) (undone_listed c s k undone legal.1 good.some (last_live (servers c) s.up k fit.0 z.0 z.1 z.2 other).below (next_live (servers c) s.up k fit.0 z.0 z.1 z.2 other).below h.world.serial) undone refl fit.2
+      (stays_awake c good.some s (Recover k undone) legal h.awake)

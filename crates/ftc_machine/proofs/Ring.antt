@@ -1,8 +1,8 @@
 -- Distances on the ring, and the nearest live servers.
-use Rattle.std.proofs.Common.{◌≡◌, ◌≢◌, ℕ, ◌+◌, ◌-◌, ◌<◌, ◌≤◌, ◌==◌, if◌then◌else◌, Bool, true, false, ◌⊎◌, inl, inr, refl, sym, ap, subst, ◌∙◌, arith, nat_le, leb-true, leb-false, eqb-true, ◌↔◌, Option, Some, None, unwrap_or}
-use Rattle.std.proofs.lemmas.Bool.{true≢false, eqb-false, cases_eq, cases_lt, false_from_ne_true}
+use Rattle.std.proofs.Common.{◌≡◌, ◌≢◌, ℕ, ◌+◌, ◌-◌, ◌<◌, ◌≤◌, ◌==◌, if◌then◌else◌, Bool, true, false, ◌⊎◌, inl, inr, refl, sym, ◌∙◌, arith, nat_le, leb-true, leb-false, eqb-true, Option, Some, None, unwrap_or}
+use Rattle.std.proofs.lemmas.Bool.{true≢false, eqb-false, cases_eq, false_from_ne_true}
 use Rattle.ftc_ring.specs.Ring.{apart, next_of, previous_of}
-use Rattle.ftc_ring.specs.Live.{live_after_of, live_before_of, IsLiveAfter, IsLiveBefore, IsAlone}
+use Rattle.ftc_ring.specs.Live.{live_after_of, live_before_of, IsLiveAfter, IsLiveBefore}
 use Rattle.ftc_ring.proofs.Nearest.{after_found, after_none, before_found, before_none}
 
 -- server b lies behind a by this distance: the sum is b, or wraps once
@@ -49,9 +49,9 @@ module _ (n : ℕ) (up : ℕ → Bool) (k : ℕ) (inside : k < n) (y : ℕ) (y_b
         live = is.up;
         after = let ne = is.other in omega arith;
         between = λ i il pos less. false_from_ne_true (up i) (λ live.
-          let ki = apart_cases n k i inside il in
-          let ne : i ≢ k = λ e. let same : k ≡ i = sym e in absurd (omega arith) in
-          let le = is.nearest i il ne live in absurd (omega arith));
+            let ki = apart_cases n k i inside il in
+            let ne : i ≢ k = λ e. let same : k ≡ i = sym e in absurd (omega arith) in
+            let le = is.nearest i il ne live in absurd (omega arith));
       }
 
   last_from : (r : ℕ) → IsLiveBefore n up k r → IsLastLive n up k r
@@ -62,9 +62,9 @@ module _ (n : ℕ) (up : ℕ → Bool) (k : ℕ) (inside : k < n) (y : ℕ) (y_b
         live = is.up;
         before = let ne = is.other in omega arith;
         between = λ i il pos less. false_from_ne_true (up i) (λ live.
-          let ik = apart_cases n i k il inside in
-          let ne : i ≢ k = λ e. let same : k ≡ i = sym e in absurd (omega arith) in
-          let le = is.nearest i il ne live in absurd (omega arith));
+            let ik = apart_cases n i k il inside in
+            let ne : i ≢ k = λ e. let same : k ≡ i = sym e in absurd (omega arith) in
+            let le = is.nearest i il ne live in absurd (omega arith));
       }
 
   next_some : (o : Option ℕ) → live_after_of n up k ≡ o → IsNextLive n up k (unwrap_or o k)

@@ -1,19 +1,15 @@
 -- Whose logs a message carries: those of its own packet, and behind server 0 those of groups whose heads are still to come.
-use Rattle.std.proofs.Common.{◌≡◌, ◌≢◌, ℕ, zero, suc, ◌+◌, ◌-◌, ◌<◌, ◌≤◌, ◌==◌, ◌&&◌, ◌||◌, ◌⊎◌, if◌then◌else◌, nat_lt, Bool, true, false, not, List, [], ◌∷◌, refl, sym, ap, subst, ◌∙◌, arith, inl, inr, eqb-true, eq-eqb, Option, Some, None, is_some}
-use Rattle.std.proofs.lemmas.Bool.{true≢false, cases_eq, cases_lt, cases_Bool, eqb-false, ne_eqb, and_from, and_parts, or_left, or_right, or_cases, not-true, not_from_true}
+use Rattle.std.proofs.Common.{◌≡◌, ◌≢◌, ℕ, ◌+◌, ◌<◌, ◌≤◌, ◌==◌, ◌&&◌, ◌⊎◌, if◌then◌else◌, nat_lt, Bool, true, false, not, List, refl, sym, ap, subst, ◌∙◌, arith, inl, inr, eqb-true, Option, Some, None}
+use Rattle.std.proofs.lemmas.Bool.{true≢false, cases_eq, eqb-false, and_parts, or_cases, not-true}
 use Rattle.std.proofs.lemmas.Option.{none-some, same_Some}
 use Rattle.ftc_ring.specs.Ring.{apart, next_of}
-use Rattle.ftc_journal.specs.declared.event.VisitName.{VisitName}
 use Rattle.ftc_journal.specs.declared.event.Event.{Event}
 use Rattle.ftc_journal.specs.declared.event.Event.TheVariants.{Apply, Carry, Crash, Enter, Lose, Pass, Propagate, Pull, Recover, Release, Take, Visit}
 use Rattle.ftc_serial.specs.Words.{with_at}
-use Rattle.ftc_serial.specs.Serial.{Entry, Given, Visited}
-use Rattle.ftc_serial.specs.Take.{Outcome}
 use Rattle.ftc_serial.specs.Trace.{names}
-use Rattle.ftc_serial.proofs.Functions.{with_at_cases}
-use Rattle.ftc_machine.specs.Setting.{Setting, servers, count, packet_at, is_tail}
-use Rattle.ftc_machine.specs.Visits.{Visits, In, union, just, no_visits}
-use Rattle.ftc_machine.specs.State.{ChainState, Message, Where, Held, Queued, Withheld, opening}
+use Rattle.ftc_machine.specs.Setting.{Setting, servers, packet_at, is_tail}
+use Rattle.ftc_machine.specs.Visits.{Visits, In, union, just}
+use Rattle.ftc_machine.specs.State.{ChainState, Message, Where, Held, Queued, opening}
 use Rattle.ftc_machine.specs.Trace.{IsSomeVisit}
 use Rattle.ftc_machine.specs.Legal.{MayHappen, MayLeave, is_sent}
 use Rattle.ftc_machine.specs.Recovery.{is_dropped, following_live}
@@ -70,29 +66,30 @@ module _ (c : Setting) (good : IsGood c) (s : ChainState) (h : Inv c s) (t : IsT
   sent_shape : (k p : ℕ) (m : Message) → MayLeave c s k p m → k < servers c → (j q : ℕ) → In (logs_sent c s k m) j q → (k + 1 ≡ servers c → IsRingLog p j q) × ((q ≡ p) ⊎ (k + 1 < j))
   sent_shape k p m leaves kl j q is = elim (or_cases (m.logs j q && not (is_tail c j k)) ((k == 0) && s.forwarder j q) is) [
     | inl own ↦
-      let parts = and_parts (m.logs j q) (not (is_tail c j k)) own in
-      let not_tail : apart (servers c) j k ≢ c.failures = eqb-false (apart (servers c) j k) c.failures (not-true (is_tail c j k) parts.1) in
-      let carried = (h.messages p m leaves.there).carried.member j q parts.0 in
-      let at : target (servers c) m.place ≡ k = ap (target (servers c)) leaves.held in
-      let jl : j < servers c = carried.0 in
-      let member : apart (servers c) j k ≤ c.failures = subst (λ x. apart (servers c) j x ≤ c.failures) at carried.1 in
-      let jk = apart_cases (servers c) j k jl kl in
-      let small : c.failures < servers c = good.small in
-      let shape = subst (λ w. IsShaped (servers c) p w m.logs) leaves.held (a.messages p m leaves.there) in
-      ((λ last. elim (shape j q parts.0) [
-          | inl same ↦ (same, (elim (cases_eq j 0) [ inl zero_ ↦ absurd (not_tail (omega arith)) | inr other ↦ omega arith ]))
-          | inr ahead ↦ absurd (omega arith)
-        ]),
-      elim (shape j q parts.0) [
-        | inl same ↦ inl same
-        | inr ahead ↦ inr (elim (cases_eq j (k + 1)) [ inl next_ ↦ absurd (not_tail (omega arith)) | inr other ↦ omega arith ])
-      ])
+        let parts = and_parts (m.logs j q) (not (is_tail c j k)) own in
+        let not_tail : apart (servers c) j k ≢ c.failures = eqb-false (apart (servers c) j k) c.failures (not-true (is_tail c j k) parts.1) in
+        let carried = (h.messages p m leaves.there).carried.member j q parts.0 in
+        let at : target (servers c) m.place ≡ k = ap (target (servers c)) leaves.held in
+        let jl : j < servers c = carried.0 in
+        let member : apart (servers c) j k ≤ c.failures = subst (λ x. apart (servers c) j x ≤ c.failures) at carried.1 in
+        let jk = apart_cases (servers c) j k jl kl in
+        let small : c.failures < servers c = good.small in
+        let shape = subst (λ w. IsShaped (servers c) p w m.logs) leaves.held (a.messages p m leaves.there) in (
+          (λ last. elim (shape j q parts.0) [
+            | inl same ↦ (same, (elim (cases_eq j 0) [ inl zero_ ↦ absurd (not_tail (omega arith)) | inr other ↦ omega arith ]))
+            | inr ahead ↦ absurd (omega arith)
+          ]),
+          elim (shape j q parts.0) [
+            | inl same ↦ inl same
+            | inr ahead ↦ inr (elim (cases_eq j (k + 1)) [ inl next_ ↦ absurd (not_tail (omega arith)) | inr other ↦ omega arith ])
+          ],
+        )
     | inr forwarded ↦
-      let parts = and_parts (k == 0) (s.forwarder j q) forwarded in
-      let first : k ≡ 0 = eqb-true k 0 parts.0 in
-      let far : 1 < j = a.forward j q parts.1 in
-      let jl : j < servers c = (h.forward.member j q parts.1).0 in
-      ((λ last. absurd (omega arith)), inr (omega arith))
+        let parts = and_parts (k == 0) (s.forwarder j q) forwarded in
+        let first : k ≡ 0 = eqb-true k 0 parts.0 in
+        let far : 1 < j = a.forward j q parts.1 in
+        let jl : j < servers c = (h.forward.member j q parts.1).0 in
+        ((λ last. absurd (omega arith)), inr (omega arith))
   ]
 
   left_shape : (k p : ℕ) (lost : Bool) (m : Message) → MayLeave c s k p m → k < servers c → AreShaped c (ticked (sent_on c s k p lost))
@@ -109,7 +106,8 @@ module _ (c : Setting) (good : IsGood c) (s : ChainState) (h : Inv c s) (t : IsT
   pub keeps_shapes : (e : Event) → MayHappen c s e → AreShaped c (next c s e)
   keeps_shapes (Enter p) legal = record { visited = λ k q is. let less = a.visited k q is in omega arith; messages = with_message p _ (λ m e. enter_new p (s.up 0) m e); forward = a.forward }
   keeps_shapes (Take l p) legal = record {
-    visited = a.visited; forward = a.forward;
+    visited = a.visited;
+    forward = a.forward;
     messages = with_message p _ (λ n e. subst (λ (x : Message). IsShaped (servers c) p x.place x.logs) (same_Some _ n (sym (ap (taken_message c s l) legal.1) ∙ e))
         (taken_shape (servers c) l p legal.0.logs (l + 1 == servers c) refl (subst (λ w. IsShaped (servers c) p w legal.0.logs) legal.2 (a.messages p legal.0 legal.1))));
   }
@@ -145,19 +143,19 @@ module _ (c : Setting) (good : IsGood c) (s : ChainState) (h : Inv c s) (t : IsT
     forward = λ j q is. elim (or_cases (s.forwarder j q) _ is) [
       | inl old ↦ a.forward j q old
       | inr new ↦
-        let m = legal.0 in
-        let parts = and_parts (logs_of (s.message p) j q) (not (is_tail c j 0)) new in
-        let log : In m.logs j q = ap (λ o. logs_of o j q) (sym legal.1) ∙ parts.0 in
-        let not_tail : apart (servers c) j 0 ≢ c.failures = eqb-false (apart (servers c) j 0) c.failures (not-true (is_tail c j 0) parts.1) in
-        let shape = subst (λ w. IsShaped (servers c) p w m.logs) legal.3 (a.messages p m legal.1) in
-        let ringed = shape j q log in
-        let some : 0 < j = ringed.1 in
-        let carried = (h.messages p m legal.1).carried.member j q log in
-        let jl : j < servers c = carried.0 in
-        let member : apart (servers c) j 0 ≤ c.failures = subst (λ x. apart (servers c) j x ≤ c.failures) (ap (target (servers c)) legal.3) carried.1 in
-        let j0 = apart_cases (servers c) j 0 jl good.some in
-        let small : c.failures < servers c = good.small in
-        elim (cases_eq j 1) [ inl one_ ↦ absurd (not_tail (omega arith)) | inr other ↦ omega arith ]
+          let m = legal.0 in
+          let parts = and_parts (logs_of (s.message p) j q) (not (is_tail c j 0)) new in
+          let log : In m.logs j q = ap (λ o. logs_of o j q) (sym legal.1) ∙ parts.0 in
+          let not_tail : apart (servers c) j 0 ≢ c.failures = eqb-false (apart (servers c) j 0) c.failures (not-true (is_tail c j 0) parts.1) in
+          let shape = subst (λ w. IsShaped (servers c) p w m.logs) legal.3 (a.messages p m legal.1) in
+          let ringed = shape j q log in
+          let some : 0 < j = ringed.1 in
+          let carried = (h.messages p m legal.1).carried.member j q log in
+          let jl : j < servers c = carried.0 in
+          let member : apart (servers c) j 0 ≤ c.failures = subst (λ x. apart (servers c) j x ≤ c.failures) (ap (target (servers c)) legal.3) carried.1 in
+          let j0 = apart_cases (servers c) j 0 jl good.some in
+          let small : c.failures < servers c = good.small in
+          elim (cases_eq j 1) [ inl one_ ↦ absurd (not_tail (omega arith)) | inr other ↦ omega arith ]
     ];
   }
   keeps_shapes (Crash k) legal = record {

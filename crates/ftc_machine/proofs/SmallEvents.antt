@@ -1,6 +1,6 @@
 -- The events that change little.
-use Rattle.std.proofs.Common.{◌≡◌, ◌≢◌, ℕ, suc, ◌+◌, ◌-◌, ◌<◌, ◌≤◌, ◌==◌, ◌&&◌, ◌||◌, if◌then◌else◌, nat_le, nat_lt, Bool, true, false, cond, not, List, [], ◌∷◌, ◌⊎◌, inl, inr, refl, sym, ap, subst, ◌∙◌, arith, ◌↔◌, eqb-true, Option, Some, None, is_some, eq-eqb, ltb-true, lt-ltb}
-use Rattle.std.proofs.lemmas.Bool.{true≢false, eqb-false, cases_eq, cases_lt, cases_Bool, and_parts, and_from, or_left, or_right, or_cases, or_parts, not-true, ne_eqb}
+use Rattle.std.proofs.Common.{◌≡◌, ◌≢◌, ℕ, ◌+◌, ◌-◌, ◌<◌, ◌≤◌, ◌==◌, ◌&&◌, Bool, true, false, not, List, [], ◌∷◌, inl, inr, refl, sym, ap, subst, ◌∙◌, arith, Option, Some, None}
+use Rattle.std.proofs.lemmas.Bool.{true≢false, cases_lt, or_cases}
 use Rattle.std.proofs.lemmas.Option.{none-some, same_Some}
 use Rattle.ftc_journal.specs.declared.event.Event.TheVariants.{Apply, Carry, Propagate, Pull, Take}
 use Rattle.ftc_machine.proofs.Carrying.{AreCarried, grows, passes, passes_far}
@@ -23,8 +23,6 @@ use Rattle.ftc_machine.proofs.Stores.{stands_below}
 use Rattle.ftc_serial.specs.Words.{with_at}
 use Rattle.ftc_serial.proofs.Functions.{with_at_cases}
 use Rattle.ftc_machine.proofs.World.{world_apply, world_pulls}
-use Rattle.ftc_machine.proofs.Carrying as carrying
-use Rattle.ftc_machine.proofs.Between as between
 
 pub fit_now : (c : Setting) (up : ℕ → Bool) (lines : List ScriptLine) → AreFit c up lines → IsAdmissible c up
 fit_now c up [] h = h
@@ -103,12 +101,12 @@ module _ (c : Setting) (good : IsGood c) (s : ChainState) (h : Inv c s) where
       let touching : IsTouching s.trace j q = (carried.member j q log).2 in
       let more : (y i x : ℕ) → In (s.lists y) i x → In (with_at s.lists k (union (s.lists k) (just j q true)) y) i x = λ y i x a. kept s.lists k j q true y i x a in
       let world = world_apply c good.some good.sound s.trace s.up s.lists h.world k j q live changing (carried.member j q log).1 legal.5
-          (λ i il u less. (carried.wake j j q log (omega arith) touching i il u (omega (arith, (carried.member j q log).1)) (omega arith)).changing changing)
-          (λ i less t member. let il : i < n = omega arith in let ik = apart_cases n i k il kl in let jk = apart_cases n j k jl kl in
-            elim (cases_lt (apart n i k) ((j - i) + apart n j k)) [
-              | inl behind ↦ carried.wake i j q log (omega arith) t k kl live member behind
-              | inr ahead ↦ legal.6 i less (carried.together i j q log (omega arith) t (omega arith))
-            ]) in
+      (λ i il u less. (carried.wake j j q log (omega arith) touching i il u (omega (arith, (carried.member j q log).1)) (omega arith)).changing changing)
+      (λ i less t member. let il : i < n = omega arith in let ik = apart_cases n i k il kl in let jk = apart_cases n j k jl kl in
+      elim (cases_lt (apart n i k) ((j - i) + apart n j k)) [
+        | inl behind ↦ carried.wake i j q log (omega arith) t k kl live member behind
+        | inr ahead ↦ legal.6 i less (carried.together i j q log (omega arith) t (omega arith))
+      ]) in
       record {
         world = world;
         fit = h.fit;
@@ -183,7 +181,7 @@ module _ (c : Setting) (good : IsGood c) (s : ChainState) (h : Inv c s) where
       let ll = h.world.inside l legal.0 in
       let below : (P : Outcome → Type 0) (i q : ℕ) → IsInTrace P s.trace i q → i < n = λ P i q t. stands_below c good.some P s.trace h.world.serial i q t in
       let moves : (i q d : ℕ) → i < n → IsWithin c s.trace s.up s.lists i q d → IsWithin c s.trace s.up (with_at s.lists (next_of n l) (pulled_list c s l (next_of n l))) i q d =
-          λ i q d il v. within_pulls c s several l ll legal.0 i q d il v in
+      λ i q d il v. within_pulls c s several l ll legal.0 i q d il v in
       record {
         world = world_pulls c s h.world several l legal.0 legal.1;
         fit = h.fit;

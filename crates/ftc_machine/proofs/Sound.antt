@@ -1,39 +1,30 @@
 -- What holds at every moment, from what each event keeps.
-use Rattle.std.proofs.Common.{◌≡◌, ◌≢◌, ℕ, zero, suc, ◌+◌, ◌-◌, ◌<◌, ◌≤◌, ◌==◌, if◌then◌else◌, Bool, true, false, List, [], ◌∷◌, ◌++◌, ◌⊎◌, inl, inr, refl, sym, ap, subst, ◌∙◌, arith, Option, Some, None, length, leb-true, le-leb, ◌↔◌, unwrap_or, eqb-true}
+use Rattle.std.proofs.Common.{◌≡◌, ℕ, ◌+◌, ◌<◌, ◌==◌, true, false, List, [], ◌∷◌, ◌++◌, inl, inr, refl, sym, ap, subst, ◌∙◌, arith, Option, Some, None, length, leb-true, eqb-true}
 use Rattle.std.specs.Prelude.{option_map, option_and_then}
-use Rattle.std.proofs.lemmas.Bool.{true≢false, cases_lt, cases_eq, false_from_ne_true, eqb-false}
+use Rattle.std.proofs.lemmas.Bool.{true≢false, cases_lt, cases_eq}
 use Rattle.ftc_base.specs.declared.released.Released.{Released}
 use Rattle.ftc_ring.specs.Ring.{apart, IsRing}
-use Rattle.ftc_ring.specs.Live.{IsFirstLive, first_live_of}
 use Rattle.ftc_journal.specs.declared.event.Event.{Event}
 use Rattle.ftc_mbox.specs.declared.rule.Rule.{Rule}
 use Rattle.ftc_serial.specs.declared.step.Step.{Step}
 use Rattle.ftc_serial.specs.Words.{AnyOf}
-use Rattle.ftc_serial.specs.Take.{Outcome}
 use Rattle.ftc_serial.specs.Serial as serial
 use Rattle.ftc_serial.specs.Serial.{State, Entry, Visited, Given, after, entry_of, serial_step, serial_run}
-use Rattle.ftc_serial.specs.Entries.{step_of, IsLegal}
-use Rattle.ftc_serial.specs.Removal.{left_of}
-use Rattle.ftc_serial.specs.History.{IsAlike}
+use Rattle.ftc_serial.specs.Entries.{step_of}
 use Rattle.ftc_serial.proofs.Functions.{with_at_cases}
-use Rattle.ftc_machine.specs.Setting.{Setting, servers, shape, is_member}
-use Rattle.ftc_machine.specs.Visits.{Visits, In}
-use Rattle.ftc_machine.specs.Trace.{IsInTrace, IsSomeVisit, IsTouching, IsChanging, IsBefore, Has, lacked_by, content_of}
-use Rattle.ftc_machine.specs.State.{Message, ChainState, opening}
-use Rattle.ftc_machine.specs.Known.{ServerHas, knows}
-use Rattle.ftc_machine.specs.Recovery.{is_up_to}
+use Rattle.ftc_machine.specs.Setting.{Setting, servers, shape}
+use Rattle.ftc_machine.specs.Trace.{IsSomeVisit, Has, lacked_by}
+use Rattle.ftc_machine.specs.State.{ChainState, opening}
 use Rattle.ftc_machine.specs.Run.{AreLegal, state_after}
-use Rattle.ftc_machine.specs.Moment.{first_live, has_fallen, Stands, trace_now, steps_in, released_in, IsEverywhere, IsSound}
-use Rattle.ftc_machine.proofs.Places.{Place, placed, Waits, Passed, Released as Gone, place_after, IsEntry, IsSerial, serial_of, legal_entry, opening_waits, opening_passed}
+use Rattle.ftc_machine.specs.Moment.{first_live, has_fallen, trace_now, steps_in, released_in, IsEverywhere, IsSound}
+use Rattle.ftc_machine.proofs.Places.{placed, Waits, Passed, Released as Gone, place_after, IsSerial, serial_of, legal_entry, opening_waits, opening_passed}
 use Rattle.ftc_machine.proofs.Ring.{apart_cases}
-use Rattle.ftc_machine.proofs.Premises.{IsAdmissible, AreFit, IsGood}
+use Rattle.ftc_machine.proofs.Premises.{AreFit, IsGood}
 use Rattle.ftc_machine.proofs.First.{IsFirst, first_by, first_there}
-use Rattle.ftc_machine.proofs.Fallen.{IsStanding, IsFallen}
+use Rattle.ftc_machine.proofs.Fallen.{IsFallen}
 use Rattle.ftc_machine.proofs.Standing.{waits_past}
 use Rattle.ftc_machine.proofs.Listed.{up_to_says, up_to_has, lacked_says, lacked_has}
-use Rattle.ftc_machine.proofs.Having.{has_stable, in_has}
-use Rattle.ftc_machine.proofs.Passed.{Somehow, some_stands}
-use Rattle.ftc_machine.proofs.Stores.{stands_below}
+use Rattle.ftc_machine.proofs.Having.{has_stable}
 use Rattle.ftc_machine.proofs.Inv.{Inv, IsSafe, knows_safe}
 use Rattle.ftc_machine.proofs.Moments as moments
 use Rattle.ftc_machine.proofs.Every.{always}
@@ -73,13 +64,13 @@ module _ (c : Setting) where
       with_at_cases (λ v. v ≡ Waits k bytes → IsSomeVisit (Given q b ∷ older) j p) (serial_of c older).place q Gone p (λ e w. absurd (cc)) (λ ne w. inr (visited_before older is.1 p k bytes w j less)) waits
   visited_before (Visited i q o ∷ older) is p k bytes waits j less =
       with_at_cases (λ v. v ≡ Waits k bytes → IsSomeVisit (Visited i q o ∷ older) j p) (serial_of c older).place q _ p
-        (λ e w. let next : k ≡ i + 1 = waits_past (servers c) k i bytes o.packet w in
-          elim (cases_eq j i) [
-            | inl same ↦ inl (sym same, sym e, tt)
-            | inr other ↦ inr (visited_before older is.1 p i is.0.0 (subst (λ x. (serial_of c older).place x ≡ Waits i is.0.0) (sym e) is.0.1) j (omega arith))
-          ])
-        (λ ne w. inr (visited_before older is.1 p k bytes w j less))
-        waits
+      (λ e w. let next : k ≡ i + 1 = waits_past (servers c) k i bytes o.packet w in
+      elim (cases_eq j i) [
+        | inl same ↦ inl (sym same, sym e, tt)
+        | inr other ↦ inr (visited_before older is.1 p i is.0.0 (subst (λ x. (serial_of c older).place x ≡ Waits i is.0.0) (sym e) is.0.1) j (omega arith))
+      ])
+      (λ ne w. inr (visited_before older is.1 p k bytes w j less))
+      waits
 
   last_of : (i : ℕ) (packet : Option (List ℕ)) (bytes : List ℕ) → place_after (servers c) i packet ≡ Passed bytes → i + 1 ≡ servers c
   last_of i None bytes is = absurd (cc)
@@ -94,13 +85,13 @@ module _ (c : Setting) where
       with_at_cases (λ v. v ≡ Passed bytes → IsSomeVisit (Given q b ∷ older) j p) (serial_of c older).place q Gone p (λ e w. absurd (cc)) (λ ne w. inr (visited_all older is.1 p bytes w j less)) passed
   visited_all (Visited i q o ∷ older) is p bytes passed j less =
       with_at_cases (λ v. v ≡ Passed bytes → IsSomeVisit (Visited i q o ∷ older) j p) (serial_of c older).place q _ p
-        (λ e w. let last : i + 1 ≡ servers c = last_of i o.packet bytes w in
-          elim (cases_eq j i) [
-            | inl same ↦ inl (sym same, sym e, tt)
-            | inr other ↦ inr (visited_before older is.1 p i is.0.0 (subst (λ x. (serial_of c older).place x ≡ Waits i is.0.0) (sym e) is.0.1) j (omega arith))
-          ])
-        (λ ne w. inr (visited_all older is.1 p bytes w j less))
-        passed
+      (λ e w. let last : i + 1 ≡ servers c = last_of i o.packet bytes w in
+      elim (cases_eq j i) [
+        | inl same ↦ inl (sym same, sym e, tt)
+        | inr other ↦ inr (visited_before older is.1 p i is.0.0 (subst (λ x. (serial_of c older).place x ≡ Waits i is.0.0) (sym e) is.0.1) j (omega arith))
+      ])
+      (λ ne w. inr (visited_all older is.1 p bytes w j less))
+      passed
 
   pub given_all : (trace : List Entry) → IsSerial c trace → (p : ℕ) (bytes : List ℕ) → AnyOf (λ e. e ≡ Given p bytes) trace → (j : ℕ) → j < servers c → IsSomeVisit trace j p
   given_all [] is p bytes a j less = absurd a
@@ -113,22 +104,23 @@ module _ (c : Setting) where
 module _ (c : Setting) (good : IsGood c) (ring : IsRing (shape c)) (s : ChainState) (h : Inv c s) where
   -- the test says which visits have fallen
   fallen_exact : IsFallen c s (has_fallen c s)
-  fallen_exact j p there =
-      (λ fell standing.
+  fallen_exact j p there = (
+    λ fell standing.
         let found = up_to_says (λ i. lacked_by c.partitions s.trace (s.lists (first_live c s i)) i p) j fell in
         let i = found.0 in
         let lacks = lacked_says c s.trace (s.lists (first_live c s i)) i p h.world.serial found.2 in
         let il : i < servers c = moments.below c good ring s h _ i p lacks.0 in
         lacks.1 (standing i (first_live c s i) found.1 lacks.0 (first_there c s ring (moments.admissible c good ring s h) i il)),
-      λ fell. elim (has_fallen c s j p) as (λ b. has_fallen c s j p ≡ b → has_fallen c s j p ≡ true) [
-        | true ↦ λ is. is
-        | false ↦ λ isnt. absurd (fell (λ i k le touching first. has_stable c.partitions s.trace (s.lists k) i p (λ lacks.
-            let il : i < servers c = moments.below c good ring s h _ i p touching in
-            let own = first_there c s ring (moments.admissible c good ring s h) i il in
-            let same : first_live c s i ≡ k = only i il (first_live c s i) k own first in
-            true≢false (sym (up_to_has (λ i. lacked_by c.partitions s.trace (s.lists (first_live c s i)) i p) j i le
-              (lacked_has c s.trace (s.lists (first_live c s i)) i p h.world.serial touching (subst (λ x. Has c.partitions s.trace (s.lists x) i p → ⊥) (sym same) lacks))) ∙ isnt))))
-      ] refl)
+    λ fell. elim (has_fallen c s j p) as (λ b. has_fallen c s j p ≡ b → has_fallen c s j p ≡ true) [
+      | true ↦ λ is. is
+      | false ↦ λ isnt. absurd (fell (λ i k le touching first. has_stable c.partitions s.trace (s.lists k) i p (λ lacks.
+          let il : i < servers c = moments.below c good ring s h _ i p touching in
+          let own = first_there c s ring (moments.admissible c good ring s h) i il in
+          let same : first_live c s i ≡ k = only i il (first_live c s i) k own first in
+          true≢false (sym (up_to_has (λ i. lacked_by c.partitions s.trace (s.lists (first_live c s i)) i p) j i le
+          (lacked_has c s.trace (s.lists (first_live c s i)) i p h.world.serial touching (subst (λ x. Has c.partitions s.trace (s.lists x) i p → ⊥) (sym same) lacks))) ∙ isnt))))
+    ] refl,
+  )
     where
       only : (i : ℕ) → i < servers c → (a b : ℕ) → IsFirst c s i a → IsFirst c s i b → a ≡ b
       only i il a b fa fb =
@@ -137,9 +129,9 @@ module _ (c : Setting) (good : IsGood c) (ring : IsRing (shape c)) (s : ChainSta
           elim (cases_lt (apart (servers c) i a) (apart (servers c) i b)) [
             | inl less ↦ absurd (true≢false (sym fa.up ∙ fb.first a fa.inside less))
             | inr more ↦ elim (cases_lt (apart (servers c) i b) (apart (servers c) i a)) [
-                | inl less ↦ absurd (true≢false (sym fb.up ∙ fa.first b fb.inside less))
-                | inr same ↦ omega arith
-              ]
+              | inl less ↦ absurd (true≢false (sym fb.up ∙ fa.first b fb.inside less))
+              | inr same ↦ omega arith
+            ]
           ]
 
   everywhere : (j p : ℕ) → IsSafe c s.trace s.up s.lists j p → IsEverywhere c s j p
@@ -168,13 +160,13 @@ module _ (c : Setting) (good : IsGood c) (ring : IsRing (shape c)) (s : ChainSta
           other = λ not_changing q before. (everywhere j q (knows_safe c s h k j q (has.other not_changing q before))).had x xl live member;
         };
         whole = λ p j bytes given jl.
-          let there = given_all c s.trace h.world.serial p bytes given j jl in
-          record {
-            there = there;
-            standing = moments.upright c good ring s h (has_fallen c s) fallen_exact j p there (λ i k le touching first.
-              let il = moments.below c good ring s h _ i p touching in let ik = apart_cases (servers c) i k il first.inside in
-              h.world.released p bytes given i touching k first.inside first.up (leb-true _ _ first.member) (omega arith));
-          };
+            let there = given_all c s.trace h.world.serial p bytes given j jl in
+            record {
+              there = there;
+              standing = moments.upright c good ring s h (has_fallen c s) fallen_exact j p there (λ i k le touching first.
+                  let il = moments.below c good ring s h _ i p touching in let ik = apart_cases (servers c) i k il first.inside in
+                  h.world.released p bytes given i touching k first.inside first.up (leb-true _ _ first.member) (omega arith));
+            };
         logs = λ o j p m at is. ((h.messages o m at).carried.member j p is).2;
       }
 

@@ -1,13 +1,12 @@
 -- What stands in a trace, and what is before what, as the trace grows and loses visits.
-use Rattle.std.proofs.Common.{◌≡◌, ℕ, ◌+◌, ◌<◌, ◌≤◌, ◌==◌, if◌then◌else◌, Bool, true, false, cond, not, List, [], ◌∷◌, ◌⊎◌, inl, inr, refl, sym, ap, subst, ◌∙◌, arith, Option, Some, None}
-use Rattle.std.specs.List.{AllByRecursion}
-use Rattle.std.proofs.lemmas.Bool.{true≢false, cases_Bool}
+use Rattle.std.proofs.Common.{◌≡◌, ℕ, ◌+◌, ◌<◌, ◌==◌, Bool, true, false, cond, not, List, [], ◌∷◌, inl, inr, refl, sym, subst, ◌∙◌, arith, Option, Some, None}
+use Rattle.std.proofs.lemmas.Bool.{true≢false}
 use Rattle.ftc_serial.specs.Words.{AnyOf}
 use Rattle.ftc_machine.specs.Changes.{Changes, Meets, changes, is_changing, is_some_list}
 use Rattle.ftc_serial.specs.Serial.{Entry, Given, Visited}
 use Rattle.ftc_machine.specs.Trace.{IsBefore, IsChanging, IsInTrace, IsVisit}
 use Rattle.ftc_machine.proofs.Places.{IsSerial, Released, Waits, place_after, placed, serial_of}
-use Rattle.ftc_serial.specs.Take.{Outcome, taken}
+use Rattle.ftc_serial.specs.Take.{Outcome}
 use Rattle.ftc_machine.specs.Setting.{Setting, servers}
 use Rattle.ftc_serial.specs.Removal.{is_taken, left_of}
 use Rattle.ftc_serial.proofs.Functions.{with_at_cases}
@@ -89,9 +88,9 @@ module _ (gone : ℕ → ℕ → Bool) where
       elim (gone k x) as (λ b. IsBefore part (cond (not b) (e ∷ left_of gone older) (left_of gone older)) j p q → IsBefore part (e ∷ older) j p q) [
         | true ↦ λ h. inr (before_left part older j p q h)
         | false ↦ λ h. elim h [
-            | inl here ↦ inl (here.0, (here.1.0, (visit_stood (λ v. Meets part v o) older j p here.1.1).0))
-            | inr there ↦ inr (before_left part older j p q there)
-          ]
+          | inl here ↦ inl (here.0, (here.1.0, (visit_stood (λ v. Meets part v o) older j p here.1.1).0))
+          | inr there ↦ inr (before_left part older j p q there)
+        ]
       ]
 
 -- a packet that waits for middlebox k has visited earlier ones alone

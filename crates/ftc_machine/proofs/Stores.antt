@@ -1,6 +1,6 @@
 -- The store of a list that has all changing visits is the serial chain's.
-use Rattle.std.proofs.Common.{◌≡◌, ◌≢◌, ℕ, ◌+◌, ◌<◌, ◌==◌, ◌&&◌, if◌then◌else◌, Bool, true, false, cond, not, List, [], ◌∷◌, ◌⊎◌, inl, inr, refl, sym, ap, subst, ◌∙◌, arith, eqb-true, eq-eqb, Option, Some, None}
-use Rattle.std.proofs.lemmas.Bool.{true≢false, eqb-false, ne_eqb, cases_eq}
+use Rattle.std.proofs.Common.{◌≡◌, ◌≢◌, ℕ, ◌+◌, ◌<◌, ◌==◌, ◌&&◌, if◌then◌else◌, Bool, true, false, List, [], ◌∷◌, inl, inr, refl, sym, ap, subst, ◌∙◌, arith, eq-eqb, Option, Some, None}
+use Rattle.std.proofs.lemmas.Bool.{true≢false, eqb-false, ne_eqb}
 use Rattle.std.specs.Prelude.{slice_get}
 use Rattle.ftc_serial.specs.Words.{AnyOf}
 use Rattle.ftc_machine.specs.Changes.{Changes, changes, is_some_list}
@@ -34,9 +34,9 @@ touching_changing c sound [] is j p h = absurd h
 touching_changing c sound (Given q b ∷ older) is j p h = elim h [ inl here ↦ absurd here | inr there ↦ inr (touching_changing c sound older is.1 j p there) ]
 touching_changing c sound (Visited k q o ∷ older) is j p h = elim h [
   | inl here ↦
-    let some = some_changes (changes c.partitions o) here.2 in
-    let touches : Touches c.partitions o some.0 = subst (λ (u : Outcome). Changes c.partitions u some.0 → Touches c.partitions u some.0) (sym is.0.2) (sound.touched (rule_at c k) is.0.0 ((serial_of c older).maps k) some.0) some.1 in
-    inl (here.0, here.1, some_any _ o.answers touches)
+      let some = some_changes (changes c.partitions o) here.2 in
+      let touches : Touches c.partitions o some.0 = subst (λ (u : Outcome). Changes c.partitions u some.0 → Touches c.partitions u some.0) (sym is.0.2) (sound.touched (rule_at c k) is.0.0 ((serial_of c older).maps k) some.0) some.1 in
+      inl (here.0, here.1, some_any _ o.answers touches)
   | inr there ↦ inr (touching_changing c sound older is.1 j p there)
 ]
 
@@ -52,16 +52,16 @@ store_all c sound (Visited k p o ∷ older) is j set all =
     let rest = store_all c sound older is.1 j set (λ q c. all q (inr c)) in
     let maps = (serial_of c older).maps in
     with_at_cases (λ (v : Content). (if (k == j) && set p then written o.writes (content_of older set j) else content_of older set j) ≡ v) maps k (written o.writes (maps k)) j
-      (λ e. elim (set p) as (λ b. set p ≡ b → (if (k == j) && b then written o.writes (content_of older set j) else content_of older set j) ≡ written o.writes (maps k)) [
-        | true ↦ λ s. subst (λ b. (if b && true then written o.writes (content_of older set j) else content_of older set j) ≡ written o.writes (maps k)) (sym (eq-eqb k j (sym e)))
-            (ap (written o.writes) rest ∙ ap (λ i. written o.writes (maps i)) e)
-        | false ↦ λ s.
+    (λ e. elim (set p) as (λ b. set p ≡ b → (if (k == j) && b then written o.writes (content_of older set j) else content_of older set j) ≡ written o.writes (maps k)) [
+      | true ↦ λ s. subst (λ b. (if b && true then written o.writes (content_of older set j) else content_of older set j) ≡ written o.writes (maps k)) (sym (eq-eqb k j (sym e)))
+          (ap (written o.writes) rest ∙ ap (λ i. written o.writes (maps i)) e)
+      | false ↦ λ s.
           let none_written : (i : ℕ) → WritesIn c.partitions o i → ⊥ = λ i w.
-              true≢false (sym (all p (inl (sym e, refl, changes_some c.partitions o i (writes_change c sound (serial_of c older) k p o is.0 i w)))) ∙ s) in
+          true≢false (sym (all p (inl (sym e, refl, changes_some c.partitions o i (writes_change c sound (serial_of c older) k p o is.0 i w)))) ∙ s) in
           (elim (k == j) as (λ b. (if b && false then written o.writes (content_of older set j) else content_of older set j) ≡ content_of older set j) [ true ↦ refl | false ↦ refl ])
           ∙ (rest ∙ (ap maps e ∙ sym (no_writes c.partitions o.writes (maps k) none_written)))
-      ] refl)
-      (λ ne. subst (λ b. (if b && set p then written o.writes (content_of older set j) else content_of older set j) ≡ maps j) (sym (ne_eqb k j (λ e. ne (sym e)))) rest)
+    ] refl)
+    (λ ne. subst (λ b. (if b && set p then written o.writes (content_of older set j) else content_of older set j) ≡ maps j) (sym (ne_eqb k j (λ e. ne (sym e)))) rest)
 
 -- where packets wait, and where visits are, is on the chain
 pub waits_below : (c : Setting) → 0 < (servers c) → (trace : List Entry) → IsSerial c trace → (k p : ℕ) (bytes : (List ℕ)) → (serial_of c trace).place p ≡ Waits k bytes → k < (servers c)

@@ -1,11 +1,11 @@
 -- An accepted chain and script give what the proofs suppose of a setting.
-use Rattle.std.proofs.Common.{◌≡◌, ℕ, ◌+◌, ◌<◌, ◌≤◌, ◌==◌, ◌&&◌, if◌then◌else◌, nat_lt, Option, Some, None, Bool, true, false, not, List, [], ◌∷◌, inl, inr, refl, sym, ap, subst, ◌∙◌, arith, length, eqb-true, lt-ltb}
+use Rattle.std.proofs.Common.{◌≡◌, ℕ, ◌<◌, ◌==◌, if◌then◌else◌, Some, Bool, true, false, List, [], ◌∷◌, inl, inr, refl, sym, ap, subst, ◌∙◌, arith, length, eqb-true, lt-ltb}
 use Rattle.std.specs.List.{AllByRecursion}
 use Rattle.ftc_base.specs.Partition.{partition_of}
 use Rattle.ftc_base.specs.declared.ask.Answer.{Answer}
 use Rattle.ftc_base.specs.declared.ask.Write.{Write}
 use Rattle.ftc_mbox.specs.declared.rule.Rule.{Rule}
-use Rattle.ftc_mbox.specs.Chain.{Chain, IsChain}
+use Rattle.ftc_mbox.specs.Chain.{Chain}
 use Rattle.ftc_store.specs.Store.{Content}
 use Rattle.ftc_ring.specs.Ring.{RingShape, IsRing}
 use Rattle.ftc_ring.specs.Live as ring
@@ -16,8 +16,7 @@ use Rattle.std.specs.List.{find}
 use Rattle.std.specs.Option.{is_some, option_map}
 use Rattle.ftc_script.specs.declared.line.LoseLine.{LoseLine}
 use Rattle.ftc_script.specs.Script.{ScriptShape, IsScript, IsLose, loses_of, is_of}
-use Rattle.ftc_script.specs.Steps as steps
-use Rattle.ftc_script.specs.Steps.{all_live, live_after, at_of, IsStep, AreSteps}
+use Rattle.ftc_script.specs.Steps.{all_live, AreSteps}
 use Rattle.ftc_script.proofs.InTurn.{keeps}
 use Rattle.ftc_serial.specs.Words.{with_at, AnyOf}
 use Rattle.ftc_serial.specs.Take.{Outcome, taken}
@@ -29,7 +28,7 @@ use Rattle.ftc_machine.specs.Setting.{Setting, servers, shape, count, setting_of
 use Rattle.ftc_machine.specs.State.{opening}
 use Rattle.ftc_machine.specs.Changes.{Changes, changes}
 use Rattle.ftc_machine.proofs.Places.{IsSoundTaking}
-use Rattle.ftc_machine.proofs.Premises.{IsAdmissible, AreFit, IsGood, server_of, is_crash}
+use Rattle.ftc_machine.proofs.Premises.{IsAdmissible, AreFit, IsGood}
 
 -- two tests agree on the servers
 abbrev Agree : Setting → (ℕ → Bool) → (ℕ → Bool) → Type 0
@@ -44,12 +43,18 @@ module _ (c : Setting) where
 
   pub are_fit : (lines : List ScriptLine) (last : ℕ) (up live : ℕ → Bool) → Agree c up live → ring.IsAdmissible (shape c) live → AreSteps (shape c) (count c) last live lines → AreFit c up lines
   are_fit [] last up live agree is all = admissible up live agree is
-  are_fit (Crash at server ∷ lines) last up live agree is all =
-      (admissible up live agree is, all.0.0.within, (λ no. absurd (cc)),
-      are_fit lines at (with_at up server false) (with_at live server false) (agree_at up live agree server false) (keeps (shape c) (count c) last live (Crash at server) is all.0) all.1)
-  are_fit (Recover at server ∷ lines) last up live agree is all =
-      (admissible up live agree is, all.0.0.within, (λ no. agree server all.0.0.within ∙ all.0.1),
-      are_fit lines at (with_at up server true) (with_at live server true) (agree_at up live agree server true) (keeps (shape c) (count c) last live (Recover at server) is all.0) all.1)
+  are_fit (Crash at server ∷ lines) last up live agree is all = (
+    admissible up live agree is,
+    all.0.0.within,
+    (λ no. absurd (cc)),
+    are_fit lines at (with_at up server false) (with_at live server false) (agree_at up live agree server false) (keeps (shape c) (count c) last live (Crash at server) is all.0) all.1,
+  )
+  are_fit (Recover at server ∷ lines) last up live agree is all = (
+    admissible up live agree is,
+    all.0.0.within,
+    (λ no. agree server all.0.0.within ∙ all.0.1),
+    are_fit lines at (with_at up server true) (with_at live server true) (agree_at up live agree server true) (keeps (shape c) (count c) last live (Recover at server) is all.0) all.1,
+  )
 
   pub all_admissible : IsRing (shape c) → ring.IsAdmissible (shape c) all_live
   all_admissible is = record { each = λ group below. record { server = group; within = below; member = grind (arith); up = refl } }

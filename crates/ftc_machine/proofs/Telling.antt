@@ -1,25 +1,24 @@
 -- A message that is begun while nothing is under way tells the last server, on its way, of all changes.
-use Rattle.std.proofs.Common.{◌≡◌, ◌≢◌, ℕ, zero, suc, ◌+◌, ◌-◌, ◌<◌, ◌≤◌, ◌==◌, ◌&&◌, ◌||◌, ◌⊎◌, if◌then◌else◌, nat_lt, Bool, true, false, not, List, [], ◌∷◌, length, refl, sym, ap, subst, ◌∙◌, arith, inl, inr, eqb-true, eq-eqb, Option, Some, None, is_some, leb-true, le-leb}
-use Rattle.std.proofs.lemmas.Bool.{true≢false, cases_eq, cases_lt, cases_Bool, eqb-false, ne_eqb, and_from, and_parts, or_left, or_right, or_cases, not-true, not_from_true, false_from_ne_true}
+use Rattle.std.proofs.Common.{◌≡◌, ◌≢◌, ℕ, ◌+◌, ◌-◌, ◌<◌, ◌≤◌, ◌==◌, ◌&&◌, ◌||◌, if◌then◌else◌, nat_lt, Bool, true, false, not, List, refl, sym, ap, subst, ◌∙◌, arith, inl, inr, eqb-true, eq-eqb, Option, Some, None}
+use Rattle.std.proofs.lemmas.Bool.{true≢false, cases_eq, cases_lt, eqb-false, and_from, and_parts, or_left, or_right, or_cases, false_from_ne_true}
 use Rattle.std.proofs.lemmas.Option.{none-some, same_Some}
-use Rattle.std.specs.List.{AllByRecursion}
 use Rattle.ftc_ring.specs.Ring.{apart, next_of}
 use Rattle.ftc_journal.specs.declared.event.Event.{Event}
 use Rattle.ftc_journal.specs.declared.event.Event.TheVariants.{Apply, Carry, Crash, Enter, Lose, Pass, Propagate, Pull, Recover, Release, Take, Visit}
 use Rattle.ftc_serial.specs.Words.{with_at}
-use Rattle.ftc_serial.specs.Serial.{Entry, Given, Visited}
+use Rattle.ftc_serial.specs.Serial.{Entry}
 use Rattle.ftc_serial.proofs.Functions.{with_at_cases}
-use Rattle.ftc_machine.specs.Setting.{Setting, servers, count, packet_at, is_tail, is_member, IsSetting}
-use Rattle.ftc_machine.specs.Visits.{Visits, In, union, just, no_visits}
-use Rattle.ftc_machine.specs.State.{ChainState, Message, Where, Held, Queued, Withheld, opening}
-use Rattle.ftc_machine.specs.Trace.{IsSomeVisit, IsChanging, IsBefore, Has}
+use Rattle.ftc_machine.specs.Setting.{Setting, servers, count, is_tail, IsSetting}
+use Rattle.ftc_machine.specs.Visits.{Visits, In, union}
+use Rattle.ftc_machine.specs.State.{ChainState, Message, Where, Held, Queued, Withheld}
+use Rattle.ftc_machine.specs.Trace.{IsChanging}
 use Rattle.ftc_machine.specs.Known.{knows, IsDue}
-use Rattle.ftc_machine.specs.Legal.{MayHappen, MayLeave, IsLegal, IsStalled, is_sent, is_release}
-use Rattle.ftc_machine.specs.Next.{next, sent_on, is_away, fresh_message, taken_message, sent_message, logs_sent, logs_of, known_by, withheld_of, withheld_packet}
+use Rattle.ftc_machine.specs.Legal.{MayHappen, MayLeave, IsStalled, is_sent, is_release}
+use Rattle.ftc_machine.specs.Next.{next, sent_on, is_away, taken_message, sent_message, logs_sent, logs_of, known_by, withheld_of, withheld_packet}
 use Rattle.ftc_machine.proofs.Premises.{IsGood, ticked}
 use Rattle.ftc_machine.proofs.Inv.{Inv, each_message}
-use Rattle.ftc_machine.proofs.Ring.{apart_cases, apart_after}
-use Rattle.ftc_machine.proofs.Pending.{other_message, same_message}
+use Rattle.ftc_machine.proofs.Ring.{apart_cases}
+use Rattle.ftc_machine.proofs.Pending.{same_message}
 use Rattle.ftc_machine.proofs.Standing.{before_first}
 use Rattle.ftc_machine.proofs.Stores.{stands_below}
 
@@ -67,8 +66,8 @@ module _ (c : Setting) (good : IsGood c) (is : IsSetting c) (s : ChainState) (h 
   single_at : (p : ℕ) (x : Message) → s.message p ≡ Some x → (o : Option Message) → (q r : ℕ) (m n : Message) → with_at s.message p o q ≡ Some m → with_at s.message p o r ≡ Some n → q ≡ r
   single_at p x there o q r m n =
       with_at_cases (λ v. v ≡ Some m → with_at s.message p o r ≡ Some n → q ≡ r) s.message p o q
-        (λ q_is _. with_at_cases (λ v. v ≡ Some n → q ≡ r) s.message p o r (λ r_is _. q_is ∙ sym r_is) (λ r_other e. absurd (r_other (still.single r p n x e there))))
-        (λ q_other e. absurd (q_other (still.single q p m x e there)))
+      (λ q_is _. with_at_cases (λ v. v ≡ Some n → q ≡ r) s.message p o r (λ r_is _. q_is ∙ sym r_is) (λ r_other e. absurd (r_other (still.single r p n x e there))))
+      (λ q_other e. absurd (q_other (still.single q p m x e there)))
 
   -- the message that tells is the only one
   teller : (p : ℕ) (x : Message) → s.message p ≡ Some x → (packet : ℕ) (w : Withheld) → s.withheld packet ≡ Some w → Tells c s x.place x.known
@@ -85,15 +84,21 @@ module _ (c : Setting) (good : IsGood c) (is : IsSetting c) (s : ChainState) (h 
       let o : Option Message = taken_message c s l (s.message p) in
       let o_is : o ≡ Some new = ap (taken_message c s l) there in
       record {
-        up = still.up; entered = still.entered; gaps = still.gaps; forwarder = still.forwarder; full = still.full;
+        up = still.up;
+        entered = still.entered;
+        gaps = still.gaps;
+        forwarder = still.forwarder;
+        full = still.full;
         bare = bare_at p o (λ n e. subst (λ (y : Message). (y.packet ≡ None) × ((j q : ℕ) → In y.logs j q → ⊥) × (count c ≤ p)) (same_Some new n (sym o_is ∙ e)) (still.bare p m there));
         single = single_at p m there o;
         told = λ packet w held.
-          let tells : Tells c s (Queued l) m.known = subst (λ x. Tells c s x m.known) legal.2 (teller p m there packet w held) in
-          record {
-            origin = p; message = new; there = same_message s.message p o ∙ o_is;
-            tells = taken l m.known (s.message p) (ap known_by there) tells.0 (l + 1 == servers c) refl tells.1;
-          };
+            let tells : Tells c s (Queued l) m.known = subst (λ x. Tells c s x m.known) legal.2 (teller p m there packet w held) in
+            record {
+              origin = p;
+              message = new;
+              there = same_message s.message p o ∙ o_is;
+              tells = taken l m.known (s.message p) (ap known_by there) tells.0 (l + 1 == servers c) refl tells.1;
+            };
       }
     where
       taken : (l : ℕ) (known : Visits) (o : Option Message) → known_by o ≡ known → l + 1 < servers c → (b : Bool) → (l + 1 == servers c) ≡ b → TellsUpTo c s.trace l known
@@ -106,22 +111,25 @@ module _ (c : Setting) (good : IsGood c) (is : IsSetting c) (s : ChainState) (h 
           let group_below : group < servers c = stands_below c good.some _ s.trace h.world.serial group packet changing in
           elim (cases_eq tail k) [
             | inl same ↦
-              let tail_is : is_tail c group k ≡ true = eq-eqb (apart (servers c) group k) c.failures (ap (apart (servers c) group) (sym same) ∙ far) in
-              or_right (with_at s.known k (union (s.known k) (known_by o)) k group packet) (is_tail c group k && s.lists k group packet)
+                let tail_is : is_tail c group k ≡ true = eq-eqb (apart (servers c) group k) c.failures (ap (apart (servers c) group) (sym same) ∙ far) in
+                or_right (with_at s.known k (union (s.known k) (known_by o)) k group packet) (is_tail c group k && s.lists k group packet)
                 (and_from (is_tail c group k) (s.lists k group packet) tail_is (still.full group k packet kl group_below (let at = eqb-true (apart (servers c) group k) c.failures tail_is in omega arith) changing))
             | inr other ↦
-              let tail_before : tail ≤ l = omega arith in
-              or_left (with_at s.known k (union (s.known k) (known_by o)) k group packet) (is_tail c group k && s.lists k group packet)
+                let tail_before : tail ≤ l = omega arith in
+                or_left (with_at s.known k (union (s.known k) (known_by o)) k group packet) (is_tail c group k && s.lists k group packet)
                 (ap (λ (v : Visits). v group packet) (same_message s.known k (union (s.known k) (known_by o)))
                 ∙ or_right (s.known k group packet) (known_by o group packet) (ap (λ (v : Visits). v group packet) known_is ∙ tells group packet tail changing tail_before far))
           ]
 
   -- where the last server knows all, each packet of the buffer is due
   due : (k : ℕ) → k + 1 ≡ servers c → TellsUpTo c s.trace k (knows c s k) → (packet : ℕ) (w : Withheld) → s.withheld packet ≡ Some w → IsDue c s packet w
-  due k last tells packet w held = (held, λ group need. record {
+  due k last tells packet w held = (
+    held,
+    λ group need. record {
       changing = λ changing. known group packet changing;
       other = λ not_changing earlier before. known group earlier (before_first c.partitions s.trace group earlier packet before);
-    })
+    },
+  )
     where
       known : (group q : ℕ) → IsChanging c.partitions s.trace group q → In (knows c s (servers c - 1)) group q
       known group q changing =
@@ -140,40 +148,47 @@ module _ (c : Setting) (good : IsGood c) (is : IsSetting c) (s : ChainState) (h 
       let o : Option Message = if is_sent c k && not (is_away c s k false) then sent_message c s k (s.message p) else None in
       let o_is : o ≡ (if is_sent c k then sent_message c s k (Some m) else None) = ap (λ b. if is_sent c k && not b then sent_message c s k (s.message p) else None) stays ∙ (simple (is_sent c k) (sent_message c s k (s.message p)) ∙ ap (λ x. if is_sent c k then sent_message c s k x else None) there) in
       record {
-        up = still.up; entered = still.entered; full = still.full;
+        up = still.up;
+        entered = still.entered;
+        full = still.full;
         gaps = λ link below. with_at_cases (λ v. v ≡ false) s.gap k _ link (λ e. no_gap (s.gap k) (is_sent c k) (is_away c s k false) (still.gaps k kl) stays) (λ other. still.gaps link below);
         forwarder = λ j q. both (not (k == 0)) (s.forwarder j q) (still.forwarder j q);
         bare = bare_at p o (λ n e. bare_sent k p m leaves (is_sent c k) n (sym o_is ∙ e));
         single = single_at p m there o;
         told = λ packet w held. with_at_cases (λ (v : Option Withheld). v ≡ Some w → IsTold c (ticked (sent_on c s k p false))) s.withheld p (if k + 1 == servers c then withheld_of s (s.message p) else s.withheld p) packet
-          (λ same e. still_told k p m leaves kl (k + 1 == servers c) refl o o_is p w e)
-          (λ other e. told_on k p m leaves kl (k + 1 == servers c) refl o o_is packet w e) held;
+            (λ same e. still_told k p m leaves kl (k + 1 == servers c) refl o o_is p w e)
+            (λ other e. told_on k p m leaves kl (k + 1 == servers c) refl o o_is packet w e) held;
       }
     where
       simple : {A : Type 0} (b : Bool) (x : Option A) → (if b && true then x else None) ≡ (if b then x else None)
       simple true x = refl
       simple false x = refl
+
       both : (x y : Bool) → y ≡ false → (x && y) ≡ false
       both true y e = e
       both false y e = refl
+
       no_gap : (g b a : Bool) → g ≡ false → a ≡ false → (g || (b && a)) ≡ false
       no_gap g true a none_there stays = subst (λ x. (x || a) ≡ false) (sym none_there) stays
       no_gap g false a none_there stays = subst (λ x. (x || false) ≡ false) (sym none_there) refl
+
       bare_sent : (k p : ℕ) (m : Message) → MayLeave c s k p m → (b : Bool) (n : Message) → (if b then sent_message c s k (Some m) else None) ≡ Some n → (n.packet ≡ None) × ((j q : ℕ) → In n.logs j q → ⊥) × (count c ≤ p)
       bare_sent k p m leaves false n e = absurd (none-some n e)
       bare_sent k p m leaves true n e =
           let old = still.bare p m leaves.there in
-          subst (λ (y : Message). (y.packet ≡ None) × ((j q : ℕ) → In y.logs j q → ⊥) × (count c ≤ p)) (same_Some _ n e)
-            (none_if (k + 1 == servers c) m.packet old.0,
+          subst (λ (y : Message). (y.packet ≡ None) × ((j q : ℕ) → In y.logs j q → ⊥) × (count c ≤ p)) (same_Some _ n e) (
+            none_if (k + 1 == servers c) m.packet old.0,
             (λ j q log. elim (or_cases (m.logs j q && not (is_tail c j k)) ((k == 0) && s.forwarder j q) log) [
               | inl own ↦ old.1 j q (and_parts (m.logs j q) _ own).0
               | inr forwarded ↦ true≢false (sym (and_parts (k == 0) (s.forwarder j q) forwarded).1 ∙ still.forwarder j q)
             ]),
-            old.2)
+            old.2,
+          )
         where
           none_if : (b : Bool) (v : Option (List ℕ)) → v ≡ None → (if b then None else v) ≡ None
           none_if true v e = refl
           none_if false v e = e
+
       -- behind the last server nothing is withheld, and before it the message tells what the server knew
       told_on : (k p : ℕ) (m : Message) → MayLeave c s k p m → k < servers c → (last : Bool) → (k + 1 == servers c) ≡ last → (o : Option Message) → o ≡ (if is_sent c k then sent_message c s k (Some m) else None)
           → (packet : ℕ) (w : Withheld) → s.withheld packet ≡ Some w
@@ -191,6 +206,7 @@ module _ (c : Setting) (good : IsGood c) (is : IsSetting c) (s : ChainState) (h 
             there = same_message s.message p o ∙ (o_is ∙ ap (λ b. if b then sent_message c s k (Some m) else None) sends);
             tells = (more, tells);
           }
+
       still_told : (k p : ℕ) (m : Message) → MayLeave c s k p m → k < servers c → (last : Bool) → (k + 1 == servers c) ≡ last → (o : Option Message) → o ≡ (if is_sent c k then sent_message c s k (Some m) else None)
           → (packet : ℕ) (w : Withheld) → (if last then withheld_of s (s.message packet) else s.withheld packet) ≡ Some w
           → IsTold c (ticked (record (sent_on c s k p false) { message = with_at s.message p o }))
@@ -205,9 +221,12 @@ module _ (c : Setting) (good : IsGood c) (is : IsSetting c) (s : ChainState) (h 
   carry_still p legal =
       let m = legal.0 in let there = legal.1 in
       record {
-        up = still.up; entered = still.entered; gaps = still.gaps; full = still.full;
+        up = still.up;
+        entered = still.entered;
+        gaps = still.gaps;
+        full = still.full;
         forwarder = λ j q. neither (s.forwarder j q) (logs_of (s.message p) j q) (not (is_tail c j 0)) (still.forwarder j q)
-          (false_from_ne_true (logs_of (s.message p) j q) (λ log. (still.bare p m there).1 j q (ap (λ o. logs_of o j q) (sym there) ∙ log)));
+            (false_from_ne_true (logs_of (s.message p) j q) (λ log. (still.bare p m there).1 j q (ap (λ o. logs_of o j q) (sym there) ∙ log)));
         bare = bare_at p None (λ n e. absurd (none-some n e));
         single = single_at p m there None;
         told = λ packet w held. absurd (subst (λ x. Tells c s x m.known) legal.3 (teller p m there packet w held));
@@ -218,15 +237,21 @@ module _ (c : Setting) (good : IsGood c) (is : IsSetting c) (s : ChainState) (h 
 
   release_still : (p : ℕ) → MayHappen c s (Release p) → IsStill c (next c s (Release p))
   release_still p legal = record {
-      up = still.up; entered = still.entered; gaps = still.gaps; forwarder = still.forwarder; bare = still.bare; single = still.single;
-      full = λ group server packet below group_below member changing. still.full group server packet below group_below member (older group packet changing);
-      told = λ packet w held. with_at_cases (λ (v : Option Withheld). v ≡ Some w → IsTold c (next c s (Release p))) s.withheld p None packet
+    up = still.up;
+    entered = still.entered;
+    gaps = still.gaps;
+    forwarder = still.forwarder;
+    bare = still.bare;
+    single = still.single;
+    full = λ group server packet below group_below member changing. still.full group server packet below group_below member (older group packet changing);
+    told = λ packet w held. with_at_cases (λ (v : Option Withheld). v ≡ Some w → IsTold c (next c s (Release p))) s.withheld p None packet
         (λ same e. absurd (none-some w e))
         (λ other e. let told = still.told packet w e in record { origin = told.origin; message = told.message; there = told.there; tells = on told.message.place told.message.known told.tells }) held;
-    }
+  }
     where
       older : (group packet : ℕ) → IsChanging c.partitions (next c s (Release p)).trace group packet → IsChanging c.partitions s.trace group packet
       older group packet changing = elim changing [ inl here ↦ absurd here | inr there ↦ there ]
+
       on : (w : Where) (known : Visits) → Tells c s w known → Tells c (next c s (Release p)) w known
       on (Held k visited true) known tells = tells
       on (Held k visited false) known tells = λ group packet tail changing. tells group packet tail (older group packet changing)

@@ -1,11 +1,11 @@
 -- The visits that a recovery undoes can be taken out of the serial run.
-use Rattle.std.proofs.Common.{◌≡◌, ◌≢◌, ℕ, ◌+◌, ◌-◌, ◌<◌, ◌≤◌, Bool, true, false, cond, not, List, [], ◌∷◌, ◌⊎◌, inl, inr, refl, sym, ap, subst, ◌∙◌, arith, ◌↔◌}
+use Rattle.std.proofs.Common.{◌≡◌, ℕ, ◌+◌, ◌-◌, ◌<◌, ◌≤◌, true, false, List, [], ◌∷◌, inl, inr, refl, sym, subst, arith, ◌↔◌}
 use Rattle.std.specs.List.{AllByRecursion}
 use Rattle.std.proofs.lemmas.Bool.{true≢false, cases_eq, cases_lt}
 use Rattle.ftc_serial.specs.Words.{AnyOf}
 use Rattle.ftc_machine.proofs.Listing.{AreLists}
 use Rattle.ftc_machine.specs.State.{ChainState}
-use Rattle.ftc_serial.specs.Serial.{Entry, Given, Visited, after}
+use Rattle.ftc_serial.specs.Serial.{Entry, Given, Visited}
 use Rattle.ftc_machine.specs.Trace.{Has, IsBefore, IsChanging, IsInTrace, IsTouching, IsVisit}
 use Rattle.ftc_machine.specs.Visits.{In, Visits}
 use Rattle.ftc_machine.proofs.Premises.{IsAdmissible}
@@ -17,17 +17,15 @@ use Rattle.ftc_machine.proofs.Nesting.{IsNested}
 use Rattle.ftc_machine.proofs.Places.{IsSerial, IsSoundTaking}
 use Rattle.ftc_machine.proofs.Undone.{IsUndone}
 use Rattle.ftc_machine.proofs.Within.{IsWithin}
-use Rattle.ftc_machine.specs.Changes.{Meets, changes, is_touching}
+use Rattle.ftc_machine.specs.Changes.{Meets, is_touching}
 use Rattle.ftc_serial.specs.Take.{Outcome}
 use Rattle.ftc_machine.specs.Setting.{Setting, servers}
 use Rattle.ftc_serial.specs.Removal.{Takes}
 use Rattle.ftc_machine.proofs.Standing.{any_map, before_first, visited_earlier}
 use Rattle.ftc_ring.specs.Ring.{apart}
 use Rattle.ftc_machine.proofs.Having.{has_before, in_has}
-use Rattle.ftc_machine.specs.Next.{next}
 use Rattle.ftc_machine.proofs.Stores.{some_any, stands_below}
 use Rattle.ftc_machine.proofs.Changing.{written_changed}
-
 
 pub before_touching : (part : ℕ) (trace : List Entry) (j p q : ℕ) → IsBefore part trace j p q → IsTouching trace j q
 before_touching part [] j p q h = absurd h
@@ -49,7 +47,6 @@ all_of Q (x ∷ xs) f = (f x (inl refl), all_of Q xs (λ y a. f y (inr a)))
 pub among : (P : Outcome → Type 0) (es : List Entry) (j p : ℕ) (o : Outcome) → AnyOf (λ e. e ≡ Visited j p o) es → P o → IsInTrace P es j p
 among P es j p o a h = any_map _ (IsVisit P j p) (λ e is. subst (IsVisit P j p) (sym is) (refl, refl, h)) es a
 
-
 module _ (c : Setting) (s : ChainState) (some : 0 < (servers c)) (sound : IsSoundTaking c) (lists : AreLists c s.trace s.up s.lists) (nest : IsNested c s.up s.lists)
     (true' : IsSerial c s.trace) (passed : IsPassed c s.trace s.up s.lists) (earlier : IsEarlier c s.trace s.lists)
     (released : (q : ℕ) (bytes : (List ℕ)) → AnyOf (λ e. e ≡ Given q bytes) s.trace → (i : ℕ) → IsTouching s.trace i q → IsWithin c s.trace s.up s.lists i q (servers c))
@@ -64,9 +61,9 @@ module _ (c : Setting) (s : ChainState) (some : 0 < (servers c)) (sound : IsSoun
       elim (cases_lt (apart n i t) ((j - i) + 1)) [
         | inl near ↦ absurd (root.3 (passed i j p le root.0 stands t after.below after.live member near))
         | inr far ↦
-          let ri = apart_cases n r i before.below il in let it = apart_cases n i t il after.below in let rt = apart_cases n r t before.below after.below in let rj = apart_cases n r j before.below jl in
-          let pos : 0 < apart n r i = root.1 in
-          elim root.2 [ inl same ↦ (omega arith, inl same) | inr less ↦ (omega arith, inr (omega arith)) ]
+            let ri = apart_cases n r i before.below il in let it = apart_cases n i t il after.below in let rt = apart_cases n r t before.below after.below in let rj = apart_cases n r j before.below jl in
+            let pos : 0 < apart n r i = root.1 in
+            elim root.2 [ inl same ↦ (omega arith, inl same) | inr less ↦ (omega arith, inr (omega arith)) ]
       ]
 
   pub lacks : (j p : ℕ) → IsUndone c s r t j p → IsChanging c.partitions s.trace j p → In (s.lists t) j p → ⊥
@@ -97,22 +94,22 @@ module _ (c : Setting) (s : ChainState) (some : 0 < (servers c)) (sound : IsSoun
       takes (Given q bytes) is lift stands (Visited j p u) a goes why = elim why [
         | inl b ↦ absurd b.2
         | inr same ↦
-          let root = (exact j p).0 goes in
-          let lacking = root.2.3 in
-          let jl : j < (servers c) = stands_below c some Somehow older is.1 j p (among Somehow older j p u a tt) in
-          let il : root.0 < (servers c) = omega (arith, root.1) in
-          let it = apart_cases (servers c) root.0 t il after.below in
-          absurd (lacking (subst (λ v. Has c.partitions s.trace (s.lists t) root.0 v) (sym same)
+            let root = (exact j p).0 goes in
+            let lacking = root.2.3 in
+            let jl : j < (servers c) = stands_below c some Somehow older is.1 j p (among Somehow older j p u a tt) in
+            let il : root.0 < (servers c) = omega (arith, root.1) in
+            let it = apart_cases (servers c) root.0 t il after.below in
+            absurd (lacking (subst (λ v. Has c.partitions s.trace (s.lists t) root.0 v) (sym same)
             (released q bytes stands root.0 (subst (λ v. IsTouching s.trace root.0 v) same root.2.0) t after.below after.live
-              (member_after c s m r t inside down before after admissible root.0 il (root.2.1, root.2.2)) (omega arith))))
+            (member_after c s m r t inside down before after admissible root.0 il (root.2.1, root.2.2)) (omega arith))))
       ]
       takes (Visited k q o) is lift stands (Visited j p u) a goes why = elim why [
         | inl b ↦
-          let changes = written_changed c.partitions u b.0 b.1 in
-          let named : IsBefore c.partitions s.trace j p q = lift j p q (inl (refl, (b.2.0, among (λ v. Meets c.partitions v o) older j p u a (b.0, changes, b.2.1)))) in
-          subst (λ v. gone v q ≡ true) (sym b.2.0) ((exact j q).1 (undone_before j p q ((exact j p).0 goes) named))
+            let changes = written_changed c.partitions u b.0 b.1 in
+            let named : IsBefore c.partitions s.trace j p q = lift j p q (inl (refl, (b.2.0, among (λ v. Meets c.partitions v o) older j p u a (b.0, changes, b.2.1)))) in
+            subst (λ v. gone v q ≡ true) (sym b.2.0) ((exact j q).1 (undone_before j p q ((exact j p).0 goes) named))
         | inr same ↦
-          let below : j < k = visited_earlier c older k q is.0.0 is.1 is.0.1 j (subst (λ v. IsInTrace Somehow older j v) same (among Somehow older j p u a tt)) in
-          let root = (exact j p).0 goes in
-          (exact k q).1 (subst (λ v. IsUndone c s r t k v) same (root.0, omega (arith, root.1), root.2, among Somehow s.trace k p o (subst (λ v. AnyOf (λ x. x ≡ Visited k v o) s.trace) (sym same) stands) tt))
+            let below : j < k = visited_earlier c older k q is.0.0 is.1 is.0.1 j (subst (λ v. IsInTrace Somehow older j v) same (among Somehow older j p u a tt)) in
+            let root = (exact j p).0 goes in
+            (exact k q).1 (subst (λ v. IsUndone c s r t k v) same (root.0, omega (arith, root.1), root.2, among Somehow s.trace k p o (subst (λ v. AnyOf (λ x. x ≡ Visited k v o) s.trace) (sym same) stands) tt))
       ]

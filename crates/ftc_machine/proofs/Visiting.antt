@@ -1,6 +1,6 @@
 -- A visit.
-use Rattle.std.proofs.Common.{◌≡◌, ◌≢◌, ℕ, suc, ◌+◌, ◌-◌, ◌<◌, ◌≤◌, ◌==◌, ◌&&◌, ◌||◌, if◌then◌else◌, nat_le, nat_lt, Bool, true, false, cond, not, List, [], ◌∷◌, ◌⊎◌, inl, inr, refl, sym, ap, subst, ◌∙◌, arith, ◌↔◌, eqb-true, Option, Some, None, is_some, eq-eqb, ltb-true, lt-ltb}
-use Rattle.std.proofs.lemmas.Bool.{true≢false, eqb-false, cases_eq, cases_lt, cases_Bool, and_parts, and_from, or_left, or_right, or_cases, or_parts, not-true, ne_eqb}
+use Rattle.std.proofs.Common.{◌≡◌, ℕ, ◌-◌, ◌<◌, ◌≤◌, ◌==◌, ◌&&◌, ◌||◌, nat_lt, Bool, true, false, List, ◌∷◌, inl, inr, refl, sym, ap, subst, ◌∙◌, arith, Option, Some, None, is_some, eq-eqb, lt-ltb}
+use Rattle.std.proofs.lemmas.Bool.{and_parts, and_from, or_left, or_right}
 use Rattle.std.proofs.lemmas.Option.{none-some, same_Some}
 use Rattle.ftc_machine.proofs.Carrying.{AreCarried, grows}
 use Rattle.ftc_machine.specs.State.{ChainState, Held, Message, Withheld}
@@ -29,7 +29,6 @@ use Rattle.ftc_machine.proofs.Standing.{visited_earlier}
 use Rattle.ftc_serial.specs.Words.{with_at}
 use Rattle.ftc_serial.proofs.Functions.{with_at_cases}
 use Rattle.ftc_machine.proofs.Carrying as carrying
-use Rattle.ftc_machine.proofs.Between as between
 
 module _ (c : Setting) (good : IsGood c) (s : ChainState) (h : Inv c s) (k p : ℕ) (m : Message) (bytes : (List ℕ)) (by_ring : Bool)
     (there : s.message p ≡ Some m) (held : m.place ≡ Held k false by_ring) (packet : m.packet ≡ Some bytes) (ready : IsReady c s k m) where
@@ -67,9 +66,13 @@ module _ (c : Setting) (good : IsGood c) (s : ChainState) (h : Inv c s) (k p : �
 
   world' : World c the_trace s.up the_lists
   unfolding the_trace the_lists
-  world' = world_visit c good.some good.sound s.trace s.up s.lists h.world k p (outcome_at c s k p) live
-      (bytes, waits, ap (λ b. taken (rule_at c k) b (content_of s.trace (s.lists k k) k)) (ap bytes_of there ∙ ap bytes_in packet)
-        ∙ ap (taken (rule_at c k) bytes) (store_all c good.sound s.trace h.world.serial k (s.lists k k) (λ q changing. h.world.lists.heads k q live changing)), h.world.inside k live)
+  world' = world_visit c good.some good.sound s.trace s.up s.lists h.world k p (outcome_at c s k p) live (
+    bytes,
+    waits,
+    ap (λ b. taken (rule_at c k) b (content_of s.trace (s.lists k k) k)) (ap bytes_of there ∙ ap bytes_in packet)
+        ∙ ap (taken (rule_at c k) bytes) (store_all c good.sound s.trace h.world.serial k (s.lists k k) (λ q changing. h.world.lists.heads k q live changing)),
+    h.world.inside k live,
+  )
       within all_ready
 
   more : (y i x : ℕ) → In (s.lists y) i x → In (the_lists y) i x

@@ -1,15 +1,12 @@
 -- When messages came where they are.
-use Rattle.std.proofs.Common.{◌≡◌, ◌≢◌, ℕ, suc, ◌+◌, ◌-◌, ◌<◌, ◌≤◌, ◌==◌, ◌&&◌, ◌||◌, if◌then◌else◌, nat_le, nat_lt, Bool, true, false, cond, not, List, [], ◌∷◌, ◌⊎◌, inl, inr, refl, sym, ap, subst, ◌∙◌, arith, ◌↔◌, eqb-true, Option, Some, None, is_some, eq-eqb, ltb-true, lt-ltb}
-use Rattle.std.proofs.lemmas.Bool.{true≢false, eqb-false, cases_eq, cases_lt, cases_Bool, and_parts, and_from, or_left, or_right, or_cases, or_parts, not-true, ne_eqb}
+use Rattle.std.proofs.Common.{◌≡◌, ◌≢◌, ℕ, ◌+◌, ◌<◌, ◌≤◌, ◌==◌, ◌&&◌, ◌||◌, if◌then◌else◌, nat_lt, Bool, true, false, not, List, ◌∷◌, ◌⊎◌, inl, inr, refl, sym, ap, subst, ◌∙◌, arith, ◌↔◌, eqb-true, Option, Some, None, is_some, eq-eqb}
+use Rattle.std.proofs.lemmas.Bool.{true≢false, eqb-false, cases_eq, cases_lt, and_parts, and_from, or_cases, not-true}
 use Rattle.std.proofs.lemmas.Option.{none-some, same_Some}
-use Rattle.std.specs.List.{list_any}
-use Rattle.std.proofs.lemmas.Bool.{not_from_false, le-leb, false_from_ne_true}
-use Rattle.std.proofs.Common.{lt_irrefl, zero}
-use Rattle.std.proofs.lemmas.Bool.{leb-true}
-use Rattle.ftc_script.specs.declared.line.ScriptLine.TheVariants as script_line
+use Rattle.std.proofs.lemmas.Bool.{not_from_false}
+use Rattle.std.proofs.Common.{lt_irrefl}
 use Rattle.ftc_journal.specs.declared.event.Event.TheVariants.{Apply, Carry, Crash, Enter, Lose, Pass, Propagate, Pull, Recover, Release, Take, Visit}
 use Rattle.ftc_machine.specs.State.{ChainState, Held, Message, Queued, Where}
-use Rattle.ftc_serial.specs.Serial.{Entry, Given, Visited, after}
+use Rattle.ftc_serial.specs.Serial.{Entry, Given, Visited}
 use Rattle.ftc_journal.specs.declared.event.Event.{Event}
 use Rattle.ftc_machine.specs.Trace.{Has, IsBefore, IsChanging, IsInTrace, IsTouching}
 use Rattle.ftc_machine.specs.Visits.{In, Visits, just, no_visits, union}
@@ -38,7 +35,6 @@ use Rattle.ftc_machine.proofs.Visiting.{visits}
 use Rattle.ftc_serial.specs.Words.{with_at}
 use Rattle.ftc_serial.proofs.Functions.{with_at_cases}
 use Rattle.ftc_machine.proofs.Carrying as carrying
-use Rattle.ftc_machine.proofs.Between as between
 
 -- the server y that the message left last, if it left one
 abbrev pub From : ℕ → Where → ℕ → Type 0
@@ -76,7 +72,8 @@ module _ (c : Setting) (good : IsGood c) (s : ChainState) (h : Inv c s) (t : IsT
       → ((q : ℕ) (m : Message) → with_at s.message p o q ≡ Some m → IsRinged (servers c) m.place m.logs) × ((q : ℕ) (m : Message) → with_at s.message p o q ≡ Some m → m.since < s.events + 1)
   timed p o entered le here = (
     each_message (λ q m. IsRinged (servers c) m.place m.logs) s.message p o (λ m e. (here m e).0) t.ringed,
-    each_message (λ q m. m.since < s.events + 1) s.message p o (λ m e. let b = (here m e).1 in omega arith) (λ q m e. let b = t.clock q m e in omega arith))
+    each_message (λ q m. m.since < s.events + 1) s.message p o (λ m e. let b = (here m e).1 in omega arith) (λ q m e. let b = t.clock q m e in omega arith),
+  )
 
   ring_flag : (l : ℕ) (b : Bool) → l < (servers c) → l + 1 == (servers c) ≡ b → IsRinged (servers c) (Held (next_of (servers c) l) false b) no_visits × ((logs : Visits) → IsRinged (servers c) (Held (next_of (servers c) l) false b) logs)
   ring_flag l true lt e = let z : next_of (servers c) l ≡ 0 = ap (λ v. if v then 0 else l + 1) e in (z, λ logs. z)
@@ -155,9 +152,9 @@ has_filtered : (part : ℕ) (trace : List Entry) (gone set : Visits) (j p : ℕ)
 has_filtered part trace gone set j p h = record {
   changing = λ is. let w = visit_stood gone (λ o. is_changing part o ≡ true) trace j p is in and_from (set j p) (not (gone j p)) (h.changing w.0) (not_from_false _ w.1);
   other = λ not_changing q before.
-    let last = (visit_stood gone (λ o. Unit {0}) trace j p (before_last part (left_of gone trace) j q p before)).1 in
-    let first = (visit_stood gone (λ o. is_changing part o ≡ true) trace j q (before_first part (left_of gone trace) j q p before)).1 in
-    and_from (set j q) (not (gone j q)) (h.other (λ is. not_changing (visit_left gone (λ o. is_changing part o ≡ true) trace j p is last)) q (before_left gone part trace j q p before)) (not_from_false _ first);
+      let last = (visit_stood gone (λ o. Unit {0}) trace j p (before_last part (left_of gone trace) j q p before)).1 in
+      let first = (visit_stood gone (λ o. is_changing part o ≡ true) trace j q (before_first part (left_of gone trace) j q p before)).1 in
+      and_from (set j q) (not (gone j q)) (h.other (λ is. not_changing (visit_left gone (λ o. is_changing part o ≡ true) trace j p is last)) q (before_left gone part trace j q p before)) (not_from_false _ first);
 }
 
 seen_moves : (c : Setting) (trace : List Entry) (up : ℕ → Bool) (has : ℕ → Visits) (up' : ℕ → Bool) (has' : ℕ → Visits) (y x : ℕ) (logs set : Visits)
@@ -180,13 +177,13 @@ module _ (c : Setting) (good : IsGood c) (s : ChainState) (h : Inv c s) (t : IsT
       let ll : l < n = subst (λ w. IsRinged n w m0.logs) queued (t.ringed p m0 is) in
       let new : Message = record m0 { place = Held (next_of n l) false (l + 1 == n); since = s.events } in
       subst (λ (x : Message). (y : ℕ) → From n x.place y → IsSeenAt c s.trace s.up s.lists y (target n x.place) x.logs (seen p)) (same_Some new m' e)
-        (λ y from. elim (apart_after n l ll) [
-          | inr just' ↦ let yl = from.0 in let eq : l ≡ y = omega arith in seen_at m0 is l queued y eq
-          | inl step ↦ elim (apart_after n y from.0) [
-              | inr just' ↦ absurd (let st = step.0 in let sl = step.1 in omega arith)
-              | inl step' ↦ let st = step.0 in let st' = step'.0 in let e1 : next_of n y ≡ next_of n l = from.1 in let yl = from.0 in let eq : l ≡ y = omega arith in seen_at m0 is l queued y eq
-            ]
-        ])
+      (λ y from. elim (apart_after n l ll) [
+        | inr just' ↦ let yl = from.0 in let eq : l ≡ y = omega arith in seen_at m0 is l queued y eq
+        | inl step ↦ elim (apart_after n y from.0) [
+          | inr just' ↦ absurd (let st = step.0 in let sl = step.1 in omega arith)
+          | inl step' ↦ let st = step.0 in let st' = step'.0 in let e1 : next_of n y ≡ next_of n l = from.1 in let yl = from.0 in let eq : l ≡ y = omega arith in seen_at m0 is l queued y eq
+        ]
+      ])
     where
       seen_at : (m0 : Message) → s.message p ≡ Some m0 → (l : ℕ) → m0.place ≡ Queued l → (y : ℕ) → l ≡ y → IsSeenAt c s.trace s.up s.lists y (next_of (servers c) l) m0.logs (seen p)
       seen_at m0 is l queued y eq = subst (λ x. IsSeenAt c s.trace s.up s.lists y x m0.logs (seen p)) (ap (target (servers c)) queued) (ok p m0 is y (subst (λ w. From (servers c) w y) (sym queued) eq))
@@ -201,26 +198,26 @@ module _ (c : Setting) (good : IsGood c) (s : ChainState) (h : Inv c s) (t : IsT
         has_logs = λ j q i other. elim (or_cases (m.logs j q && not (is_tail c j k)) ((k == 0) && s.forwarder j q) i) [
           | inl a ↦ leaves.ready j q (and_parts (m.logs j q) _ a).0
           | inr b ↦
-            let f = and_parts (k == 0) (s.forwarder j q) b in
-            let z : k ≡ 0 = eqb-true k 0 f.0 in
-            let w = h.forward.member j q f.1 in let far = h.forward_far j q f.1 in
-            let live = h.forward_live j q f.1 in let zl : 0 < n = good.some in
-            let j0 = apart_cases n j 0 w.0 zl in
-            elim (apart_after n 0 zl) [
-              | inr just' ↦ absurd (let jl = w.0 in let jx = apart_cases n j (next_of n 0) w.0 (subst (λ v. v < n) (sym (ap (λ b. if b then 0 else 0 + 1) (eq-eqb (0 + 1) n (sym just')))) zl) in let e0 : next_of n 0 ≡ 0 = ap (λ b. if b then 0 else 0 + 1) (eq-eqb (0 + 1) n (sym just')) in omega arith)
-              | inl step ↦
-                let st = step.0 in let jx = apart_cases n j (next_of n 0) w.0 step.1 in let w1 = w.1 in
-                subst (λ v. Has c.partitions s.trace (s.lists v) j q) (sym z) (h.forward.wake j j q f.1 (omega arith) w.2 0 zl live (omega arith) (omega arith))
-            ]
+              let f = and_parts (k == 0) (s.forwarder j q) b in
+              let z : k ≡ 0 = eqb-true k 0 f.0 in
+              let w = h.forward.member j q f.1 in let far = h.forward_far j q f.1 in
+              let live = h.forward_live j q f.1 in let zl : 0 < n = good.some in
+              let j0 = apart_cases n j 0 w.0 zl in
+              elim (apart_after n 0 zl) [
+                | inr just' ↦ absurd (let jl = w.0 in let jx = apart_cases n j (next_of n 0) w.0 (subst (λ v. v < n) (sym (ap (λ b. if b then 0 else 0 + 1) (eq-eqb (0 + 1) n (sym just')))) zl) in let e0 : next_of n 0 ≡ 0 = ap (λ b. if b then 0 else 0 + 1) (eq-eqb (0 + 1) n (sym just')) in omega arith)
+                | inl step ↦
+                    let st = step.0 in let jx = apart_cases n j (next_of n 0) w.0 step.1 in let w1 = w.1 in
+                    subst (λ v. Has c.partitions s.trace (s.lists v) j q) (sym z) (h.forward.wake j j q f.1 (omega arith) w.2 0 zl live (omega arith) (omega arith))
+              ]
         ];
         closed = λ j a b i before. h.world.lists.closed k j a b i before;
         earlier = λ i j q is less touching member other.
-          let jl = (h.world.nest.member k j q is).2 in let il : i < n = omega arith in
-          let ik = apart_cases n i k il kl in
-          elim (apart_after n k kl) [
-            | inr just' ↦ absurd (omega arith)
-            | inl step ↦ let st = step.0 in let ix = apart_cases n i (next_of n k) il step.1 in h.world.earlier k i j q is less touching (omega arith)
-          ];
+            let jl = (h.world.nest.member k j q is).2 in let il : i < n = omega arith in
+            let ik = apart_cases n i k il kl in
+            elim (apart_after n k kl) [
+              | inr just' ↦ absurd (omega arith)
+              | inl step ↦ let st = step.0 in let ix = apart_cases n i (next_of n k) il step.1 in h.world.earlier k i j q is less touching (omega arith)
+            ];
         here = λ j q i. inl i;
       }
 
@@ -230,7 +227,7 @@ module _ (c : Setting) (good : IsGood c) (s : ChainState) (h : Inv c s) (t : IsT
   left_seen k p m leaves true (Some m0) is m' e =
       let same : m ≡ m0 = same_Some _ _ (sym leaves.there ∙ is) in
       subst (λ (x : Message). (y : ℕ) → From (servers c) x.place y → IsSeenAt c s.trace s.up s.lists y (target (servers c) x.place) x.logs (s.lists k)) (same_Some _ m' e)
-        (λ y from. subst (λ v. IsSeenAt c s.trace s.up s.lists v (next_of (servers c) k) (logs_sent c s k m0) (s.lists k)) from (subst (λ (x : Message). IsSeenAt c s.trace s.up s.lists k (next_of (servers c) k) (logs_sent c s k x) (s.lists k)) same (sent_seen k p m leaves)))
+      (λ y from. subst (λ v. IsSeenAt c s.trace s.up s.lists v (next_of (servers c) k) (logs_sent c s k m0) (s.lists k)) from (subst (λ (x : Message). IsSeenAt c s.trace s.up s.lists k (next_of (servers c) k) (logs_sent c s k x) (s.lists k)) same (sent_seen k p m leaves)))
 
   -- another visit
   seen_grown : (k p : ℕ) (o : Outcome) → ((j : ℕ) → IsInTrace Somehow s.trace j p → j < k) → (has' : ℕ → Visits) → ((k j q : ℕ) → In (s.lists k) j q → In (has' k) j q)
@@ -275,15 +272,17 @@ module _ (c : Setting) (good : IsGood c) (s : ChainState) (h : Inv c s) (t : IsT
       let new : Message = record { place = Held k true by_ring; since = m.since; packet = o.packet; logs = union m.logs (just k p log); needs = λ i. is_some o.packet && (m.needs i || ((i == k) && is_touching o)); known = m.known } in
       let is_new : visited_message c k p o (Some m) ≡ Some new = ap (λ v. Some (record { place = visited_at v; since = m.since; packet = o.packet; logs = union m.logs (just k p log); needs = λ i. is_some o.packet && (m.needs i || ((i == k) && is_touching o)); known = m.known })) legal.4 in
       let new_good : Good p new = λ y from.
-          let old = seen_grown k p o fresh has' more y (target (servers c) m.place) m.logs (seen p) (stood_logs p m legal.3) (ok p m legal.3 y (subst (λ v. From (servers c) v y) (sym legal.4) from)) in
-          let old' = subst (λ x. IsSeenAt c (Visited k p o ∷ s.trace) s.up has' y x m.logs (seen p)) (ap (target (servers c)) legal.4) old in
-          record {
-            listed = old'.listed;
-            has_logs = λ j q i ne. elim (in_both m.logs (just k p log) j q i) [ inl a ↦ old'.has_logs j q a ne | inr b ↦ absurd (ne (sym (in_one k p log j q b).0)) ];
-            closed = old'.closed; earlier = old'.earlier; here = old'.here;
-          } in
+      let old = seen_grown k p o fresh has' more y (target (servers c) m.place) m.logs (seen p) (stood_logs p m legal.3) (ok p m legal.3 y (subst (λ v. From (servers c) v y) (sym legal.4) from)) in
+      let old' = subst (λ x. IsSeenAt c (Visited k p o ∷ s.trace) s.up has' y x m.logs (seen p)) (ap (target (servers c)) legal.4) old in
+      record {
+        listed = old'.listed;
+        has_logs = λ j q i ne. elim (in_both m.logs (just k p log) j q i) [ inl a ↦ old'.has_logs j q a ne | inr b ↦ absurd (ne (sym (in_one k p log j q b).0)) ];
+        closed = old'.closed;
+        earlier = old'.earlier;
+        here = old'.here;
+      } in
       each_message Good s.message p (visited_message c k p o (s.message p)) (λ n e. subst (Good p) (same_Some new n (sym is_new ∙ (ap (visited_message c k p o) (sym legal.3) ∙ e))) new_good)
-        (λ q n e y from. seen_grown k p o fresh has' more y (target (servers c) n.place) n.logs (seen q) (stood_logs q n e) (ok q n e y from))
+      (λ q n e y from. seen_grown k p o fresh has' more y (target (servers c) n.place) n.logs (seen q) (stood_logs q n e) (ok q n e y from))
 
   pub crash_seen : (k : ℕ) → AreSeen c (ticked (crashed c s k)) seen
   crash_seen k p m e y from =
@@ -291,16 +290,16 @@ module _ (c : Setting) (good : IsGood c) (s : ChainState) (h : Inv c s) (t : IsT
       let x = target (servers c) m.place in
       let x_ne : x ≢ k = target_ne m.place old.1 in
       seen_moves c s.trace s.up s.lists (with_at s.up k false) (with_at s.lists k no_visits) y x m.logs (seen p)
-        (λ j q w. elim w [
-          | inl a ↦ elim (cases_eq y k) [
-              | inl same ↦ inr (inr (subst (λ v. with_at s.up k false v ≡ false) (sym same) (same_message s.up k false)))
-              | inr ne ↦ inl (subst (λ (v : Visits). In v j q) (sym (other_message s.lists k no_visits y ne)) a)
-            ]
-          | inr b ↦ elim b [
-              | inl v ↦ inr (inl (subst (λ (v : Visits). In v j q) (sym (other_message s.lists k no_visits x x_ne)) v))
-              | inr d ↦ inr (inr (with_at_cases (λ b. b ≡ false) s.up k false y (λ _. refl) (λ _. d)))
-            ]
-        ]) (ok p m old.0 y from)
+      (λ j q w. elim w [
+        | inl a ↦ elim (cases_eq y k) [
+          | inl same ↦ inr (inr (subst (λ v. with_at s.up k false v ≡ false) (sym same) (same_message s.up k false)))
+          | inr ne ↦ inl (subst (λ (v : Visits). In v j q) (sym (other_message s.lists k no_visits y ne)) a)
+        ]
+        | inr b ↦ elim b [
+          | inl v ↦ inr (inl (subst (λ (v : Visits). In v j q) (sym (other_message s.lists k no_visits x x_ne)) v))
+          | inr d ↦ inr (inr (with_at_cases (λ b. b ≡ false) s.up k false y (λ _. refl) (λ _. d)))
+        ]
+      ]) (ok p m old.0 y from)
     where
       target_ne : (w : Where) → is_at c k w ≡ false → target (servers c) w ≢ k
       target_ne (Held i v r) a = eqb-false i k a
@@ -327,32 +326,32 @@ module _ (c : Setting) (good : IsGood c) (s : ChainState) (h : Inv c s) (seen : 
       let stood_t : (i q : ℕ) → IsTouching (left_of gone s.trace) i q → IsTouching s.trace i q = λ i q tt'. (visit_stood gone (λ o. is_touching o ≡ true) s.trace i q tt').0 in
       subst (λ v. P (seen_by v (seen p))) (sym e) (elim (x == t) as (λ b. x == t ≡ b → P (λ a d. if b then s.lists t a d else (seen p a d && not (gone a d)))) [
         | true ↦ λ at.
-          let xt : x ≡ t = eqb-true x t at in
-          record {
-            listed = λ j q i. visit_left gone (λ o. is_changing c.partitions o ≡ true) s.trace j q (h.world.lists.listed t j q i).1 (nobody_has c s good.some good.sound h.world admissible m r t inside down before after gone exact t j q i);
-            has_logs = λ j q i ne. has_left c.partitions s.trace gone (s.lists t) j q (ready_at c good s h m r t inside down before after admissible gone exact w.logs w.place stays xt j q i);
-            closed = λ j a b i bf. h.world.lists.closed t j a b i (before_left gone c.partitions s.trace j a b bf);
-            earlier = λ i j q is less touching member ne. has_left c.partitions s.trace gone (s.lists t) i q (h.world.earlier t i j q is less (stood_t i q touching) (subst (λ v. apart n i v ≤ c.failures) xt member));
-            here = λ j q i. inr (inl (same_x j q (subst (λ v. In (s.lists v) j q) (sym xt) i)));
-          }
+            let xt : x ≡ t = eqb-true x t at in
+            record {
+              listed = λ j q i. visit_left gone (λ o. is_changing c.partitions o ≡ true) s.trace j q (h.world.lists.listed t j q i).1 (nobody_has c s good.some good.sound h.world admissible m r t inside down before after gone exact t j q i);
+              has_logs = λ j q i ne. has_left c.partitions s.trace gone (s.lists t) j q (ready_at c good s h m r t inside down before after admissible gone exact w.logs w.place stays xt j q i);
+              closed = λ j a b i bf. h.world.lists.closed t j a b i (before_left gone c.partitions s.trace j a b bf);
+              earlier = λ i j q is less touching member ne. has_left c.partitions s.trace gone (s.lists t) i q (h.world.earlier t i j q is less (stood_t i q touching) (subst (λ v. apart n i v ≤ c.failures) xt member));
+              here = λ j q i. inr (inl (same_x j q (subst (λ v. In (s.lists v) j q) (sym xt) i)));
+            }
         | false ↦ λ away.
-          let x_net : x ≢ t = eqb-false x t away in
-          let part' : (j q : ℕ) → In (λ a d. seen p a d && not (gone a d)) j q → In (seen p) j q × (gone j q ≡ false) = λ j q i. let a = and_parts (seen p j q) (not (gone j q)) i in (a.0, not-true _ a.1) in
-          record {
-            listed = λ j q i. let a = part' j q i in visit_left gone (λ o. is_changing c.partitions o ≡ true) s.trace j q (old.listed j q a.0) a.1;
-            has_logs = λ j q i ne. has_filtered c.partitions s.trace gone (seen p) j q (old.has_logs j q i ne);
-            closed = λ j a b i bf.
-              let stays' = (visit_stood gone (λ o. is_changing c.partitions o ≡ true) s.trace j a (before_first c.partitions (left_of gone s.trace) j a b bf)).1 in
-              and_from (seen p j a) (not (gone j a)) (old.closed j a b (part' j b i).0 (before_left gone c.partitions s.trace j a b bf)) (not_from_false _ stays');
-            earlier = λ i j q is less touching member ne. has_filtered c.partitions s.trace gone (seen p) i q (old.earlier i j q (part' j q is).0 less (stood_t i q touching) member ne);
-            here = λ j q i. elim (old.here j q (part' j q i).0) [
-              | inl a ↦ inl (subst (λ (v : Visits). In v j q) (sym (other_message s.lists m (list_got c s m r t) y (λ q'. true≢false (sym (h.world.lists.listed y j q a).0 ∙ subst (λ v. s.up v ≡ false) (sym q') down)))) a)
-              | inr b ↦ elim b [
+            let x_net : x ≢ t = eqb-false x t away in
+            let part' : (j q : ℕ) → In (λ a d. seen p a d && not (gone a d)) j q → In (seen p) j q × (gone j q ≡ false) = λ j q i. let a = and_parts (seen p j q) (not (gone j q)) i in (a.0, not-true _ a.1) in
+            record {
+              listed = λ j q i. let a = part' j q i in visit_left gone (λ o. is_changing c.partitions o ≡ true) s.trace j q (old.listed j q a.0) a.1;
+              has_logs = λ j q i ne. has_filtered c.partitions s.trace gone (seen p) j q (old.has_logs j q i ne);
+              closed = λ j a b i bf.
+                  let stays' = (visit_stood gone (λ o. is_changing c.partitions o ≡ true) s.trace j a (before_first c.partitions (left_of gone s.trace) j a b bf)).1 in
+                  and_from (seen p j a) (not (gone j a)) (old.closed j a b (part' j b i).0 (before_left gone c.partitions s.trace j a b bf)) (not_from_false _ stays');
+              earlier = λ i j q is less touching member ne. has_filtered c.partitions s.trace gone (seen p) i q (old.earlier i j q (part' j q is).0 less (stood_t i q touching) member ne);
+              here = λ j q i. elim (old.here j q (part' j q i).0) [
+                | inl a ↦ inl (subst (λ (v : Visits). In v j q) (sym (other_message s.lists m (list_got c s m r t) y (λ q'. true≢false (sym (h.world.lists.listed y j q a).0 ∙ subst (λ v. s.up v ≡ false) (sym q') down)))) a)
+                | inr b ↦ elim b [
                   | inl v ↦ inr (inl (same_x j q v))
                   | inr d ↦ inr (inr (with_at_cases (λ b. b ≡ false) s.up m true y (λ ym. absurd (x_net (next_is_t y w.place from ym live))) (λ _. d)))
                 ]
-            ];
-          }
+              ];
+            }
       ] refl)
     where
       In' : ℕ → Type 0
@@ -364,13 +363,13 @@ module _ (c : Setting) (good : IsGood c) (s : ChainState) (h : Inv c s) (seen : 
           elim (apart_after n m inside) [
             | inr just' ↦ let tl = after.below in omega arith
             | inl step ↦
-              let st = step.0 in
-              let mx = apart_cases n m x inside xl in let mt = apart_cases n m t inside after.below in
-              let pos : 0 < apart n m t = after.after in
-              elim (cases_lt (apart n m x) (apart n m t)) [
-                | inl less ↦ absurd (true≢false (sym live ∙ after.between x xl (omega arith) less))
-                | inr more ↦ omega arith
-              ]
+                let st = step.0 in
+                let mx = apart_cases n m x inside xl in let mt = apart_cases n m t inside after.below in
+                let pos : 0 < apart n m t = after.after in
+                elim (cases_lt (apart n m x) (apart n m t)) [
+                  | inl less ↦ absurd (true≢false (sym live ∙ after.between x xl (omega arith) less))
+                  | inr more ↦ omega arith
+                ]
           ]
 
       next_is_t : (y : ℕ) (w : Where) → From (servers c) w y → y ≡ m → s.up (target (servers c) w) ≡ true → target (servers c) w ≡ t

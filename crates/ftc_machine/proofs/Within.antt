@@ -1,6 +1,6 @@
 -- A visit that is had by each live member of its group up to some distance from its head.
-use Rattle.std.proofs.Common.{◌≡◌, ◌≢◌, ℕ, ◌+◌, ◌-◌, ◌<◌, ◌≤◌, ◌==◌, ◌&&◌, ◌||◌, if◌then◌else◌, Bool, true, false, cond, not, List, ◌∷◌, ◌⊎◌, inl, inr, refl, sym, ap, subst, ◌∙◌, arith, nat_le}
-use Rattle.std.proofs.lemmas.Bool.{true≢false, eqb-false, cases_eq, cases_lt, and_parts, or_cases, or_left, or_right, and_from, not-true}
+use Rattle.std.proofs.Common.{◌≡◌, ◌≢◌, ℕ, ◌-◌, ◌<◌, ◌≤◌, ◌&&◌, Bool, true, false, List, ◌∷◌, inl, inr, sym, subst, arith}
+use Rattle.std.proofs.lemmas.Bool.{true≢false, eqb-false, cases_lt, and_parts, or_left, or_right, and_from, not-true}
 use Rattle.ftc_machine.proofs.Carrying.{AreCarried, has_grown, has_left, has_more}
 use Rattle.ftc_machine.specs.State.{ChainState}
 use Rattle.ftc_serial.specs.Serial.{Entry, Given, Visited, after}
@@ -43,18 +43,18 @@ module _ (c : Setting) (s : ChainState) where
   within_pulls several l lt live_l i p d il h y yl live member near =
       let n = (servers c) in let m = next_of n l in
       with_at_cases (λ (v : Visits). Has c.partitions s.trace v i p) s.lists m (pulled_list c s l m) y
-        (λ e. pull_has c s s.trace l m i p
-          (λ is. elim (apart_after n l lt) [
-            | inr just ↦ absurd (several just)
-            | inl step ↦
-              let im = apart_cases n i m il step.1 in let il' = apart_cases n i l il lt in let st = step.0 in
-              let own : i ≢ m = eqb-false i m (not-true _ (and_parts _ _ is).1) in
-              let far : apart n i m < d = subst (λ v. apart n i v < d) e near in
-              let mem : apart n i m ≤ c.failures = subst (λ v. apart n i v ≤ c.failures) e member in
-              h l lt live_l (omega arith) (omega arith)
-          ])
-          (λ _. subst (λ v. Has c.partitions s.trace (s.lists v) i p) e (h y yl live member near)))
-        (λ ne. h y yl live member near)
+      (λ e. pull_has c s s.trace l m i p
+      (λ is. elim (apart_after n l lt) [
+        | inr just ↦ absurd (several just)
+        | inl step ↦
+            let im = apart_cases n i m il step.1 in let il' = apart_cases n i l il lt in let st = step.0 in
+            let own : i ≢ m = eqb-false i m (not-true _ (and_parts _ _ is).1) in
+            let far : apart n i m < d = subst (λ v. apart n i v < d) e near in
+            let mem : apart n i m ≤ c.failures = subst (λ v. apart n i v ≤ c.failures) e member in
+            h l lt live_l (omega arith) (omega arith)
+      ])
+      (λ _. subst (λ v. Has c.partitions s.trace (s.lists v) i p) e (h y yl live member near)))
+      (λ ne. h y yl live member near)
 
   pub within_recovers : (m r t : ℕ) → m < (servers c) → s.up m ≡ false → IsLastLive (servers c) s.up m r → IsNextLive (servers c) s.up m t
       → (gone : Visits) → ((j p : ℕ) → IsUndone c s r t j p → In gone j p)
@@ -63,16 +63,16 @@ module _ (c : Setting) (s : ChainState) where
   within_recovers m r t inside down before after gone exact i p d il touching h y yl =
       let n = (servers c) in
       with_at_cases (λ (b : Bool). b ≡ true → apart n i y ≤ c.failures → apart n i y < d → Has c.partitions (left_of gone s.trace) (with_at s.lists m (list_got c s m r t) y) i p) s.up m true y
-        (λ e u member near.
-          let im_member : apart n i m ≤ c.failures = subst (λ v. apart n i v ≤ c.failures) e member in
-          let im_near : apart n i m < d = subst (λ v. apart n i v < d) e near in
-          let im = apart_cases n i m il inside in let ir = apart_cases n i r il before.below in let rm = apart_cases n r m before.below inside in
-          let got : Has c.partitions s.trace (list_got c s m r t) i p = recover_has c s m r t inside down before after i p im_member
-              (λ head. h r before.below before.live (omega arith) (omega arith))
-              (λ head. left_had c s m r t inside down before after gone exact i p touching (between_by c s m r t inside down before after i il head)) in
-          has_left c.partitions s.trace gone _ i p (with_at_cases (λ (v : Visits). Has c.partitions s.trace v i p) s.lists m (list_got c s m r t) y (λ _. got) (λ ne. absurd (ne e))))
-        (λ ne live member near. has_left c.partitions s.trace gone _ i p
-          (with_at_cases (λ (v : Visits). Has c.partitions s.trace v i p) s.lists m (list_got c s m r t) y (λ e. absurd (ne e)) (λ _. h y yl live member near)))
+      (λ e u member near.
+      let im_member : apart n i m ≤ c.failures = subst (λ v. apart n i v ≤ c.failures) e member in
+      let im_near : apart n i m < d = subst (λ v. apart n i v < d) e near in
+      let im = apart_cases n i m il inside in let ir = apart_cases n i r il before.below in let rm = apart_cases n r m before.below inside in
+      let got : Has c.partitions s.trace (list_got c s m r t) i p = recover_has c s m r t inside down before after i p im_member
+      (λ head. h r before.below before.live (omega arith) (omega arith))
+      (λ head. left_had c s m r t inside down before after gone exact i p touching (between_by c s m r t inside down before after i il head)) in
+      has_left c.partitions s.trace gone _ i p (with_at_cases (λ (v : Visits). Has c.partitions s.trace v i p) s.lists m (list_got c s m r t) y (λ _. got) (λ ne. absurd (ne e))))
+      (λ ne live member near. has_left c.partitions s.trace gone _ i p
+      (with_at_cases (λ (v : Visits). Has c.partitions s.trace v i p) s.lists m (list_got c s m r t) y (λ e. absurd (ne e)) (λ _. h y yl live member near)))
 
 -- Logs on their way, at the other events.
 module _ (c : Setting) where
@@ -109,23 +109,23 @@ module _ (c : Setting) where
     member = λ j q is. elim (in_both logs (just k p b) j q is) [
       | inl old ↦ h.member j q old
       | inr new ↦ let e = in_one k p b j q new in
-        subst (λ v. (v < (servers c)) × (apart (servers c) v k ≤ c.failures) × IsTouching trace v q) e.0 (kl, omega arith, subst (λ v. IsTouching trace k v) (sym e.1) (touched e.2))
+          subst (λ v. (v < (servers c)) × (apart (servers c) v k ≤ c.failures) × IsTouching trace v q) e.0 (kl, omega arith, subst (λ v. IsTouching trace k v) (sym e.1) (touched e.2))
     ];
     wake = λ i j q is le t y lt live member near. elim (in_both logs (just k p b) j q is) [
       | inl old ↦ h.wake i j q old le t y lt live member near
       | inr new ↦ let e = in_one k p b j q new in let ej = e.0 in let zero' : apart (servers c) j k ≡ 0 = subst (λ v. apart (servers c) v k ≡ 0) e.0 here in
-        elim (cases_lt i k) [
-          | inl less ↦ subst (λ v. Has c.partitions trace (has y) i v) (sym e.1) (within i less (subst (λ v. IsTouching trace i v) e.1 t) y lt live member (omega arith))
-          | inr more ↦ absurd (omega arith)
-        ]
+          elim (cases_lt i k) [
+            | inl less ↦ subst (λ v. Has c.partitions trace (has y) i v) (sym e.1) (within i less (subst (λ v. IsTouching trace i v) e.1 t) y lt live member (omega arith))
+            | inr more ↦ absurd (omega arith)
+          ]
     ];
     together = λ i j q is le t near. elim (in_both logs (just k p b) j q is) [
       | inl old ↦ or_left (logs i q) (just k p b i q) (h.together i j q old le t near)
       | inr new ↦ let e = in_one k p b j q new in let ej = e.0 in let zero' : apart (servers c) j k ≡ 0 = subst (λ v. apart (servers c) v k ≡ 0) e.0 here in
-        elim (cases_lt i k) [
-          | inl less ↦ or_left (logs i q) (just k p b i q) (subst (λ v. In logs i v) (sym e.1) (together i less (subst (λ v. IsTouching trace i v) e.1 t) (omega arith)))
-          | inr more ↦ let same : j ≡ i = omega arith in or_right (logs i q) (just k p b i q) (subst (λ v. In (just k p b) v q) same new)
-        ]
+          elim (cases_lt i k) [
+            | inl less ↦ or_left (logs i q) (just k p b i q) (subst (λ v. In logs i v) (sym e.1) (together i less (subst (λ v. IsTouching trace i v) e.1 t) (omega arith)))
+            | inr more ↦ let same : j ≡ i = omega arith in or_right (logs i q) (just k p b i q) (subst (λ v. In (just k p b) v q) same new)
+          ]
     ];
   }
 

@@ -1,12 +1,12 @@
 -- What holds of the trace, the live servers and their lists, and how each kind of change keeps it.
-use Rattle.std.proofs.Common.{◌≡◌, ◌≢◌, ℕ, ◌+◌, ◌-◌, ◌<◌, ◌≤◌, ◌==◌, if◌then◌else◌, ◌&&◌, nat_le, Bool, true, false, cond, not, List, [], ◌∷◌, ◌⊎◌, inl, inr, refl, sym, ap, subst, ◌∙◌, arith, ◌↔◌, eqb-true, Option, Some, None}
-use Rattle.std.proofs.lemmas.Bool.{true≢false, eqb-false, cases_eq, cases_lt}
+use Rattle.std.proofs.Common.{◌≡◌, ◌≢◌, ℕ, ◌+◌, ◌-◌, ◌<◌, ◌≤◌, ◌==◌, if◌then◌else◌, ◌&&◌, nat_le, Bool, true, false, not, List, [], ◌∷◌, ◌⊎◌, inl, inr, refl, sym, subst, ◌∙◌, arith, ◌↔◌, eqb-true, Option, Some, None}
+use Rattle.std.proofs.lemmas.Bool.{true≢false, eqb-false}
 use Rattle.std.proofs.lemmas.Bool.{and_parts, and_from, not-true}
 use Rattle.std.specs.Prelude.{slice_get}
 use Rattle.ftc_serial.specs.Words.{AnyOf, with_at}
 use Rattle.ftc_machine.proofs.Listing.{AreLists, applies, copies, gives, goes_down, kept, visits}
 use Rattle.ftc_machine.specs.State.{ChainState}
-use Rattle.ftc_serial.specs.Serial.{Entry, Given, Visited, after}
+use Rattle.ftc_serial.specs.Serial.{Entry, Given, Visited}
 use Rattle.ftc_machine.specs.Trace.{Has, IsBefore, IsChanging, IsInTrace, IsTouching}
 use Rattle.ftc_machine.specs.Visits.{In, Visits, just, no_visits, union}
 use Rattle.ftc_machine.proofs.Premises.{IsAdmissible}
@@ -54,8 +54,8 @@ given_place c (Given p b ∷ older) is q bytes a = with_at_cases (λ v. v ≡ Re
 given_place c (Visited k p o ∷ older) is q bytes a = elim a [
   | inl here ↦ absurd (cc)
   | inr there ↦
-    let was : (serial_of c older).place q ≡ Released = given_place c older is.1 q bytes there in
-    with_at_cases (λ v. v ≡ Released) (serial_of c older).place p (place_after (servers c) k o.packet) q
+      let was : (serial_of c older).place q ≡ Released = given_place c older is.1 q bytes there in
+      with_at_cases (λ v. v ≡ Released) (serial_of c older).place p (place_after (servers c) k o.packet) q
       (λ e. let waits : (serial_of c older).place q ≡ Waits k is.0.0 = subst (λ v. (serial_of c older).place v ≡ Waits k is.0.0) (sym e) is.0.1 in absurd (cc))
       (λ ne. was)
 ]
@@ -96,14 +96,14 @@ module _ (c : Setting) (some : 0 < (servers c)) (sound : IsSoundTaking c) where
         released = λ q bytes a i touching. elim a [
           | inl here ↦ absurd (cc)
           | inr there ↦ elim touching [
-              | inl new ↦
+            | inl new ↦
                 let was = given_place c trace w.serial q bytes there in
                 let waits : (serial_of c trace).place q ≡ Waits k legal.0 = subst (λ v. (serial_of c trace).place v ≡ Waits k legal.0) new.1 legal.1 in
                 absurd (cc)
-              | inr old ↦ within_more c (Visited k p o ∷ trace) up has i q (servers c)
-                  (within_grown c trace up has i q (servers c) (w.released q bytes there i old) k p o (λ e. unseen (subst (λ v. IsInTrace Somehow trace v p) (sym e.0) (some_stands _ trace i p (subst (λ v. IsTouching trace i v) (sym e.1) old)))))
-                  (with_at has k (union (has k) (just k p (is_changing c.partitions o)))) (λ y j z m. kept has k k p (is_changing c.partitions o) y j z m)
-            ]
+            | inr old ↦ within_more c (Visited k p o ∷ trace) up has i q (servers c)
+                (within_grown c trace up has i q (servers c) (w.released q bytes there i old) k p o (λ e. unseen (subst (λ v. IsInTrace Somehow trace v p) (sym e.0) (some_stands _ trace i p (subst (λ v. IsTouching trace i v) (sym e.1) old)))))
+                (with_at has k (union (has k) (just k p (is_changing c.partitions o)))) (λ y j z m. kept has k k p (is_changing c.partitions o) y j z m)
+          ]
         ];
       }
 
@@ -158,10 +158,10 @@ module _ (c : Setting) (s : ChainState) (w : World c s.trace s.up s.lists) where
   lists_pulls : (l m : ℕ) → s.up m ≡ true → AreLists c s.trace s.up (with_at s.lists m (pulled_list c s l m))
   lists_pulls l m live =
       let from : (j : ℕ) → (((p : ℕ) → pulled_list c s l m j p ≡ s.lists l j p) ⊎ ((p : ℕ) → pulled_list c s l m j p ≡ s.lists m j p)) =
-          λ j. elim (is_member c j l && is_member c j m && not (j == m)) as (λ b. ((p : ℕ) → (if b then s.lists l j p else s.lists m j p) ≡ s.lists l j p) ⊎ ((p : ℕ) → (if b then s.lists l j p else s.lists m j p) ≡ s.lists m j p)) [
-            | true ↦ inl (λ p. refl)
-            | false ↦ inr (λ p. refl)
-          ] in
+      λ j. elim (is_member c j l && is_member c j m && not (j == m)) as (λ b. ((p : ℕ) → (if b then s.lists l j p else s.lists m j p) ≡ s.lists l j p) ⊎ ((p : ℕ) → (if b then s.lists l j p else s.lists m j p) ≡ s.lists m j p)) [
+        | true ↦ inl (λ p. refl)
+        | false ↦ inr (λ p. refl)
+      ] in
       record {
         listed = λ x j p. with_at_cases (λ (v : Visits). In v j p → (s.up x ≡ true) × IsChanging c.partitions s.trace j p) s.lists m (pulled_list c s l m) x
             (λ e i. (subst (λ v. s.up v ≡ true) (sym e) live, elim (from j) [ inl a ↦ (w.lists.listed l j p (sym (a p) ∙ i)).1 | inr b ↦ (w.lists.listed m j p (sym (b p) ∙ i)).1 ]))
@@ -209,12 +209,12 @@ module _ (c : Setting) (s : ChainState) (some : 0 < (servers c)) (sound : IsSoun
   pub nobody_has : (x j p : ℕ) → In (s.lists x) j p → gone j p ≡ false
   nobody_has x j p is = elim (gone j p) as (λ b. gone j p ≡ b → b ≡ false) [
     | true ↦ λ g.
-      let u = (exact j p).0 g in
-      let at = nest.member x j p is in
-      let listed = lists.listed x j p is in
-      let between = head_between c s some sound lists nest serial passed earlier released admissible m r t inside down before after j p u (some_stands _ s.trace j p listed.1) in
-      let near = first_after c s m r t inside down before after j x at.2 between at.1 at.0 in
-      absurd (lacks c s some sound lists nest serial passed earlier released admissible m r t inside down before after j p u listed.1 (nest.nested j t x p after.below after.live near is))
+        let u = (exact j p).0 g in
+        let at = nest.member x j p is in
+        let listed = lists.listed x j p is in
+        let between = head_between c s some sound lists nest serial passed earlier released admissible m r t inside down before after j p u (some_stands _ s.trace j p listed.1) in
+        let near = first_after c s m r t inside down before after j x at.2 between at.1 at.0 in
+        absurd (lacks c s some sound lists nest serial passed earlier released admissible m r t inside down before after j p u listed.1 (nest.nested j t x p after.below after.live near is))
     | false ↦ λ g. refl
   ] refl
 
@@ -224,13 +224,13 @@ module _ (c : Setting) (s : ChainState) (some : 0 < (servers c)) (sound : IsSoun
       from : (j : ℕ) → ((x : ℕ) × ((p : ℕ) → In (list_got c s m r t) j p → In (s.lists x) j p) × ((p : ℕ) → In (s.lists x) j p → In (list_got c s m r t) j p)) ⊎ ((p : ℕ) → In (list_got c s m r t) j p → ⊥)
       from j =
           elim (is_member c j m) as (λ b. ((x : ℕ) × ((p : ℕ) → (b && s.lists (if nat_le (apart (servers c) r m) (apart (servers c) j m) then r else t) j p) ≡ true → In (s.lists x) j p)
-              × ((p : ℕ) → In (s.lists x) j p → (b && s.lists (if nat_le (apart (servers c) r m) (apart (servers c) j m) then r else t) j p) ≡ true))
-              ⊎ ((p : ℕ) → (b && s.lists (if nat_le (apart (servers c) r m) (apart (servers c) j m) then r else t) j p) ≡ true → ⊥)) [
+          × ((p : ℕ) → In (s.lists x) j p → (b && s.lists (if nat_le (apart (servers c) r m) (apart (servers c) j m) then r else t) j p) ≡ true))
+          ⊎ ((p : ℕ) → (b && s.lists (if nat_le (apart (servers c) r m) (apart (servers c) j m) then r else t) j p) ≡ true → ⊥)) [
             | true ↦ elim (nat_le (apart (servers c) r m) (apart (servers c) j m)) as (λ b. ((x : ℕ) × ((p : ℕ) → (true && (s.lists (if b then r else t) j p)) ≡ true → In (s.lists x) j p)
                 × ((p : ℕ) → In (s.lists x) j p → (true && (s.lists (if b then r else t) j p)) ≡ true)) ⊎ ((p : ℕ) → (true && (s.lists (if b then r else t) j p)) ≡ true → ⊥)) [
-                | true ↦ inl (r, (λ p h. (and_parts true (s.lists r j p) h).1), λ p h. and_from true (s.lists r j p) refl h)
-                | false ↦ inl (t, (λ p h. (and_parts true (s.lists t j p) h).1), λ p h. and_from true (s.lists t j p) refl h)
-              ]
+                  | true ↦ inl (r, (λ p h. (and_parts true (s.lists r j p) h).1), λ p h. and_from true (s.lists r j p) refl h)
+                  | false ↦ inl (t, (λ p h. (and_parts true (s.lists t j p) h).1), λ p h. and_from true (s.lists t j p) refl h)
+                ]
             | false ↦ inr (λ p h. true≢false (sym h))
           ]
 

@@ -1,5 +1,5 @@
 -- What is so of a finished run.
-use Rattle.std.specs.Prelude.{ℕ, ◌≡◌, ◌≢◌, ◌<◌, ◌↔◌, true, false, List, [], Some, None}
+use Rattle.std.specs.Prelude.{ℕ, ◌≡◌, ◌≢◌, ◌<◌, ◌↔◌, true, false, [], Some, None}
 use Rattle.ftc_serial.specs.Serial as serial
 use Rattle.ftc_serial.specs.Serial.{State, serial_run}
 use Rattle.ftc_machine.specs.declared.fate.Fate.TheVariants as became

@@ -57,7 +57,12 @@ lines_behind (line ∷ lines) = lines
 
 abbrev pub fresh_message : ℕ → Option (List ℕ) → Message
 fresh_message now packet = record {
-  place = Held 0 false false; since = now; packet = packet; logs = no_visits; needs = λ group. false; known = no_visits;
+  place = Held 0 false false;
+  since = now;
+  packet = packet;
+  logs = no_visits;
+  needs = λ group. false;
+  known = no_visits;
 }
 
 -- ---- take: the receiver of the link holds the message
@@ -131,7 +136,7 @@ sent_on c s server origin lost = record s {
   withheld = with_at s.withheld origin (if server + 1 == servers c then withheld_of s (s.message origin) else s.withheld origin);
   gap = with_at s.gap server (s.gap server || (is_sent c server && is_away c s server lost));
   fate = with_at s.fate origin
-    (if is_away c s server lost && not (server + 1 == servers c) && has_packet (s.message origin) then became.Lost s.events else s.fate origin);
+      (if is_away c s server lost && not (server + 1 == servers c) && has_packet (s.message origin) then became.Lost s.events else s.fate origin);
 }
 
 -- ---- crash: all that the server held is gone, and what was queued to it
@@ -159,9 +164,9 @@ crashed c s server = record s {
   withheld = λ packet. if server + 1 == servers c then None else s.withheld packet;
   lines = lines_behind s.lines;
   fate = λ packet.
-    if loses_packet (λ message. is_at c server message.place) (s.message packet) || ((server + 1 == servers c) && is_some (s.withheld packet))
-    then became.Lost s.events
-    else s.fate packet;
+      if loses_packet (λ message. is_at c server message.place) (s.message packet) || ((server + 1 == servers c) && is_some (s.withheld packet))
+      then became.Lost s.events
+      else s.fate packet;
 }
 
 -- ---- recover
@@ -181,9 +186,9 @@ recovered c s server undone previous following = record s {
   gap = gaps_at c (gaps_at c s.gap server) following;
   lines = lines_behind s.lines;
   fate = λ packet.
-    if loses_packet (is_dropped c s following) (s.message packet) || is_undone_drop undone packet (s.fate packet)
-    then became.Lost s.events
-    else s.fate packet;
+      if loses_packet (is_dropped c s following) (s.message packet) || is_undone_drop undone packet (s.fate packet)
+      then became.Lost s.events
+      else s.fate packet;
 }
 
 -- ---- pull: of each group that both ends belong to, and whose head the receiver isn't, the receiver gets the sender's list
@@ -202,8 +207,8 @@ abbrev pub pulled : Setting → ChainState → ℕ → ℕ → ChainState
 pulled c s sender receiver = record s {
   lists = with_at s.lists receiver (pulled_list c s sender receiver);
   gap = λ link.
-    if link == sender then false
-    else (if link == receiver then s.gap receiver || list_any (is_news c s sender receiver) s.trace else s.gap link);
+      if link == sender then false
+      else (if link == receiver then s.gap receiver || list_any (is_news c s sender receiver) s.trace else s.gap link);
 }
 
 -- ---- what each event does

@@ -1,6 +1,6 @@
 -- The trace: the visits and releases that count, the last of them first. What stands in it, what is before what, what a set of
 -- its visits has, and the content that these visits leave.
-use Rattle.std.specs.Prelude.{ℕ, ◌≡◌, ◌⊎◌, Bool, true, false, not, ◌==◌, ◌&&◌, ◌||◌, List, [], ◌∷◌, if◌then◌else◌}
+use Rattle.std.specs.Prelude.{ℕ, ◌≡◌, ◌⊎◌, Bool, true, not, ◌==◌, ◌&&◌, ◌||◌, List, [], ◌∷◌, if◌then◌else◌}
 use Rattle.std.specs.FinMap.{empty}
 use Rattle.std.specs.List.{list_all}
 use Rattle.ftc_store.specs.Store.{Content, written}

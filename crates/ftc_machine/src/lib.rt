@@ -6,4 +6,7 @@ mod fate;
 mod laws;
 
 pub use fate::Fate;
-pub use laws::{accepted, every_moment, fates, few_propagates, finished_run, law_of_changes, quiet_links, released_for_good};
+pub use laws::{
+    accepted, every_moment, fates, few_propagates, finished_run, law_of_changes, quiet_links,
+    released_for_good,
+};
