@@ -15,7 +15,8 @@ use Rattle.ftc_conf.specs.declared.draft.Draft.{Draft}
 use Rattle.ftc_conf.specs.Words.{◌>>=◌, ◌>>◌, unless}
 use Rattle.ftc_conf.specs.Forms.{no_words, monitor_of, nat_of, fire_line_of, balance_of}
 use Rattle.ftc_conf.specs.Draft.{servers, HasRoom}
-use Rattle.ftc_conf.specs.Grammar.{IsReading, server_room, fire_line_room, middlebox_room, room_for, said_in}
+use Rattle.ftc_base.specs.Refused.{IsReading}
+use Rattle.ftc_conf.specs.Grammar.{server_room, fire_line_room, middlebox_room, room_for, said_in}
 
 -- what holds of every value that may be made holds of the one that was
 made_of : {A B : Type 0} (r : Result A ChainCause) (f : A → B) (P : B → Type 0) (b : B) → ((a : A) → P (f a)) → (r >>= λ a. Ok (f a)) ≡ Ok b → P b

@@ -7,7 +7,7 @@ ghost use Rattle.ftc_base.specs.declared.limits.TheConstants.{MOST_BACKENDS};
 ghost use Rattle.ftc_balance.specs.Bounds.{IsBalanceRule};
 ghost use Rattle.ftc_conf.specs.Words.{IsAddress};
 ghost use Rattle.ftc_conf.specs.Forms.{with_backend, backends_of, balance_of};
-ghost use Rattle.ftc_conf.specs.Grammar.{IsReading};
+ghost use Rattle.ftc_base.specs.Refused.{IsReading};
 
 use crate::fault::ChainCause;
 use crate::limits::MOST_PORT;

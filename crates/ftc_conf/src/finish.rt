@@ -4,7 +4,8 @@ ghost use Rattle.std.specs.Prelude.{◌≡◌, ◌≤◌};
 ghost use Rattle.ftc_base.specs.declared.limits.TheConstants.{MOST_PARTITIONS};
 ghost use Rattle.ftc_base.specs.declared.refusal.Refuse.TheVariants as refuse;
 ghost use Rattle.ftc_conf.specs.Draft.{IsDraft};
-ghost use Rattle.ftc_conf.specs.Grammar.{IsReading, complete_chain, finish};
+ghost use Rattle.ftc_base.specs.Refused.{IsReading};
+ghost use Rattle.ftc_conf.specs.Grammar.{complete_chain, finish};
 
 use crate::adding::{close_firewall, count_of_servers};
 use crate::draft::{Draft, Failures};

@@ -5,7 +5,8 @@ ghost use Rattle.ftc_base.specs.Text.{words_of};
 ghost use Rattle.ftc_base.specs.declared.limits.TheConstants.{MOST_SERVERS, MOST_PARTITIONS, MOST_MONITOR_GROUPS};
 ghost use Rattle.ftc_conf.specs.Forms.{failures_of, partitions_of, monitor_of};
 ghost use Rattle.ftc_conf.specs.Draft.{servers, IsStatement, HasRoom};
-ghost use Rattle.ftc_conf.specs.Grammar.{IsReading, said_in, middlebox_line, failures_line, partitions_line, statement_of};
+ghost use Rattle.ftc_base.specs.Refused.{IsReading};
+ghost use Rattle.ftc_conf.specs.Grammar.{said_in, middlebox_line, failures_line, partitions_line, statement_of};
 
 use crate::balance::balance;
 use crate::draft::Draft;

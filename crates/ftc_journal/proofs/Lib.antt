@@ -1,1 +1,7 @@
 pub mod Grouping
+pub mod Joining
+pub mod Parts
+pub mod Letters
+pub mod Words
+pub mod Again
+pub mod Spelled

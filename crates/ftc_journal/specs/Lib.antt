@@ -1,3 +1,5 @@
 pub mod Job
 pub mod EventList
 pub mod Text
+pub mod Reading
+pub mod Spelling

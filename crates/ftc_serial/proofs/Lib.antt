@@ -1,3 +1,10 @@
 pub mod Asking
 pub mod Places
 pub mod Made
+pub mod Functions
+pub mod Alike
+pub mod Legal
+pub mod Histories
+pub mod Runs
+pub mod More
+pub mod Written

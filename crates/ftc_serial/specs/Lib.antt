@@ -8,3 +8,8 @@ pub mod Packets
 pub mod Contents
 pub mod Waiting
 pub mod Drive
+pub mod Entries
+pub mod Removal
+pub mod History
+pub mod Illegal
+pub mod Reads

@@ -1,5 +1,6 @@
 -- Words that the definitions share.
-use Rattle.std.specs.Prelude.{ℕ, zero, suc, ◌==◌, List, [], ◌++◌, if◌then◌else◌}
+use Rattle.std.specs.Prelude.{ℕ, zero, suc, ◌==◌, ◌⊎◌, List, [], ◌∷◌, ◌++◌, if◌then◌else◌}
+use Rattle.std.specs.List.{AllByRecursion}
 
 -- the function with another value at one place
 abbrev pub with_at : {A : Type 0} → (ℕ → A) → ℕ → A → ℕ → A
@@ -9,3 +10,13 @@ with_at f place value other = if other == place then value else f other
 abbrev pub each_below : {A : Type 0} → (ℕ → List A) → ℕ → List A
 each_below f zero = []
 each_below f (suc count) = each_below f count ++ f count
+
+-- some item has P
+abbrev pub AnyOf : {A : Type 0} → (A → Type 0) → List A → Type 0
+AnyOf P [] = ⊥
+AnyOf P (x ∷ xs) = P x ⊎ AnyOf P xs
+
+-- R holds of each item and each later one
+abbrev pub EachLater : {A : Type 0} → (A → A → Type 0) → List A → Type 0
+EachLater R [] = Unit {0}
+EachLater R (x ∷ xs) = AllByRecursion (R x) xs × EachLater R xs

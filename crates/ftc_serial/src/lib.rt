@@ -3,14 +3,16 @@
 #![tactic(auto)]
 
 mod advance;
+mod laws;
 mod opening;
 mod position;
 mod serial;
 mod step;
 mod visit;
 
+pub use laws::{removal, removal_from_history, what_it_reads};
 pub use position::Place;
-pub use serial::{NotWaiting, Serial};
+pub use serial::{BadStep, NotWaiting, Serial};
 pub use step::{Step, Trace};
 
 #[cfg(test)]

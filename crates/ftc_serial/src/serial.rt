@@ -6,6 +6,7 @@ ghost use Rattle.ftc_base.specs.Refused.{IfBad};
 use crate::advance::{has_passed, released_bytes, visited, waits};
 use crate::opening::{empty_stores, first_positions};
 use crate::position::{Place, Position, place_of};
+use crate::step::{Step, Trace};
 use ftc_base::limits::MOST_WRITES;
 use ftc_base::{Items, NoMemory, PacketNo, Refuse, Released, ReleasedList, ServerId};
 use ftc_mbox::{ChainSpec, Rules, copy_rules};
@@ -20,6 +21,13 @@ use thiserror::Error;
 #[error("the packet does not wait for that")]
 pub struct NotWaiting;
 
+/// The first step of a run that isn't legal, by its place from 0.
+#[derive(Clone, Copy, Debug, PartialEq, Eq, Error)]
+#[error("step {place} is not legal")]
+pub struct BadStep {
+    pub place: u64,
+}
+
 /// A serial chain: what each middlebox has, where each packet is, and what was released.
 #[derive(Drop)]
 pub struct Serial {
@@ -32,7 +40,8 @@ pub struct Serial {
 }
 
 impl Serial {
-    ghost use Rattle.ftc_serial.specs.Serial.{opening, serial_step};
+    ghost use Rattle.ftc_serial.specs.Serial.{opening, serial_step, serial_run};
+    ghost use Rattle.ftc_serial.specs.Illegal.{IsFirstIllegal};
     ghost use Rattle.ftc_serial.specs.Held.{rules_of, state_of};
     ghost use Rattle.ftc_serial.specs.Packets.{bytes_of};
     ghost use Rattle.ftc_serial.specs.Place.{place_of};
@@ -111,6 +120,47 @@ impl Serial {
                 Err(Refuse::NoMemory)
             }
         }
+    }
+
+    /// Makes one step. It is refused exactly where the step isn't legal. A refused call leaves the chain
+    /// as it was.
+    pub fn step(&mut self, step: &Step) -> Result<(), Refuse<NotWaiting>>
+        ensures made { OnOk result (serial_step (rules_of self.old) (state_of self.old) step.now ≡ Some (state_of self.new)) }
+        ensures refused { IfBad result (λ _. serial_step (rules_of self.old) (state_of self.old) step.now ≡ None) }
+        ensures err { OnErr result (state_of self.new ≡ state_of self.old) }
+        ensures rules { rules_of self.new ≡ rules_of self.old }
+    {
+        match step {
+            Step::Visit { server, packet } => self.visit(*server, *packet),
+            Step::Release { packet } => self.release(*packet),
+        }
+    }
+
+    /// The chain after the steps, one after another from its start. It is refused for the first step that
+    /// isn't legal.
+    pub fn run(
+        alloc: Global,
+        spec: &ChainSpec,
+        packets: &Packets,
+        trace: &Trace,
+    ) -> Result<Serial, Refuse<BadStep>>
+        ensures rules { IfOk result (λ serial. rules_of serial ≡ spec.now.rules) }
+        ensures state { IfOk result (λ serial. serial_run spec.now.rules (opening (bytes_of packets.now)) trace.now ≡ Some (state_of serial)) }
+        ensures bad { IfBad result (λ fault. IsFirstIllegal spec.now.rules (opening (bytes_of packets.now)) trace.now fault.place) }
+    {
+        let mut serial = Serial::new(alloc, spec, packets)?;
+        for (place, step) in trace.as_slice().iter().enumerate() {
+            match serial.step(step) {
+                Ok(()) => {}
+                Err(Refuse::Bad(_)) => {
+                    return Err(Refuse::Bad(BadStep {
+                        place: place as u64,
+                    }));
+                }
+                Err(Refuse::NoMemory) => return Err(Refuse::NoMemory),
+            }
+        }
+        Ok(serial)
     }
 
     /// The store of a server's middlebox.

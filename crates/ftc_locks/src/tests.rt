@@ -1,0 +1,77 @@
+ghost use Rattle.std.specs.Prelude.{◌≡◌, ◌<◌, ◌≤◌, ◌+◌, ℕ, true};
+ghost use Rattle.ftc_locks.specs.Locks.{holds, age_of};
+
+use crate::{Acquired, LockTable};
+use ftc_base::{WorkerId, WorkerSet};
+use std::process::Abort;
+
+fn worker(rt: &impl Abort, number: u8) -> WorkerId
+    ensures { result ≡ number }
+{
+    WorkerId::new(number).expect(rt, "a worker is below 64")
+}
+
+/// A table of four partitions, which nobody holds.
+fn empty() -> LockTable
+    ensures partitions { result.partitions ≡ 4 }
+    ensures ages { (w p : ℕ) → holds result w p ≡ true → age_of result w + 1 ≡ w }
+{
+    LockTable::new(4)
+}
+
+/// Worker 1 asks with age 0, worker 2 with age 1, and so on.
+fn ask(rt: &impl Abort, table: &mut LockTable, number: u8, partition: u8, change: bool) -> Acquired
+    requires number { 1 ≤ number }
+    requires partition { partition < table.old.partitions }
+    requires ages { (w p : ℕ) → holds table.old w p ≡ true → age_of table.old w + 1 ≡ w }
+    ensures partitions { table.new.partitions ≡ table.old.partitions }
+    ensures ages { (w p : ℕ) → holds table.new w p ≡ true → age_of table.new w + 1 ≡ w }
+{
+    let asking = worker(rt, number);
+    table.acquire(asking, u64::from(number - 1), partition, change)
+}
+
+/// A worker gives up what it holds.
+fn leave(rt: &impl Abort, table: &mut LockTable, number: u8)
+    requires { (w p : ℕ) → holds table.old w p ≡ true → age_of table.old w + 1 ≡ w }
+    ensures partitions { table.new.partitions ≡ table.old.partitions }
+    ensures ages { (w p : ℕ) → holds table.new w p ≡ true → age_of table.new w + 1 ≡ w }
+{
+    table.free_all(worker(rt, number));
+}
+
+#[test]
+fn an_older_worker_wounds_two(rt: HostRuntime) {
+    let mut table = empty();
+    let _ = ask(&rt, &mut table, 2, 0, true);
+    let _ = ask(&rt, &mut table, 2, 1, false);
+    let _ = ask(&rt, &mut table, 3, 1, false);
+    let both = WorkerSet::new().with(2).with(3);
+    assert_eq!(rt; table.holders(1), both);
+    assert!(rt; !table.exclusive(1));
+    let answer = ask(&rt, &mut table, 1, 1, true);
+    assert_eq!(rt; answer, Acquired::Granted { wounded: both });
+    assert_eq!(rt; table.holders(1), WorkerSet::new().with(1));
+    assert_eq!(rt; table.holders(0), WorkerSet::new());
+    assert!(rt; table.exclusive(1) && !table.exclusive(0));
+    assert_eq!(rt; table.partitions(), 4);
+}
+
+#[test]
+fn a_younger_worker_waits_for_the_oldest(rt: HostRuntime) {
+    let mut table = empty();
+    let _ = ask(&rt, &mut table, 3, 1, false);
+    let _ = ask(&rt, &mut table, 2, 1, false);
+    let _ = ask(&rt, &mut table, 1, 1, false);
+    let (first, second) = (worker(&rt, 1), worker(&rt, 2));
+    let answer = ask(&rt, &mut table, 3, 1, true);
+    assert_eq!(rt; answer, Acquired::Blocked { holder: first });
+    leave(&rt, &mut table, 1);
+    let answer = ask(&rt, &mut table, 3, 1, true);
+    assert_eq!(rt; answer, Acquired::Blocked { holder: second });
+    leave(&rt, &mut table, 2);
+    let answer = ask(&rt, &mut table, 3, 1, true);
+    let wounded = WorkerSet::new();
+    assert_eq!(rt; answer, Acquired::Granted { wounded });
+    assert_eq!(rt; table.holders(1), WorkerSet::new().with(3));
+}

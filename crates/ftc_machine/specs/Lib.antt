@@ -1,0 +1,15 @@
+pub mod Setting
+pub mod Visits
+pub mod Changes
+pub mod Trace
+pub mod State
+pub mod Known
+pub mod Recovery
+pub mod Legal
+pub mod Next
+pub mod Run
+pub mod Moment
+pub mod Finish
+pub mod Fates
+pub mod Quiet
+pub mod Counts

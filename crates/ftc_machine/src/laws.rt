@@ -1,0 +1,103 @@
+//! What is so of every run, whatever its chain, packets and script: the laws on which the promises of the
+//! chain of servers rest. A law is the contract of a function that does nothing.
+
+ghost use Rattle.std.specs.Prelude.{◌≡◌, ◌⊎◌, ◌++◌, ℕ, List, length};
+ghost use Rattle.std.specs.List.{AllByRecursion};
+ghost use Rattle.ftc_base.specs.Partition.{partition_of};
+ghost use Rattle.ftc_base.specs.declared.ask.Write.{Write as AWrite};
+ghost use Rattle.ftc_journal.specs.declared.event.Event.{Event as AnEvent};
+ghost use Rattle.ftc_mbox.specs.Chain.{Chain as AChain};
+ghost use Rattle.ftc_mbox.specs.declared.rule.Rule.{Rule as ARule};
+ghost use Rattle.ftc_script.specs.Script.{ScriptShape, IsScript};
+ghost use Rattle.ftc_serial.specs.Serial.{Given};
+ghost use Rattle.ftc_serial.specs.Take.{Outcome, taken};
+ghost use Rattle.ftc_serial.specs.Entries.{Touches};
+ghost use Rattle.ftc_serial.specs.Words.{AnyOf};
+ghost use Rattle.ftc_store.specs.Store.{Content};
+ghost use Rattle.ftc_machine.specs.Setting.{Setting, setting_of, IsSetting};
+ghost use Rattle.ftc_machine.specs.Changes.{Changes};
+ghost use Rattle.ftc_machine.specs.Trace.{IsSomeVisit};
+ghost use Rattle.ftc_machine.specs.State.{ChainState, opening};
+ghost use Rattle.ftc_machine.specs.Next.{next};
+ghost use Rattle.ftc_machine.specs.declared.fate.Fate.TheVariants as became;
+ghost use Rattle.ftc_machine.specs.Fates.{AreFates, MayLose};
+ghost use Rattle.ftc_machine.specs.Finish.{IsComplete};
+ghost use Rattle.ftc_machine.specs.Counts.{AreFew};
+ghost use Rattle.ftc_machine.specs.Quiet.{IsQuiet, IsQuietEvent, AreDone};
+ghost use Rattle.ftc_machine.specs.Run.{IsRun, IsFinished, state_after};
+ghost use Rattle.ftc_machine.specs.Moment.{IsSound};
+
+/// An accepted script for a chain and for its packets makes a setting of which the other laws speak.
+pub fn accepted()
+    ensures { (chain : AChain) (packets : List (List ℕ)) (script : ScriptShape) → IsScript script →
+        script.ring ≡ record { servers = length chain.rules; failures = chain.failures } →
+        script.packets ≡ length packets →
+        IsSetting (setting_of chain packets script) }
+{}
+
+/// The partition of a key that was written is changed, and a partition that a visit changes is touched
+/// by it.
+pub fn law_of_changes()
+    ensures written { (partitions : ℕ) (outcome : Outcome) →
+        AllByRecursion (λ (write : AWrite). Changes partitions outcome (partition_of partitions write.key))
+        outcome.writes }
+    ensures touched { (partitions : ℕ) (rule : ARule) (packet : List ℕ) (content : Content) (partition : ℕ) →
+        Changes partitions (taken rule packet content) partition →
+        Touches partitions (taken rule packet content) partition }
+{}
+
+/// After every prefix of a run, in every order of its events, with every loss and every crash list that was
+/// accepted: what was released is what a serial run of the visits that stand released, and no state behind
+/// it is lost.
+pub fn every_moment()
+    ensures { (setting : Setting) → IsSetting setting → (before after : List AnEvent) →
+        IsRun setting (before ++ after) → IsSound setting (state_after setting (opening setting) before) }
+{}
+
+/// What was released stays released, and no later event undoes a visit of it.
+pub fn released_for_good()
+    ensures { (setting : Setting) → IsSetting setting → (before after : List AnEvent) →
+        IsRun setting (before ++ after) → (packet : ℕ) (bytes : List ℕ) →
+        AnyOf (λ entry. entry ≡ Given packet bytes) (state_after setting (opening setting) before).trace →
+        AnyOf (λ entry. entry ≡ Given packet bytes) (state_after setting (opening setting) (before ++ after)).trace
+        × ((server : ℕ) → IsSomeVisit (state_after setting (opening setting) before).trace server packet →
+        IsSomeVisit (state_after setting (opening setting) (before ++ after)).trace server packet) }
+{}
+
+/// When no event is legal any more, nothing is left to do: the script is done, all packets have entered, no
+/// message and no log is under way, the buffer is empty, all members of a group have the same list and so
+/// the same store, that of the serial run, and each packet was released, filtered or lost.
+pub fn finished_run()
+    ensures { (setting : Setting) → IsSetting setting → (journal : List AnEvent) → IsRun setting journal →
+        IsFinished setting (state_after setting (opening setting) journal) →
+        IsComplete setting (state_after setting (opening setting) journal) }
+{}
+
+/// A packet's fate is released where the trace has its release, filtered where a visit of the trace dropped
+/// it, and inside where it is still to come, or a message carries it, or the buffer withholds it. It gets
+/// lost only by an event that may lose something, whose number its fate then has.
+pub fn fates()
+    ensures says { (setting : Setting) → IsSetting setting → (journal : List AnEvent) → IsRun setting journal →
+        AreFates (state_after setting (opening setting) journal) }
+    ensures lost { (setting : Setting) (state : ChainState) (event : AnEvent) (packet number : ℕ) →
+        (next setting state event).fate packet ≡ became.Lost number →
+        (state.fate packet ≡ became.Lost number) ⊎ ((number ≡ state.events) × MayLose setting state event) }
+{}
+
+/// Where the script has no line, no message is lost on a link and nothing is ever pulled, and in the end each
+/// packet was released or dropped by a middlebox: the logs that ride on messages alone bring all changes to
+/// all members.
+pub fn quiet_links()
+    ensures events { (setting : Setting) → IsSetting setting → IsQuiet setting → (journal : List AnEvent) →
+        IsRun setting journal → AllByRecursion IsQuietEvent journal }
+    ensures done { (setting : Setting) → IsSetting setting → IsQuiet setting → (journal : List AnEvent) →
+        IsRun setting journal → IsFinished setting (state_after setting (opening setting) journal) →
+        AreDone setting (state_after setting (opening setting) journal) }
+{}
+
+/// Messages without a packet are few: at most one for each packet and one for each crash and recovery, and
+/// one more. So the numbers of all messages fit 32 bits.
+pub fn few_propagates()
+    ensures { (setting : Setting) → IsSetting setting → (journal : List AnEvent) → IsRun setting journal →
+        AreFew setting journal }
+{}

@@ -1,0 +1,12 @@
+//! The protocol as a machine over sets of visits: when an event is legal, what it does, and what became
+//! of each packet. It has no vector, log, frame or lock: what the chain of servers does is judged by it.
+#![tactic(auto)]
+
+mod fate;
+mod laws;
+
+pub use fate::Fate;
+pub use laws::{
+    accepted, every_moment, fates, few_propagates, finished_run, law_of_changes, quiet_links,
+    released_for_good,
+};

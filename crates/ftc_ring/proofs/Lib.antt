@@ -1,0 +1,4 @@
+pub mod Geometry
+pub mod Searches
+pub mod Nearest
+pub mod Sources

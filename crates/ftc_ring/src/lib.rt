@@ -1,0 +1,14 @@
+//! The ring of servers and its replication groups: group j is server j and the f servers after it.
+#![tactic(auto)]
+
+mod distance;
+mod laws;
+mod live;
+mod recovery;
+mod ring;
+
+pub use laws::{admissible, distances, groups, origins, recoveries, steps, the_live};
+pub use ring::Ring;
+
+#[cfg(test)]
+mod tests;

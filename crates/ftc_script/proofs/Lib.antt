@@ -1,0 +1,5 @@
+pub mod InTurn
+pub mod Downs
+pub mod Acceptance
+pub mod Letters
+pub mod ReadAgain

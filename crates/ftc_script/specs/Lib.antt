@@ -1,0 +1,6 @@
+pub mod Steps
+pub mod Script
+pub mod Words
+pub mod Grammar
+pub mod Plain
+pub mod Codes

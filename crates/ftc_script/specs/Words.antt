@@ -1,0 +1,61 @@
+-- What the words of a line say.
+use Rattle.std.specs.Prelude.{ℕ, Bool, false, ◌==◌, List, [], ◌∷◌, Result, Ok, Err, if◌then◌else◌, codes}
+use Rattle.std.specs.Str.{bytes_eq}
+use Rattle.ftc_base.specs.Number.{number_of}
+use Rattle.ftc_base.specs.declared.lexer.Lexical.{Lexical}
+use Rattle.ftc_script.specs.declared.limits.TheConstants.{MOST_NUMBER}
+use Rattle.ftc_script.specs.declared.fault.ScriptCause.{ScriptCause}
+use Rattle.ftc_script.specs.declared.fault.ScriptCause.TheVariants.{Word}
+use Rattle.ftc_script.specs.declared.statement.Statement.{Statement}
+use Rattle.ftc_script.specs.declared.statement.Statement.TheVariants as said
+
+-- one test after another: the first that refuses gives the cause
+infixl 10 ◌>>=◌
+abbrev pub ◌>>=◌ : {A B : Type 0} → Result A ScriptCause → (A → Result B ScriptCause) → Result B ScriptCause
+Ok value >>= next = next value
+Err cause >>= next = Err cause
+
+infixl 10 ◌>>◌
+abbrev pub ◌>>◌ : {A B : Type 0} → Result A ScriptCause → Result B ScriptCause → Result B ScriptCause
+Ok value >> next = next
+Err cause >> next = Err cause
+
+-- a test that refuses with this cause, unless it is passed
+abbrev pub unless : Bool → ScriptCause → Result (Unit {0}) ScriptCause
+unless passed cause = if passed then Ok tt else Err cause
+
+-- a first word that makes its line a comment
+abbrev pub is_comment : List ℕ → Bool
+is_comment [] = false
+is_comment (b ∷ bs) = b == 35
+
+abbrev pub as_number : Result ℕ Lexical → Result ℕ ScriptCause
+as_number (Ok value) = Ok value
+as_number (Err fault) = Err Word
+
+abbrev pub number_word : List ℕ → Result ℕ ScriptCause
+number_word word = as_number (number_of word MOST_NUMBER)
+
+-- what happens to the server
+abbrev pub event_of : List ℕ → ℕ → ℕ → Result Statement ScriptCause
+event_of verb at server =
+    if bytes_eq verb (codes "crash") then Ok (said.Crash at server) else
+    if bytes_eq verb (codes "recover") then Ok (said.Recover at server) else Err Word
+
+-- the words behind `at`: a number, `crash` or `recover`, and a server
+abbrev pub at_words : List (List ℕ) → Result Statement ScriptCause
+at_words (number ∷ verb ∷ server ∷ []) = number_word number >>= λ at. number_word server >>= λ k. event_of verb at k
+at_words words = Err Word
+
+-- the words behind `lose`: a link and an origin
+abbrev pub lose_words : List (List ℕ) → Result Statement ScriptCause
+lose_words (link ∷ origin ∷ []) = number_word link >>= λ l. number_word origin >>= λ p. Ok (said.Lose l p)
+lose_words words = Err Word
+
+-- a line without words and a comment say nothing
+abbrev pub statement_of : List (List ℕ) → Result Statement ScriptCause
+statement_of [] = Ok said.Nothing
+statement_of (first ∷ words) =
+    if is_comment first then Ok said.Nothing else
+    if bytes_eq first (codes "at") then at_words words else
+    if bytes_eq first (codes "lose") then lose_words words else Err Word

@@ -1,0 +1,36 @@
+//! Laws about serial runs, on which the replicated chain's promises rest.
+
+ghost use Rattle.std.specs.Prelude.{◌≡◌, ℕ, List, Some};
+ghost use Rattle.std.specs.List.{AllByRecursion};
+ghost use Rattle.ftc_base.specs.declared.ask.Write.{Write as AWrite};
+ghost use Rattle.ftc_store.specs.Store.{Content};
+ghost use Rattle.ftc_serial.specs.Reads.{IsRead};
+ghost use Rattle.ftc_serial.specs.Take.{taken};
+ghost use Rattle.ftc_mbox.specs.declared.rule.Rule.{Rule as ARule};
+ghost use Rattle.ftc_serial.specs.declared.step.Step.{Step as AStep};
+ghost use Rattle.ftc_serial.specs.Serial.{State, Entry, serial_run};
+ghost use Rattle.ftc_serial.specs.Entries.{entries};
+ghost use Rattle.ftc_serial.specs.Removal.{Taken, IsClosed, IsRemoval};
+ghost use Rattle.ftc_serial.specs.History.{IsHistory, IsClosedHistory, IsRemovedHistory};
+
+/// Visits that are taken out of a serial run, with all that rests on them, leave a serial run, in which
+/// the visits that are left do what they did.
+pub fn removal()
+    ensures { (rules : List ARule) (partitions : ℕ) (out : Taken) (start : State) (steps : List AStep) (end : State) →
+        serial_run rules start steps ≡ Some end → IsClosed partitions out (entries rules start steps) →
+        IsRemoval rules partitions out start steps end }
+{}
+
+/// The same of a run as a history, whose last entry is first.
+pub fn removal_from_history()
+    ensures { (rules : List ARule) (partitions : ℕ) (out : Taken) (start : State) (history : List Entry) →
+        IsHistory rules start history → IsClosedHistory partitions out history →
+        IsRemovedHistory rules partitions out start history }
+{}
+
+/// Whatever the store has, a visit writes only at keys that it read.
+pub fn what_it_reads()
+    ensures { (rule : ARule) (packet : List ℕ) (content : Content) →
+        AllByRecursion (λ (write : AWrite). IsRead (taken rule packet content).answers write.key)
+        (taken rule packet content).writes }
+{}

@@ -1,0 +1,7 @@
+pub mod TouchedLists
+pub mod Kept
+pub mod KeptByCalls
+pub mod ReadSlots
+pub mod Serially
+pub mod Writing
+pub mod StayedHoldings

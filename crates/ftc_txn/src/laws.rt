@@ -1,0 +1,32 @@
+//! What holds of single calls and of whole lists of calls.
+
+ghost use Rattle.std.specs.Prelude.{◌≡◌, ◌≢◌, ℕ, Bool, true, List, Option};
+ghost use Rattle.ftc_base.specs.Partition.{partition_of};
+ghost use Rattle.ftc_locks.specs.Locks.{holds_exclusively, SameHoldings};
+ghost use Rattle.ftc_txn.specs.Slots.{Running};
+ghost use Rattle.ftc_txn.specs.Head.{HeadState, RunsUnwounded};
+ghost use Rattle.ftc_txn.specs.Steps.{HasRead};
+ghost use Rattle.ftc_txn.specs.Runs.{Call, caller, Step, Run, IsSerial, visits_of};
+
+/// What a slot that isn't wounded runs and holds stays, whatever the other slots call. A read keeps what
+/// its slot holds exclusively, and holds its key's partition so where it may write there.
+pub fn holdings()
+    ensures runs_before { (old new : HeadState) (call : Call) (worker : ℕ) (running : Running) →
+        Step old call new → worker ≢ caller call → RunsUnwounded new worker running → RunsUnwounded old worker running }
+    ensures stay { (old new : HeadState) (call : Call) (worker : ℕ) (running : Running) →
+        Step old call new → worker ≢ caller call → RunsUnwounded new worker running → SameHoldings old.locks new.locks worker }
+    ensures own { (old new : HeadState) (worker partition : ℕ) (running : Running) (key : List ℕ) (change : Bool) (value : Option (List ℕ)) →
+        HasRead old new worker running key change value →
+        holds_exclusively old.locks worker partition ≡ true → holds_exclusively new.locks worker partition ≡ true }
+    ensures changed { (old new : HeadState) (worker : ℕ) (running : Running) (key : List ℕ) (value : Option (List ℕ)) →
+        HasRead old new worker running key true value →
+        holds_exclusively new.locks worker (partition_of new.partitions key) ≡ true }
+{}
+
+/// Whatever calls come, the commits are a serial execution: each acts at once, on the content and the
+/// vector that the earlier ones left, and all that its reads were answered is what the content has at
+/// that moment. No other call changes the content or the vector.
+pub fn transactions()
+    ensures { (old new : HeadState) (calls : List Call) → Run old calls new →
+        IsSerial old.group old.partitions old.content old.vector (visits_of old.slots) calls new.content new.vector }
+{}
