@@ -1,9 +1,9 @@
 -- Commits, which are written as needs: what is read is spelled so, and what is spelled so is read.
-use Rattle.std.proofs.Common.{◌≡◌, ℕ, zero, suc, ◌+◌, ◌-◌, ◌^◌, ◌<◌, ◌≤◌, ◌==◌, ◌&&◌, ◌||◌, leb, max, Bool, true, false, cond, List, [], ◌∷◌, ◌++◌, length, get_or, drop, map, Option, Some, None, Result, Ok, Err, refl, sym, ap, subst, ◌∙◌, ◌⊎◌, inl, inr, append_assoc, arith, if◌then◌else◌}
-use Rattle.std.specs.Prelude.{is_some, slice_set, replicate, unwrap_or, IfSome}
-use Rattle.std.specs.List.{AllByRecursion, flat_map, list_any}
-use Rattle.std.proofs.lemmas.Bool.{cases_lt, leb-true, le-leb, and_parts, and_from, eqb-true, eq-eqb, ne_eqb}
-use Rattle.std.proofs.lemmas.List.{ext_get_or, drop_more, set_at, get_or_at, get_or_past, length-append, length-replicate, replicate-append-replicate, length-map}
+use Rattle.std.proofs.Common.{◌≡◌, ℕ, zero, suc, ◌+◌, ◌-◌, ◌^◌, ◌<◌, ◌≤◌, ◌==◌, leb, max, Bool, true, false, List, [], ◌∷◌, ◌++◌, length, get_or, drop, Option, Some, None, Ok, refl, sym, ap, subst, ◌∙◌, inl, inr, append_assoc, arith, if◌then◌else◌}
+use Rattle.std.specs.Prelude.{is_some, slice_set, replicate, unwrap_or}
+use Rattle.std.specs.List.{AllByRecursion, list_any}
+use Rattle.std.proofs.lemmas.Bool.{cases_lt, leb-true, le-leb, and_parts, and_from, eq-eqb, ne_eqb}
+use Rattle.std.proofs.lemmas.List.{ext_get_or, drop_more, set_at, get_or_at, get_or_past, length-append, length-replicate, length-map}
 use Rattle.ftc_base.specs.declared.limits.TheConstants.{MOST_SERVERS, MOST_PARTITIONS}
 use Rattle.ftc_vector.specs.Vector.{by_partition, number_at, merged, IsVector}
 use Rattle.ftc_vector.specs.Commits.{by_group, vector_of, group_raised}
@@ -12,12 +12,11 @@ use Rattle.ftc_message.specs.declared.need.Need.{Need}
 use Rattle.ftc_message.specs.Logged.{needs_rise}
 use Rattle.ftc_message.specs.Bounds.{AreCommits}
 use Rattle.ftc_message.specs.Spelling.{marked, needs_bytes, not_zero, known_from, commits_bytes}
-use Rattle.ftc_message.specs.Fields.{◌>>=◌}
 use Rattle.ftc_message.specs.Reading.{needs_at, no_commits, numbers_in, with_known, commits_at}
 use Rattle.ftc_message.proofs.Fields.{IsBytes, Takes, bind_ok, ok_is}
 use Rattle.ftc_message.proofs.Blanks.{split_at, length_before, replace}
 use Rattle.ftc_message.proofs.MarkLaws.{IsMark, AreSpelled}
-use Rattle.ftc_message.proofs.NeedLaws.{IsNeedSpelled, AreNeedsSpelled, needs_at_takes, needs_at_again}
+use Rattle.ftc_message.proofs.NeedLaws.{IsNeedSpelled, needs_at_takes, needs_at_again}
 
 -- ---- a vector and its numbers that aren't 0
 

@@ -1,14 +1,13 @@
 -- Logs: what is read is spelled so, and what is spelled so is read.
-use Rattle.std.proofs.Common.{◌≡◌, ℕ, zero, suc, ◌+◌, ◌^◌, ◌<◌, ◌≤◌, ◌&&◌, Bool, true, List, [], ◌∷◌, ◌++◌, length, get_or, Option, Some, None, IsSome, Result, Ok, Err, refl, sym, ap, subst, ◌∙◌, append_assoc, arith}
-use Rattle.std.specs.Prelude.{IfSome}
+use Rattle.std.proofs.Common.{◌≡◌, ℕ, zero, suc, ◌^◌, ◌<◌, ◌≤◌, ◌&&◌, Bool, true, List, [], ◌∷◌, ◌++◌, length, get_or, Option, Some, None, IsSome, Ok, refl, sym, ap, subst, ◌∙◌, append_assoc, arith}
 use Rattle.std.specs.List.{AllByRecursion, flat_map}
 use Rattle.ftc_base.specs.declared.ask.Write.{Write}
-use Rattle.ftc_base.specs.declared.limits.TheConstants.{MOST_SERVERS, MOST_PARTITIONS}
-use Rattle.ftc_vector.specs.Vector.{mark_at, AreMarks}
+use Rattle.ftc_base.specs.declared.limits.TheConstants.{MOST_SERVERS}
+use Rattle.ftc_vector.specs.Vector.{AreMarks}
 use Rattle.ftc_message.specs.declared.fault.FrameCause.TheVariants.{Order}
 use Rattle.ftc_message.specs.declared.parts.Parts.{Parts}
 use Rattle.ftc_message.specs.Logged.{Logged, log_follows, logs_rise}
-use Rattle.ftc_message.specs.Bounds.{IsLog, AreLogs, MarksSome}
+use Rattle.ftc_message.specs.Bounds.{IsLog, MarksSome}
 use Rattle.ftc_message.specs.Numbers.{number_bytes}
 use Rattle.ftc_message.specs.Spelling.{marked, parts_bytes, writes_bytes, log_bytes, logs_bytes}
 use Rattle.ftc_message.specs.Fields.{◌>>=◌, ◌>>◌, unless, number_at, group_at}

@@ -1,10 +1,9 @@
 -- Messages: what is read is spelled so, and what is spelled so is read.
-use Rattle.std.proofs.Common.{rules, ◌≡◌, ℕ, zero, suc, ◌+◌, ◌^◌, ◌<◌, ◌≤◌, ◌==◌, ◌&&◌, leb, Bool, true, false, cond, List, [], ◌∷◌, ◌++◌, length, Option, Some, None, Result, Ok, Err, refl, sym, ap, subst, ◌∙◌, append_assoc, arith, if◌then◌else◌}
+use Rattle.std.proofs.Common.{◌≡◌, ℕ, zero, suc, ◌+◌, ◌^◌, ◌<◌, ◌≤◌, ◌==◌, leb, Bool, true, false, List, [], ◌∷◌, ◌++◌, length, Option, Some, None, Result, Ok, Err, refl, sym, ap, subst, ◌∙◌, append_assoc, arith, if◌then◌else◌}
 use Rattle.std.specs.Prelude.{IfSome, is_some}
 use Rattle.std.specs.Str.{bytes_eq}
-use Rattle.std.specs.Bool.{Decides}
 use Rattle.std.specs.List.{AllByRecursion}
-use Rattle.std.proofs.lemmas.Bool.{leb-true, le-leb, and_parts, eqb-true, eqb-false}
+use Rattle.std.proofs.lemmas.Bool.{leb-true, le-leb, and_parts, eqb-true}
 use Rattle.std.proofs.lemmas.List.{append-nil, nil_from_length}
 use Rattle.std.proofs.lemmas.Slice.Eq.{bytes_eq-Decides}
 use Rattle.ftc_base.specs.declared.limits.TheConstants.{MOST_SERVERS, MOST_CAPTURED}
@@ -14,7 +13,7 @@ use Rattle.ftc_message.specs.declared.fault.FrameFault.{FrameFault}
 use Rattle.ftc_message.specs.declared.need.Need.{Need}
 use Rattle.ftc_message.specs.declared.message.Message.{Message}
 use Rattle.ftc_message.specs.Logged.{Logged, needs_rise}
-use Rattle.ftc_message.specs.Bounds.{IsLog, AreLogs, IsNeed, AreNeeds, AreCommits, MarksSome}
+use Rattle.ftc_message.specs.Bounds.{IsLog, IsNeed, AreNeeds, AreCommits, MarksSome}
 use Rattle.ftc_message.specs.WellFormed.{IsTyped, IsWellFormed}
 use Rattle.ftc_message.specs.Numbers.{number_bytes}
 use Rattle.ftc_message.specs.Spelling.{kind, magic, packet_bytes, logs_bytes, needs_bytes, commits_bytes, spelling}
@@ -22,7 +21,6 @@ use Rattle.ftc_message.specs.Fields.{◌>>=◌, ◌>>◌, unless, within_at, tak
 use Rattle.ftc_message.specs.Reading.{magic_at, packet_at, front_at, most_needs, logs_at, needs_at, commits_at, message_at, whole_of, message_of}
 use Rattle.ftc_message.proofs.Fields.{IsBytes, Takes, Takes-then, bind_ok, test_ok, ok_is, within_takes, within_again, taken_takes, taken_again, number_takes, number_again, wide_4}
 use Rattle.ftc_message.proofs.LogLaws.{IsLogSpelled, AreLogsSpelled, each_mark, marked_some, some_marked, marks_are, logs_at_takes, logs_at_again}
-use Rattle.ftc_message.proofs.MarkLaws.{AreSpelled}
 use Rattle.ftc_message.proofs.NeedLaws.{IsNeedSpelled, AreNeedsSpelled, needs_at_takes, needs_at_again}
 use Rattle.ftc_message.proofs.CommitLaws.{commits_at_takes, commits_at_again}
 
@@ -30,9 +28,6 @@ use Rattle.ftc_message.proofs.CommitLaws.{commits_at_takes, commits_at_again}
 
 same_bytes : (a b : List ℕ) → bytes_eq a b ≡ true → a ≡ b
 same_bytes a b same = (rw same at (bytes_eq-Decides a b)).0 refl
-
-bytes_same : (bytes : List ℕ) → bytes_eq bytes bytes ≡ true
-bytes_same bytes = search (rules, bytes_eq-Decides)
 
 magic_takes : (bytes rest : List ℕ) → IsBytes bytes → magic_at bytes ≡ Ok rest → Takes bytes magic rest
 unfolding magic_at

@@ -1,22 +1,21 @@
 -- The partitions of a log: what is read is spelled so, and what is spelled so is read.
-use Rattle.std.proofs.Common.{◌≡◌, ◌≢◌, ℕ, zero, suc, ◌+◌, ◌-◌, ◌^◌, ◌<◌, ◌≤◌, ◌==◌, ◌&&◌, ltb, Bool, true, false, List, [], ◌∷◌, ◌++◌, length, get_or, bit_or, Option, Some, None, IsSome, Result, Ok, Err, refl, sym, ap, subst, ◌∙◌, append_assoc, add-one, arith, inl, inr, if◌then◌else◌}
-use Rattle.std.specs.Prelude.{IfSome, slice_set, replicate}
+use Rattle.std.proofs.Common.{◌≡◌, ◌≢◌, ℕ, zero, suc, ◌+◌, ◌-◌, ◌^◌, ◌<◌, ◌≤◌, ◌==◌, ◌&&◌, ltb, Bool, true, false, List, [], ◌∷◌, ◌++◌, length, get_or, bit_or, Option, Some, None, IsSome, Ok, refl, sym, ap, subst, ◌∙◌, append_assoc, add-one, arith, inl, inr, if◌then◌else◌}
+use Rattle.std.specs.Prelude.{slice_set}
 use Rattle.std.specs.List.{AllByRecursion}
-use Rattle.std.proofs.lemmas.Bool.{cases_lt, cases_eq, lt-ltb, le-ltb, ltb-false}
-use Rattle.std.proofs.lemmas.List.{append-nil, set_at, get_or_at, get_or_past, get_or-set_same, get_or-set_other, length-set, length-append, length-replicate}
+use Rattle.std.proofs.lemmas.Bool.{cases_lt, cases_eq, lt-ltb, le-ltb}
+use Rattle.std.proofs.lemmas.List.{set_at, get_or_at, get_or-set_same, get_or-set_other, length-set, length-append, length-replicate}
 use Rattle.ftc_base.specs.Sets.{has}
 use Rattle.ftc_base.proofs.Members.{same}
 use Rattle.ftc_base.specs.declared.limits.TheConstants.{MOST_PARTITIONS}
-use Rattle.ftc_message.specs.declared.fault.FieldFault.{FieldFault}
 use Rattle.ftc_message.specs.declared.parts.Part.{Part}
 use Rattle.ftc_message.specs.declared.parts.Parts.{Parts}
 use Rattle.ftc_message.specs.Numbers.{number_bytes}
 use Rattle.ftc_message.specs.Spelling.{marked, flag, parts_from, parts_bytes}
-use Rattle.ftc_message.specs.Fields.{◌>>=◌, ◌>>◌, within_at, number_at}
+use Rattle.ftc_message.specs.Fields.{◌>>=◌, within_at, number_at}
 use Rattle.ftc_message.specs.Reading.{times, partition_at, part_at, changed_by, plus_part, with_part, no_marks, no_parts, parts_at}
 use Rattle.ftc_message.proofs.Fields.{IsBytes, Takes, Takes-then, bind_ok, ok_is, times_ok, within_takes, within_again, number_takes, number_again, wide_8}
 use Rattle.ftc_message.proofs.Blanks.{blanks, fill, length_filled, all_blanks, all_behind}
-use Rattle.ftc_message.proofs.Members.{has_added, has_added_same, has_added_other, has_none}
+use Rattle.ftc_message.proofs.Members.{has_added_same, has_added_other, has_none}
 use Rattle.ftc_message.proofs.MarkLaws.{partition_takes, partition_again, IsMark, marked-blanks, marked-behind, marked_few, blanks_are, AreSpelled}
 
 -- ---- one partition

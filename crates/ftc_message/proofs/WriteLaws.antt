@@ -1,13 +1,11 @@
 -- Writes: what is read is spelled so, and what is spelled so is read.
-use Rattle.std.proofs.Common.{◌≡◌, ℕ, zero, suc, ◌≤◌, ◌==◌, ◌&&◌, Bool, true, false, cond, List, [], ◌∷◌, ◌++◌, length, Option, Some, None, Result, Ok, Err, refl, sym, ap, subst, ◌∙◌, ◌⊎◌, inl, inr, append_assoc, arith}
+use Rattle.std.proofs.Common.{◌≡◌, ℕ, ◌≤◌, ◌==◌, ◌&&◌, Bool, true, false, cond, List, [], ◌∷◌, ◌++◌, length, Option, Some, None, Ok, refl, sym, ap, subst, ◌∙◌, ◌⊎◌, inl, inr, append_assoc, arith}
 use Rattle.std.specs.Prelude.{IfSome}
 use Rattle.std.specs.List.{AllByRecursion, flat_map}
-use Rattle.std.proofs.lemmas.List.{append-nil}
 use Rattle.std.proofs.lemmas.Bool.{eqb-true, eqb-false}
 use Rattle.ftc_base.specs.declared.ask.Write.{Write}
 use Rattle.ftc_base.specs.declared.limits.TheConstants.{MOST_KEY_BYTES, MOST_VALUE_BYTES, MOST_WRITES}
 use Rattle.ftc_message.specs.declared.fault.FrameCause.TheVariants.{Order}
-use Rattle.ftc_message.specs.declared.fault.FieldFault.{FieldFault}
 use Rattle.ftc_message.specs.Logged.{key_follows, keys_rise}
 use Rattle.ftc_message.specs.Bounds.{IsWrite}
 use Rattle.ftc_message.specs.Spelling.{value_bytes, write_bytes, writes_bytes}

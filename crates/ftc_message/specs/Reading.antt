@@ -14,7 +14,7 @@ use Rattle.ftc_message.specs.declared.parts.Parts.{Parts}
 use Rattle.ftc_message.specs.declared.message.Message.{Message}
 use Rattle.ftc_message.specs.Logged.{Logged, key_follows, log_follows}
 use Rattle.ftc_message.specs.Spelling.{magic}
-use Rattle.ftc_message.specs.Fields.{◌>>=◌, ◌>>◌, fault_at, unless, byte_at, within_at, taken_at, number_at, group_at}
+use Rattle.ftc_message.specs.Fields.{◌>>=◌, ◌>>◌, unless, within_at, taken_at, number_at, group_at}
 
 -- so many steps, each of which reads from the front and adds to what was read so far
 unfoldable pub times : {S : Type 0} → (S → List ℕ → Result (S × List ℕ) FieldFault) → ℕ → S → List ℕ → Result (S × List ℕ) FieldFault

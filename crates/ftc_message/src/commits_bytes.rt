@@ -58,6 +58,7 @@ fn not_zero(vector: &Vector) -> Marks
     ensures marks { result ≡ not_zero vector.now }
     ensures bounds { IsVector vector.now }
 {
+    // The contract of this call tells how many partitions there are.
     let _ = vector.at(0);
     let mut marks = Marks::new();
     for partition in 0..MOST_PARTITIONS {
@@ -101,7 +102,7 @@ fn count_known(commits: &Commits) -> u8
     count
 }
 
-/// Adds the commits' bytes at the end.
+/// Adds the commits' bytes at the end. Where memory is refused, some of them may have been added.
 pub fn append_commits(commits: &Commits, out: &mut Bytes) -> Result<(), NoMemory>
     ensures added { OnOk result (out.new ≡ out.old ++ commits_bytes commits.now) }
     ensures bounds { OnOk result (AreCommits commits.now) }

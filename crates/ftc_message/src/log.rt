@@ -68,6 +68,7 @@ impl Log {
         requires rising { keys_rise None writes.items ≡ true }
         ensures { result ≡ record { group = group; origin = origin; before = before; changed = changed; writes = writes.items } }
     {
+        // The contracts of these calls tell the bounds of the parts.
         let _ = (group.number(), before.at(0));
         are_writes(&writes);
         Log {

@@ -71,7 +71,7 @@ pub fn log_at<'a>(last: &Option<LogPlace>, bytes: &'a [u8]) -> Result<(Log, &'a 
     }
 }
 
-/// Adds a log's bytes at the end.
+/// Adds a log's bytes at the end. Where memory is refused, some of them may have been added.
 pub fn append_log(log: &Log, out: &mut Bytes) -> Result<(), NoMemory>
     ensures { OnOk result (out.new ≡ out.old ++ log_bytes log.now) }
 {

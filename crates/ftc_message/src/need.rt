@@ -80,6 +80,7 @@ impl Needs {
         ensures ok { OnOk result (self.new ≡ self.old ++ need ∷ []) }
         ensures err { OnErr result (self.new ≡ self.old) }
     {
+        // The contracts of these calls tell the bounds of the parts.
         let _ = (need.group.number(), need.marks.at(0));
         self.list.push(need)?;
         Ok(())

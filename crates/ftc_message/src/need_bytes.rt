@@ -70,7 +70,7 @@ pub fn append_need(need: &Need, out: &mut Bytes) -> Result<(), NoMemory>
     append_marks(&need.marks, out)
 }
 
-/// Adds the needs' bytes at the end.
+/// Adds the needs' bytes at the end. Where memory is refused, some of them may have been added.
 pub fn append_needs(needs: &Needs, out: &mut Bytes) -> Result<(), NoMemory>
     ensures added { OnOk result (out.new ≡ out.old ++ needs_bytes needs.now) }
     ensures bounds { AreNeeds needs.now }

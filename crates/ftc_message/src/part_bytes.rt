@@ -14,6 +14,7 @@ pub fn marked(marks: &Marks) -> u8
     ensures count { result ≡ marked marks.now }
     ensures bounds { AreMarks marks.now }
 {
+    // The contract of this call tells how many partitions there are.
     let _ = marks.at(0);
     let mut count = 0;
     for partition in 0..MOST_PARTITIONS {

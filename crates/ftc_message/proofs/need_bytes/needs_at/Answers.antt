@@ -1,4 +1,4 @@
-use Rattle.std.proofs.Common.{◌≡◌, ◌+◌, ℕ, Ok, true, leb, refl, sym, subst, arith}
+use Rattle.std.proofs.Common.{◌≡◌, ℕ, Ok, true, leb, refl, sym, subst, arith}
 use Rattle.ftc_message.specs.Reading.{with_need, needs_at}
 use Rattle.ftc_message.proofs.NeedLaws.{needs_at_takes}
 use Rattle.ftc_message.proofs.Steps.{goes_on, ends, is_done}

@@ -1,4 +1,4 @@
-use Rattle.std.proofs.Common.{◌≡◌, Ok, Err, refl}
+use Rattle.std.proofs.Common.{Ok, refl}
 use Rattle.std.proofs.lemmas.Result.{err_from_is_err_and}
 use Rattle.ftc_message.specs.Reading.{with_mark, marks_at}
 use Rattle.ftc_message.proofs.Steps.{goes_on, ends, is_done}

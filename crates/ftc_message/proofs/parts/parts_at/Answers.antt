@@ -1,6 +1,6 @@
-use Rattle.std.proofs.Common.{◌≡◌, Ok, Err, refl}
+use Rattle.std.proofs.Common.{Ok, refl}
 use Rattle.std.proofs.lemmas.Result.{err_from_is_err_and}
-use Rattle.ftc_message.specs.Reading.{with_part, parts_at, plus_part}
+use Rattle.ftc_message.specs.Reading.{with_part, parts_at}
 use Rattle.ftc_message.proofs.Steps.{goes_on, ends, is_done}
 use Rattle.ftc_message.proofs.parts.parts_at.Goals as goal
 

@@ -1,4 +1,4 @@
-use Rattle.std.proofs.Common.{◌≡◌, Ok, refl, arith}
+use Rattle.std.proofs.Common.{Ok, refl, arith}
 use Rattle.std.proofs.lemmas.List.{length_push}
 use Rattle.ftc_message.specs.Reading.{with_write, writes_at}
 use Rattle.ftc_message.proofs.Steps.{goes_on, ends, is_done}
