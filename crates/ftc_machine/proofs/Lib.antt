@@ -49,3 +49,4 @@ pub mod HasEach
 pub mod Counting
 pub mod Telling
 pub mod Few
+pub mod Falling
