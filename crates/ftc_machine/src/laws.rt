@@ -1,7 +1,7 @@
 //! What is so of every run, whatever its chain, packets and script: the laws on which the promises of the
 //! chain of servers rest. A law is the contract of a function that does nothing.
 
-ghost use Rattle.std.specs.Prelude.{◌≡◌, ◌⊎◌, ◌++◌, ℕ, List, length};
+ghost use Rattle.std.specs.Prelude.{◌≡◌, ◌⊎◌, ◌++◌, ℕ, List, [], ◌∷◌, length};
 ghost use Rattle.std.specs.List.{AllByRecursion};
 ghost use Rattle.ftc_base.specs.Partition.{partition_of};
 ghost use Rattle.ftc_base.specs.declared.ask.Write.{Write as AWrite};
@@ -23,6 +23,7 @@ ghost use Rattle.ftc_machine.specs.declared.fate.Fate.TheVariants as became;
 ghost use Rattle.ftc_machine.specs.Fates.{AreFates, MayLose};
 ghost use Rattle.ftc_machine.specs.Finish.{IsComplete};
 ghost use Rattle.ftc_machine.specs.Counts.{AreFew};
+ghost use Rattle.ftc_machine.specs.Measure.{measure, IsBelow};
 ghost use Rattle.ftc_machine.specs.Quiet.{IsQuiet, IsQuietEvent, AreDone};
 ghost use Rattle.ftc_machine.specs.Run.{IsRun, IsFinished, state_after};
 ghost use Rattle.ftc_machine.specs.Moment.{IsSound};
@@ -100,4 +101,13 @@ pub fn quiet_links()
 pub fn few_propagates()
     ensures { (setting : Setting) → IsSetting setting → (journal : List AnEvent) → IsRun setting journal →
         AreFew setting journal }
+{}
+
+/// Every event takes a run nearer to its end: of the numbers that measure what is still to do, it lowers one
+/// and leaves those before it as they are. So every run ends, whatever is done in which order.
+pub fn every_event_goes_on()
+    ensures { (setting : Setting) → IsSetting setting → (before : List AnEvent) (event : AnEvent) →
+        IsRun setting (before ++ event ∷ []) →
+        IsBelow (measure setting (state_after setting (opening setting) (before ++ event ∷ [])))
+        (measure setting (state_after setting (opening setting) before)) }
 {}
