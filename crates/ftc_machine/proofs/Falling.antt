@@ -1,10 +1,9 @@
 -- Every event lowers the measure.
-use Rattle.std.proofs.Common.{◌≡◌, ◌≢◌, ℕ, zero, suc, ◌+◌, ◌-◌, ◌*◌, ◌<◌, ◌≤◌, ◌==◌, ◌&&◌, ◌||◌, ◌⊎◌, if◌then◌else◌, nat_lt, Bool, true, false, not, List, [], ◌∷◌, ◌++◌, length, refl, sym, ap, subst, ◌∙◌, arith, inl, inr, eqb-true, eq-eqb, Option, Some, None, is_some, le-leb, leb-true}
+use Rattle.std.proofs.Common.{◌≡◌, ◌≢◌, ℕ, zero, suc, ◌+◌, ◌-◌, ◌*◌, ◌<◌, ◌≤◌, ◌==◌, ◌&&◌, ◌||◌, if◌then◌else◌, Bool, true, false, not, List, [], ◌∷◌, ◌++◌, refl, sym, ap, subst, ◌∙◌, arith, inl, inr, eqb-true, eq-eqb, Option, Some, None, is_some, le-leb}
 use Rattle.std.specs.List.{list_any}
-use Rattle.std.proofs.lemmas.Bool.{true≢false, cases_eq, cases_lt, cases_Bool, eqb-false, ne_eqb, and_from, and_parts, or_left, or_right, or_cases, not-true, not_from_true, false_from_ne_true}
-use Rattle.std.proofs.lemmas.Option.{none-some, same_Some}
+use Rattle.std.proofs.lemmas.Bool.{true≢false, cases_eq, cases_lt, cases_Bool, eqb-false, and_from, and_parts, or_left, or_right, or_cases, not-true, false_from_ne_true}
+use Rattle.std.proofs.lemmas.Option.{none-some}
 use Rattle.ftc_ring.specs.Ring.{apart, next_of}
-use Rattle.ftc_journal.specs.declared.event.VisitName.{VisitName}
 use Rattle.ftc_journal.specs.declared.event.Event.{Event}
 use Rattle.ftc_journal.specs.declared.event.Event.TheVariants.{Apply, Carry, Crash, Enter, Lose, Pass, Propagate, Pull, Recover, Release, Take, Visit}
 use Rattle.ftc_script.specs.declared.line.ScriptLine.TheVariants as script_line
@@ -12,18 +11,18 @@ use Rattle.ftc_serial.specs.Words.{with_at}
 use Rattle.ftc_serial.specs.Serial.{Entry, Given, Visited}
 use Rattle.ftc_serial.specs.Take.{Outcome}
 use Rattle.ftc_serial.proofs.Functions.{with_at_cases}
-use Rattle.ftc_machine.specs.Setting.{Setting, servers, count, packet_at, is_tail, is_member, IsSetting}
+use Rattle.ftc_machine.specs.Setting.{Setting, servers, count, is_tail, is_member, IsSetting}
 use Rattle.ftc_machine.specs.Visits.{Visits, In, union, just}
 use Rattle.ftc_machine.specs.Changes.{is_changing}
 use Rattle.ftc_machine.specs.Trace.{IsChanging}
 use Rattle.ftc_machine.specs.State.{ChainState, Message, Where, Held, Queued, Withheld, opening}
 use Rattle.ftc_machine.specs.Legal.{MayHappen, MayLeave, IsLegal, is_sent}
 use Rattle.ftc_machine.specs.Next.{next, sent_on, is_away, fresh_message, taken_message, visited_message, sent_message, pulled_list, is_news, outcome_at, lines_behind}
-use Rattle.ftc_machine.specs.Run.{AreLegal, IsRun, state_after}
+use Rattle.ftc_machine.specs.Run.{IsRun, state_after}
 use Rattle.ftc_machine.specs.Measure.{sum_below, one_for, way_from, way_of, lacks, lacking, most_messages, measure, IsBelow}
 use Rattle.ftc_machine.proofs.Premises.{IsGood, ticked}
 use Rattle.ftc_machine.proofs.Supposed.{is_good}
-use Rattle.ftc_machine.proofs.Pending.{same_message, other_message}
+use Rattle.ftc_machine.proofs.Pending.{same_message}
 use Rattle.ftc_machine.proofs.Finished.{IsLive}
 use Rattle.ftc_machine.proofs.Few.{IsCounted, keeps_counts, opens_counted, counted_on, most}
 use Rattle.ftc_machine.proofs.Prefixes.{first_legal, rest_legal, state_on}
@@ -36,13 +35,13 @@ sum_falls : (n : ℕ) (f g : ℕ → ℕ) → ((k : ℕ) → k < n → f k ≤ g
 sum_falls zero f g less k below falls = absurd (omega arith)
 sum_falls (suc n) f g less k below falls = elim (cases_eq k n) [
   | inl same ↦
-    let rest = sum_less n f g (λ x xl. less x (omega arith)) in
-    let here : f n < g n = subst (λ x. f x < g x) same falls in
-    omega arith
+      let rest = sum_less n f g (λ x xl. less x (omega arith)) in
+      let here : f n < g n = subst (λ x. f x < g x) same falls in
+      omega arith
   | inr other ↦
-    let rest = sum_falls n f g (λ x xl. less x (omega arith)) k (omega arith) falls in
-    let here = less n (omega arith) in
-    omega arith
+      let rest = sum_falls n f g (λ x xl. less x (omega arith)) k (omega arith) falls in
+      let here = less n (omega arith) in
+      omega arith
 ]
 
 -- one message is nearer its end
@@ -54,10 +53,10 @@ module _ (c : Setting) (s : ChainState) where
       → sum_below (most_messages c) (λ origin. way_of (servers c) (with_at s.message p o origin)) < sum_below (most_messages c) (λ origin. way_of (servers c) (s.message origin))
   way_falls p o below falls =
       sum_falls (most_messages c) (λ origin. way_of (servers c) (with_at s.message p o origin)) (λ origin. way_of (servers c) (s.message origin))
-        (λ k kl. with_at_cases (λ v. way_of (servers c) v ≤ way_of (servers c) (s.message k)) s.message p o k
-          (λ e. let at : way_of (servers c) (s.message k) ≡ way_of (servers c) (s.message p) = ap (λ x. way_of (servers c) (s.message x)) e in omega arith) (λ ne. omega arith))
-        p below
-        (subst (λ v. way_of (servers c) v < way_of (servers c) (s.message p)) (sym (same_message s.message p o)) falls)
+      (λ k kl. with_at_cases (λ v. way_of (servers c) v ≤ way_of (servers c) (s.message k)) s.message p o k
+      (λ e. let at : way_of (servers c) (s.message k) ≡ way_of (servers c) (s.message p) = ap (λ x. way_of (servers c) (s.message x)) e in omega arith) (λ ne. omega arith))
+      p below
+      (subst (λ v. way_of (servers c) v < way_of (servers c) (s.message p)) (sym (same_message s.message p o)) falls)
 
 -- what a group lacks
 module _ (c : Setting) where
@@ -75,7 +74,7 @@ module _ (c : Setting) where
   lacking_less s s' more (Visited j p o ∷ older) =
       let rest = lacking_less s s' more older in
       let here = sum_less (servers c) (λ server. one_for (lacks c s' (Visited j p o) server)) (λ server. one_for (lacks c s (Visited j p o) server))
-          (λ k kl. lacks_less (lacks c s (Visited j p o) k) (lacks c s' (Visited j p o) k) (more j p k o)) in
+      (λ k kl. lacks_less (lacks c s (Visited j p o) k) (lacks c s' (Visited j p o) k) (more j p k o)) in
       omega arith
 
   -- and strictly so where some live member gets what it lacked
@@ -87,27 +86,27 @@ module _ (c : Setting) where
   lacking_falls s s' more group packet server below got (Given p bytes ∷ older) there = elim there [
     | inl here ↦ absurd here
     | inr below_it ↦
-      let rest = lacking_falls s s' more group packet server below got older below_it in
-      let here = sum_less (servers c) (λ server. one_for (lacks c s' (Given p bytes) server)) (λ server. one_for (lacks c s (Given p bytes) server)) (λ k kl. omega arith) in
-      omega arith
+        let rest = lacking_falls s s' more group packet server below got older below_it in
+        let here = sum_less (servers c) (λ server. one_for (lacks c s' (Given p bytes) server)) (λ server. one_for (lacks c s (Given p bytes) server)) (λ k kl. omega arith) in
+        omega arith
   ]
   lacking_falls s s' more group packet server below got (Visited j p o ∷ older) there =
       let less = sum_less (servers c) (λ k. one_for (lacks c s' (Visited j p o) k)) (λ k. one_for (lacks c s (Visited j p o) k))
-          (λ k kl. lacks_less (lacks c s (Visited j p o) k) (lacks c s' (Visited j p o) k) (more j p k o)) in
+      (λ k kl. lacks_less (lacks c s (Visited j p o) k) (lacks c s' (Visited j p o) k) (more j p k o)) in
       elim there [
         | inl here ↦
-          let same = got o here.2 in
-          let was : lacks c s (Visited j p o) server ≡ true = subst (λ x. lacks c s (Visited x p o) server ≡ true) (sym here.0) (subst (λ x. lacks c s (Visited group x o) server ≡ true) (sym here.1) same.0) in
-          let now : lacks c s' (Visited j p o) server ≡ false = subst (λ x. lacks c s' (Visited x p o) server ≡ false) (sym here.0) (subst (λ x. lacks c s' (Visited group x o) server ≡ false) (sym here.1) same.1) in
-          let falls : one_for (lacks c s' (Visited j p o) server) < one_for (lacks c s (Visited j p o) server) =
-              subst (λ b. one_for b < one_for (lacks c s (Visited j p o) server)) (sym now) (subst (λ b. 0 < one_for b) (sym was) (omega arith)) in
-          let here_falls = sum_falls (servers c) (λ k. one_for (lacks c s' (Visited j p o) k)) (λ k. one_for (lacks c s (Visited j p o) k))
-              (λ k kl. lacks_less (lacks c s (Visited j p o) k) (lacks c s' (Visited j p o) k) (more j p k o)) server below falls in
-          let rest = lacking_less s s' more older in
-          omega arith
+            let same = got o here.2 in
+            let was : lacks c s (Visited j p o) server ≡ true = subst (λ x. lacks c s (Visited x p o) server ≡ true) (sym here.0) (subst (λ x. lacks c s (Visited group x o) server ≡ true) (sym here.1) same.0) in
+            let now : lacks c s' (Visited j p o) server ≡ false = subst (λ x. lacks c s' (Visited x p o) server ≡ false) (sym here.0) (subst (λ x. lacks c s' (Visited group x o) server ≡ false) (sym here.1) same.1) in
+            let falls : one_for (lacks c s' (Visited j p o) server) < one_for (lacks c s (Visited j p o) server) =
+            subst (λ b. one_for b < one_for (lacks c s (Visited j p o) server)) (sym now) (subst (λ b. 0 < one_for b) (sym was) (omega arith)) in
+            let here_falls = sum_falls (servers c) (λ k. one_for (lacks c s' (Visited j p o) k)) (λ k. one_for (lacks c s (Visited j p o) k))
+            (λ k kl. lacks_less (lacks c s (Visited j p o) k) (lacks c s' (Visited j p o) k) (more j p k o)) server below falls in
+            let rest = lacking_less s s' more older in
+            omega arith
         | inr below_it ↦
-          let rest = lacking_falls s s' more group packet server below got older below_it in
-          omega arith
+            let rest = lacking_falls s s' more group packet server below got older below_it in
+            omega arith
       ]
 
   -- where a server's list grows
@@ -116,21 +115,22 @@ module _ (c : Setting) where
       → lacks c (record s { lists = with_at s.lists k list; gap = gap; events = s.events + 1 }) (Visited group packet o) server ≡ true → lacks c s (Visited group packet o) server ≡ true
   lists_less s k list grows gap group packet server o =
       with_at_cases (λ (v : Visits). (s.up server && is_member c group server && is_changing c.partitions o && not (v group packet)) ≡ true → lacks c s (Visited group packet o) server ≡ true) s.lists k list server
-        (λ same is.
-          let parts = and_parts (s.up server && is_member c group server && is_changing c.partitions o) (not (list group packet)) is in
-          and_from (s.up server && is_member c group server && is_changing c.partitions o) (not (s.lists server group packet)) parts.0
-            (ap not (false_from_ne_true (s.lists server group packet) (λ had. true≢false (sym (grows group packet (subst (λ x. In (s.lists x) group packet) same had)) ∙ not-true (list group packet) parts.1)))))
-        (λ other is. is)
+      (λ same is.
+      let parts = and_parts (s.up server && is_member c group server && is_changing c.partitions o) (not (list group packet)) is in
+      and_from (s.up server && is_member c group server && is_changing c.partitions o) (not (s.lists server group packet)) parts.0
+      (ap not (false_from_ne_true (s.lists server group packet) (λ had. true≢false (sym (grows group packet (subst (λ x. In (s.lists x) group packet) same had)) ∙ not-true (list group packet) parts.1)))))
+      (λ other is. is)
 
   -- it got one that it lacked
   list_got_one : (s : ChainState) (k : ℕ) (list : Visits) (gap : ℕ → Bool) (group packet : ℕ) → s.up k ≡ true → is_member c group k ≡ true → s.lists k group packet ≡ false → In list group packet
       → (o : Outcome) → is_changing c.partitions o ≡ true
       → (lacks c s (Visited group packet o) k ≡ true) × (lacks c (record s { lists = with_at s.lists k list; gap = gap; events = s.events + 1 }) (Visited group packet o) k ≡ false)
   list_got_one s k list gap group packet up member lacked got o changes =
-      let live : (s.up k && is_member c group k && is_changing c.partitions o) ≡ true = and_from (s.up k && is_member c group k) (is_changing c.partitions o) (and_from (s.up k) (is_member c group k) up member) changes in
-      (and_from (s.up k && is_member c group k && is_changing c.partitions o) (not (s.lists k group packet)) live (ap not lacked),
-      ap (λ (v : Visits). s.up k && is_member c group k && is_changing c.partitions o && not (v group packet)) (same_message s.lists k list)
-      ∙ (ap (λ b. s.up k && is_member c group k && is_changing c.partitions o && not b) got ∙ none (s.up k && is_member c group k && is_changing c.partitions o)))
+      let live : (s.up k && is_member c group k && is_changing c.partitions o) ≡ true = and_from (s.up k && is_member c group k) (is_changing c.partitions o) (and_from (s.up k) (is_member c group k) up member) changes in (
+        and_from (s.up k && is_member c group k && is_changing c.partitions o) (not (s.lists k group packet)) live (ap not lacked),
+        ap (λ (v : Visits). s.up k && is_member c group k && is_changing c.partitions o && not (v group packet)) (same_message s.lists k list)
+            ∙ (ap (λ b. s.up k && is_member c group k && is_changing c.partitions o && not b) got ∙ none (s.up k && is_member c group k && is_changing c.partitions o)),
+      )
     where
       none : (b : Bool) → (b && false) ≡ false
       none true = refl
@@ -160,7 +160,7 @@ module _ (c : Setting) (is : IsSetting c) (s : ChainState) (n : IsCounted c s) w
   visit_falls k p w legal =
       let m = legal.0 in let there = legal.3 in
       let new : way_of (servers c) (visited_message c k p (outcome_at c s k p) (s.message p)) ≡ way_from (servers c) (Rattle.ftc_machine.specs.Next.visited_at (Held k false legal.2)) =
-          ap (λ o. way_of (servers c) (visited_message c k p (outcome_at c s k p) o)) there ∙ ap (λ w. way_from (servers c) (Rattle.ftc_machine.specs.Next.visited_at w)) legal.4 in
+      ap (λ o. way_of (servers c) (visited_message c k p (outcome_at c s k p) o)) there ∙ ap (λ w. way_from (servers c) (Rattle.ftc_machine.specs.Next.visited_at w)) legal.4 in
       let old = way_at p m (Held k false legal.2) there legal.4 in
       by_ring legal.2 legal.4 new old
     where
@@ -209,7 +209,7 @@ module _ (c : Setting) (is : IsSetting c) (s : ChainState) (n : IsCounted c s) w
       let list : Visits = union (s.lists k) (just j q true) in
       let got : In list j q = or_right (s.lists k j q) (just j q true j q) (and_from ((j == j) && (q == q)) true (and_from (j == j) (q == q) (eq-eqb j j refl) (eq-eqb q q refl)) refl) in
       lacking_falls c s (next c s (Apply k p j q)) (lists_less c s k list (λ a b i. or_left (s.lists k a b) (just j q true a b) i) s.gap) j q k kl
-        (list_got_one c s k list s.gap j q up (le-leb _ _ member) legal.4 got) s.trace legal.3
+      (list_got_one c s k list s.gap j q up (le-leb _ _ member) legal.4 got) s.trace legal.3
 
   same_lacking : (s' : ChainState) → s'.up ≡ s.up → s'.lists ≡ s.lists → (trace : List Entry) → lacking c s' trace ≡ lacking c s trace
   same_lacking s' up lists [] = refl
@@ -229,15 +229,33 @@ module _ (c : Setting) (is : IsSetting c) (s : ChainState) (n : IsCounted c s) w
       let entered = reached.fated.buffered p w there in
       let most_entered = reached.live.timed.bounded in
       let same : lacking c (next c s (Release p)) (next c s (Release p)).trace ≡ lacking c s s.trace =
-          let older = same_lacking (next c s (Release p)) refl refl s.trace in
-          let first = none_lack (servers c) in
-          ap (λ x. x + lacking c (next c s (Release p)) s.trace) first ∙ omega (arith, older) in
-      inr (refl, inr (refl, inr (refl, inr (refl, inr (same, inr (refl, inl
-        (sum_falls (count c) (λ q. one_for (is_some (with_at s.withheld p None q))) (λ q. one_for (is_some (s.withheld q)))
-          (λ k kl. with_at_cases (λ (v : Option Withheld). one_for (is_some v) ≤ one_for (is_some (s.withheld k))) s.withheld p None k (λ e. omega arith) (λ ne. omega arith))
-          p (omega arith)
-          (let new : one_for (is_some (with_at s.withheld p None p)) ≡ 0 = ap (λ (v : Option Withheld). one_for (is_some v)) (same_message s.withheld p None) in
-           let old : one_for (is_some (s.withheld p)) ≡ 1 = ap (λ (v : Option Withheld). one_for (is_some v)) there in omega arith))))))))
+      let older = same_lacking (next c s (Release p)) refl refl s.trace in
+      let first = none_lack (servers c) in
+      ap (λ x. x + lacking c (next c s (Release p)) s.trace) first ∙ omega (arith, older) in
+      inr (
+        refl,
+        inr (
+          refl,
+          inr (
+            refl,
+            inr (
+              refl,
+              inr (
+                same,
+                inr (
+                  refl,
+                  inl
+                      (sum_falls (count c) (λ q. one_for (is_some (with_at s.withheld p None q))) (λ q. one_for (is_some (s.withheld q)))
+                      (λ k kl. with_at_cases (λ (v : Option Withheld). one_for (is_some v) ≤ one_for (is_some (s.withheld k))) s.withheld p None k (λ e. omega arith) (λ ne. omega arith))
+                      p (omega arith)
+                      (let new : one_for (is_some (with_at s.withheld p None p)) ≡ 0 = ap (λ (v : Option Withheld). one_for (is_some v)) (same_message s.withheld p None) in
+                      let old : one_for (is_some (s.withheld p)) ≡ 1 = ap (λ (v : Option Withheld). one_for (is_some v)) there in omega arith)),
+                ),
+              ),
+            ),
+          ),
+        ),
+      )
 
   -- ---- pull
 
@@ -246,9 +264,9 @@ module _ (c : Setting) (is : IsSetting c) (s : ChainState) (n : IsCounted c s) w
   some_news a b (Given p bytes ∷ older) is = some_news a b older is
   some_news a b (Visited j q o ∷ older) is = elim (or_cases (is_news c s a b (Visited j q o)) (list_any (is_news c s a b) older) is) [
     | inl here ↦
-      let parts = and_parts (pulled_list c s a b j q && not (s.lists b j q)) (not (is_tail c j b)) here in
-      let first = and_parts (pulled_list c s a b j q) (not (s.lists b j q)) parts.0 in
-      (j, q, first.0, not-true (s.lists b j q) first.1)
+        let parts = and_parts (pulled_list c s a b j q && not (s.lists b j q)) (not (is_tail c j b)) here in
+        let first = and_parts (pulled_list c s a b j q) (not (s.lists b j q)) parts.0 in
+        (j, q, first.0, not-true (s.lists b j q) first.1)
     | inr more ↦ some_news a b older more
   ]
 
@@ -273,34 +291,47 @@ module _ (c : Setting) (is : IsSetting c) (s : ChainState) (n : IsCounted c s) w
       let more = lists_less c s b list grows s'.gap in
       elim (cases_Bool (list_any (is_news c s k b) s.trace)) [
         | inl news ↦
-          let new = some_news k b s.trace news in
-          let from = news_from k b new.0 new.1 new.2 new.3 in
-          let changing = (reached.live.inv.world.lists.listed k new.0 new.1 from.1).1 in
-          inr (refl, inr (refl, inr (refl, inr (refl, inl (lacking_falls c s s' more new.0 new.1 b bl (list_got_one c s b list s'.gap new.0 new.1 legal.1 from.0 new.3 new.2) s.trace changing)))))
+            let new = some_news k b s.trace news in
+            let from = news_from k b new.0 new.1 new.2 new.3 in
+            let changing = (reached.live.inv.world.lists.listed k new.0 new.1 from.1).1 in
+            inr (refl, inr (refl, inr (refl, inr (refl, inl (lacking_falls c s s' more new.0 new.1 b bl (list_got_one c s b list s'.gap new.0 new.1 legal.1 from.0 new.3 new.2) s.trace changing)))))
         | inr none_new ↦
-          let less = lacking_less c s s' more s.trace in
-          let gaps = sum_falls (servers c) (λ link. one_for (s'.gap link)) (λ link. one_for (s.gap link)) (λ link ll. fewer_gaps k link none_new) k kl (no_gap k legal.2) in
-          inr (refl, inr (refl, inr (refl, inr (refl, elim (cases_lt (lacking c s' s.trace) (lacking c s s.trace)) [
-            | inl falls ↦ inl falls
-            | inr same ↦ inr (omega arith, inl gaps)
-          ]))))
+            let less = lacking_less c s s' more s.trace in
+            let gaps = sum_falls (servers c) (λ link. one_for (s'.gap link)) (λ link. one_for (s.gap link)) (λ link ll. fewer_gaps k link none_new) k kl (no_gap k legal.2) in
+            inr (
+              refl,
+              inr (
+                refl,
+                inr (
+                  refl,
+                  inr (
+                    refl,
+                    elim (cases_lt (lacking c s' s.trace) (lacking c s s.trace)) [
+                      | inl falls ↦ inl falls
+                      | inr same ↦ inr (omega arith, inl gaps)
+                    ],
+                  ),
+                ),
+              ),
+            )
       ]
     where
       no_gap : (k : ℕ) → s.gap k ≡ true → one_for ((next c s (Pull k)).gap k) < one_for (s.gap k)
       no_gap k there =
           let new : (next c s (Pull k)).gap k ≡ false = ap (λ t. if t then false else (if k == next_of (servers c) k then s.gap (next_of (servers c) k) || list_any (is_news c s k (next_of (servers c) k)) s.trace else s.gap k)) (eq-eqb k k refl) in
           subst (λ x. one_for x < one_for (s.gap k)) (sym new) (subst (λ x. 0 < one_for x) (sym there) (omega arith))
+
       fewer_gaps : (k link : ℕ) → list_any (is_news c s k (next_of (servers c) k)) s.trace ≡ false → one_for ((next c s (Pull k)).gap link) ≤ one_for (s.gap link)
       fewer_gaps k link none_new =
           elim (link == k) as (λ t. one_for (if t then false else (if link == next_of (servers c) k then s.gap (next_of (servers c) k) || list_any (is_news c s k (next_of (servers c) k)) s.trace else s.gap link)) ≤ one_for (s.gap link)) [
             | true ↦ omega arith
             | false ↦ elim (link == next_of (servers c) k) as (λ t. link == next_of (servers c) k ≡ t → one_for (if t then s.gap (next_of (servers c) k) || list_any (is_news c s k (next_of (servers c) k)) s.trace else s.gap link) ≤ one_for (s.gap link)) [
-                | true ↦ λ at.
+              | true ↦ λ at.
                   let same : link ≡ next_of (servers c) k = eqb-true link (next_of (servers c) k) at in
                   subst (λ x. one_for (s.gap (next_of (servers c) k) || x) ≤ one_for (s.gap link)) (sym none_new)
-                    (subst (λ x. one_for (s.gap x || false) ≤ one_for (s.gap link)) same (plain (s.gap link)))
-                | false ↦ λ isnt. omega arith
-              ] refl
+                  (subst (λ x. one_for (s.gap x || false) ≤ one_for (s.gap link)) same (plain (s.gap link)))
+              | false ↦ λ isnt. omega arith
+            ] refl
           ]
         where
           plain : (g : Bool) → one_for (g || false) ≤ one_for g
@@ -314,8 +345,17 @@ module _ (c : Setting) (is : IsSetting c) (s : ChainState) (n : IsCounted c s) w
   falls (Visit k p w) legal = inr (refl, inr (refl, inr (refl, inl (way_falls c s p _ (numbered p legal.0.0 legal.0.3) (visit_falls k p w legal.0)))))
   falls (Pass k p) legal = leaving_falls k p false legal.0.0 legal.0.1
   falls (Lose k p) legal = leaving_falls k p true legal.0.0 legal.0.1
-  falls (Carry p) legal = inr (refl, inr (refl, inr (refl, inl (way_falls c s p None (numbered p legal.0.0 legal.0.1)
-      (let old = way_at p legal.0.0 (Held 0 legal.0.2 true) legal.0.1 legal.0.3 in omega arith)))))
+  falls (Carry p) legal = inr (
+    refl,
+    inr (
+      refl,
+      inr (
+        refl,
+        inl (way_falls c s p None (numbered p legal.0.0 legal.0.1)
+            (let old = way_at p legal.0.0 (Held 0 legal.0.2 true) legal.0.1 legal.0.3 in omega arith)),
+      ),
+    ),
+  )
   falls (Crash k) legal = inl (let fewer = Rattle.ftc_machine.proofs.Few.fewer_lines s.lines (script_line.Crash s.entered k) legal.0 in omega arith)
   falls (Recover k undone) legal = inl (let fewer = Rattle.ftc_machine.proofs.Few.fewer_lines s.lines (script_line.Recover s.entered k) legal.0.0 in omega arith)
   falls (Pull k) legal = pull_falls k legal.0
@@ -328,4 +368,4 @@ falls_on c is before e run =
     let s = state_after c (opening c) before in
     let n = counted_on c is before (opening c) (opens_counted c is) (first_legal c before (e ∷ []) (opening c) run) in
     subst (λ (x : ChainState). IsBelow (measure c x) (measure c s)) (sym (state_on c before (e ∷ []) (opening c)))
-      (falls c is s n e (rest_legal c before (e ∷ []) (opening c) run).0)
+    (falls c is s n e (rest_legal c before (e ∷ []) (opening c) run).0)

@@ -3,7 +3,6 @@
 use Rattle.std.specs.Prelude.{ℕ, zero, suc, ◌≡◌, ◌+◌, ◌-◌, ◌*◌, ◌<◌, ◌⊎◌, ◌&&◌, not, Bool, true, false, List, [], ◌∷◌, length, Option, Some, None, is_some, if◌then◌else◌}
 use Rattle.ftc_serial.specs.Serial.{Entry, Visited, Given}
 use Rattle.ftc_machine.specs.Setting.{Setting, servers, count, is_member}
-use Rattle.ftc_machine.specs.Visits.{Visits}
 use Rattle.ftc_machine.specs.Changes.{is_changing}
 use Rattle.ftc_machine.specs.State.{Where, Held, Queued, Message, ChainState}
 
