@@ -50,3 +50,4 @@ pub mod Counting
 pub mod Telling
 pub mod Few
 pub mod Falling
+pub mod Example

@@ -14,3 +14,4 @@ pub mod Fates
 pub mod Quiet
 pub mod Counts
 pub mod Measure
+pub mod Example

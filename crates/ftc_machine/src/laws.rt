@@ -23,6 +23,7 @@ ghost use Rattle.ftc_machine.specs.declared.fate.Fate.TheVariants as became;
 ghost use Rattle.ftc_machine.specs.Fates.{AreFates, MayLose};
 ghost use Rattle.ftc_machine.specs.Finish.{IsComplete};
 ghost use Rattle.ftc_machine.specs.Counts.{AreFew};
+ghost use Rattle.ftc_machine.specs.Example.{two_monitors, undoing};
 ghost use Rattle.ftc_machine.specs.Measure.{measure, IsBelow};
 ghost use Rattle.ftc_machine.specs.Quiet.{IsQuiet, IsQuietEvent, AreDone};
 ghost use Rattle.ftc_machine.specs.Run.{IsRun, IsFinished, state_after};
@@ -110,4 +111,12 @@ pub fn every_event_goes_on()
         IsRun setting (before ++ event ∷ []) →
         IsBelow (measure setting (state_after setting (opening setting) (before ++ event ∷ [])))
         (measure setting (state_after setting (opening setting) before)) }
+{}
+
+/// The laws speak of something: in this run a server crashes behind a visit that no other server has, and
+/// the server that takes its place undoes it, so that nothing is left of it.
+pub fn a_visit_undone()
+    ensures setting { IsSetting two_monitors }
+    ensures run { IsRun two_monitors undoing }
+    ensures left { (state_after two_monitors (opening two_monitors) undoing).trace ≡ [] }
 {}
