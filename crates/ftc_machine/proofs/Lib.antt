@@ -51,3 +51,4 @@ pub mod Telling
 pub mod Few
 pub mod Falling
 pub mod Example
+pub mod Traced

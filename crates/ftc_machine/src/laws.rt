@@ -13,6 +13,7 @@ ghost use Rattle.ftc_serial.specs.Serial.{Given};
 ghost use Rattle.ftc_serial.specs.Take.{Outcome, taken};
 ghost use Rattle.ftc_serial.specs.Entries.{Touches};
 ghost use Rattle.ftc_serial.specs.Words.{AnyOf};
+ghost use Rattle.ftc_serial.specs.Trace.{trace_of};
 ghost use Rattle.ftc_store.specs.Store.{Content};
 ghost use Rattle.ftc_machine.specs.Setting.{Setting, setting_of, IsSetting};
 ghost use Rattle.ftc_machine.specs.Changes.{Changes};
@@ -27,7 +28,7 @@ ghost use Rattle.ftc_machine.specs.Example.{two_monitors, undoing};
 ghost use Rattle.ftc_machine.specs.Measure.{measure, IsBelow};
 ghost use Rattle.ftc_machine.specs.Quiet.{IsQuiet, IsQuietEvent, AreDone};
 ghost use Rattle.ftc_machine.specs.Run.{IsRun, IsFinished, state_after};
-ghost use Rattle.ftc_machine.specs.Moment.{IsSound};
+ghost use Rattle.ftc_machine.specs.Moment.{IsSound, steps_in};
 
 /// An accepted script for a chain and for its packets makes a setting of which the other laws speak.
 pub fn accepted()
@@ -119,4 +120,11 @@ pub fn a_visit_undone()
     ensures setting { IsSetting two_monitors }
     ensures run { IsRun two_monitors undoing }
     ensures left { (state_after two_monitors (opening two_monitors) undoing).trace ≡ [] }
+{}
+
+/// The trace that the machine has is that of its journal: the visits and releases in order, without the
+/// visits that a recovery of the journal lists.
+pub fn trace_of_a_run()
+    ensures { (setting : Setting) → IsSetting setting → (journal : List AnEvent) → IsRun setting journal →
+        steps_in (state_after setting (opening setting) journal).trace ≡ trace_of journal }
 {}
