@@ -1,12 +1,11 @@
 -- The example is a run: each of its events is legal in its turn.
-use Rattle.std.proofs.Common.{◌≡◌, ℕ, ◌<◌, ◌≤◌, ◌==◌, ◌&&◌, ◌||◌, Bool, true, false, List, [], ◌∷◌, inl, inr, refl, sym, ap, subst, ◌∙◌, arith, Option, Some, None}
+use Rattle.std.proofs.Common.{◌≡◌, ℕ, ◌<◌, false, [], ◌∷◌, inl, inr, refl, sym, subst, arith}
 use Rattle.std.proofs.lemmas.Bool.{true≢false, cases_eq}
 use Rattle.ftc_ring.specs.Live.{HasLive, IsLive}
 use Rattle.ftc_script.specs.Steps.{all_live, with_at, live_after_all}
 use Rattle.ftc_machine.specs.Setting.{shape, IsSetting}
 use Rattle.std.proofs.lemmas.Option.{none-some}
-use Rattle.ftc_base.specs.Partition.{partition_of}
-use Rattle.ftc_journal.specs.declared.event.Event.TheVariants.{Enter, Visit, Crash, Recover, Pull}
+use Rattle.ftc_journal.specs.declared.event.Event.TheVariants.{Enter, Visit, Crash}
 use Rattle.ftc_mbox.specs.Ask.{ask}
 use Rattle.ftc_packet.specs.Flow.{flow_found, flow_in, is_flow}
 use Rattle.ftc_packet.specs.Layout.{word_at, transport_start}
@@ -33,13 +32,22 @@ undone_here = refl
 
 pub a_run : IsRun two_monitors undoing
 unfolding asked asked_from ask flow_found flow_in is_flow word_at transport_start changes
-a_run =
-    (((refl, omega arith, ((λ e. omega arith), ((λ e. omega arith), tt))), λ _ p w due. none-some w due.0),
-    (((_, datagram, false, refl, refl, refl, λ j q is. absurd (true≢false (sym is))), λ _ p w due. none-some w due.0),
-    ((refl, λ _ p w due. none-some w due.0),
-    (((refl, undone_here), λ _ p w due. none-some w due.0),
-    (((refl, refl, refl), λ _ p w due. none-some w due.0),
-    (((refl, refl, refl), λ _ p w due. none-some w due.0), tt))))))
+a_run = (
+  ((refl, omega arith, ((λ e. omega arith), ((λ e. omega arith), tt))), λ _ p w due. none-some w due.0),
+  (
+    ((_, datagram, false, refl, refl, refl, λ j q is. absurd (true≢false (sym is))), λ _ p w due. none-some w due.0),
+    (
+      (refl, λ _ p w due. none-some w due.0),
+      (
+        ((refl, undone_here), λ _ p w due. none-some w due.0),
+        (
+          ((refl, refl, refl), λ _ p w due. none-some w due.0),
+          (((refl, refl, refl), λ _ p w due. none-some w due.0), tt),
+        ),
+      ),
+    ),
+  ),
+)
 
 -- nothing is left of the visit
 pub nothing_left : (state_after two_monitors (opening two_monitors) undoing).trace ≡ []
@@ -56,12 +64,19 @@ only_two P first second k below = elim (cases_eq k 0) [
 pub a_setting : IsSetting two_monitors
 a_setting = record {
   ring = record { some = omega arith; servers = omega arith; failures = omega arith };
-  lines = ((record { within = omega arith; ordered = omega arith; entered = omega arith }, record {
-      up = refl;
-      admissible = record { each = only_two (HasLive (shape two_monitors) (with_at all_live 0 false))
-          (record { server = 1; within = omega arith; member = omega arith; up = refl }) (record { server = 1; within = omega arith; member = omega arith; up = refl }) };
-    }),
-    ((record { within = omega arith; ordered = omega arith; entered = omega arith }, refl), tt));
+  lines = (
+    (
+      record { within = omega arith; ordered = omega arith; entered = omega arith },
+      record {
+        up = refl;
+        admissible = record {
+          each = only_two (HasLive (shape two_monitors) (with_at all_live 0 false))
+              (record { server = 1; within = omega arith; member = omega arith; up = refl }) (record { server = 1; within = omega arith; member = omega arith; up = refl });
+        };
+      },
+    ),
+    ((record { within = omega arith; ordered = omega arith; entered = omega arith }, refl), tt),
+  );
   ends = only_two (IsLive (live_after_all all_live two_monitors.lines)) refl refl;
   loses = λ link origin lost. absurd (true≢false (sym lost));
 }

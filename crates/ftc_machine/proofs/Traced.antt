@@ -1,7 +1,7 @@
 -- The machine's trace is the trace of its journal.
-use Rattle.std.proofs.Common.{◌≡◌, ◌≢◌, ℕ, ◌+◌, ◌<◌, ◌≤◌, ◌==◌, ◌&&◌, ◌||◌, if◌then◌else◌, Bool, true, false, not, cond, List, [], ◌∷◌, ◌++◌, filter, refl, sym, ap, subst, ◌∙◌, arith, inl, inr, eqb-true, Option, Some, None, is_some}
+use Rattle.std.proofs.Common.{◌≡◌, ℕ, ◌+◌, ◌<◌, ◌==◌, ◌||◌, if◌then◌else◌, Bool, true, false, not, cond, List, [], ◌∷◌, ◌++◌, filter, refl, sym, ap, subst, ◌∙◌, arith, inl, inr, Option, Some, None}
 use Rattle.std.specs.List.{flat_map}
-use Rattle.std.proofs.lemmas.Bool.{true≢false, cases_eq, cases_Bool, eqb-false, false_from_ne_true, or_cases}
+use Rattle.std.proofs.lemmas.Bool.{true≢false, false_from_ne_true, or_cases}
 use Rattle.std.proofs.lemmas.Option.{none-some}
 use Rattle.ftc_ring.specs.Ring.{next_of}
 use Rattle.ftc_journal.specs.declared.event.Event.{Event}
@@ -10,24 +10,23 @@ use Rattle.ftc_journal.specs.declared.event.VisitName.{VisitName}
 use Rattle.ftc_serial.specs.declared.step.Step.{Step}
 use Rattle.ftc_serial.specs.declared.step.Step.TheVariants as step
 use Rattle.ftc_serial.specs.Serial.{Entry, Visited, Given}
-use Rattle.ftc_serial.specs.Entries.{step_of}
-use Rattle.ftc_serial.specs.Removal.{is_taken, left_of}
+use Rattle.ftc_serial.specs.Removal.{left_of}
 use Rattle.ftc_serial.specs.Trace.{undone_by, names, steps_of, trace_of}
 use Rattle.ftc_serial.proofs.Functions.{with_at_cases}
 use Rattle.ftc_machine.specs.declared.fate.Fate.{Fate}
-use Rattle.ftc_machine.specs.declared.fate.Fate.TheVariants.{Released, Filtered, Lost, Inside}
+use Rattle.ftc_machine.specs.declared.fate.Fate.TheVariants.{Released, Lost, Inside}
 use Rattle.ftc_machine.specs.Setting.{Setting, servers, IsSetting}
 use Rattle.ftc_machine.specs.Visits.{In}
 use Rattle.ftc_machine.specs.State.{ChainState, Message, Where, Held, Queued, opening}
 use Rattle.ftc_machine.specs.Trace.{IsSomeVisit}
-use Rattle.ftc_machine.specs.Recovery.{undone_visits, is_undone, is_dropped, previous_live, following_live}
+use Rattle.ftc_machine.specs.Recovery.{is_undone, is_dropped, previous_live, following_live}
 use Rattle.ftc_machine.specs.Legal.{MayHappen, IsLegal}
-use Rattle.ftc_machine.specs.Next.{next, drop_if, has_packet, fate_by, outcome_at}
+use Rattle.ftc_machine.specs.Next.{next, drop_if, fate_by, outcome_at}
 use Rattle.ftc_machine.specs.Run.{AreLegal, IsRun, state_after}
 use Rattle.ftc_machine.specs.Moment.{steps_in}
 use Rattle.ftc_machine.proofs.Premises.{IsGood}
 use Rattle.ftc_machine.proofs.Supposed.{is_good}
-use Rattle.ftc_machine.proofs.Places.{Place, Waits, Passed, serial_of, IsSerial, place_after, placed}
+use Rattle.ftc_machine.proofs.Places.{Waits, Passed, serial_of, placed}
 use Rattle.ftc_machine.proofs.Standing.{visit_stood, visited_earlier}
 use Rattle.ftc_machine.proofs.Stores.{stands_below}
 use Rattle.ftc_machine.proofs.Listed.{any_name, in_order_says}
@@ -167,8 +166,8 @@ module _ (c : Setting) (good : IsGood c) (s : ChainState) (h : Inv c s) (k : ℕ
       let fates = are_fates c (next c s (Recover k undone)) fated in
       let stood : IsSomeVisit (left_of (names undone) s.trace) j p = elim ((fates.inside p entered).0 inside) [
         | inl by ↦
-          let was = kept_drop (is_dropped c s (following_live c s k)) (s.message p) by.message by.there in
-          under_way_same by.message.place by.bytes p j
+            let was = kept_drop (is_dropped c s (following_live c s k)) (s.message p) by.message by.there in
+            under_way_same by.message.place by.bytes p j
             ((h.messages p by.message was).under_way by.bytes by.carries).place
             ((after.messages p by.message by.there).under_way by.bytes by.carries).place there
         | inr by ↦ passed_same by.withheld.bytes p j (let w = after.withheld p by.withheld by.there in w.place) there
@@ -203,11 +202,12 @@ module _ (c : Setting) (is : IsSetting c) (s : ChainState) (n : IsCounted c s) (
   plain : (e : Event) → IsLegal c s e → undone_by e ≡ [] → steps_in (next c s e).trace ≡ steps_in s.trace ++ steps_of (flat_map undone_by before) e
       → (steps_in (next c s e).trace ≡ trace_of (before ++ e ∷ [])) × AreGone (next c s e) (flat_map undone_by (before ++ e ∷ []))
   plain e legal none_undone step_is =
-      let undone : flat_map undone_by (before ++ e ∷ []) ≡ flat_map undone_by before = mapped undone_by before (e ∷ []) ∙ (ap (λ l. flat_map undone_by before ++ (l ++ [])) none_undone ∙ ends (flat_map undone_by before)) in
-      (step_is ∙ (ap (λ l. l ++ steps_of (flat_map undone_by before) e) same
-        ∙ (sym (mapped (steps_of (flat_map undone_by before)) before (e ∷ []) ∙ ap (λ l. trace_of before ++ l) (ends (steps_of (flat_map undone_by before) e)))
-        ∙ ap (λ u. flat_map (steps_of u) (before ++ e ∷ [])) (sym undone))),
-      subst (AreGone (next c s e)) (sym undone) (still_gone e legal.0))
+      let undone : flat_map undone_by (before ++ e ∷ []) ≡ flat_map undone_by before = mapped undone_by before (e ∷ []) ∙ (ap (λ l. flat_map undone_by before ++ (l ++ [])) none_undone ∙ ends (flat_map undone_by before)) in (
+        step_is ∙ (ap (λ l. l ++ steps_of (flat_map undone_by before) e) same
+            ∙ (sym (mapped (steps_of (flat_map undone_by before)) before (e ∷ []) ∙ ap (λ l. trace_of before ++ l) (ends (steps_of (flat_map undone_by before) e)))
+            ∙ ap (λ u. flat_map (steps_of u) (before ++ e ∷ [])) (sym undone))),
+        subst (AreGone (next c s e)) (sym undone) (still_gone e legal.0),
+      )
 
   visited_step : (k p w : ℕ) → IsLegal c s (Visit k p w) → steps_of (flat_map undone_by before) (Visit k p w) ≡ step.Visit k p ∷ []
   visited_step k p w legal =
@@ -222,17 +222,18 @@ module _ (c : Setting) (is : IsSetting c) (s : ChainState) (n : IsCounted c s) (
   recovered k undone legal =
       let some = flat_map undone_by before in
       let all : flat_map undone_by (before ++ Recover k undone ∷ []) ≡ some ++ undone = mapped undone_by before (Recover k undone ∷ []) ∙ ap (λ l. some ++ l) (ends undone) in
-      let counted = keeps_counts c is s n (Recover k undone) legal in
-      (steps_left undone s.trace ∙ (ap (filter (stays undone)) same ∙ (sym (undone_more some undone before)
-        ∙ (sym (ends (flat_map (steps_of (some ++ undone)) before)) ∙ (sym (mapped (steps_of (some ++ undone)) before (Recover k undone ∷ []))
-        ∙ ap (λ u. flat_map (steps_of u) (before ++ Recover k undone ∷ [])) (sym all))))),
-      subst (AreGone (next c s (Recover k undone))) (sym all) (λ j p i. elim (or_cases (names some j p) (names undone j p) (sym (any_name j p some undone) ∙ i)) [
-        | inl old ↦ still_gone (Recover k undone) legal.0 j p old
-        | inr new ↦
-          let there : IsSomeVisit s.trace j p = (in_order_says (is_undone c s (previous_live c s k) (following_live c s k)) s.trace j p (subst (λ u. In (names u) j p) legal.0.1 new)).1 in
-          let entered = shaped.visited j p there in
-          (entered, undone_outside c (is_good c is) s reached.live.inv k undone counted.reached.live.inv counted.reached.fated j p entered new there)
-      ]))
+      let counted = keeps_counts c is s n (Recover k undone) legal in (
+        steps_left undone s.trace ∙ (ap (filter (stays undone)) same ∙ (sym (undone_more some undone before)
+            ∙ (sym (ends (flat_map (steps_of (some ++ undone)) before)) ∙ (sym (mapped (steps_of (some ++ undone)) before (Recover k undone ∷ []))
+            ∙ ap (λ u. flat_map (steps_of u) (before ++ Recover k undone ∷ [])) (sym all))))),
+        subst (AreGone (next c s (Recover k undone))) (sym all) (λ j p i. elim (or_cases (names some j p) (names undone j p) (sym (any_name j p some undone) ∙ i)) [
+          | inl old ↦ still_gone (Recover k undone) legal.0 j p old
+          | inr new ↦
+              let there : IsSomeVisit s.trace j p = (in_order_says (is_undone c s (previous_live c s k) (following_live c s k)) s.trace j p (subst (λ u. In (names u) j p) legal.0.1 new)).1 in
+              let entered = shaped.visited j p there in
+              (entered, undone_outside c (is_good c is) s reached.live.inv k undone counted.reached.live.inv counted.reached.fated j p entered new there)
+        ]),
+      )
 
   pub traces : (e : Event) → IsLegal c s e → (steps_in (next c s e).trace ≡ trace_of (before ++ e ∷ [])) × AreGone (next c s e) (flat_map undone_by (before ++ e ∷ []))
   traces (Enter p) legal = plain (Enter p) legal refl (sym (ends (steps_in s.trace)))
