@@ -23,11 +23,11 @@ events_again v place (e ∷ events) all =
     let said : event_of v (parts_of 32 (words_of e)) ≡ Ok e = ap (event_of v) (words_found v e all.0) ∙ event_again v e all.0 in
     ap (events_from v place) parts ∙ events_said v place (words_of e) rest e events said (events_again v (place + 1) events all.1)
 
-header_without_feed : (v : Version) → Without 10 (header_of v)
+pub header_without_feed : (v : Version) → Without 10 (header_of v)
 header_without_feed version.First = written 10 (codes "ftc-journal 1") refl
 header_without_feed version.Second = written 10 (codes "ftc-journal 2") refl
 
-header_known : (v : Version) → version_of (header_of v) ≡ Some v
+pub header_known : (v : Version) → version_of (header_of v) ≡ Some v
 header_known version.First = refl
 header_known version.Second = refl
 

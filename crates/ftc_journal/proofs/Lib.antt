@@ -5,3 +5,4 @@ pub mod Letters
 pub mod Words
 pub mod Again
 pub mod Spelled
+pub mod FirstFault

@@ -26,10 +26,10 @@ pub two_marks : (word server packet first rest : List ℕ) → parts_of 58 word 
 two_marks word server packet first rest e f = let more = some_parts 58 rest in rw (e, f, more.2) refl
 
 -- one more line
-events_more : (version : Version) (place : ℕ) (line behind : List ℕ) → events_from version place (line ∷ parts_of 10 behind) ≡ (placed place (event_of version (parts_of 32 line)) >>= λ event. events_from version (place + 1) (parts_of 10 behind) >>= λ events. Ok (event ∷ events))
+pub events_more : (version : Version) (place : ℕ) (line behind : List ℕ) → events_from version place (line ∷ parts_of 10 behind) ≡ (placed place (event_of version (parts_of 32 line)) >>= λ event. events_from version (place + 1) (parts_of 10 behind) >>= λ events. Ok (event ∷ events))
 events_more version place line behind = let more = some_parts 10 behind in rw more.2 refl
 
-journal_more : (header lines : List ℕ) → journal_from (header ∷ parts_of 10 lines) ≡ lines_behind (version_of header) (parts_of 10 lines)
+pub journal_more : (header lines : List ℕ) → journal_from (header ∷ parts_of 10 lines) ≡ lines_behind (version_of header) (parts_of 10 lines)
 journal_more header lines = let more = some_parts 10 lines in rw more.2 refl
 
 pub begins : (text header lines : List ℕ) (version : Version) (held : List Event) → parts_of 10 text ≡ header ∷ parts_of 10 lines → version_of header ≡ Some version → held ≡ [] → joined held (events_from version 2 (parts_of 10 lines)) ≡ journal_of text

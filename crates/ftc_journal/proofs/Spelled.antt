@@ -343,7 +343,7 @@ event_spelled v [] e said = absurd cc
 event_spelled v (first ∷ words) e said = by_form v first words (form_of first) e (form_known first) said
 
 -- a line that says an event is the event's line
-line_spelled : (v : Version) (line : List ℕ) (e : Event) → event_of v (parts_of 32 line) ≡ Ok e → (line ≡ words_of e) × IsEvent v e
+pub line_spelled : (v : Version) (line : List ℕ) (e : Event) → event_of v (parts_of 32 line) ≡ Ok e → (line ≡ words_of e) × IsEvent v e
 line_spelled v line e said =
     let is = event_spelled v (parts_of 32 line) e said in
     (sym (join_with_byte-slice_split 32 line) ∙ ap (join_with_byte 32) is.0 ∙ sym (words_joined e), is.1)
@@ -376,8 +376,8 @@ lines_spelled v place (line ∷ next ∷ lines) events e =
       bounds = (first.1, later.bounds);
     })
 
-header_known : (header : List ℕ) (v : Version) → version_of header ≡ Some v → header ≡ header_of v
-header_known header v e =
+pub header_is : (header : List ℕ) (v : Version) → version_of header ≡ Some v → header ≡ header_of v
+header_is header v e =
     elim (tested header (codes "ftc-journal 1") version.First v _ e) [
       | inl is ↦ is.0 ∙ ap header_of is.1
       | inr e1 ↦
@@ -397,7 +397,7 @@ behind_spelled header (Some v) next lines events known e text is =
 parts_spelled : (parts : List (List ℕ)) (events : List Event) (text : List ℕ) → journal_from parts ≡ Ok events → text ≡ join_with_byte 10 parts → IsSpelling events text
 parts_spelled [] events text e is = absurd cc
 parts_spelled (header ∷ []) events text e is = absurd cc
-parts_spelled (header ∷ next ∷ lines) events text e is = behind_spelled header (version_of header) next lines events (header_known header) e text is
+parts_spelled (header ∷ next ∷ lines) events text e is = behind_spelled header (version_of header) next lines events (header_is header) e text is
 
 pub accepted : (text : List ℕ) (events : List Event) → journal_of text ≡ Ok events → IsSpelling events text
 accepted text events e = parts_spelled (parts_of 10 text) events text e (sym (join_with_byte-slice_split 10 text))

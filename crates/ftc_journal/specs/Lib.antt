@@ -3,3 +3,4 @@ pub mod EventList
 pub mod Text
 pub mod Reading
 pub mod Spelling
+pub mod Faulty

@@ -19,7 +19,7 @@ pub use event::{Event, VisitName, VisitNames};
 pub use fault::{JournalCause, JournalFault};
 pub use job::{Job, job_of};
 pub use journal::Journal;
-pub use laws::spellings;
+pub use laws::{faults, spellings};
 pub use printer::print;
 pub use reader::read;
 

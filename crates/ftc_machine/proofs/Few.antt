@@ -40,7 +40,7 @@ pub record IsCounted (c : Setting) (s : ChainState) : Type 0 where
   pub spare : quiet + length s.lines ≤ length c.lines + (if still then 1 else 0)
   pub is_still : still ≡ true → IsStill c s
 
-fewer_lines : (lines : List ScriptLine) (line : ScriptLine) → IsNextLine lines line → length (lines_behind lines) + 1 ≡ length lines
+pub fewer_lines : (lines : List ScriptLine) (line : ScriptLine) → IsNextLine lines line → length (lines_behind lines) + 1 ≡ length lines
 fewer_lines [] line is = absurd is
 fewer_lines (first ∷ lines) line is = omega arith
 

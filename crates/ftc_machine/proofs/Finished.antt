@@ -64,7 +64,7 @@ module _ (c : Setting) (good : IsGood c) (s : ChainState) (l : IsLive c s) where
       → (q : ℕ) (m : Message) → with_at s.message p o q ≡ Some m → (y : ℕ) → From (servers c) m.place y → IsSeenAt c s.trace s.up s.lists y (target (servers c) m.place) m.logs (seen q)
   seen_fresh p o no_from = each_message (λ q m. (y : ℕ) → From (servers c) m.place y → IsSeenAt c s.trace s.up s.lists y (target (servers c) m.place) m.logs (seen q)) s.message p o (λ m e y from. absurd (no_from m e y from)) ok
 
-  pull_more : (k : ℕ) → MayHappen c s (Pull k) → (x j q : ℕ) → In (s.lists x) j q → In (with_at s.lists (next_of (servers c) k) (pulled_list c s k (next_of (servers c) k)) x) j q
+  pub pull_more : (k : ℕ) → MayHappen c s (Pull k) → (x j q : ℕ) → In (s.lists x) j q → In (with_at s.lists (next_of (servers c) k) (pulled_list c s k (next_of (servers c) k)) x) j q
   pull_more k legal x j q i =
       let n = (servers c) in let m = next_of n k in
       with_at_cases (λ (v : Visits). In v j q) s.lists m (pulled_list c s k m) x

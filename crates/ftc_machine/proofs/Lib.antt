@@ -49,3 +49,6 @@ pub mod HasEach
 pub mod Counting
 pub mod Telling
 pub mod Few
+pub mod Falling
+pub mod Example
+pub mod Traced

@@ -28,7 +28,7 @@ once : (c : Setting) (older : List Entry) (j p : ℕ) (o : Outcome) → IsSerial
 once c older j p o is there =
     let less : j < j = visited_earlier c older j p is.0.0 is.1 is.0.1 j there in omega arith
 
-any_name : (j p : ℕ) (xs ys : List VisitName) → names (xs ++ ys) j p ≡ (names xs j p || names ys j p)
+pub any_name : (j p : ℕ) (xs ys : List VisitName) → names (xs ++ ys) j p ≡ (names xs j p || names ys j p)
 any_name j p [] ys = refl
 any_name j p (x ∷ xs) ys = rw (any_name j p xs ys) (assoc ((x.server == j) && (x.packet == p)) (names xs j p) (names ys j p))
   where

@@ -13,3 +13,5 @@ pub mod Finish
 pub mod Fates
 pub mod Quiet
 pub mod Counts
+pub mod Measure
+pub mod Example

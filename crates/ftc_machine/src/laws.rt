@@ -1,7 +1,7 @@
 //! What is so of every run, whatever its chain, packets and script: the laws on which the promises of the
 //! chain of servers rest. A law is the contract of a function that does nothing.
 
-ghost use Rattle.std.specs.Prelude.{◌≡◌, ◌⊎◌, ◌++◌, ℕ, List, length};
+ghost use Rattle.std.specs.Prelude.{◌≡◌, ◌⊎◌, ◌++◌, ℕ, List, [], ◌∷◌, length};
 ghost use Rattle.std.specs.List.{AllByRecursion};
 ghost use Rattle.ftc_base.specs.Partition.{partition_of};
 ghost use Rattle.ftc_base.specs.declared.ask.Write.{Write as AWrite};
@@ -13,6 +13,7 @@ ghost use Rattle.ftc_serial.specs.Serial.{Given};
 ghost use Rattle.ftc_serial.specs.Take.{Outcome, taken};
 ghost use Rattle.ftc_serial.specs.Entries.{Touches};
 ghost use Rattle.ftc_serial.specs.Words.{AnyOf};
+ghost use Rattle.ftc_serial.specs.Trace.{trace_of};
 ghost use Rattle.ftc_store.specs.Store.{Content};
 ghost use Rattle.ftc_machine.specs.Setting.{Setting, setting_of, IsSetting};
 ghost use Rattle.ftc_machine.specs.Changes.{Changes};
@@ -23,9 +24,11 @@ ghost use Rattle.ftc_machine.specs.declared.fate.Fate.TheVariants as became;
 ghost use Rattle.ftc_machine.specs.Fates.{AreFates, MayLose};
 ghost use Rattle.ftc_machine.specs.Finish.{IsComplete};
 ghost use Rattle.ftc_machine.specs.Counts.{AreFew};
+ghost use Rattle.ftc_machine.specs.Example.{two_monitors, undoing};
+ghost use Rattle.ftc_machine.specs.Measure.{measure, IsBelow};
 ghost use Rattle.ftc_machine.specs.Quiet.{IsQuiet, IsQuietEvent, AreDone};
 ghost use Rattle.ftc_machine.specs.Run.{IsRun, IsFinished, state_after};
-ghost use Rattle.ftc_machine.specs.Moment.{IsSound};
+ghost use Rattle.ftc_machine.specs.Moment.{IsSound, steps_in};
 
 /// An accepted script for a chain and for its packets makes a setting of which the other laws speak.
 pub fn accepted()
@@ -100,4 +103,28 @@ pub fn quiet_links()
 pub fn few_propagates()
     ensures { (setting : Setting) → IsSetting setting → (journal : List AnEvent) → IsRun setting journal →
         AreFew setting journal }
+{}
+
+/// Every event takes a run nearer to its end: of the numbers that measure what is still to do, it lowers one
+/// and leaves those before it as they are. So every run ends, whatever is done in which order.
+pub fn every_event_goes_on()
+    ensures { (setting : Setting) → IsSetting setting → (before : List AnEvent) (event : AnEvent) →
+        IsRun setting (before ++ event ∷ []) →
+        IsBelow (measure setting (state_after setting (opening setting) (before ++ event ∷ [])))
+        (measure setting (state_after setting (opening setting) before)) }
+{}
+
+/// The laws speak of something: in this run a server crashes behind a visit that no other server has, and
+/// the server that takes its place undoes it, so that nothing is left of it.
+pub fn a_visit_undone()
+    ensures setting { IsSetting two_monitors }
+    ensures run { IsRun two_monitors undoing }
+    ensures left { (state_after two_monitors (opening two_monitors) undoing).trace ≡ [] }
+{}
+
+/// The trace that the machine has is that of its journal: the visits and releases in order, without the
+/// visits that a recovery of the journal lists.
+pub fn trace_of_a_run()
+    ensures { (setting : Setting) → IsSetting setting → (journal : List AnEvent) → IsRun setting journal →
+        steps_in (state_after setting (opening setting) journal).trace ≡ trace_of journal }
 {}

@@ -7,6 +7,6 @@ mod laws;
 
 pub use fate::Fate;
 pub use laws::{
-    accepted, every_moment, fates, few_propagates, finished_run, law_of_changes, quiet_links,
-    released_for_good,
+    a_visit_undone, accepted, every_event_goes_on, every_moment, fates, few_propagates, finished_run,
+    law_of_changes, quiet_links, released_for_good, trace_of_a_run,
 };

@@ -1,12 +1,12 @@
 -- One more read of a rule that is asked in turn.
-use Rattle.std.proofs.Common.{◌≡◌, ℕ, suc, Bool, ◌+◌, ◌-◌, ◌<◌, ◌≤◌, List, [], ◌∷◌, ◌++◌, refl, sym, ◌∙◌, ap, arith}
+use Rattle.std.proofs.Common.{◌≡◌, ℕ, suc, Bool, ◌+◌, ◌-◌, ◌<◌, ◌≤◌, List, [], ◌∷◌, ◌++◌, refl, sym, arith}
 use Rattle.ftc_base.specs.declared.ask.Answer.{Answer}
 use Rattle.ftc_base.specs.declared.ask.Ask.TheVariants.{Read, Finish}
 use Rattle.ftc_base.specs.declared.ask.Finish.{Finish as End}
 use Rattle.ftc_mbox.specs.declared.rule.Rule.{Rule}
 use Rattle.ftc_mbox.specs.Ask.{ask}
 use Rattle.ftc_store.specs.Store.{Content}
-use Rattle.ftc_serial.specs.Take.{asked, asked_from, answer_at, ended, stopped}
+use Rattle.ftc_serial.specs.Take.{asked_from, answer_at, ended, stopped}
 
 pub read_more : (rule : Rule) (packet : List ℕ) (content : Content) (next : ℕ) (answers : List Answer) (key : List ℕ) (change : Bool) → ask rule packet answers ≡ Read key change → asked_from rule packet content (suc next) answers ≡ asked_from rule packet content next (answers ++ answer_at content key ∷ [])
 unfolding asked_from

@@ -1,17 +1,15 @@
 -- Visits taken out of a history, whose last entry is first.
-use Rattle.std.proofs.Common.{◌≡◌, ℕ, ◌==◌, Bool, true, false, cond, not, List, [], ◌∷◌, ◌++◌, ◌⊎◌, inl, inr, refl, sym, ap, subst, ◌∙◌, length, Some}
+use Rattle.std.proofs.Common.{◌≡◌, ℕ, true, false, cond, not, List, [], ◌∷◌, ◌++◌, ◌⊎◌, inl, inr, refl, sym, ap, subst, ◌∙◌, length}
 use Rattle.std.specs.List.{AllByRecursion}
 use Rattle.std.proofs.lemmas.Bool.{true≢false}
 use Rattle.ftc_base.specs.Partition.{partition_of}
 use Rattle.ftc_base.specs.declared.ask.Answer.{Answer}
 use Rattle.ftc_mbox.specs.declared.rule.Rule.{Rule}
-use Rattle.ftc_store.specs.Store.{Content, written}
-use Rattle.ftc_serial.specs.declared.position.Position.{Position}
-use Rattle.ftc_serial.specs.declared.position.Position.TheVariants as position
-use Rattle.ftc_serial.specs.Words.{AnyOf, with_at}
+use Rattle.ftc_store.specs.Store.{Content}
+use Rattle.ftc_serial.specs.Words.{AnyOf}
 use Rattle.ftc_serial.specs.Take.{Outcome, taken}
-use Rattle.ftc_serial.specs.Serial.{State, Entry, Visited, Given, after, position_after}
-use Rattle.ftc_serial.specs.Entries.{packet_of, IsLegal, Touches, WritesAt}
+use Rattle.ftc_serial.specs.Serial.{State, Entry, Visited, Given, after}
+use Rattle.ftc_serial.specs.Entries.{IsLegal, Touches, WritesAt}
 use Rattle.ftc_serial.specs.Removal.{Taken, is_taken, IsTaken, IsBefore, Takes, left_of, IsLost}
 use Rattle.ftc_serial.specs.History.{state_after, IsHistory, IsClosedHistory, IsCut, IsAlike, IsRemovedHistory}
 use Rattle.ftc_serial.proofs.Functions.{with_at_cases, with_at_both, any_of_all}

@@ -1,5 +1,5 @@
 -- When a visit and a release are legal.
-use Rattle.std.proofs.Common.{◌≡◌, ℕ, ◌==◌, if◌then◌else◌, Bool, true, false, List, [], ◌∷◌, refl, sym, ap, ◌∙◌, Option, Some, None, eq-eqb, eqb-true}
+use Rattle.std.proofs.Common.{◌≡◌, ℕ, ◌==◌, if◌then◌else◌, true, false, List, refl, sym, ap, ◌∙◌, Option, Some, None, eq-eqb, eqb-true}
 use Rattle.std.specs.Prelude.{slice_get, option_map}
 use Rattle.ftc_mbox.specs.declared.rule.Rule.{Rule}
 use Rattle.ftc_serial.specs.declared.position.Position.{Position}

@@ -1,5 +1,5 @@
 -- What the program changes is what a step of the serial chain changes.
-use Rattle.std.proofs.Common.{◌≡◌, ℕ, ◌+◌, ◌<◌, Bool, true, false, List, [], ◌∷◌, ◌++◌, length, Option, Some, None, refl, sym, ap, ◌∙◌, arith}
+use Rattle.std.proofs.Common.{◌≡◌, ℕ, ◌<◌, Bool, true, false, List, [], ◌∷◌, ◌++◌, length, Option, Some, None, refl, sym, ap, ◌∙◌}
 use Rattle.std.specs.Prelude.{◌==◌, slice_get, slice_set, option_map, map}
 use Rattle.std.specs.FinMap.{empty}
 use Rattle.std.proofs.lemmas.Bool.{eqb-true}
@@ -16,7 +16,7 @@ use Rattle.ftc_serial.specs.declared.position.Position.TheVariants as position
 use Rattle.ftc_serial.specs.declared.step.Step.TheVariants.{Visit, Release}
 use Rattle.ftc_serial.specs.Words.{with_at}
 use Rattle.ftc_serial.specs.Take.{taken}
-use Rattle.ftc_serial.specs.Serial.{State, Visited, Given, after, position_after, serial_step, visit_at, release_at}
+use Rattle.ftc_serial.specs.Serial.{State, Visited, after, position_after, serial_step, visit_at, release_at}
 use Rattle.ftc_serial.specs.Contents.{content_at}
 use Rattle.ftc_serial.specs.Waiting.{is_waiting, is_passed}
 use Rattle.ftc_serial.proofs.Places.{get_set, get_set_same, get_set_twice, content_set_twice}

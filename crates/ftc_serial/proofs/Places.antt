@@ -1,12 +1,11 @@
 -- Lists that are changed at one place, as functions of the place.
-use Rattle.std.proofs.Common.{◌≡◌, ◌≢◌, ℕ, zero, suc, ◌<◌, ◌≤◌, Bool, true, false, List, [], ◌∷◌, ◌++◌, length, take, Option, Some, None, refl, sym, ap, ◌∙◌, arith, cond, add-one}
-use Rattle.std.specs.Prelude.{◌==◌, slice_get, slice_set, map, ◌⊎◌, option_map}
-use Rattle.std.proofs.Common.{inl, inr}
+use Rattle.std.proofs.Common.{◌≡◌, ◌≢◌, ℕ, zero, suc, ◌<◌, true, false, List, [], ◌∷◌, ◌++◌, length, take, Option, Some, refl, ap, ◌∙◌, arith, cond}
+use Rattle.std.specs.Prelude.{◌==◌, slice_get, slice_set, map}
 use Rattle.std.specs.Option.{option_map_or}
 use Rattle.std.specs.FinMap.{empty}
 use Rattle.std.proofs.lemmas.Bool.{eqb-true, eqb-false}
 use Rattle.std.proofs.lemmas.List.{set-set}
-use Rattle.ftc_store.specs.Store.{Stored, Content}
+use Rattle.ftc_store.specs.Store.{Stored}
 use Rattle.ftc_serial.specs.Words.{with_at}
 use Rattle.ftc_serial.specs.Contents.{content_at}
 

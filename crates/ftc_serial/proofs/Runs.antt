@@ -1,18 +1,14 @@
 -- Runs by steps, first to last, and by histories, last to first.
-use Rattle.std.proofs.Common.{◌≡◌, ℕ, Bool, true, false, cond, not, List, [], ◌∷◌, ◌++◌, ◌⊎◌, inl, inr, refl, sym, ap, ap₂, subst, ◌∙◌, length, Option, Some, None, map}
-use Rattle.std.specs.Prelude.{option_map, option_and_then, filter}
-use Rattle.std.specs.FinMap.{get}
+use Rattle.std.proofs.Common.{◌≡◌, ℕ, true, false, cond, not, List, [], ◌∷◌, ◌⊎◌, inl, inr, refl, sym, ap, ap₂, subst, ◌∙◌, length, Option, Some, None, map}
+use Rattle.std.specs.Prelude.{option_map, option_and_then}
 use Rattle.std.specs.List.{AllByRecursion}
-use Rattle.ftc_base.specs.Partition.{partition_of}
 use Rattle.ftc_mbox.specs.declared.rule.Rule.{Rule}
 use Rattle.ftc_serial.specs.declared.step.Step.{Step}
-use Rattle.ftc_serial.specs.declared.step.Step.TheVariants.{Visit, Release}
-use Rattle.ftc_serial.specs.Words.{AnyOf, EachLater}
-use Rattle.ftc_serial.specs.Serial.{State, Entry, Visited, Given, entry_of, after, serial_step, serial_run}
+use Rattle.ftc_serial.specs.Words.{AnyOf}
+use Rattle.ftc_serial.specs.Serial.{State, Entry, Visited, Given, entry_of, after, serial_run}
 use Rattle.ftc_serial.specs.Entries.{step_of, IsLegal, entries}
-use Rattle.ftc_serial.specs.Removal.{Taken, is_taken, Takes, IsClosed, left_of, is_taken_step, steps_left, IsLost, IsRemoval}
+use Rattle.ftc_serial.specs.Removal.{Taken, is_taken, Takes, IsClosed, left_of, is_taken_step, steps_left, IsRemoval}
 use Rattle.ftc_serial.specs.History.{state_after, IsHistory, IsClosedHistory, IsAlike}
-use Rattle.ftc_serial.proofs.Functions.{all_map}
 use Rattle.ftc_serial.proofs.Legal.{told_legal}
 use Rattle.ftc_serial.proofs.Histories.{removed_history}
 

@@ -1,7 +1,6 @@
 -- A visit writes only at keys that it read.
-use Rattle.std.proofs.Common.{◌≡◌, ℕ, zero, suc, Bool, true, false, if◌then◌else◌, List, [], ◌∷◌, ◌++◌, ◌⊎◌, inl, inr, refl, sym, ap, subst, ◌∙◌, arith, eqb-true, length, Option, Some, None}
+use Rattle.std.proofs.Common.{◌≡◌, ℕ, zero, suc, Bool, true, false, if◌then◌else◌, List, [], ◌∷◌, ◌++◌, ◌⊎◌, inl, inr, refl, sym, ap, subst, ◌∙◌, arith, Option}
 use Rattle.std.specs.List.{AllByRecursion, Contains}
-use Rattle.std.proofs.lemmas.Bool.{cases_eq}
 use Rattle.ftc_base.specs.declared.ask.Answer.{Answer}
 use Rattle.ftc_base.specs.declared.ask.Write.{Write}
 use Rattle.ftc_base.specs.declared.ask.Ask.{Ask}
@@ -14,7 +13,7 @@ use Rattle.ftc_mbox.proofs.Visits.{rules_are_bounded}
 use Rattle.ftc_store.specs.Store.{Content}
 use Rattle.ftc_serial.specs.declared.visit.Asked.{Asked}
 use Rattle.ftc_serial.specs.Words.{AnyOf}
-use Rattle.ftc_serial.specs.Take.{asked_from, asked, answer_at, stopped, ended, Outcome, taken}
+use Rattle.ftc_serial.specs.Take.{asked_from, asked, answer_at, stopped, ended, taken}
 use Rattle.ftc_serial.specs.Reads.{IsRead}
 use Rattle.ftc_serial.proofs.Functions.{all_map}
 
@@ -63,15 +62,15 @@ written_from rule packet content (suc left) read leave asks answers bounded same
       | Finish end ↦ ended answers end
     ] in
     elim (asks []) as (λ a. (elim a as (λ asked. Type 0) [
-        | Read key change ↦ AllByRecursion (λ earlier. key ≡ earlier → ⊥) read × ((value : Option (List ℕ)) → ReadsAndWrites left (key ∷ read) (if change then key ∷ leave else leave) (λ more. asks (record { key = key; value = value } ∷ more)))
-        | Finish end ↦ visit.WritesAt leave end.writes.items
-      ]) → a ≡ ask rule packet answers → AreWritten (at (ask rule packet answers))) [
+      | Read key change ↦ AllByRecursion (λ earlier. key ≡ earlier → ⊥) read × ((value : Option (List ℕ)) → ReadsAndWrites left (key ∷ read) (if change then key ∷ leave else leave) (λ more. asks (record { key = key; value = value } ∷ more)))
+      | Finish end ↦ visit.WritesAt leave end.writes.items
+    ]) → a ≡ ask rule packet answers → AreWritten (at (ask rule packet answers))) [
       | Read key change ↦ λ goes is. subst (λ a. AreWritten (at a)) is
           (let answer = answer_at content key in
           written_from rule packet content left (key ∷ read) (if change then key ∷ leave else leave) (λ more. asks (answer ∷ more)) (answers ++ answer ∷ [])
-            (goes.1 answer.value)
-            (λ more. same (answer ∷ more) ∙ ap (ask rule packet) (sym (joined answers answer more)))
-            (with_leave answers answer leave within change))
+          (goes.1 answer.value)
+          (λ more. same (answer ∷ more) ∙ ap (ask rule packet) (sym (joined answers answer more)))
+          (with_leave answers answer leave within change))
       | Finish end ↦ λ all is. subst (λ a. AreWritten (at a)) is (in_leave leave answers within end.writes.items all)
     ] bounded (same [] ∙ ap (ask rule packet) (ends answers))
   where

@@ -1,5 +1,5 @@
 -- Visits taken out of a serial run.
-use Rattle.std.specs.Prelude.{ℕ, ◌≡◌, ◌⊎◌, Bool, true, false, not, List, [], ◌∷◌, filter, Some}
+use Rattle.std.specs.Prelude.{ℕ, ◌≡◌, ◌⊎◌, Bool, true, false, not, List, filter, Some}
 use Rattle.std.specs.FinMap.{get}
 use Rattle.ftc_base.specs.Partition.{partition_of}
 use Rattle.ftc_mbox.specs.declared.rule.Rule.{Rule}

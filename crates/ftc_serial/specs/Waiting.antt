@@ -1,5 +1,5 @@
 -- Tests of where a packet is.
-use Rattle.std.specs.Prelude.{ℕ, Bool, true, false, ◌==◌, List, [], Option, Some, None}
+use Rattle.std.specs.Prelude.{ℕ, Bool, true, false, ◌==◌, Option, Some, None}
 use Rattle.ftc_serial.specs.declared.position.Position.{Position}
 use Rattle.ftc_serial.specs.declared.position.Position.TheVariants as position
 

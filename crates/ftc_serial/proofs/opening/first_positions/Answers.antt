@@ -1,4 +1,4 @@
-use Rattle.std.proofs.Common.{◌≡◌, ℕ, ap, add-one, List, ◌++◌, ◌∷◌, [], map, take}
+use Rattle.std.proofs.Common.{◌≡◌, ℕ, ap, add-one, ◌++◌, ◌∷◌, [], map, take}
 use Rattle.ftc_serial.specs.declared.position.Position.TheVariants.{Waiting}
 use Rattle.ftc_serial.proofs.Places.{map_take_more}
 use Rattle.ftc_serial.proofs.opening.first_positions.Goals as goal

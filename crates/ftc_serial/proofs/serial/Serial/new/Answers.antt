@@ -1,4 +1,3 @@
-use Rattle.std.proofs.Common.{refl}
 use Rattle.ftc_serial.proofs.Made.{same_state, opening_place}
 use Rattle.ftc_serial.proofs.serial.Serial.new.Goals as goal
 

@@ -1,4 +1,4 @@
-use Rattle.std.proofs.Common.{◌≡◌, ◌<◌, ◌∙◌, sym, ap, refl, length, true, Some}
+use Rattle.std.proofs.Common.{◌≡◌, ◌∙◌, sym, ap, true, Some}
 use Rattle.std.specs.Prelude.{slice_get}
 use Rattle.ftc_base.specs.declared.released.Released.{Released}
 use Rattle.ftc_serial.specs.declared.position.Position.TheVariants.{Passed}

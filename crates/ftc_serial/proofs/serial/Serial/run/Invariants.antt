@@ -1,4 +1,4 @@
-use Rattle.std.proofs.Common.{◌≡◌, Some, take, length, ◌≤◌}
+use Rattle.std.proofs.Common.{◌≡◌, Some, take}
 use Rattle.ftc_serial.specs.Serial.{opening, serial_run}
 use Rattle.ftc_serial.specs.Held.{rules_of, state_of}
 use Rattle.ftc_serial.specs.Packets.{bytes_of}

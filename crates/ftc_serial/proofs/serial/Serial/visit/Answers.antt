@@ -1,6 +1,6 @@
-use Rattle.std.proofs.Common.{◌≡◌, ℕ, ◌<◌, ◌∙◌, sym, ap, refl, arith, length, true, Some}
+use Rattle.std.proofs.Common.{◌≡◌, ℕ, ◌<◌, ◌∙◌, sym, ap, refl, arith, length, true}
 use Rattle.std.specs.Prelude.{slice_get}
-use Rattle.std.proofs.lemmas.Option.{slice_get_read, get_or_from_slice_get, slice_get_within}
+use Rattle.std.proofs.lemmas.Option.{slice_get_read, get_or_from_slice_get}
 use Rattle.ftc_store.specs.Store.{Content, Stored, written}
 use Rattle.ftc_serial.specs.Take.{taken}
 use Rattle.ftc_serial.specs.Serial.{position_after}

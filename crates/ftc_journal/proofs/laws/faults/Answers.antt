@@ -1,0 +1,15 @@
+use Rattle.ftc_journal.proofs.Again.{no_fault}
+use Rattle.ftc_journal.proofs.FirstFault.{fault_found, fault_again}
+use Rattle.ftc_journal.proofs.laws.faults.Goals as goal
+
+pub returns-clause-refused : goal.returns-clause-refused
+returns-clause-refused c text fault = (fault_found text fault, fault_again text fault)
+
+pub returns-clause-one : goal.returns-clause-one
+returns-clause-one c text a b is other =
+    let first = fault_again text a is in
+    let second = fault_again text b other in
+    cc
+
+pub returns-clause-none : goal.returns-clause-none
+returns-clause-none c text events fault is bad = no_fault text events fault is (fault_again text fault bad)
