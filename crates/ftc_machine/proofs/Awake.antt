@@ -43,6 +43,10 @@ pub lost_some : (c : Setting) (k : ℕ) (o : Option Message) (m : Message) → d
 lost_some c k None m e = cc
 lost_some c k (Some m') m e = let r = unless_some (is_at c k m'.place) m' m e in (ap Some r.1, subst (λ (x : Message). is_at c k x.place ≡ false) r.1 r.0)
 
+pub kept_drop : (test : Message → Bool) (o : Option Message) (m : Message) → drop_if test o ≡ Some m → o ≡ Some m
+kept_drop test None m e = absurd (none-some m e)
+kept_drop test (Some n) m e = elim (test n) as (λ b. (if b then None else Some n) ≡ Some m → Some n ≡ Some m) [ true ↦ λ x. absurd (none-some m x) | false ↦ λ x. x ] e
+
 pub kept_some : (c : Setting) (s : ChainState) (t : ℕ) (o : Option Message) (m : Message) → drop_if (is_dropped c s t) o ≡ Some m → (o ≡ Some m) × (is_dropped c s t m ≡ false)
 kept_some c s t None m e = cc
 kept_some c s t (Some m') m e = let r = unless_some (is_dropped c s t m') m' m e in (ap Some r.1, subst (λ (x : Message). is_dropped c s t x ≡ false) r.1 r.0)

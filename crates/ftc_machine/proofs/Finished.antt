@@ -77,7 +77,7 @@ module _ (c : Setting) (good : IsGood c) (s : ChainState) (l : IsLive c s) where
             let w = inv.world.nest.member m j q i_m in
             let own : j ≢ m = eqb-false j m (not-true _ (and_parts _ _ t').1) in
             let in_k : In (s.lists k) j q = elim (apart_after n k kl) [
-              | inr just' ↦ absurd (inv.gaps k legal.2 just')
+              | inr alone ↦ absurd (inv.gaps k legal.2 alone)
               | inl step ↦ let st = step.0 in let jm = apart_cases n j m w.2 step.1 in let jk = apart_cases n j k w.2 kl in inv.world.nest.nested j k m q kl legal.0 (omega arith) i_m
             ] in
             ap (λ b. if b then s.lists k j q else s.lists m j q) t' ∙ in_k
@@ -166,7 +166,7 @@ module _ (c : Setting) (good : IsGood c) (s : ChainState) (l : IsLive c s) (all_
   quiet_gaps k kl = elim (cases_Bool (s.gap k)) [
     | inr g ↦ g
     | inl g ↦ absurd (elim (apart_after (servers c) k kl) [
-      | inr just' ↦ l.inv.gaps k g just'
+      | inr alone ↦ l.inv.gaps k g alone
       | inl step ↦ stuck c s finished (Pull k) (all_up k kl, all_up (next_of (servers c) k) step.1, g)
     ])
   ]

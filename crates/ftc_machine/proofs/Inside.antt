@@ -23,6 +23,7 @@ use Rattle.ftc_machine.specs.Legal.{MayHappen, MayLeave, is_sent}
 use Rattle.ftc_machine.specs.Recovery.{is_dropped, following_live}
 use Rattle.ftc_machine.specs.Next.{next, sent_on, is_away, has_packet, loses_packet, is_at, is_undone_drop, drop_if, fresh_message, taken_message, visited_message, visited_at, sent_message, withheld_of, withheld_packet, outcome_at, fate_by}
 use Rattle.ftc_machine.proofs.Premises.{IsGood, ticked}
+use Rattle.ftc_machine.proofs.Awake.{kept_drop}
 use Rattle.ftc_machine.proofs.Inv.{Inv, each_message}
 use Rattle.ftc_machine.proofs.Waiting.{IsTimed}
 
@@ -480,10 +481,6 @@ module _ (c : Setting) (good : IsGood c) (s : ChainState) (h : Inv c s) (t : IsT
         ] held;
       }
     where
-      kept_drop : (test : Message → Bool) (o : Option Message) (m : Message) → drop_if test o ≡ Some m → o ≡ Some m
-      kept_drop test None m e = absurd (none-some m e)
-      kept_drop test (Some n) m e = elim (test n) as (λ b. (if b then None else Some n) ≡ Some m → Some n ≡ Some m) [ true ↦ λ x. absurd (none-some m x) | false ↦ λ x. x ] e
-
       holds_none : (last : Bool) (o : Option Withheld) → is_some o ≡ false → is_some (if last then None else o) ≡ false
       holds_none true o is = refl
       holds_none false o is = is
@@ -525,10 +522,6 @@ module _ (c : Setting) (good : IsGood c) (s : ChainState) (h : Inv c s) (t : IsT
         buffered = f.buffered;
       }
     where
-      kept_drop : (test : Message → Bool) (o : Option Message) (m : Message) → drop_if test o ≡ Some m → o ≡ Some m
-      kept_drop test None m e = absurd (none-some m e)
-      kept_drop test (Some n) m e = elim (test n) as (λ b. (if b then None else Some n) ≡ Some m → Some n ≡ Some m) [ true ↦ λ x. absurd (none-some m x) | false ↦ λ x. x ] e
-
       given_stood : (q : ℕ) → IsGiven (left_of (names undone) s.trace) q → IsGiven s.trace q
       given_stood q is = first s.trace (left_stood (names undone) (IsRelease q) s.trace is)
         where

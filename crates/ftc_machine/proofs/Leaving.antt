@@ -174,7 +174,7 @@ module _ (c : Setting) (good : IsGood c) (s : ChainState) (h : Inv c s) (k p : �
         gaps = λ l. with_at_cases (λ v. v ≡ true → n ≢ 1) s.gap k (s.gap k || (is_sent c k && is_away c s k lost)) l
             (λ e g. elim (or_cases (s.gap k) (is_sent c k && is_away c s k lost) g) [
               | inl old ↦ h.gaps k old
-              | inr new ↦ λ just'. let f0 : c.failures < n = good.small in let k0 : k < n = kl in elim (or_cases (not (k + 1 == n)) (nat_lt 0 c.failures) (and_parts (is_sent c k) _ new).0) [
+              | inr new ↦ λ alone. let f0 : c.failures < n = good.small in let k0 : k < n = kl in elim (or_cases (not (k + 1 == n)) (nat_lt 0 c.failures) (and_parts (is_sent c k) _ new).0) [
                 | inl far ↦ let ne : k + 1 ≢ n = eqb-false _ _ (not-true _ far) in omega arith
                 | inr more ↦ let some' : 0 < c.failures = ltb-true _ _ more in omega arith
               ]

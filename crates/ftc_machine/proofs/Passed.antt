@@ -128,7 +128,7 @@ module _ (c : Setting) (s : ChainState) (lists : AreLists c s.trace s.up s.lists
       (λ e is less touching member_x.
       let member : apart n i m ≤ c.failures = subst (λ v. apart n i v ≤ c.failures) e member_x in
       elim (apart_after n l lt) [
-        | inr just' ↦ absurd (several just')
+        | inr alone ↦ absurd (several alone)
         | inl step ↦
             let st = step.0 in
             let from : (In (s.lists l) j p) ⊎ In (s.lists m) j p = elim (is_member c j l && is_member c j m && not (j == m)) as (λ b. (if b then s.lists l j p else s.lists m j p) ≡ true → In (s.lists l) j p ⊎ In (s.lists m) j p) [ true ↦ λ h. inl h | false ↦ λ h. inr h ] is in

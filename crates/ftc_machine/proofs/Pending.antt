@@ -263,7 +263,7 @@ module _ (c : Setting) (good : IsGood c) (s : ChainState) (h : Inv c s) (pending
       let several : n ≢ 1 = h.gaps l legal.2 in
       let ll : l < n = h.world.inside l legal.0 in
       elim (apart_after n l ll) [
-        | inr just' ↦ absurd (several just')
+        | inr alone ↦ absurd (several alone)
         | inl step ↦
             let st = step.0 in
             let here : In (with_at s.lists m (pulled_list c s l m) y) j q = is in
@@ -273,7 +273,7 @@ module _ (c : Setting) (good : IsGood c) (s : ChainState) (h : Inv c s) (pending
             let jl : j < n = stands_below c good.some _ s.trace h.world.serial j q changing in
             let yl : y < n = with_at_cases (λ (v : Visits). In v j q → y < n) s.lists m (pulled_list c s l m) y (λ e i. subst (λ v. v < n) (sym e) step.1) (λ ne i. (h.world.nest.member y j q i).1) here in
             elim (apart_after n y yl) [
-              | inr just' ↦ absurd (several just')
+              | inr alone ↦ absurd (several alone)
               | inl after' ↦
                   let af = after'.0 in
                   elim (cases_eq y m) [
@@ -408,12 +408,12 @@ module _ (c : Setting) (good : IsGood c) (s : ChainState) (h : IsComplete c s) (
       let jl = stands_below c good.some _ s.trace h.inv.world.serial j q changing in
       let jy = apart_cases n j y jl yl in
       elim (apart_before n y yl) [
-        | inr just' ↦ absurd (omega arith)
+        | inr alone ↦ absurd (omega arith)
         | inl step ↦
             let x = previous_of n y in
             let st = step.0 in let xl = step.1 in let jx = apart_cases n j x jl xl in
             elim (apart_after n x xl) [
-              | inr just' ↦ absurd (omega arith)
+              | inr alone ↦ absurd (omega arith)
               | inl step' ↦
                   let st' = step'.0 in
                   let next' : next_of n x ≡ y = omega arith in

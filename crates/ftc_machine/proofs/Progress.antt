@@ -75,7 +75,7 @@ module _ (c : Setting) (good : IsGood c) (s : ChainState) (h : Inv c s) (t : IsT
           ]
 
       by_packet : (packet : Option (List ℕ)) → m.packet ≡ packet → (w : Bool) → m.place ≡ Held k w false → ⊥
-      by_packet None no_visits' w place = leave w place (inr no_visits')
+      by_packet None none_there w place = leave w place (inr none_there)
       by_packet (Some bytes) some' true place = leave true place (inl refl)
       by_packet (Some bytes) some' false place = stuck (Visit k p 0) (m, bytes, false, at, place, some', ready)
 
@@ -134,7 +134,7 @@ module _ (c : Setting) (good : IsGood c) (s : ChainState) (h : Inv c s) (t : IsT
                   let jl = (h.world.nest.member y j q in_y).2 in
                   let jy = apart_cases (servers c) j y jl yl in let jk = apart_cases (servers c) j k jl kl in
                   let less' : apart (servers c) j y < c.failures = elim (apart_after (servers c) y yl) [
-                    | inr just' ↦ absurd (several just')
+                    | inr alone ↦ absurd (several alone)
                     | inl step ↦ let st' = step.0 in let e1 : next_of (servers c) y ≡ k = next' in omega arith
                   ] in
                   let no_gap : s.gap y ≡ false = elim (cases_Bool (s.gap y)) [ inr g ↦ g | inl g ↦ absurd (stuck (Pull y) (all_up y yl, subst (λ x. s.up x ≡ true) (sym next') (all_up k kl), g)) ] in
@@ -201,13 +201,13 @@ module _ (c : Setting) (good : IsGood c) (s : ChainState) (h : Inv c s) (t : IsT
       let kl : k < n = h.world.inside k (subst (IsUp n s.up) place (h.awake p m at)) in
       let carried = subst (λ x. AreCarried c s.trace s.up s.lists m.logs x) (ap (target n) place) (h.messages p m at).carried in
       elim (cases_eq n 1) [
-        | inl just' ↦ goes p m k v r at place (λ j q log. let jl = (carried.member j q log).0 in let same : k ≡ j = omega arith in subst (λ x. Has c.partitions s.trace (s.lists k) x q) same (head_ready k q kl))
+        | inl alone ↦ goes p m k v r at place (λ j q log. let jl = (carried.member j q log).0 in let same : k ≡ j = omega arith in subst (λ x. Has c.partitions s.trace (s.lists k) x q) same (head_ready k q kl))
         | inr several ↦ elim (apart_before n k kl) [
-          | inr just' ↦ absurd (several just')
+          | inr alone ↦ absurd (several alone)
           | inl step ↦
               let y = previous_of n k in
               elim (apart_after n y step.1) [
-                | inr just' ↦ absurd (several just')
+                | inr alone ↦ absurd (several alone)
                 | inl step' ↦
                     let st = step.0 in let st' = step'.0 in let yl = step.1 in
                     let next' : next_of n y ≡ k = omega arith in

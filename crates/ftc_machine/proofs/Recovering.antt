@@ -112,7 +112,7 @@ module _ (c : Setting) (good : IsGood c) (s : ChainState) (h : Inv c s) (m r t :
             let zero' : 0 < n = good.some in
             let first : apart n i t ≤ apart n i 0 = first_after c s m r t inside down before after i 0 il between zero' (h.forward_live j q is) in
             elim (apart_after n 0 zero') [
-              | inr just' ↦ let e : 0 ≡ m = omega arith in absurd (true≢false (sym (h.forward_live j q is) ∙ subst (λ v. s.up v ≡ false) (sym e) down))
+              | inr alone ↦ let e : 0 ≡ m = omega arith in absurd (true≢false (sym (h.forward_live j q is) ∙ subst (λ v. s.up v ≡ false) (sym e) down))
               | inl step ↦
                   let st = step.0 in let small = good.small in let far : apart n j x ≤ c.failures = w.1 in
                   let it = apart_cases n i t il after.below in let i0 = apart_cases n i 0 il zero' in let ix = apart_cases n i x il step.1 in let jx = apart_cases n j x jl step.1 in let j0 = apart_cases n j 0 jl zero' in

@@ -13,12 +13,12 @@ use Rattle.ftc_machine.specs.State.{ChainState, Message, Where, Held, Queued, op
 use Rattle.ftc_machine.specs.Trace.{IsSomeVisit}
 use Rattle.ftc_machine.specs.Legal.{MayHappen, MayLeave, is_sent}
 use Rattle.ftc_machine.specs.Recovery.{is_dropped, following_live}
-use Rattle.ftc_machine.specs.Next.{next, sent_on, is_away, is_at, drop_if, fresh_message, taken_message, visited_message, visited_at, sent_message, logs_sent, logs_of, outcome_at}
+use Rattle.ftc_machine.specs.Next.{next, sent_on, is_away, is_at, fresh_message, taken_message, visited_message, visited_at, sent_message, logs_sent, logs_of, outcome_at}
 use Rattle.ftc_machine.specs.Changes.{is_touching}
 use Rattle.ftc_machine.proofs.Premises.{IsGood, ticked}
 use Rattle.ftc_machine.proofs.Inv.{Inv, each_message, target}
 use Rattle.ftc_machine.proofs.Ring.{apart_cases}
-use Rattle.ftc_machine.proofs.Awake.{kept_some}
+use Rattle.ftc_machine.proofs.Awake.{kept_some, kept_drop}
 use Rattle.ftc_machine.proofs.Standing.{visit_stood}
 use Rattle.ftc_machine.proofs.Listing.{in_one}
 use Rattle.ftc_machine.proofs.Waiting.{IsTimed}
@@ -163,19 +163,11 @@ module _ (c : Setting) (good : IsGood c) (s : ChainState) (h : Inv c s) (t : IsT
     messages = λ q m e. a.messages q m (kept_drop (λ (x : Message). is_at c k x.place) (s.message q) m e);
     forward = λ j q is. a.forward j q (and_parts (not (k == 0)) (s.forwarder j q) is).1;
   }
-    where
-      kept_drop : (test : Message → Bool) (o : Option Message) (m : Message) → drop_if test o ≡ Some m → o ≡ Some m
-      kept_drop test None m e = absurd (none-some m e)
-      kept_drop test (Some n) m e = elim (test n) as (λ b. (if b then None else Some n) ≡ Some m → Some n ≡ Some m) [ true ↦ λ x. absurd (none-some m x) | false ↦ λ x. x ] e
   keeps_shapes (Recover k undone) legal = record {
     visited = λ i q is. a.visited i q (visit_stood (names undone) (λ o. Unit {0}) s.trace i q is).0;
     messages = λ q m e. a.messages q m (kept_drop (is_dropped c s (following_live c s k)) (s.message q) m e);
     forward = a.forward;
   }
-    where
-      kept_drop : (test : Message → Bool) (o : Option Message) (m : Message) → drop_if test o ≡ Some m → o ≡ Some m
-      kept_drop test None m e = absurd (none-some m e)
-      kept_drop test (Some n) m e = elim (test n) as (λ b. (if b then None else Some n) ≡ Some m → Some n ≡ Some m) [ true ↦ λ x. absurd (none-some m x) | false ↦ λ x. x ] e
   keeps_shapes (Pull k) legal = record { visited = a.visited; messages = a.messages; forward = a.forward }
   keeps_shapes (Propagate p) legal = record { visited = a.visited; messages = with_message p _ (λ m e. no_logs_shape p None m e); forward = a.forward }
   keeps_shapes (Release p) legal = record { visited = λ k q is. elim is [ inl here ↦ absurd here | inr older ↦ a.visited k q older ]; messages = a.messages; forward = a.forward }

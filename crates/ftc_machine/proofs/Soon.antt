@@ -116,7 +116,7 @@ module _ (c : Setting) (good : IsGood c) (s : ChainState) (h : Inv c s) (t : IsT
           sooner = λ held. absurd (
               let yl = (h.world.nest.member y j q is).1 in let e1 : l ≡ y = at in let e2 : next_of (servers c) l ≡ y = held in
               elim (apart_after (servers c) y yl) [
-                | inr just' ↦ let small = good.small in omega arith
+                | inr alone ↦ let small = good.small in omega arith
                 | inl step ↦ let st = step.0 in let e3 : next_of (servers c) y ≡ y = ap (next_of (servers c)) (sym e1) ∙ e2 in omega (arith, good.small)
               ]);
         })))
@@ -326,7 +326,7 @@ module _ (c : Setting) (good : IsGood c) (s : ChainState) (h : Inv c s) (t : IsT
       let several : n ≢ 1 = h.gaps l legal.2 in
       let ll : l < n = h.world.inside l legal.0 in
       elim (apart_after n l ll) [
-        | inr just' ↦ absurd (several just')
+        | inr alone ↦ absurd (several alone)
         | inl step ↦
             let st = step.0 in
             let here : In (with_at s.lists m (pulled_list c s l m) y) j q = is in
@@ -336,7 +336,7 @@ module _ (c : Setting) (good : IsGood c) (s : ChainState) (h : Inv c s) (t : IsT
             let jl : j < n = stands_below c good.some _ s.trace h.world.serial j q changing in
             let yl : y < n = with_at_cases (λ (v : Visits). In v j q → y < n) s.lists m (pulled_list c s l m) y (λ e i. subst (λ v. v < n) (sym e) step.1) (λ ne i. (h.world.nest.member y j q i).1) here in
             elim (apart_after n y yl) [
-              | inr just' ↦ absurd (several just')
+              | inr alone ↦ absurd (several alone)
               | inl after' ↦
                   let af = after'.0 in
                   elim (cases_eq y m) [

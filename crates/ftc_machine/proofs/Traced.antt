@@ -2,7 +2,6 @@
 use Rattle.std.proofs.Common.{◌≡◌, ℕ, ◌+◌, ◌<◌, ◌==◌, ◌||◌, if◌then◌else◌, Bool, true, false, not, cond, List, [], ◌∷◌, ◌++◌, filter, refl, sym, ap, subst, ◌∙◌, arith, inl, inr, Option, Some, None}
 use Rattle.std.specs.List.{flat_map}
 use Rattle.std.proofs.lemmas.Bool.{true≢false, false_from_ne_true, or_cases}
-use Rattle.std.proofs.lemmas.Option.{none-some}
 use Rattle.ftc_ring.specs.Ring.{next_of}
 use Rattle.ftc_journal.specs.declared.event.Event.{Event}
 use Rattle.ftc_journal.specs.declared.event.Event.TheVariants.{Apply, Carry, Crash, Enter, Lose, Pass, Propagate, Pull, Recover, Release, Take, Visit}
@@ -17,11 +16,11 @@ use Rattle.ftc_machine.specs.declared.fate.Fate.{Fate}
 use Rattle.ftc_machine.specs.declared.fate.Fate.TheVariants.{Released, Lost, Inside}
 use Rattle.ftc_machine.specs.Setting.{Setting, servers, IsSetting}
 use Rattle.ftc_machine.specs.Visits.{In}
-use Rattle.ftc_machine.specs.State.{ChainState, Message, Where, Held, Queued, opening}
+use Rattle.ftc_machine.specs.State.{ChainState, Where, Held, Queued, opening}
 use Rattle.ftc_machine.specs.Trace.{IsSomeVisit}
 use Rattle.ftc_machine.specs.Recovery.{is_undone, is_dropped, previous_live, following_live}
 use Rattle.ftc_machine.specs.Legal.{MayHappen, IsLegal}
-use Rattle.ftc_machine.specs.Next.{next, drop_if, fate_by, outcome_at}
+use Rattle.ftc_machine.specs.Next.{next, fate_by, outcome_at}
 use Rattle.ftc_machine.specs.Run.{AreLegal, IsRun, state_after}
 use Rattle.ftc_machine.specs.Moment.{steps_in}
 use Rattle.ftc_machine.proofs.Premises.{IsGood}
@@ -31,6 +30,7 @@ use Rattle.ftc_machine.proofs.Standing.{visit_stood, visited_earlier}
 use Rattle.ftc_machine.proofs.Stores.{stands_below}
 use Rattle.ftc_machine.proofs.Listed.{any_name, in_order_says}
 use Rattle.ftc_machine.proofs.Sound.{visited_before, visited_all}
+use Rattle.ftc_machine.proofs.Awake.{kept_drop}
 use Rattle.ftc_machine.proofs.Inv.{Inv, expected}
 use Rattle.ftc_machine.proofs.Inside.{AreFated, are_fates}
 use Rattle.ftc_machine.proofs.Few.{IsCounted, keeps_counts, opens_counted}
@@ -155,10 +155,6 @@ module _ (c : Setting) (good : IsGood c) (s : ChainState) (h : Inv c s) (k : ℕ
         | true ↦ λ was is. passed_same bytes p j is there
         | false ↦ λ was is. waits_same (x + 1) bytes p j was is there
       ] before behind
-
-  kept_drop : (test : Message → Bool) (o : Option Message) (m : Message) → drop_if test o ≡ Some m → o ≡ Some m
-  kept_drop test None m e = absurd (none-some m e)
-  kept_drop test (Some n) m e = elim (test n) as (λ b. (if b then None else Some n) ≡ Some m → Some n ≡ Some m) [ true ↦ λ x. absurd (none-some m x) | false ↦ λ x. x ] e
 
   -- so an undone visit's packet isn't inside any more
   pub undone_outside : AreFated c (next c s (Recover k undone)) → (j p : ℕ) → p < s.entered → In (names undone) j p → IsSomeVisit s.trace j p → (next c s (Recover k undone)).fate p ≡ Inside → ⊥

@@ -178,9 +178,9 @@ module _ (c : Setting) (good : IsGood c) (s : ChainState) (h : Inv c s) (t : IsT
       let new : Message = record m0 { place = Held (next_of n l) false (l + 1 == n); since = s.events } in
       subst (λ (x : Message). (y : ℕ) → From n x.place y → IsSeenAt c s.trace s.up s.lists y (target n x.place) x.logs (seen p)) (same_Some new m' e)
       (λ y from. elim (apart_after n l ll) [
-        | inr just' ↦ let yl = from.0 in let eq : l ≡ y = omega arith in seen_at m0 is l queued y eq
+        | inr alone ↦ let yl = from.0 in let eq : l ≡ y = omega arith in seen_at m0 is l queued y eq
         | inl step ↦ elim (apart_after n y from.0) [
-          | inr just' ↦ absurd (let st = step.0 in let sl = step.1 in omega arith)
+          | inr alone ↦ absurd (let st = step.0 in let sl = step.1 in omega arith)
           | inl step' ↦ let st = step.0 in let st' = step'.0 in let e1 : next_of n y ≡ next_of n l = from.1 in let yl = from.0 in let eq : l ≡ y = omega arith in seen_at m0 is l queued y eq
         ]
       ])
@@ -204,7 +204,7 @@ module _ (c : Setting) (good : IsGood c) (s : ChainState) (h : Inv c s) (t : IsT
               let live = h.forward_live j q f.1 in let zl : 0 < n = good.some in
               let j0 = apart_cases n j 0 w.0 zl in
               elim (apart_after n 0 zl) [
-                | inr just' ↦ absurd (let jl = w.0 in let jx = apart_cases n j (next_of n 0) w.0 (subst (λ v. v < n) (sym (ap (λ b. if b then 0 else 0 + 1) (eq-eqb (0 + 1) n (sym just')))) zl) in let e0 : next_of n 0 ≡ 0 = ap (λ b. if b then 0 else 0 + 1) (eq-eqb (0 + 1) n (sym just')) in omega arith)
+                | inr alone ↦ absurd (let jl = w.0 in let jx = apart_cases n j (next_of n 0) w.0 (subst (λ v. v < n) (sym (ap (λ b. if b then 0 else 0 + 1) (eq-eqb (0 + 1) n (sym alone)))) zl) in let e0 : next_of n 0 ≡ 0 = ap (λ b. if b then 0 else 0 + 1) (eq-eqb (0 + 1) n (sym alone)) in omega arith)
                 | inl step ↦
                     let st = step.0 in let jx = apart_cases n j (next_of n 0) w.0 step.1 in let w1 = w.1 in
                     subst (λ v. Has c.partitions s.trace (s.lists v) j q) (sym z) (h.forward.wake j j q f.1 (omega arith) w.2 0 zl live (omega arith) (omega arith))
@@ -215,7 +215,7 @@ module _ (c : Setting) (good : IsGood c) (s : ChainState) (h : Inv c s) (t : IsT
             let jl = (h.world.nest.member k j q is).2 in let il : i < n = omega arith in
             let ik = apart_cases n i k il kl in
             elim (apart_after n k kl) [
-              | inr just' ↦ absurd (omega arith)
+              | inr alone ↦ absurd (omega arith)
               | inl step ↦ let st = step.0 in let ix = apart_cases n i (next_of n k) il step.1 in h.world.earlier k i j q is less touching (omega arith)
             ];
         here = λ j q i. inl i;
@@ -361,7 +361,7 @@ module _ (c : Setting) (good : IsGood c) (s : ChainState) (h : Inv c s) (seen : 
       near_t x xl e live =
           let n = (servers c) in
           elim (apart_after n m inside) [
-            | inr just' ↦ let tl = after.below in omega arith
+            | inr alone ↦ let tl = after.below in omega arith
             | inl step ↦
                 let st = step.0 in
                 let mx = apart_cases n m x inside xl in let mt = apart_cases n m t inside after.below in
