@@ -70,7 +70,11 @@ fn print_piece<R: Print>(rt: &R, piece: &[u8]) -> bool {
 }
 
 impl<R: Files + Print + Drop> FileDesk<R> {
-    pub fn new(rt: R) -> FileDesk<R> {
+    ghost use Rattle.ftc_outside.specs.Files.{faults_of};
+
+    pub fn new(rt: R) -> FileDesk<R>
+        ensures faults { faults_of result ≡ 0 }
+    {
         FileDesk { rt, faults: 0 }
     }
 
