@@ -1,7 +1,7 @@
 //! What is so of every run, whatever its chain, packets and script: the laws on which the promises of the
 //! chain of servers rest. A law is the contract of a function that does nothing.
 
-ghost use Rattle.std.specs.Prelude.{◌≡◌, ◌⊎◌, ◌++◌, ℕ, List, [], ◌∷◌, length};
+ghost use Rattle.std.specs.Prelude.{◌≡◌, ◌↔◌, true, ◌⊎◌, ◌++◌, ℕ, List, [], ◌∷◌, length};
 ghost use Rattle.std.specs.List.{AllByRecursion};
 ghost use Rattle.ftc_base.specs.Partition.{partition_of};
 ghost use Rattle.ftc_base.specs.declared.ask.Write.{Write as AWrite};
@@ -17,7 +17,8 @@ ghost use Rattle.ftc_serial.specs.Trace.{trace_of};
 ghost use Rattle.ftc_store.specs.Store.{Content};
 ghost use Rattle.ftc_machine.specs.Setting.{Setting, setting_of, IsSetting};
 ghost use Rattle.ftc_machine.specs.Changes.{Changes};
-ghost use Rattle.ftc_machine.specs.Trace.{IsSomeVisit};
+ghost use Rattle.ftc_machine.specs.Trace.{IsSomeVisit, IsTouching, Has, has_each, lacked_by};
+ghost use Rattle.ftc_machine.specs.Visits.{Visits, In};
 ghost use Rattle.ftc_machine.specs.State.{ChainState, opening};
 ghost use Rattle.ftc_machine.specs.Next.{next};
 ghost use Rattle.ftc_machine.specs.declared.fate.Fate.TheVariants as became;
@@ -127,4 +128,19 @@ pub fn a_visit_undone()
 pub fn trace_of_a_run()
     ensures { (setting : Setting) → IsSetting setting → (journal : List AnEvent) → IsRun setting journal →
         steps_in (state_after setting (opening setting) journal).trace ≡ trace_of journal }
+{}
+
+/// The tests that events are computed by say what the relations say, in every state of a run: that a set has
+/// each wanted visit, and which visits that touch something a set lacks.
+pub fn what_tests_say()
+    ensures each { (setting : Setting) → IsSetting setting → (journal : List AnEvent) → IsRun setting journal →
+        (visits wanted : Visits) →
+        (has_each setting.partitions (state_after setting (opening setting) journal).trace visits wanted ≡ true)
+        ↔ ((group packet : ℕ) → In wanted group packet →
+        Has setting.partitions (state_after setting (opening setting) journal).trace visits group packet) }
+    ensures lacked { (setting : Setting) → IsSetting setting → (journal : List AnEvent) → IsRun setting journal →
+        (visits : Visits) (group packet : ℕ) →
+        In (lacked_by setting.partitions (state_after setting (opening setting) journal).trace visits) group packet
+        ↔ (IsTouching (state_after setting (opening setting) journal).trace group packet
+        × ¬ Has setting.partitions (state_after setting (opening setting) journal).trace visits group packet) }
 {}
