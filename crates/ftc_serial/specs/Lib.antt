@@ -1,5 +1,6 @@
 pub mod Words
 pub mod Take
+pub mod Told
 pub mod Place
 pub mod Serial
 pub mod Trace

@@ -14,6 +14,7 @@ pub use laws::{removal, removal_from_history, what_it_reads};
 pub use position::Place;
 pub use serial::{BadStep, NotWaiting, Serial};
 pub use step::{Step, Trace};
+pub use visit::{Told, take};
 
 #[cfg(test)]
 mod tests;

@@ -4,6 +4,7 @@ ghost use Rattle.std.specs.Prelude.{◌≡◌, ◌≤◌, ◌<◌, length};
 ghost use Rattle.ftc_mbox.specs.Change.{CanEnd, CanFollow};
 ghost use Rattle.ftc_store.specs.Store.{written};
 ghost use Rattle.ftc_serial.specs.Take.{asked, taken, stopped, packet_after};
+ghost use Rattle.ftc_serial.specs.Told.{outcome_of};
 
 use ftc_base::limits::{MOST_READS, MOST_WRITES};
 use ftc_base::{Answer, Answers, Ask, Bytes, Finish, Verdict, Writes};
@@ -15,6 +16,14 @@ use ftc_store::Store;
 pub struct Asked {
     pub answers: Answers,
     pub end: Finish,
+}
+
+/// What a visit read, what it writes, and the packet after it, None where it is dropped.
+#[derive(Debug, Drop)]
+pub struct Told {
+    pub answers: Answers,
+    pub writes: Writes,
+    pub packet: Option<Bytes>,
 }
 
 /// How a rule ends that has read as often as it may: a further read drops the packet.
@@ -67,6 +76,19 @@ fn packet_after(packet: Bytes, verdict: &Verdict) -> Option<Bytes>
     }
 }
 
+/// What the visit of a packet at a middlebox of this rule does, over a store that it leaves as it is.
+pub fn take(rule: &Rule, packet: Bytes, store: &Store) -> Told
+    ensures { outcome_of result ≡ taken rule.now packet store.now.content }
+{
+    let asked = ask_in_turn(rule, packet.as_slice(), store);
+    let after = packet_after(packet, &asked.end.verdict);
+    Told {
+        answers: asked.answers,
+        writes: asked.end.writes,
+        packet: after,
+    }
+}
+
 /// A packet goes through a middlebox: what it writes is in the store, and the answer is the packet after
 /// it, None where it is dropped.
 pub fn visit(rule: &Rule, packet: Bytes, store: &mut Store) -> Option<Bytes>
@@ -75,8 +97,7 @@ pub fn visit(rule: &Rule, packet: Bytes, store: &mut Store) -> Option<Bytes>
     ensures content { store.new.content ≡ written (taken rule.now packet store.old.content).writes store.old.content }
     ensures partitions { store.new.partitions ≡ store.old.partitions }
 {
-    let asked = ask_in_turn(rule, packet.as_slice(), store);
-    let after = packet_after(packet, &asked.end.verdict);
-    store.apply(&asked.end.writes);
-    after
+    let told = take(rule, packet, store);
+    store.apply(&told.writes);
+    told.packet
 }
