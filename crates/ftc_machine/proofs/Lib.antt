@@ -32,6 +32,7 @@ pub mod Sound
 pub mod Pending
 pub mod Waiting
 pub mod Soon
+mod Slotted
 pub mod Progress
 pub mod Finished
 pub mod Forever

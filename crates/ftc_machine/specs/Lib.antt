@@ -15,3 +15,5 @@ pub mod Quiet
 pub mod Counts
 pub mod Measure
 pub mod Example
+pub mod Reach
+pub mod Slots

@@ -3,7 +3,9 @@
 #![tactic(auto)]
 
 mod fate;
+mod footprint;
 mod laws;
+mod slots;
 mod trace;
 
 pub use fate::Fate;
