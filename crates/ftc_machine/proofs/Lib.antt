@@ -53,3 +53,4 @@ pub mod Falling
 pub mod Example
 pub mod Traced
 pub mod Stopped
+pub mod Whole

@@ -30,6 +30,7 @@ ghost use Rattle.ftc_machine.specs.Measure.{measure, IsBelow};
 ghost use Rattle.ftc_machine.specs.Quiet.{IsQuiet, IsQuietEvent, AreDone};
 ghost use Rattle.ftc_machine.specs.Run.{IsRun, IsFinished, state_after};
 ghost use Rattle.ftc_machine.specs.Moment.{IsSound, steps_in};
+ghost use Rattle.ftc_machine.specs.Whole.{HasSerialRun};
 
 /// An accepted script for a chain and for its packets makes a setting of which the other laws speak.
 pub fn accepted()
@@ -128,6 +129,13 @@ pub fn a_visit_undone()
 pub fn trace_of_a_run()
     ensures { (setting : Setting) → IsSetting setting → (journal : List AnEvent) → IsRun setting journal →
         steps_in (state_after setting (opening setting) journal).trace ≡ trace_of journal }
+{}
+
+/// The whole trace of a run is a serial run, also with the visits in it that have fallen and that no recovery
+/// has undone as yet.
+pub fn serial_of_a_run()
+    ensures { (setting : Setting) → IsSetting setting → (journal : List AnEvent) → IsRun setting journal →
+        HasSerialRun setting journal }
 {}
 
 /// The tests that events are computed by say what the relations say, in every state of a run: that a set has
