@@ -54,3 +54,15 @@ pub mod Example
 pub mod Traced
 pub mod Stopped
 pub mod Whole
+pub mod Droppable
+pub mod Driven
+pub mod Lone
+pub mod Entering
+pub mod LoneVisit
+pub mod LonePass
+pub mod LoneTake
+pub mod LastPass
+pub mod LoneRelease
+pub mod Course
+pub mod DriveTrace
+pub mod PlainRun

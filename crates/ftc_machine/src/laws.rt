@@ -9,7 +9,8 @@ ghost use Rattle.ftc_journal.specs.declared.event.Event.{Event as AnEvent};
 ghost use Rattle.ftc_mbox.specs.Chain.{Chain as AChain};
 ghost use Rattle.ftc_mbox.specs.declared.rule.Rule.{Rule as ARule};
 ghost use Rattle.ftc_script.specs.Script.{ScriptShape, IsScript};
-ghost use Rattle.ftc_serial.specs.Serial.{Given};
+ghost use Rattle.ftc_serial.specs.Drive.{IsDriven};
+ghost use Rattle.ftc_serial.specs.Serial.{State as SerialState, Given};
 ghost use Rattle.ftc_serial.specs.Take.{Outcome, taken};
 ghost use Rattle.ftc_serial.specs.Entries.{Touches};
 ghost use Rattle.ftc_serial.specs.Words.{AnyOf};
@@ -136,6 +137,17 @@ pub fn trace_of_a_run()
 pub fn serial_of_a_run()
     ensures { (setting : Setting) → IsSetting setting → (journal : List AnEvent) → IsRun setting journal →
         HasSerialRun setting journal }
+{}
+
+/// Where the script is empty, the packets of a chain without replicas, driven through it one after another, are
+/// a run of the protocol, and nothing is left to do after it.
+pub fn plain_run()
+    ensures run { (setting : Setting) → IsSetting setting → IsQuiet setting → setting.failures ≡ 0 →
+        (journal : List AnEvent) (end : SerialState) → IsDriven setting.rules setting.packets journal end →
+        IsRun setting journal }
+    ensures finished { (setting : Setting) → IsSetting setting → IsQuiet setting → setting.failures ≡ 0 →
+        (journal : List AnEvent) (end : SerialState) → IsDriven setting.rules setting.packets journal end →
+        IsFinished setting (state_after setting (opening setting) journal) }
 {}
 
 /// The tests that events are computed by say what the relations say, in every state of a run: that a set has
