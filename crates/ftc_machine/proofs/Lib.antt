@@ -66,3 +66,5 @@ pub mod LoneRelease
 pub mod Course
 pub mod DriveTrace
 pub mod PlainRun
+pub mod PlacedFates
+pub mod PlainFates

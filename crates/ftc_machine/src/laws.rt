@@ -1,7 +1,7 @@
 //! What is so of every run, whatever its chain, packets and script: the laws on which the promises of the
 //! chain of servers rest. A law is the contract of a function that does nothing.
 
-ghost use Rattle.std.specs.Prelude.{◌≡◌, ◌↔◌, true, ◌⊎◌, ◌++◌, ℕ, List, [], ◌∷◌, length};
+ghost use Rattle.std.specs.Prelude.{◌≡◌, ◌↔◌, true, ◌⊎◌, ◌++◌, ℕ, List, [], ◌∷◌, length, Some};
 ghost use Rattle.std.specs.List.{AllByRecursion};
 ghost use Rattle.ftc_base.specs.Partition.{partition_of};
 ghost use Rattle.ftc_base.specs.declared.ask.Write.{Write as AWrite};
@@ -9,6 +9,7 @@ ghost use Rattle.ftc_journal.specs.declared.event.Event.{Event as AnEvent};
 ghost use Rattle.ftc_mbox.specs.Chain.{Chain as AChain};
 ghost use Rattle.ftc_mbox.specs.declared.rule.Rule.{Rule as ARule};
 ghost use Rattle.ftc_script.specs.Script.{ScriptShape, IsScript};
+ghost use Rattle.ftc_serial.specs.declared.position.Position.TheVariants as position;
 ghost use Rattle.ftc_serial.specs.Drive.{IsDriven};
 ghost use Rattle.ftc_serial.specs.Serial.{State as SerialState, Given};
 ghost use Rattle.ftc_serial.specs.Take.{Outcome, taken};
@@ -148,6 +149,18 @@ pub fn plain_run()
     ensures finished { (setting : Setting) → IsSetting setting → IsQuiet setting → setting.failures ≡ 0 →
         (journal : List AnEvent) (end : SerialState) → IsDriven setting.rules setting.packets journal end →
         IsFinished setting (state_after setting (opening setting) journal) }
+{}
+
+/// What becomes of each packet in that run is what the serial run's end says.
+pub fn plain_fates()
+    ensures released { (setting : Setting) → IsSetting setting → IsQuiet setting → setting.failures ≡ 0 →
+        (journal : List AnEvent) (end : SerialState) → IsDriven setting.rules setting.packets journal end →
+        (packet : ℕ) → end.place packet ≡ Some position.Released →
+        (state_after setting (opening setting) journal).fate packet ≡ became.Released }
+    ensures filtered { (setting : Setting) → IsSetting setting → IsQuiet setting → setting.failures ≡ 0 →
+        (journal : List AnEvent) (end : SerialState) → IsDriven setting.rules setting.packets journal end →
+        (packet server : ℕ) → end.place packet ≡ Some (position.Filtered server) →
+        (state_after setting (opening setting) journal).fate packet ≡ became.Filtered server }
 {}
 
 /// The tests that events are computed by say what the relations say, in every state of a run: that a set has
