@@ -1,7 +1,7 @@
 //! What is so of every run, whatever its chain, packets and script: the laws on which the promises of the
 //! chain of servers rest. A law is the contract of a function that does nothing.
 
-ghost use Rattle.std.specs.Prelude.{◌≡◌, ◌↔◌, true, ◌⊎◌, ◌++◌, ℕ, List, [], ◌∷◌, length};
+ghost use Rattle.std.specs.Prelude.{◌≡◌, ◌↔◌, true, ◌⊎◌, ◌++◌, ℕ, List, [], ◌∷◌, length, Some};
 ghost use Rattle.std.specs.List.{AllByRecursion};
 ghost use Rattle.ftc_base.specs.Partition.{partition_of};
 ghost use Rattle.ftc_base.specs.declared.ask.Write.{Write as AWrite};
@@ -9,7 +9,9 @@ ghost use Rattle.ftc_journal.specs.declared.event.Event.{Event as AnEvent};
 ghost use Rattle.ftc_mbox.specs.Chain.{Chain as AChain};
 ghost use Rattle.ftc_mbox.specs.declared.rule.Rule.{Rule as ARule};
 ghost use Rattle.ftc_script.specs.Script.{ScriptShape, IsScript};
-ghost use Rattle.ftc_serial.specs.Serial.{Given};
+ghost use Rattle.ftc_serial.specs.declared.position.Position.TheVariants as position;
+ghost use Rattle.ftc_serial.specs.Drive.{IsDriven};
+ghost use Rattle.ftc_serial.specs.Serial.{State as SerialState, Given};
 ghost use Rattle.ftc_serial.specs.Take.{Outcome, taken};
 ghost use Rattle.ftc_serial.specs.Entries.{Touches};
 ghost use Rattle.ftc_serial.specs.Words.{AnyOf};
@@ -30,6 +32,7 @@ ghost use Rattle.ftc_machine.specs.Measure.{measure, IsBelow};
 ghost use Rattle.ftc_machine.specs.Quiet.{IsQuiet, IsQuietEvent, AreDone};
 ghost use Rattle.ftc_machine.specs.Run.{IsRun, IsFinished, state_after};
 ghost use Rattle.ftc_machine.specs.Moment.{IsSound, steps_in};
+ghost use Rattle.ftc_machine.specs.Whole.{HasSerialRun};
 
 /// An accepted script for a chain and for its packets makes a setting of which the other laws speak.
 pub fn accepted()
@@ -128,6 +131,36 @@ pub fn a_visit_undone()
 pub fn trace_of_a_run()
     ensures { (setting : Setting) → IsSetting setting → (journal : List AnEvent) → IsRun setting journal →
         steps_in (state_after setting (opening setting) journal).trace ≡ trace_of journal }
+{}
+
+/// The whole trace of a run is a serial run, also with the visits in it that have fallen and that no recovery
+/// has undone as yet.
+pub fn serial_of_a_run()
+    ensures { (setting : Setting) → IsSetting setting → (journal : List AnEvent) → IsRun setting journal →
+        HasSerialRun setting journal }
+{}
+
+/// Where the script is empty, the packets of a chain without replicas, driven through it one after another, are
+/// a run of the protocol, and nothing is left to do after it.
+pub fn plain_run()
+    ensures run { (setting : Setting) → IsSetting setting → IsQuiet setting → setting.failures ≡ 0 →
+        (journal : List AnEvent) (end : SerialState) → IsDriven setting.rules setting.packets journal end →
+        IsRun setting journal }
+    ensures finished { (setting : Setting) → IsSetting setting → IsQuiet setting → setting.failures ≡ 0 →
+        (journal : List AnEvent) (end : SerialState) → IsDriven setting.rules setting.packets journal end →
+        IsFinished setting (state_after setting (opening setting) journal) }
+{}
+
+/// What becomes of each packet in that run is what the serial run's end says.
+pub fn plain_fates()
+    ensures released { (setting : Setting) → IsSetting setting → IsQuiet setting → setting.failures ≡ 0 →
+        (journal : List AnEvent) (end : SerialState) → IsDriven setting.rules setting.packets journal end →
+        (packet : ℕ) → end.place packet ≡ Some position.Released →
+        (state_after setting (opening setting) journal).fate packet ≡ became.Released }
+    ensures filtered { (setting : Setting) → IsSetting setting → IsQuiet setting → setting.failures ≡ 0 →
+        (journal : List AnEvent) (end : SerialState) → IsDriven setting.rules setting.packets journal end →
+        (packet server : ℕ) → end.place packet ≡ Some (position.Filtered server) →
+        (state_after setting (opening setting) journal).fate packet ≡ became.Filtered server }
 {}
 
 /// The tests that events are computed by say what the relations say, in every state of a run: that a set has

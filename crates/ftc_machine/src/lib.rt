@@ -11,7 +11,8 @@ mod trace;
 pub use fate::Fate;
 pub use laws::{
     a_visit_undone, accepted, every_event_goes_on, every_moment, fates, few_propagates,
-    finished_run, law_of_changes, quiet_links, released_for_good, trace_of_a_run, what_tests_say,
+    finished_run, law_of_changes, plain_fates, plain_run, quiet_links, released_for_good,
+    serial_of_a_run, trace_of_a_run, what_tests_say,
 };
 pub use trace::trace_of;
 
