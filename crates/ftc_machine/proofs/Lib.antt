@@ -33,6 +33,7 @@ pub mod Pending
 pub mod Waiting
 pub mod Soon
 mod Slotted
+mod Tested
 pub mod Progress
 pub mod Finished
 pub mod Forever

@@ -17,4 +17,6 @@ pub mod Measure
 pub mod Example
 pub mod Reach
 pub mod Slots
+pub mod Kept
+pub mod Tests
 pub mod Whole

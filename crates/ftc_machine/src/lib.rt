@@ -4,7 +4,10 @@
 
 mod fate;
 mod footprint;
+mod sets;
+mod kept;
 mod laws;
+mod message;
 mod slots;
 mod trace;
 
