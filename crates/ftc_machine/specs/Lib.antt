@@ -15,3 +15,4 @@ pub mod Quiet
 pub mod Counts
 pub mod Measure
 pub mod Example
+pub mod Reach

@@ -3,6 +3,7 @@
 #![tactic(auto)]
 
 mod fate;
+mod footprint;
 mod laws;
 mod trace;
 
