@@ -52,3 +52,4 @@ pub mod Few
 pub mod Falling
 pub mod Example
 pub mod Traced
+pub mod Rising
