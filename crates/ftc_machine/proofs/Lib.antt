@@ -53,3 +53,5 @@ pub mod Falling
 pub mod Example
 pub mod Traced
 pub mod Rising
+pub mod Reaching
+pub mod Placed
