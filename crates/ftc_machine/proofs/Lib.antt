@@ -55,3 +55,4 @@ pub mod Traced
 pub mod Rising
 pub mod Reaching
 pub mod Placed
+pub mod Footprints

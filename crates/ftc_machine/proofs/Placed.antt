@@ -1,19 +1,12 @@
 -- Where a visit of the trace stands that has a footprint: behind which entries, and what its footprint says.
-use Rattle.std.proofs.Common.{◌≡◌, ℕ, List, [], ◌∷◌, Option, Some, inl, inr, refl, sym, ap, subst, ◌∙◌, map}
+use Rattle.std.proofs.Common.{◌≡◌, ℕ, List, [], ◌∷◌, Option, Some, inl, inr, refl, sym, ap, subst, ◌∙◌}
 use Rattle.std.specs.Option.{option_map_or}
-use Rattle.std.specs.List.{AllByRecursion, list_all, list_any}
-use Rattle.ftc_base.specs.Partition.{partition_of}
-use Rattle.ftc_base.specs.declared.ask.Answer.{Answer}
-use Rattle.ftc_serial.specs.Words.{AnyOf}
 use Rattle.ftc_serial.specs.Take.{Outcome}
-use Rattle.ftc_serial.specs.Entries.{Touches}
 use Rattle.ftc_serial.specs.Serial.{Entry, Visited, Given}
-use Rattle.ftc_machine.specs.declared.footprint.Touched.{Touched}
 use Rattle.ftc_machine.specs.declared.footprint.Footprint.{Footprint}
-use Rattle.ftc_machine.specs.Changes.{Changes, Meets}
-use Rattle.ftc_machine.specs.Trace.{IsInTrace, IsSomeVisit, IsBefore}
+use Rattle.ftc_machine.specs.Changes.{Meets}
+use Rattle.ftc_machine.specs.Trace.{IsInTrace, IsBefore}
 use Rattle.ftc_machine.specs.Reach.{Numbers, AreRising, IsChangingIn, Footprints, numbers_of, IsFootprint, AreFootprints}
-use Rattle.ftc_machine.proofs.Changing.{any_mapped}
 use Rattle.ftc_machine.proofs.Standing.{stands_map, before_last}
 use Rattle.ftc_machine.proofs.Rising.{once, both_in}
 

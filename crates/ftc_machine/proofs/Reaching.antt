@@ -1,15 +1,14 @@
 -- How far sets of one middlebox's visits reach: none, the same set, two sets together, and all changing visits.
-use Rattle.std.proofs.Common.{◌≡◌, ℕ, ◌<◌, ◌≤◌, ◌||◌, Bool, true, false, List, length, max, get_or, inl, inr, refl, sym, ◌∙◌, subst, arith}
+use Rattle.std.proofs.Common.{◌≡◌, ℕ, ◌<◌, ◌≤◌, ◌||◌, Bool, true, false, List, length, max, inl, inr, refl, sym, ◌∙◌, subst, arith}
 use Rattle.std.proofs.lemmas.Bool.{true≢false, cases_lt, or_cases, or_left, or_right}
 use Rattle.std.proofs.lemmas.List.{get_or_past}
 use Rattle.ftc_base.specs.declared.limits.TheConstants.{MOST_PARTITIONS}
 use Rattle.ftc_vector.specs.Vector.{by_partition, number_at, merged}
 use Rattle.ftc_vector.proofs.Partitions.{length-by_partition, get_or-by_partition}
-use Rattle.ftc_serial.specs.Take.{Outcome}
 use Rattle.ftc_serial.specs.Serial.{Entry}
 use Rattle.ftc_machine.specs.Changes.{Changes, is_changing}
 use Rattle.ftc_machine.specs.Trace.{IsChanging}
-use Rattle.ftc_machine.specs.Reach.{Numbers, AreRising, IsChangingIn, IsReach, IsLast}
+use Rattle.ftc_machine.specs.Reach.{Numbers, AreRising, IsReach, IsLast}
 use Rattle.ftc_machine.proofs.Standing.{stands_map, changes_some}
 use Rattle.ftc_machine.proofs.Rising.{in_bounds}
 

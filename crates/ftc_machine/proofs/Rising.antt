@@ -1,5 +1,5 @@
 -- Numbers that rise along a trace: each visit has its own, and the earlier of two has the lesser.
-use Rattle.std.proofs.Common.{◌≡◌, ℕ, ◌<◌, ◌≤◌, List, [], ◌∷◌, inl, inr, refl, sym, ◌∙◌, arith}
+use Rattle.std.proofs.Common.{◌≡◌, ℕ, ◌<◌, ◌≤◌, List, [], ◌∷◌, inl, inr, sym, ◌∙◌, arith}
 use Rattle.ftc_serial.specs.Take.{Outcome}
 use Rattle.ftc_serial.specs.Entries.{Touches}
 use Rattle.ftc_serial.specs.Serial.{Entry, Visited, Given}
