@@ -8,7 +8,7 @@ use Rattle.ftc_serial.specs.Take.{Outcome}
 use Rattle.ftc_serial.specs.Entries.{WritesIn}
 use Rattle.ftc_machine.specs.Changes.{changes, Changes}
 
-any_mapped : {A B : Type 0} (P : B → Type 0) (f : A → B) (xs : List A) → AnyOf (λ (x : A). P (f x)) xs → AnyOf P (map f xs)
+pub any_mapped : {A B : Type 0} (P : B → Type 0) (f : A → B) (xs : List A) → AnyOf (λ (x : A). P (f x)) xs → AnyOf P (map f xs)
 any_mapped P f [] any = any
 any_mapped P f (x ∷ xs) any = elim any [ inl here ↦ inl here | inr there ↦ inr (any_mapped P f xs there) ]
 

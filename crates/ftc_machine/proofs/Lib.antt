@@ -70,3 +70,7 @@ pub mod DriveTrace
 pub mod PlainRun
 pub mod PlacedFates
 pub mod PlainFates
+pub mod Rising
+pub mod Reaching
+pub mod Placed
+pub mod Footprints

@@ -20,7 +20,7 @@ use Rattle.ftc_machine.proofs.Changing.{written_changed}
 pub writes_change : (c : Setting) → IsSoundTaking c → (s : State) (j p : ℕ) (o : Outcome) → IsEntry c s (Visited j p o) → (i : ℕ) → WritesIn c.partitions o i → Changes c.partitions o i
 writes_change c sound s j p o legal i = written_changed c.partitions o i
 
-some_changes : (keys : List ℕ) → is_some_list keys ≡ true → (i : ℕ) × AnyOf (λ (key : ℕ). key ≡ i) keys
+pub some_changes : (keys : List ℕ) → is_some_list keys ≡ true → (i : ℕ) × AnyOf (λ (key : ℕ). key ≡ i) keys
 some_changes [] h = absurd (true≢false (sym h))
 some_changes (key ∷ keys) h = (key, inl refl)
 

@@ -68,7 +68,7 @@ IsWithheldSlot (Some withheld) None = ⊥
 IsWithheldSlot (Some withheld) (Some kept) = IsWithheld withheld kept
 
 abbrev pub fate_in : List (Option Fate) → ℕ → Fate
-fate_in fates packet = option_map_or (λ (fate : Fate). fate) became.Inside (slot_at fates packet)
+fate_in fates packet = option_map_or (λ (fate : Fate). fate) (slot_at fates packet) became.Inside
 
 -- the parts that speak of sets of visits
 pub record AreKeptSets (c : Setting) (s : ChainState) (k : Kept) : Type 0 where

@@ -53,7 +53,7 @@ abbrev pub Footprints : Type 0
 Footprints = ℕ → ℕ → Option Footprint
 
 abbrev pub numbers_of : Footprints → Numbers
-numbers_of footprints server packet = option_map_or (λ (footprint : Footprint). footprint.number) 0 (footprints server packet)
+numbers_of footprints server packet = option_map_or (λ (footprint : Footprint). footprint.number) (footprints server packet) 0
 
 -- the number of the last of these visits that changes a partition, 0 where there is none
 pub record IsLast (partitions : ℕ) (older : List Entry) (numbers : Numbers) (server partition number : ℕ) : Type 0 where

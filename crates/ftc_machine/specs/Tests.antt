@@ -9,7 +9,7 @@ use Rattle.ftc_machine.specs.Reach.{Footprints, is_had_by}
 
 -- a set that reaches so far has the visit
 abbrev pub has_named : Footprints → List (List ℕ) → VisitName → Bool
-has_named footprints reach name = option_map_or (λ (footprint : Footprint). is_had_by footprint (vector_of reach name.server)) true (footprints name.server name.packet)
+has_named footprints reach name = option_map_or (λ (footprint : Footprint). is_had_by footprint (vector_of reach name.server)) (footprints name.server name.packet) true
 
 abbrev pub has_all : Footprints → List (List ℕ) → List VisitName → Bool
 has_all footprints reach names = list_all (has_named footprints reach) names
