@@ -17,10 +17,13 @@ use Rattle.ftc_machine.specs.declared.message.Message.{Message as KeptMessage}
 use Rattle.ftc_machine.specs.declared.message.Place.{Place}
 use Rattle.ftc_machine.specs.declared.message.Place.TheVariants as place
 use Rattle.ftc_machine.specs.declared.message.Withheld.{Withheld as KeptWithheld}
-use Rattle.ftc_machine.specs.Setting.{Setting, servers, shape}
+use Rattle.ftc_journal.specs.declared.event.Event.{Event}
+use Rattle.ftc_machine.specs.Setting.{Setting, servers, shape, IsSetting}
+use Rattle.ftc_machine.specs.Legal.{IsLegal}
+use Rattle.ftc_machine.specs.Run.{IsRun, state_after}
 use Rattle.ftc_machine.specs.Slots.{slot_at}
 use Rattle.ftc_machine.specs.Reach.{Numbers, AreRising, Reaches, Footprints, numbers_of, AreFootprints}
-use Rattle.ftc_machine.specs.State.{Where, Held, Queued, Message, Withheld, ChainState}
+use Rattle.ftc_machine.specs.State.{Where, Held, Queued, Message, Withheld, ChainState, opening}
 use Rattle.ftc_machine.specs.Trace.{content_of}
 use Rattle.ftc_machine.specs.Visits.{Visits}
 
@@ -57,15 +60,16 @@ IsMessageSlot partitions trace numbers None (Some kept) = ⊥
 IsMessageSlot partitions trace numbers (Some message) None = ⊥
 IsMessageSlot partitions trace numbers (Some message) (Some kept) = IsMessage partitions trace numbers message kept
 
-pub record IsWithheld (withheld : Withheld) (kept : KeptWithheld) : Type 0 where
+pub record IsWithheld (packet : ℕ) (withheld : Withheld) (kept : KeptWithheld) : Type 0 where
+  pub packet_is : kept.packet ≡ packet
   pub since : kept.since ≡ withheld.since
   pub needs : (server : ℕ) → has kept.needs server ≡ withheld.needs server
 
-abbrev pub IsWithheldSlot : Option Withheld → Option KeptWithheld → Type 0
-IsWithheldSlot None None = Unit {0}
-IsWithheldSlot None (Some kept) = ⊥
-IsWithheldSlot (Some withheld) None = ⊥
-IsWithheldSlot (Some withheld) (Some kept) = IsWithheld withheld kept
+abbrev pub IsWithheldSlot : ℕ → Option Withheld → Option KeptWithheld → Type 0
+IsWithheldSlot packet None None = Unit {0}
+IsWithheldSlot packet None (Some kept) = ⊥
+IsWithheldSlot packet (Some withheld) None = ⊥
+IsWithheldSlot packet (Some withheld) (Some kept) = IsWithheld packet withheld kept
 
 abbrev pub fate_in : List (Option Fate) → ℕ → Fate
 fate_in fates packet = option_map_or (λ (fate : Fate). fate) (slot_at fates packet) became.Inside
@@ -90,9 +94,25 @@ pub record IsKept (c : Setting) (s : ChainState) (k : Kept) : Type 0 where
   pub up : (server : ℕ) → server < servers c → s.up server ≡ is_live k.down server
   pub sets : AreKeptSets c s k
   pub forwarder : (server packet : ℕ) → names k.forwarder server packet ≡ s.forwarder server packet
-  pub buffer : (packet : ℕ) → IsWithheldSlot (s.withheld packet) (slot_at k.buffer packet)
+  pub buffer : (packet : ℕ) → IsWithheldSlot packet (s.withheld packet) (slot_at k.buffer packet)
   pub gaps : (link : ℕ) → link < servers c → has k.gaps link ≡ s.gap link
   pub lines : s.lines ≡ drop k.done c.lines
   pub entered : k.entered ≡ s.entered
   pub propagates : k.propagates ≡ s.propagates
   pub fates : (packet : ℕ) → fate_in k.fates packet ≡ s.fate packet
+
+-- an event that is legal after a run that leads to this state
+pub record MayFollow (c : Setting) (s : ChainState) (event : Event) : Type 0 where
+  pub setting : IsSetting c
+  pub journal : List Event
+  pub run : IsRun c journal
+  pub state : state_after c (opening c) journal ≡ s
+  pub legal : IsLegal c s event
+
+-- what stands for one state stands for another
+abbrev pub GoesOver : Setting → ChainState → ChainState → Kept → Kept → Type 0
+GoesOver c s other old new = IsKept c s old → IsKept c other new
+
+-- what stood for a state still does
+abbrev pub StandsStill : Kept → Kept → Type 0
+StandsStill old new = (c : Setting) (s : ChainState) → GoesOver c s s old new

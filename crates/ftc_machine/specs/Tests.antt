@@ -1,11 +1,29 @@
--- Tests of what the machine keeps.
-use Rattle.std.specs.Prelude.{ℕ, Bool, true, List}
-use Rattle.std.specs.List.{list_all}
+-- When the machine takes an event to be legal: tests of what it keeps.
+use Rattle.std.specs.Prelude.{ℕ, ◌+◌, ◌-◌, ◌==◌, ◌&&◌, ◌||◌, nat_lt, not, Bool, true, false, List, [], ◌∷◌, drop, is_some, is_none}
+use Rattle.std.specs.List.{list_all, list_any, range_with_len}
 use Rattle.std.specs.Option.{option_map_or}
-use Rattle.ftc_vector.specs.Commits.{vector_of}
+use Rattle.ftc_base.specs.Sets.{has}
+use Rattle.ftc_vector.specs.Commits.{vector_of, group_raised}
+use Rattle.ftc_ring.specs.Ring.{RingShape, next_of}
+use Rattle.ftc_ring.specs.Live.{is_live}
 use Rattle.ftc_journal.specs.declared.event.VisitName.{VisitName}
+use Rattle.ftc_script.specs.declared.line.ScriptLine.{ScriptLine}
+use Rattle.ftc_script.specs.declared.line.ScriptLine.TheVariants.{Crash, Recover}
+use Rattle.ftc_script.specs.Script.{ScriptShape, loses_of}
+use Rattle.ftc_script.specs.Steps.{at_of}
+use Rattle.ftc_serial.specs.Trace.{names}
 use Rattle.ftc_machine.specs.declared.footprint.Footprint.{Footprint}
-use Rattle.ftc_machine.specs.Reach.{Footprints, is_had_by}
+use Rattle.ftc_machine.specs.declared.kept.Kept.{Kept}
+use Rattle.ftc_machine.specs.declared.message.Message.{Message}
+use Rattle.ftc_machine.specs.declared.message.Place.{Place}
+use Rattle.ftc_machine.specs.declared.message.Place.TheVariants.{Held, Queued}
+use Rattle.ftc_machine.specs.declared.message.Withheld.{Withheld}
+use Rattle.ftc_machine.specs.Changes.{is_some_list}
+use Rattle.ftc_machine.specs.Slots.{slot_at, has_such}
+use Rattle.ftc_machine.specs.Reach.{Footprints, has_changed, contains, follows, is_had_by}
+use Rattle.ftc_machine.specs.Kept.{footprints_in, reach_of}
+
+-- ---- sets of visits
 
 -- a set that reaches so far has the visit
 abbrev pub has_named : Footprints → List (List ℕ) → VisitName → Bool
@@ -13,3 +31,146 @@ has_named footprints reach name = option_map_or (λ (footprint : Footprint). is_
 
 abbrev pub has_all : Footprints → List (List ℕ) → List VisitName → Bool
 has_all footprints reach names = list_all (has_named footprints reach) names
+
+abbrev pub footprints_of : Kept → Footprints
+footprints_of k = footprints_in k.visits.items
+
+abbrev pub list_of : Kept → ℕ → List (List ℕ)
+list_of k server = reach_of k.lists.items server
+
+-- ---- messages
+
+abbrev pub is_held : ℕ → Place → Bool
+is_held server (Held other visited by_ring) = other == server
+is_held server (Queued link known) = false
+
+abbrev pub is_unvisited : ℕ → Place → Bool
+is_unvisited server (Held other visited by_ring) = other == server && not visited
+is_unvisited server (Queued link known) = false
+
+-- it may be sent on, if it is ready
+abbrev pub may_go : ℕ → Bool → Place → Bool
+may_go server bare (Held other visited by_ring) = other == server && not by_ring && (visited || bare)
+may_go server bare (Queued link known) = false
+
+abbrev pub came_by_ring : Place → Bool
+came_by_ring (Held other visited by_ring) = other == 0 && by_ring
+came_by_ring (Queued link known) = false
+
+abbrev pub is_begun : Place → Bool
+is_begun (Held other visited by_ring) = other == 0 && not by_ring
+is_begun (Queued link known) = false
+
+abbrev pub is_queued : ℕ → Place → Bool
+is_queued link (Held server visited by_ring) = false
+is_queued link (Queued other known) = other == link
+
+abbrev pub is_ready : Kept → ℕ → Message → Bool
+is_ready k server message = has_all (footprints_of k) (list_of k server) message.logs
+
+abbrev pub is_older : ℕ → ℕ → Message → Bool
+is_older link since message = is_queued link message.place && nat_lt message.since since
+
+-- ---- events
+
+abbrev pub lines_left : Kept → ScriptShape → List ScriptLine
+lines_left k script = drop k.done script.steps
+
+abbrev pub may_enter : Kept → ScriptShape → ℕ → ℕ → Bool
+may_enter k script count packet =
+    packet == k.entered && nat_lt packet count && not (list_any (λ line. at_of line == packet) (lines_left k script))
+
+abbrev pub may_take : Kept → ℕ → ℕ → Bool
+may_take k link origin =
+    has_such (λ message. is_queued link message.place && not (list_any (has_such (is_older link message.since)) k.messages)) (slot_at k.messages origin)
+
+-- a log may be added to a list that reaches so far at its middlebox
+abbrev pub may_add : List ℕ → Footprint → Bool
+may_add vector footprint = has_changed footprint && not (contains footprint vector) && follows footprint vector
+
+-- of the logs of that packet, those of smaller groups are had
+abbrev pub is_in_turn : Kept → ℕ → ℕ → ℕ → VisitName → Bool
+is_in_turn k server group packet name = not (name.packet == packet && nat_lt name.server group) || has_named (footprints_of k) (list_of k server) name
+
+abbrev pub may_apply : Kept → ℕ → ℕ → ℕ → ℕ → Bool
+may_apply k server origin group packet =
+    has_such (λ message. is_held server message.place && names message.logs group packet && list_all (is_in_turn k server group packet) message.logs) (slot_at k.messages origin)
+    && has_such (may_add (vector_of (list_of k server) group)) (footprints_of k group packet)
+
+abbrev pub may_visit : Kept → ℕ → ℕ → Bool
+may_visit k server packet =
+    has_such (λ message. is_unvisited server message.place && is_some message.packet && is_ready k server message) (slot_at k.messages packet)
+
+abbrev pub may_leave : Kept → ℕ → ℕ → Bool
+may_leave k server origin =
+    has_such (λ message. may_go server (is_none message.packet) message.place && is_ready k server message) (slot_at k.messages origin)
+
+abbrev pub sends : RingShape → ℕ → Bool
+sends ring server = not (server + 1 == ring.servers) || nat_lt 0 ring.failures
+
+abbrev pub may_pass : Kept → ScriptShape → ℕ → ℕ → Bool
+may_pass k script server origin = may_leave k server origin && (is_none (loses_of script.loses server origin) || not (sends k.ring server))
+
+abbrev pub may_lose : Kept → ScriptShape → ℕ → ℕ → Bool
+may_lose k script server origin = may_leave k server origin && sends k.ring server && is_some (loses_of script.loses server origin)
+
+abbrev pub may_carry : Kept → ℕ → Bool
+may_carry k origin = has_such (λ message. came_by_ring message.place && is_ready k 0 message) (slot_at k.messages origin)
+
+abbrev pub is_first : (ScriptLine → Bool) → List ScriptLine → Bool
+is_first test [] = false
+is_first test (line ∷ lines) = test line
+
+abbrev pub is_crash : ℕ → ℕ → ScriptLine → Bool
+is_crash entered server (Crash at other) = at == entered && other == server
+is_crash entered server (Recover at other) = false
+
+abbrev pub is_recovery : ℕ → ℕ → ScriptLine → Bool
+is_recovery entered server (Crash at other) = false
+is_recovery entered server (Recover at other) = at == entered && other == server
+
+abbrev pub may_crash : Kept → ScriptShape → ℕ → Bool
+may_crash k script server = is_first (is_crash k.entered server) (lines_left k script)
+
+abbrev pub may_recover : Kept → ScriptShape → ℕ → Bool
+may_recover k script server = is_first (is_recovery k.entered server) (lines_left k script)
+
+abbrev pub may_pull : Kept → ℕ → Bool
+may_pull k link = nat_lt link k.ring.servers && is_live k.down link && is_live k.down (next_of k.ring.servers link) && has k.gaps link
+
+abbrev pub all_below : ℕ → (ℕ → Bool) → Bool
+all_below count test = list_all test (range_with_len 0 count)
+
+abbrev pub is_stalled : Kept → Bool
+is_stalled k =
+    not (list_any (has_such (λ (message : Message). true)) k.messages) && all_below k.ring.servers (λ link. not (has k.gaps link))
+    && list_any (has_such (λ (withheld : Withheld). true)) k.buffer
+
+abbrev pub may_propagate : Kept → ℕ → ℕ → Bool
+may_propagate k count origin =
+    k.entered == count && all_below k.ring.servers (is_live k.down) && not (list_any (has_such (λ (message : Message). is_begun message.place)) k.messages)
+    && (is_some_list k.forwarder || is_stalled k) && origin == count + k.propagates
+
+-- ---- due packets
+
+-- the last server is the tail of this group
+abbrev pub last_group : RingShape → ℕ
+last_group ring = ring.servers - 1 - ring.failures
+
+-- how far reaches what the last server knows to be at the tails
+abbrev pub known_last : Kept → List (List ℕ)
+known_last k = group_raised (reach_of k.known.items (k.ring.servers - 1)) (last_group k.ring) (vector_of (list_of k (k.ring.servers - 1)) (last_group k.ring))
+
+abbrev pub is_due : Kept → Withheld → Bool
+is_due k withheld =
+    all_below k.ring.servers (λ group. not (has withheld.needs group) || has_named (footprints_of k) (known_last k) (record { server = group; packet = withheld.packet }))
+
+abbrev pub is_any_due : Kept → Bool
+is_any_due k = list_any (has_such (is_due k)) k.buffer
+
+abbrev pub is_due_before : Kept → ℕ → Withheld → Bool
+is_due_before k since withheld = nat_lt withheld.since since && is_due k withheld
+
+abbrev pub may_release : Kept → ℕ → Bool
+may_release k packet =
+    has_such (λ withheld. is_due k withheld && not (list_any (has_such (is_due_before k withheld.since)) k.buffer)) (slot_at k.buffer packet)

@@ -1,6 +1,6 @@
 //! Messages and withheld packets, as the machine keeps them.
 
-use ftc_base::{Bytes, ServerId, ServerSet};
+use ftc_base::{Bytes, PacketNo, ServerId, ServerSet};
 use ftc_journal::VisitNames;
 use ftc_vector::Commits;
 
@@ -34,6 +34,7 @@ pub struct Message {
 /// A packet in the buffer.
 #[derive(Clone, Copy, Debug, PartialEq, Eq)]
 pub struct Withheld {
+    pub packet: PacketNo,
     /// The number of the event by which it came there.
     pub since: u64,
     /// The middleboxes at which it touched something.
