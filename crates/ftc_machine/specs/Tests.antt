@@ -92,10 +92,13 @@ may_add vector footprint = has_changed footprint && not (contains footprint vect
 abbrev pub is_in_turn : Kept → ℕ → ℕ → ℕ → VisitName → Bool
 is_in_turn k server group packet name = not (name.packet == packet && nat_lt name.server group) || has_named (footprints_of k) (list_of k server) name
 
+abbrev pub carries : Kept → ℕ → ℕ → ℕ → ℕ → Bool
+carries k server origin group packet =
+    has_such (λ message. is_held server message.place && names message.logs group packet && list_all (is_in_turn k server group packet) message.logs) (slot_at k.messages origin)
+
 abbrev pub may_apply : Kept → ℕ → ℕ → ℕ → ℕ → Bool
 may_apply k server origin group packet =
-    has_such (λ message. is_held server message.place && names message.logs group packet && list_all (is_in_turn k server group packet) message.logs) (slot_at k.messages origin)
-    && has_such (may_add (vector_of (list_of k server) group)) (footprints_of k group packet)
+    carries k server origin group packet && has_such (may_add (vector_of (list_of k server) group)) (footprints_of k group packet)
 
 abbrev pub may_visit : Kept → ℕ → ℕ → Bool
 may_visit k server packet =
@@ -150,27 +153,3 @@ abbrev pub may_propagate : Kept → ℕ → ℕ → Bool
 may_propagate k count origin =
     k.entered == count && all_below k.ring.servers (is_live k.down) && not (list_any (has_such (λ (message : Message). is_begun message.place)) k.messages)
     && (is_some_list k.forwarder || is_stalled k) && origin == count + k.propagates
-
--- ---- due packets
-
--- the last server is the tail of this group
-abbrev pub last_group : RingShape → ℕ
-last_group ring = ring.servers - 1 - ring.failures
-
--- how far reaches what the last server knows to be at the tails
-abbrev pub known_last : Kept → List (List ℕ)
-known_last k = group_raised (reach_of k.known.items (k.ring.servers - 1)) (last_group k.ring) (vector_of (list_of k (k.ring.servers - 1)) (last_group k.ring))
-
-abbrev pub is_due : Kept → Withheld → Bool
-is_due k withheld =
-    all_below k.ring.servers (λ group. not (has withheld.needs group) || has_named (footprints_of k) (known_last k) (record { server = group; packet = withheld.packet }))
-
-abbrev pub is_any_due : Kept → Bool
-is_any_due k = list_any (has_such (is_due k)) k.buffer
-
-abbrev pub is_due_before : Kept → ℕ → Withheld → Bool
-is_due_before k since withheld = nat_lt withheld.since since && is_due k withheld
-
-abbrev pub may_release : Kept → ℕ → Bool
-may_release k packet =
-    has_such (λ withheld. is_due k withheld && not (list_any (has_such (is_due_before k withheld.since)) k.buffer)) (slot_at k.buffer packet)

@@ -43,6 +43,7 @@ pub struct Kept {
     pub propagates: PacketNo,
     /// What became of packets. Where nothing is said the packet is inside.
     pub fates: Slots<Fate>,
+    ghost some_server: { 1 ≤ ring.servers },
     ghost each_list: { length lists.items ≡ ring.servers },
     ghost each_known: { length known.items ≡ ring.servers },
     ghost each_store: { length stores.items ≡ ring.servers },

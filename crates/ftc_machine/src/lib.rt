@@ -2,11 +2,14 @@
 //! of each packet. It has no vector, log, frame or lock: what the chain of servers does is judged by it.
 #![tactic(auto)]
 
+mod due;
 mod fate;
 mod footprint;
 mod sets;
+mod going;
 mod kept;
 mod laws;
+mod legal;
 mod message;
 mod slots;
 mod trace;
