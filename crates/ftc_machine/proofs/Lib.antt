@@ -34,6 +34,7 @@ pub mod Waiting
 pub mod Soon
 mod Slotted
 mod Tested
+mod Lines
 pub mod Progress
 pub mod Finished
 pub mod Forever

@@ -1,5 +1,5 @@
 -- When the machine takes an event to be legal: tests of what it keeps.
-use Rattle.std.specs.Prelude.{ℕ, ◌+◌, ◌-◌, ◌==◌, ◌&&◌, ◌||◌, nat_lt, not, Bool, true, false, List, [], ◌∷◌, drop, is_some, is_none}
+use Rattle.std.specs.Prelude.{ℕ, ◌+◌, ◌-◌, ◌==◌, ◌&&◌, ◌||◌, nat_lt, not, Bool, true, false, List, [], ◌∷◌, drop, is_some, is_none, Option, Some, None}
 use Rattle.std.specs.List.{list_all, list_any, range_with_len}
 use Rattle.std.specs.Option.{option_map_or}
 use Rattle.ftc_base.specs.Sets.{has}
@@ -120,9 +120,9 @@ may_lose k script server origin = may_leave k server origin && sends k.ring serv
 abbrev pub may_carry : Kept → ℕ → Bool
 may_carry k origin = has_such (λ message. came_by_ring message.place && is_ready k 0 message) (slot_at k.messages origin)
 
-abbrev pub is_first : (ScriptLine → Bool) → List ScriptLine → Bool
-is_first test [] = false
-is_first test (line ∷ lines) = test line
+abbrev pub first_of : List ScriptLine → Option ScriptLine
+first_of [] = None
+first_of (line ∷ lines) = Some line
 
 abbrev pub is_crash : ℕ → ℕ → ScriptLine → Bool
 is_crash entered server (Crash at other) = at == entered && other == server
@@ -133,10 +133,10 @@ is_recovery entered server (Crash at other) = false
 is_recovery entered server (Recover at other) = at == entered && other == server
 
 abbrev pub may_crash : Kept → ScriptShape → ℕ → Bool
-may_crash k script server = is_first (is_crash k.entered server) (lines_left k script)
+may_crash k script server = has_such (is_crash k.entered server) (first_of (lines_left k script))
 
 abbrev pub may_recover : Kept → ScriptShape → ℕ → Bool
-may_recover k script server = is_first (is_recovery k.entered server) (lines_left k script)
+may_recover k script server = has_such (is_recovery k.entered server) (first_of (lines_left k script))
 
 abbrev pub may_pull : Kept → ℕ → Bool
 may_pull k link = nat_lt link k.ring.servers && is_live k.down link && is_live k.down (next_of k.ring.servers link) && has k.gaps link

@@ -1,6 +1,6 @@
 //! Whether an event may happen that has to do with the script, the links or the buffer, by what is kept.
 
-ghost use Rattle.std.specs.Prelude.{◌≡◌, ◌<◌, ℕ, Bool, true, false, length, drop, not};
+ghost use Rattle.std.specs.Prelude.{◌≡◌, ◌==◌, true, not};
 ghost use Rattle.std.specs.List.{list_any, list_all};
 ghost use Rattle.ftc_base.specs.Sets.{has};
 ghost use Rattle.ftc_ring.specs.Live.{is_live};
@@ -10,7 +10,7 @@ ghost use Rattle.ftc_machine.specs.declared.message.Message.{Message as AMessage
 ghost use Rattle.ftc_machine.specs.declared.message.Withheld.{Withheld as AWithheld};
 ghost use Rattle.ftc_machine.specs.Changes.{is_some_list};
 ghost use Rattle.ftc_machine.specs.Slots.{has_such, slot_at};
-ghost use Rattle.ftc_machine.specs.Tests.{lines_left, may_enter, is_first, is_crash, is_recovery, may_crash, may_recover, may_pull, all_below, is_begun, is_stalled, may_propagate};
+ghost use Rattle.ftc_machine.specs.Tests.{lines_left, first_of, may_enter, is_crash, is_recovery, may_crash, may_recover, may_pull, all_below, is_begun, is_stalled, may_propagate};
 
 use crate::kept::Kept;
 use crate::message::{Message, Withheld};
@@ -46,6 +46,30 @@ fn is_any_withheld(slots: &[Option<Withheld>]) -> bool
     ensures { result ≡ list_any (has_such (λ (withheld : AWithheld). true)) slots.now }
 {
     slots.iter().any(|slot| slot.is_some())
+}
+
+/// Whether the line is the crash of that server when so many packets have entered.
+fn is_crash(line: &ScriptLine, entered: PacketNo, server: ServerId) -> bool
+    ensures { result ≡ is_crash entered server line.now }
+{
+    match line {
+        ScriptLine::Crash { at, server: other } => {
+            *at == entered && other.number() == server.number()
+        }
+        ScriptLine::Recover { .. } => false,
+    }
+}
+
+/// Whether the line is the recovery of that server when so many packets have entered.
+fn is_recovery(line: &ScriptLine, entered: PacketNo, server: ServerId) -> bool
+    ensures { result ≡ is_recovery entered server line.now }
+{
+    match line {
+        ScriptLine::Crash { .. } => false,
+        ScriptLine::Recover { at, server: other } => {
+            *at == entered && other.number() == server.number()
+        }
+    }
 }
 
 impl Kept {
@@ -89,18 +113,24 @@ impl Kept {
         packet == self.entered && packet < count && !self.has_line_at(script, packet)
     }
 
+    /// The next line of the script that is to be done.
+    fn next_line(&self, script: &Script) -> Option<ScriptLine>
+        ensures { result ≡ first_of (lines_left self.now script.now) }
+    {
+        if self.done < script.steps() {
+            Some(script.step(self.done))
+        } else {
+            None
+        }
+    }
+
     /// Whether the next line of the script is that crash, and is to be done now.
     pub fn may_crash(&self, script: &Script, server: ServerId) -> bool
         ensures { result ≡ may_crash self.now script.now server }
     {
-        if self.done >= script.steps() {
-            return false;
-        }
-        match script.step(self.done) {
-            ScriptLine::Crash { at, server: other } => {
-                at == self.entered && other.number() == server.number()
-            }
-            ScriptLine::Recover { .. } => false,
+        match self.next_line(script) {
+            Some(line) => is_crash(&line, self.entered, server),
+            None => false,
         }
     }
 
@@ -108,14 +138,9 @@ impl Kept {
     pub fn may_recover(&self, script: &Script, server: ServerId) -> bool
         ensures { result ≡ may_recover self.now script.now server }
     {
-        if self.done >= script.steps() {
-            return false;
-        }
-        match script.step(self.done) {
-            ScriptLine::Crash { .. } => false,
-            ScriptLine::Recover { at, server: other } => {
-                at == self.entered && other.number() == server.number()
-            }
+        match self.next_line(script) {
+            Some(line) => is_recovery(&line, self.entered, server),
+            None => false,
         }
     }
 
