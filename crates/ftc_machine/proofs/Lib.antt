@@ -56,3 +56,4 @@ pub mod Rising
 pub mod Reaching
 pub mod Placed
 pub mod Footprints
+pub mod Marks

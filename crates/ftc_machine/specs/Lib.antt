@@ -16,3 +16,4 @@ pub mod Counts
 pub mod Measure
 pub mod Example
 pub mod Reach
+pub mod Marking

@@ -1,8 +1,12 @@
 //! What the machine keeps of a visit.
 
+ghost use Rattle.std.specs.Prelude.{◌<◌};
+ghost use Rattle.ftc_base.specs.declared.limits.TheConstants.{MOST_PARTITIONS};
+
 use arrayvec::ArrayVec;
 use ftc_base::Writes;
 use ftc_base::limits::MOST_READS;
+use ftc_vector::Vector;
 
 /// A partition that a visit touched.
 #[derive(Clone, Copy, Debug, PartialEq, Eq)]
@@ -12,6 +16,7 @@ pub struct Touched {
     pub changed: bool,
     /// The number of the last visit before that changed it, 0 where there is none.
     pub before: u64,
+    ghost within: { partition < MOST_PARTITIONS },
 }
 
 /// What a visit touched and wrote. Visits are numbered in the order of their events, from 1 on.
@@ -21,4 +26,82 @@ pub struct Footprint {
     /// The partitions of the keys that it read, in the order of its reads.
     pub touched: ArrayVec<Touched, MOST_READS>,
     pub writes: Writes,
+}
+
+/// Partition 0, untouched. It fills the unused places of a list of fixed room.
+impl Default for Touched {
+    fn default() -> Touched {
+        Touched {
+            partition: 0,
+            changed: false,
+            before: 0,
+        }
+    }
+}
+
+impl Footprint {
+    ghost use Rattle.std.specs.Prelude.{◌≡◌, ℕ, if◌then◌else◌};
+    ghost use Rattle.ftc_vector.specs.Vector.{number_at};
+    ghost use Rattle.ftc_machine.specs.Changes.{is_some_list};
+    ghost use Rattle.ftc_machine.specs.Reach.{has_changed, follows, contains, is_had_by};
+    ghost use Rattle.ftc_machine.specs.Marking.{marked_at};
+
+    /// Whether the visit changed something.
+    pub fn has_changed(&self) -> bool
+        ensures { result ≡ has_changed self.now }
+    {
+        !self.writes.is_empty()
+    }
+
+    /// Whether it touched something.
+    pub fn has_touched(&self) -> bool
+        ensures { result ≡ is_some_list self.now.touched.items }
+    {
+        !self.touched.is_empty()
+    }
+
+    /// Whether a set that reaches so far has each visit that is before this one.
+    pub fn follows(&self, vector: &Vector) -> bool
+        ensures { result ≡ follows self.now vector.now }
+    {
+        self.touched
+            .iter()
+            .all(|touched| touched.before <= vector.at(touched.partition))
+    }
+
+    /// Whether it has this one, which changes something.
+    pub fn contains(&self, vector: &Vector) -> bool
+        ensures { result ≡ contains self.now vector.now }
+    {
+        self.touched.iter().all(|touched| !touched.changed
+            || self.number <= vector.at(touched.partition))
+    }
+
+    /// Whether it has this one.
+    pub fn is_had_by(&self, vector: &Vector) -> bool
+        ensures { result ≡ is_had_by self.now vector.now }
+    {
+        if self.has_changed() {
+            self.contains(vector)
+        } else {
+            self.follows(vector)
+        }
+    }
+
+    /// What the visit leaves in a touched partition that has this number.
+    fn left(&self, touched: &Touched, number: u64) -> u64
+        ensures { result ≡ (if touched.now.changed then self.now.number else number) }
+    {
+        if touched.changed { self.number } else { number }
+    }
+
+    /// Gives each partition that the visit changed its number.
+    pub fn mark(&self, vector: &mut Vector)
+        ensures { (partition : ℕ) → number_at vector.new partition ≡ marked_at self.now (number_at vector.old) partition }
+    {
+        for touched in self.touched.as_slice() {
+            let number = self.left(touched, vector.at(touched.partition));
+            vector.set(touched.partition, number);
+        }
+    }
 }
