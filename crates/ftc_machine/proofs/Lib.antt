@@ -57,3 +57,4 @@ pub mod Reaching
 pub mod Placed
 pub mod Footprints
 pub mod Marks
+pub mod Makes

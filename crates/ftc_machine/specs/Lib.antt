@@ -17,3 +17,4 @@ pub mod Measure
 pub mod Example
 pub mod Reach
 pub mod Marking
+pub mod Making
