@@ -58,3 +58,7 @@ pub mod Placed
 pub mod Footprints
 pub mod Marks
 pub mod Makes
+pub mod Marked
+pub mod Joining
+pub mod Growing
+pub mod Thinning
