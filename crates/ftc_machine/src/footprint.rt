@@ -118,7 +118,7 @@ impl Footprint {
         !self.touched.is_empty()
     }
 
-    /// Whether a set that reaches so far has each visit that is before this one.
+    /// Whether a set that reaches so far at its middlebox has each visit that is before this one.
     pub fn follows(&self, vector: &Vector) -> bool
         ensures { result ≡ follows self.now vector.now }
     {
