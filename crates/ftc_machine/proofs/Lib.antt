@@ -75,3 +75,9 @@ pub mod Rising
 pub mod Reaching
 pub mod Placed
 pub mod Footprints
+pub mod Marks
+pub mod Makes
+pub mod Marked
+pub mod Joining
+pub mod Growing
+pub mod Thinning

@@ -21,3 +21,5 @@ pub mod Kept
 pub mod Tests
 pub mod Due
 pub mod Whole
+pub mod Marking
+pub mod Making

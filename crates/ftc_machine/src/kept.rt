@@ -11,6 +11,7 @@ use ftc_store::Store;
 use ftc_vector::Commits;
 
 ghost use Rattle.std.specs.Prelude.{◌≡◌, ◌≤◌, length};
+ghost use Rattle.ftc_base.specs.declared.limits.TheConstants.{MOST_PARTITIONS};
 
 /// The state of the protocol. A set of visits is kept as how far it reaches: of each group and partition as
 /// the number of its last visit that changes the partition.
@@ -49,5 +50,5 @@ pub struct Kept {
     ghost each_store: { length stores.items ≡ ring.servers },
     ghost each_visits: { length visits.items ≡ ring.servers },
     ghost some_partition: { 1 ≤ partitions },
-    ghost few_partitions: { partitions ≤ 64 },
+    ghost few_partitions: { partitions ≤ MOST_PARTITIONS },
 }
