@@ -74,3 +74,4 @@ pub mod Rising
 pub mod Reaching
 pub mod Placed
 pub mod Footprints
+pub mod Replaced

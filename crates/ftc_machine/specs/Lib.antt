@@ -19,4 +19,5 @@ pub mod Reach
 pub mod Slots
 pub mod Kept
 pub mod Tests
+pub mod Effects
 pub mod Whole

@@ -2,12 +2,15 @@
 //! of each packet. It has no vector, log, frame or lock: what the chain of servers does is judged by it.
 #![tactic(auto)]
 
+mod enter;
 mod fate;
 mod footprint;
-mod sets;
+mod fresh;
 mod kept;
 mod laws;
 mod message;
+mod propagate;
+mod sets;
 mod slots;
 mod trace;
 
