@@ -75,3 +75,6 @@ pub mod Reaching
 pub mod Placed
 pub mod Footprints
 pub mod Replaced
+pub mod Reached
+pub mod Following
+pub mod Moved

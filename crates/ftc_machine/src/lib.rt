@@ -12,6 +12,7 @@ mod message;
 mod propagate;
 mod sets;
 mod slots;
+mod take;
 mod trace;
 
 pub use fate::Fate;

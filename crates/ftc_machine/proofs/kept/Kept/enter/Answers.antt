@@ -42,7 +42,7 @@ returns-then-has-clause-ok c setting s bytes now may is =
       propagates = is.propagates;
       fates = replaced (λ _ (fate : Fate) (slot : Option Fate). option_map_or (λ (found : Fate). found) slot Inside ≡ fate)
           s.fate k.fates c.make_room-2.new.self c.put.new.self c.args.packet lost (Some (Lost c.args.now))
-          c.put.ensures c.in_ok-make_room-2.ensures.room c.in_ok-make_room-2.ensures.same
+          c.put.ensures c.in_ok-make_room-2.ensures.room (λ other _. c.in_ok-make_room-2.ensures.same other)
           (ap Lost now ∙ sym (ap (λ b. if b then s.fate c.args.packet else Lost s.events) down)) is.fates;
     }
 
@@ -64,7 +64,7 @@ returns-clause-ok c setting s bytes now may is =
         known = is.sets.known;
         messages = replaced (λ _ (o : Option Message) (slot : Option KeptMessage). IsMessageSlot setting.partitions s.trace numbers o slot)
             s.message k.messages c.make_room.new.self c.put-2.new.self c.args.packet (if s.up 0 then message else s.message c.args.packet) (Some c.fresh.result)
-            c.put-2.ensures c.in_ok-make_room.ensures.room c.in_ok-make_room.ensures.same
+            c.put-2.ensures c.in_ok-make_room.ensures.room (λ other _. c.in_ok-make_room.ensures.same other)
             (subst (λ b. IsMessageSlot setting.partitions s.trace numbers (if b then message else s.message c.args.packet) (Some c.fresh.result)) (sym live)
             (subst (λ bytes. IsMessage setting.partitions s.trace numbers (fresh_message s.events (Some bytes)) c.fresh.result) bytes
             (subst (λ now. IsMessage setting.partitions s.trace numbers (fresh_message now (Some c.args.bytes)) c.fresh.result) now (c.fresh.ensures setting.partitions s.trace numbers))))
