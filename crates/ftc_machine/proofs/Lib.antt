@@ -81,3 +81,7 @@ pub mod Marked
 pub mod Joining
 pub mod Growing
 pub mod Thinning
+pub mod Replaced
+pub mod Reached
+pub mod Following
+pub mod Moved

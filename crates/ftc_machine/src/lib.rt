@@ -7,11 +7,15 @@ mod fate;
 mod footprint;
 mod sets;
 mod going;
+mod enter;
+mod fresh;
 mod kept;
 mod laws;
 mod legal;
 mod message;
+mod propagate;
 mod slots;
+mod take;
 mod trace;
 
 pub use fate::Fate;

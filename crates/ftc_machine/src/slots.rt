@@ -1,6 +1,6 @@
 //! Items by number.
 
-ghost use Rattle.std.specs.Prelude.{◌≡◌, ◌<◌, ℕ, Bool, Option, false, Some, None, length, OnOk, option_map, slice_set, []};
+ghost use Rattle.std.specs.Prelude.{◌≡◌, ◌<◌, ℕ, Bool, Option, false, Some, None, length, OnOk, OnSome, option_map, slice_set, []};
 ghost use Rattle.std.specs.List.{list_any};
 ghost use Rattle.ftc_machine.specs.Slots.{slot_at, has_such};
 
@@ -87,6 +87,20 @@ impl<T: Drop> Slots<T> {
     {
         self.places[place] = None;
         self.pass_over();
+    }
+
+    /// Takes out what a place has.
+    pub fn take_out(&mut self, place: usize) -> Option<T>
+        ensures item { result ≡ slot_at self.old place }
+        ensures left { self.new ≡ slice_set self.old place None }
+        ensures room { OnSome result (place < length self.new) }
+    {
+        if place >= self.places.len() {
+            return None;
+        }
+        let item = self.places[place].take();
+        self.pass_over();
+        item
     }
 
     /// Passes over the places at the front that have nothing.

@@ -1,0 +1,54 @@
+-- What an event that may follow says of the state before it.
+use Rattle.std.proofs.Common.{◌≡◌, ℕ, ◌<◌, ◌≤◌, List, [], ◌∷◌, inl, inr, subst, arith}
+use Rattle.ftc_base.specs.declared.ask.Write.{Write}
+use Rattle.ftc_base.specs.Partition.{partition_of}
+use Rattle.ftc_journal.specs.declared.event.Event.{Event}
+use Rattle.ftc_serial.specs.Serial.{Entry, Visited, Given}
+use Rattle.ftc_serial.specs.Take.{Outcome}
+use Rattle.ftc_serial.specs.Words.{AnyOf}
+use Rattle.ftc_machine.specs.Changes.{Changes, changes}
+use Rattle.ftc_machine.specs.declared.kept.Kept.{Kept}
+use Rattle.ftc_machine.specs.Kept.{IsKept, MayFollow}
+use Rattle.ftc_machine.specs.Reach.{IsChangingIn}
+use Rattle.ftc_machine.specs.Setting.{Setting, servers}
+use Rattle.ftc_machine.specs.State.{ChainState}
+use Rattle.ftc_machine.specs.Trace.{IsInTrace}
+use Rattle.ftc_machine.proofs.Complete.{IsReached, reached}
+use Rattle.ftc_machine.proofs.Reached.{AreWithin}
+use Rattle.ftc_machine.proofs.Stores.{stands_below}
+
+-- a visit of the trace has some outcome
+pub outcome_of : (P : Outcome → Type 0) (trace : List Entry) (server packet : ℕ) → IsInTrace P trace server packet → (outcome : Outcome) × P outcome
+outcome_of P [] server packet there = absurd there
+outcome_of P (Given other bytes ∷ older) server packet there = elim there [ inl here ↦ absurd here | inr below ↦ outcome_of P older server packet below ]
+outcome_of P (Visited visited passed outcome ∷ older) server packet there = elim there [ inl here ↦ (outcome, here.2) | inr below ↦ outcome_of P older server packet below ]
+
+-- a partition that something changes is one of so many
+pub changes_within : (partitions : ℕ) (outcome : Outcome) (partition : ℕ) → 1 ≤ partitions → Changes partitions outcome partition → partition < partitions
+unfolding changes
+changes_within partitions outcome partition some any = among outcome.writes any
+  where
+    among : (writes : List Write) → AnyOf (λ (changed : ℕ). changed ≡ partition) (changes partitions (record outcome { writes = writes })) → partition < partitions
+    among [] any = absurd any
+    among (write ∷ writes) any = elim any [
+      | inl here ↦ let less : partition_of partitions write.key < partitions = omega arith in let same : partition_of partitions write.key ≡ partition = here in omega arith
+      | inr there ↦ among writes there
+    ]
+
+module _ (c : Setting) (s : ChainState) (event : Event) (may : MayFollow c s event) where
+  pub reached_before : IsReached c s
+  reached_before = subst (λ (state : ChainState). IsReached c state) may.state (reached c may.setting may.journal may.run)
+
+  -- the visits of the trace are of the chain's servers
+  pub visits_below : (server packet partition : ℕ) → IsChangingIn c.partitions s.trace server packet partition → server < servers c
+  visits_below server packet partition changes =
+      stands_below c may.setting.ring.some (λ o. Changes c.partitions o partition) s.trace reached_before.live.inv.world.serial server packet changes
+
+  -- of so few that a reach tells
+  pub visits_within : (k : Kept) → IsKept c s k → AreWithin c.partitions s.trace
+  visits_within k is = let some = k.some_partition in let few = k.few_partitions in let same = is.partitions in record {
+    server = λ server packet partition changes. let below : server < servers c = visits_below server packet partition changes in let most = may.setting.ring.servers in omega arith;
+    partition = λ server packet partition changes.
+        let found = outcome_of (λ o. Changes c.partitions o partition) s.trace server packet changes in
+        let less : partition < c.partitions = changes_within c.partitions found.0 partition (omega arith) found.1 in omega arith;
+  }

@@ -1,0 +1,37 @@
+-- Places one of which is given something else, beside a function that changes there.
+use Rattle.std.proofs.Common.{◌≡◌, ◌≢◌, ℕ, ◌<◌, List, Option, None, length, slice_set, slice_index_or, sym, ◌∙◌, ap, subst, get_or-set_same, get_or-set_other}
+use Rattle.ftc_serial.specs.Words.{with_at}
+use Rattle.ftc_serial.proofs.Functions.{with_at_cases}
+use Rattle.ftc_machine.specs.Slots.{slot_at}
+
+-- what is so of each place and of what the function has there still is
+pub row_replaced : {A B : Type 0} (R : ℕ → A → B → Type 0) (f : ℕ → A) (d : B) (old room new : List B) (place : ℕ) (v : A) (w : B) → new ≡ slice_set room place w → place < length room
+    → ((other : ℕ) → other ≢ place → slice_index_or room other d ≡ slice_index_or old other d) → R place v w → ((other : ℕ) → R other (f other) (slice_index_or old other d))
+    → (other : ℕ) → R other (with_at f place v other) (slice_index_or new other d)
+row_replaced {A} {B} R f d old room new place v w is within same here each other =
+    let at : slice_index_or new other d ≡ slice_index_or (slice_set room place w) other d = ap (λ (rows : List B). slice_index_or rows other d) is in
+    with_at_cases (λ (x : A). R other x (slice_index_or new other d)) f place v other
+    (λ e.
+    let there : slice_index_or (slice_set room place w) other d ≡ w = subst (λ p. slice_index_or (slice_set room place w) p d ≡ w) (sym e) (get_or-set_same room place w d within) in
+    subst (λ (y : B). R other v y) (sym (at ∙ there)) (subst (λ p. R p v w) (sym e) here))
+    (λ ne. subst (λ (y : B). R other (f other) y) (sym (at ∙ get_or-set_other room place other w d ne ∙ same other ne)) (each other))
+
+-- the same of places that have items or none
+pub replaced : {A B : Type 0} (R : ℕ → A → Option B → Type 0) (f : ℕ → A) (old room new : List (Option B)) (place : ℕ) (v : A) (w : Option B) → new ≡ slice_set room place w → place < length room
+    → ((other : ℕ) → other ≢ place → slot_at room other ≡ slot_at old other) → R place v w → ((other : ℕ) → R other (f other) (slot_at old other))
+    → (other : ℕ) → R other (with_at f place v other) (slot_at new other)
+replaced {A} {B} R f old room new place v w is within same here each = row_replaced R f None old room new place v w is within same here each
+
+-- the same where the function is given what it had
+pub left : {A B : Type 0} (R : ℕ → A → Option B → Type 0) (f : ℕ → A) (old new : List (Option B)) (place : ℕ) (v : A) → v ≡ f place
+    → ((other : ℕ) → slot_at new other ≡ slot_at old other) → ((other : ℕ) → R other (f other) (slot_at old other))
+    → (other : ℕ) → R other (with_at f place v other) (slot_at new other)
+left {A} {B} R f old new place v is same each other =
+    let there : R other (f other) (slot_at new other) = subst (λ (y : Option B). R other (f other) y) (sym (same other)) (each other) in
+    with_at_cases (λ (x : A). R other x (slot_at new other)) f place v other
+    (λ e. subst (λ (x : A). R other x (slot_at new other)) (ap f e ∙ sym is) there)
+    (λ ne. there)
+
+-- what is taken out of one place leaves the others as they were
+pub others_left : {B : Type 0} (old new : List (Option B)) (place : ℕ) → new ≡ slice_set old place None → (other : ℕ) → other ≢ place → slot_at new other ≡ slot_at old other
+others_left {B} old new place is other ne = ap (λ (slots : List (Option B)). slot_at slots other) is ∙ get_or-set_other old place other None None ne

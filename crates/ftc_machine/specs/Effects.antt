@@ -1,0 +1,11 @@
+-- What an event does to what the machine keeps.
+use Rattle.ftc_journal.specs.declared.event.Event.{Event}
+use Rattle.ftc_machine.specs.declared.kept.Kept.{Kept}
+use Rattle.ftc_machine.specs.Setting.{Setting}
+use Rattle.ftc_machine.specs.State.{ChainState}
+use Rattle.ftc_machine.specs.Next.{next}
+use Rattle.ftc_machine.specs.Kept.{MayFollow, GoesOver}
+
+-- what stood for a state after which the event may follow stands for the state after the event
+abbrev pub StandsAfter : Setting → ChainState → Event → Kept → Kept → Type 0
+StandsAfter c s event old new = MayFollow c s event → GoesOver c s (next c s event) old new

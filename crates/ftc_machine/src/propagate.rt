@@ -1,0 +1,28 @@
+//! A message without a packet begins.
+
+ghost use Rattle.std.specs.Prelude.{◌≡◌, ◌<◌, OnOk, OnErr};
+ghost use Rattle.ftc_journal.specs.declared.event.Event.TheVariants as event;
+ghost use Rattle.ftc_machine.specs.Setting.{Setting};
+ghost use Rattle.ftc_machine.specs.State.{ChainState};
+ghost use Rattle.ftc_machine.specs.Kept.{StandsStill};
+ghost use Rattle.ftc_machine.specs.Effects.{StandsAfter};
+
+use crate::fresh::fresh;
+use crate::kept::Kept;
+use ftc_base::{NoMemory, PacketNo};
+use std::alloc::Global;
+
+impl Kept {
+    /// Server 0 holds a new message without a packet.
+    pub fn propagate(&mut self, alloc: Global, origin: PacketNo, now: u64) -> Result<(), NoMemory>
+        requires { self.old.propagates < u32.MAX }
+        ensures ok { OnOk result ((c : Setting) (s : ChainState) → now ≡ s.events →
+            StandsAfter c s (event.Propagate origin) self.old self.new) }
+        ensures err { OnErr result (StandsStill self.old self.new) }
+    {
+        self.messages.make_room(origin as usize)?;
+        self.messages.put(origin as usize, fresh(alloc, now, None));
+        self.propagates += 1;
+        Ok(())
+    }
+}

@@ -1,0 +1,57 @@
+//! The receiver of a link takes a message.
+
+ghost use Rattle.std.specs.Prelude.{◌≡◌, ◌<◌, OnOk, OnErr, true};
+ghost use Rattle.ftc_journal.specs.declared.event.Event.TheVariants as event;
+ghost use Rattle.ftc_machine.specs.Setting.{Setting};
+ghost use Rattle.ftc_machine.specs.State.{ChainState};
+ghost use Rattle.ftc_machine.specs.Kept.{StandsStill};
+ghost use Rattle.ftc_machine.specs.Tests.{may_take};
+ghost use Rattle.ftc_machine.specs.Effects.{StandsAfter};
+
+use crate::kept::Kept;
+use crate::message::{Message, Place};
+use ftc_base::{NoMemory, PacketNo, ServerId};
+
+impl Kept {
+    /// The receiver of the link holds the message, and knows what the sender knew.
+    pub fn take(&mut self, link: ServerId, origin: PacketNo, now: u64) -> Result<(), NoMemory>
+        requires within { link < self.old.ring.servers }
+        requires legal { may_take self.old link origin ≡ true }
+        ensures ok { OnOk result ((c : Setting) (s : ChainState) → now ≡ s.events →
+            StandsAfter c s (event.Take link origin) self.old self.new) }
+        ensures err { OnErr result (StandsStill self.old self.new) }
+    {
+        let receiver = self.ring.next(link);
+        let by_ring = link.number() + 1 == self.ring.servers();
+        let Some(message) = self.messages.take_out(origin as usize) else {
+            unreachable!();
+        };
+        let Message {
+            place,
+            since: _,
+            packet,
+            logs,
+            needs,
+        } = message;
+        let Place::Queued { link: _, known } = place else {
+            unreachable!();
+        };
+        self.known[usize::from(receiver.number())].merge(&known);
+        let place = Place::Held {
+            server: receiver,
+            visited: false,
+            by_ring,
+        };
+        self.messages.put(
+            origin as usize,
+            Message {
+                place,
+                since: now,
+                packet,
+                logs,
+                needs,
+            },
+        );
+        Ok(())
+    }
+}
