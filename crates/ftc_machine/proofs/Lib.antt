@@ -34,6 +34,9 @@ pub mod Waiting
 pub mod Soon
 mod Slotted
 mod Tested
+mod Told
+mod Judged
+mod JudgedMessages
 mod Lines
 pub mod Progress
 pub mod Finished

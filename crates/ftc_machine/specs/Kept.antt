@@ -1,5 +1,5 @@
 -- What the machine keeps, and the state for which it stands.
-use Rattle.std.specs.Prelude.{ℕ, ◌≡◌, ◌<◌, ◌+◌, Bool, true, false, List, [], ◌∷◌, ◌++◌, drop, slice_index_or, slice_get, Option, Some, None}
+use Rattle.std.specs.Prelude.{ℕ, ◌≡◌, ◌<◌, ◌+◌, Bool, true, false, List, [], ◌∷◌, ◌++◌, drop, slice_index_or, slice_get, Option, Some, None, is_some}
 use Rattle.std.specs.Option.{option_map_or}
 use Rattle.std.specs.FinMap.{empty}
 use Rattle.ftc_base.specs.Sets.{has}
@@ -18,7 +18,8 @@ use Rattle.ftc_machine.specs.declared.message.Place.{Place}
 use Rattle.ftc_machine.specs.declared.message.Place.TheVariants as place
 use Rattle.ftc_machine.specs.declared.message.Withheld.{Withheld as KeptWithheld}
 use Rattle.ftc_journal.specs.declared.event.Event.{Event}
-use Rattle.ftc_machine.specs.Setting.{Setting, servers, shape, IsSetting}
+use Rattle.ftc_script.specs.Script.{ScriptShape, loses_of}
+use Rattle.ftc_machine.specs.Setting.{Setting, servers, shape, count, IsSetting}
 use Rattle.ftc_machine.specs.Legal.{IsLegal}
 use Rattle.ftc_machine.specs.Run.{IsRun, state_after}
 use Rattle.ftc_machine.specs.Slots.{slot_at}
@@ -116,3 +117,17 @@ GoesOver c s other old new = IsKept c s old → IsKept c other new
 -- what stood for a state still does
 abbrev pub StandsStill : Kept → Kept → Type 0
 StandsStill old new = (c : Setting) (s : ChainState) → GoesOver c s s old new
+
+-- a run that leads to a state, and what is kept for it
+pub record StandsFor (c : Setting) (s : ChainState) (k : Kept) : Type 0 where
+  pub setting : IsSetting c
+  pub journal : List Event
+  pub run : IsRun c journal
+  pub state : state_after c (opening c) journal ≡ s
+  pub kept : IsKept c s k
+
+-- the script and the count of packets of a setting
+pub record AreInputs (c : Setting) (script : ScriptShape) (packets : ℕ) : Type 0 where
+  pub lines : c.lines ≡ script.steps
+  pub loses : (link origin : ℕ) → c.loses link origin ≡ is_some (loses_of script.loses link origin)
+  pub counted : count c ≡ packets

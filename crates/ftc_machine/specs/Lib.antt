@@ -20,6 +20,7 @@ pub mod Slots
 pub mod Kept
 pub mod Tests
 pub mod Due
+pub mod Judging
 pub mod Effects
 pub mod Whole
 pub mod Marking

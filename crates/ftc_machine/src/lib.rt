@@ -9,6 +9,7 @@ mod sets;
 mod going;
 mod enter;
 mod fresh;
+mod judge;
 mod kept;
 mod laws;
 mod legal;
