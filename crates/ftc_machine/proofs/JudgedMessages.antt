@@ -118,6 +118,15 @@ module _ (c : Setting) (is : IsSetting c) (s : ChainState) (r : IsReached c s) (
   held_below origin message server visited by_ring there at =
       up_below server (subst (λ w. IsUp (servers c) s.up w) at (r.live.inv.awake origin message there))
 
+  pub apply_below : (server origin group packet : ℕ) → MayHappen c s (Apply server origin group packet) → server < servers c
+  apply_below server origin group packet may = held_below origin may.0 server may.1.1 may.1.2 may.1.0 may.1.3
+
+  pub visit_below : (server packet worker : ℕ) → MayHappen c s (Visit server packet worker) → server < servers c
+  visit_below server packet worker may = held_below packet may.0 server false may.2 may.3 may.4
+
+  pub leave_below : (server origin : ℕ) (message : Message) → MayLeave c s server origin message → server < servers c
+  leave_below server origin message may = held_below origin message server may.visited false may.there may.held
+
   touching : (origin : ℕ) (message : Message) → s.message origin ≡ Some message → (group packet : ℕ) → In message.logs group packet → IsTouching s.trace group packet
   touching origin message there group packet log = let steady = r.live.inv.messages origin message there in (steady.carried.member group packet log).2
 

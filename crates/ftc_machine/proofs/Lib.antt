@@ -36,6 +36,10 @@ mod Slotted
 mod Tested
 mod Told
 mod Judged
+mod Judgement
+mod JudgedScript
+mod Needing
+mod JudgedDue
 mod JudgedMessages
 mod Lines
 pub mod Progress

@@ -10,6 +10,7 @@ ghost use Rattle.ftc_journal.specs.declared.event.Event.TheVariants as event;
 use crate::kept::Kept;
 use ftc_base::{PacketNo, ServerId};
 use ftc_journal::VisitName;
+use ftc_script::Script;
 
 impl Kept {
     /// Whether the server is one of the chain's.
@@ -17,6 +18,13 @@ impl Kept {
         ensures { (result ≡ true) ↔ (server < self.now.ring.servers) }
     {
         server.number() < self.ring.servers()
+    }
+
+    /// Whether a packet may enter.
+    pub fn judge_enter(&self, script: &Script, count: u32, packet: PacketNo) -> bool
+        ensures { (c : Setting) (s : ChainState) → StandsFor c s self.now → AreInputs c script.now count → IsRight c s (event.Enter packet) result }
+    {
+        self.may_enter(script, count, packet)
     }
 
     /// Whether a log may be applied.
@@ -33,6 +41,23 @@ impl Kept {
             server: group,
             packet,
         };
-        self.is_server(server) && self.may_apply(server, origin, &log)
+        if !self.is_server(server) {
+            return false;
+        }
+        self.may_apply(server, origin, &log)
+    }
+
+    /// Whether a message without a packet may begin.
+    pub fn judge_propagate(&self, script: &Script, count: u32, origin: PacketNo) -> bool
+        ensures { (c : Setting) (s : ChainState) → StandsFor c s self.now → AreInputs c script.now count → IsRight c s (event.Propagate origin) result }
+    {
+        self.may_propagate(count, origin)
+    }
+
+    /// Whether the packet may be released.
+    pub fn judge_release(&self, packet: PacketNo) -> bool
+        ensures { (c : Setting) (s : ChainState) → StandsFor c s self.now → IsRight c s (event.Release packet) result }
+    {
+        self.may_release(packet)
     }
 }

@@ -1,0 +1,18 @@
+-- From what stands for a state to what is so of it.
+use Rattle.std.proofs.Common.{◌≡◌, Bool, true, false, sym, subst, ◌∙◌, ◌↔◌}
+use Rattle.std.proofs.lemmas.Bool.{true≢false}
+use Rattle.ftc_machine.specs.declared.kept.Kept.{Kept}
+use Rattle.ftc_machine.specs.Setting.{Setting}
+use Rattle.ftc_machine.specs.State.{ChainState}
+use Rattle.ftc_machine.specs.Kept.{StandsFor}
+use Rattle.ftc_machine.proofs.Complete.{IsReached, reached}
+
+pub reached_by : {c : Setting} {s : ChainState} {k : Kept} → StandsFor c s k → IsReached c s
+reached_by {c} {s} {k} stands = subst (λ (state : ChainState). IsReached c state) stands.state (reached c stands.setting stands.journal stands.run)
+
+-- what a test says, its answer says
+pub right_as : {said test : Bool} {P : Type 0} → said ≡ test → (test ≡ true) ↔ P → (said ≡ true) ↔ P
+right_as {said} {test} {P} same right = (λ is. right.0 (sym same ∙ is), λ p. same ∙ right.1 p)
+
+pub never : {P : Type 0} → (P → ⊥) → (false ≡ true) ↔ P
+never {P} no_way = (λ wrong. absurd (true≢false (sym wrong)), λ p. absurd (no_way p))
