@@ -10,6 +10,7 @@ mod kept;
 mod laws;
 mod message;
 mod propagate;
+mod release;
 mod sets;
 mod slots;
 mod take;
