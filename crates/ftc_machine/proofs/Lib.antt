@@ -75,6 +75,9 @@ pub mod Reaching
 pub mod Placed
 pub mod Footprints
 pub mod Replaced
+pub mod Groups
 pub mod Reached
+pub mod Parts
 pub mod Following
 pub mod Moved
+pub mod Tailed

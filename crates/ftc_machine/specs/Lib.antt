@@ -20,4 +20,5 @@ pub mod Slots
 pub mod Kept
 pub mod Tests
 pub mod Effects
+pub mod Tails
 pub mod Whole

@@ -9,10 +9,12 @@ mod fresh;
 mod kept;
 mod laws;
 mod message;
+mod part;
 mod propagate;
 mod release;
 mod sets;
 mod slots;
+mod tails;
 mod take;
 mod trace;
 
