@@ -81,3 +81,4 @@ pub mod Parts
 pub mod Following
 pub mod Moved
 pub mod Tailed
+pub mod GoingOn

@@ -1,14 +1,12 @@
 -- The groups' tails: which group a server ends, and how far reaches what it knows.
-use Rattle.std.proofs.Common.{◌≡◌, ℕ, ◌+◌, ◌-◌, ◌<◌, ◌≤◌, ◌==◌, ◌&&◌, Bool, true, false, nat_le, List, if◌then◌else◌, inl, inr, refl, sym, ◌∙◌, ap, subst, arith, eqb-true, eq-eqb, leb-true, leb-false}
-use Rattle.std.proofs.lemmas.Bool.{true≢false, cases_Bool, eqb-false}
+use Rattle.std.proofs.Common.{◌≡◌, ℕ, ◌+◌, ◌-◌, ◌<◌, ◌≤◌, ◌==◌, ◌&&◌, ◌⊎◌, Bool, true, false, nat_le, if◌then◌else◌, inl, inr, refl, sym, ap, subst, arith, eqb-true, eq-eqb, leb-true, leb-false}
 use Rattle.ftc_journal.specs.declared.event.Event.{Event}
 use Rattle.ftc_ring.specs.Ring.{RingShape, apart}
-use Rattle.ftc_vector.specs.Commits.{all_merged}
 use Rattle.ftc_machine.specs.declared.kept.Kept.{Kept}
 use Rattle.ftc_machine.specs.Kept.{IsKept, MayFollow, footprints_in, reach_of}
 use Rattle.ftc_machine.specs.Known.{knows}
-use Rattle.ftc_machine.specs.Reach.{Reaches, numbers_of, IsReach, IsChangingIn, reach_in}
-use Rattle.ftc_machine.specs.Setting.{Setting, servers, shape, is_tail}
+use Rattle.ftc_machine.specs.Reach.{Reaches, numbers_of, reach_in}
+use Rattle.ftc_machine.specs.Setting.{Setting, servers, is_tail}
 use Rattle.ftc_machine.specs.State.{ChainState}
 use Rattle.ftc_machine.specs.Tails.{group_ending, known_at, part_of}
 use Rattle.ftc_machine.specs.Visits.{Visits}
@@ -28,10 +26,10 @@ pub ends : (n f group server : ℕ) → group < n → server < n → f < n → (
 ends n f group server below within small =
     let far = apart_cases n group server below within in
     let ending : ((f ≤ server) × (group_ending (record { servers = n; failures = f }) server ≡ server - f)) ⊎ ((server < f) × (group_ending (record { servers = n; failures = f }) server ≡ server + n - f)) =
-        elim (nat_le f server) as (λ b. nat_le f server ≡ b → ((f ≤ server) × ((if b then server - f else server + n - f) ≡ server - f)) ⊎ ((server < f) × ((if b then server - f else server + n - f) ≡ server + n - f))) [
-          | true ↦ λ is. inl (leb-true f server is, refl)
-          | false ↦ λ is. inr (leb-false f server is, refl)
-        ] refl in
+    elim (nat_le f server) as (λ b. nat_le f server ≡ b → ((f ≤ server) × ((if b then server - f else server + n - f) ≡ server - f)) ⊎ ((server < f) × ((if b then server - f else server + n - f) ≡ server + n - f))) [
+      | true ↦ λ is. inl (leb-true f server is, refl)
+      | false ↦ λ is. inr (leb-false f server is, refl)
+    ] refl in
     same_test (apart n group server == f) (group == group_ending (record { servers = n; failures = f }) server)
     (λ is. let at : apart n group server ≡ f = eqb-true (apart n group server) f is in eq-eqb group (group_ending (record { servers = n; failures = f }) server) (omega arith))
     (λ is. let at : group ≡ group_ending (record { servers = n; failures = f }) server = eqb-true group (group_ending (record { servers = n; failures = f }) server) is in eq-eqb (apart n group server) f (omega arith))

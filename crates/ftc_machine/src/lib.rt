@@ -2,6 +2,7 @@
 //! of each packet. It has no vector, log, frame or lock: what the chain of servers does is judged by it.
 #![tactic(auto)]
 
+mod carry;
 mod enter;
 mod fate;
 mod footprint;
@@ -9,6 +10,7 @@ mod fresh;
 mod kept;
 mod laws;
 mod message;
+mod onward;
 mod part;
 mod propagate;
 mod release;

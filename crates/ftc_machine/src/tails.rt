@@ -12,9 +12,7 @@ impl Kept {
 
     /// The group whose tail a server is.
     pub fn group_ending(&self, server: ServerId) -> ServerId
-        requires { server < self.now.ring.servers }
-        ensures same { result ≡ group_ending self.now.ring server }
-        ensures within { result < self.now.ring.servers }
+        ensures { result ≡ group_ending self.now.ring server }
     {
         let (number, failures) = (server.number(), self.ring.failures());
         let group = if failures <= number {

@@ -13,12 +13,12 @@ returns c =
     let server = c.args.server in
     let ending = group_ending k.ring server in
     let place : c.from-place.result ≡ server = c.from-place.ensures ∙ c.number.ensures.same in
-    let group : c.number-2.result ≡ ending = c.number-2.ensures.same ∙ c.group_ending.ensures.same in
+    let group : c.number-2.result ≡ ending = c.number-2.ensures.same ∙ c.group_ending.ensures in
     let below : server < k.ring.servers = c.requires in
     let known : c.index.result.now ≡ reach_of k.known.items server =
-        get_or_read k.known.items c.from-place.result c.index.result.now (let long = k.each_known in omega arith) c.index.ensures [] ∙ ap (reach_of k.known.items) place in
+    get_or_read k.known.items c.from-place.result c.index.result.now (let long = k.each_known in omega arith) c.index.ensures [] ∙ ap (reach_of k.known.items) place in
     let list : c.index-2.result.now ≡ reach_of k.lists.items server =
-        get_or_read k.lists.items c.from-place.result c.index-2.result.now (let long = k.each_list in omega arith) c.index-2.ensures [] ∙ ap (reach_of k.lists.items) place in
+    get_or_read k.lists.items c.from-place.result c.index-2.result.now (let long = k.each_list in omega arith) c.index-2.ensures [] ∙ ap (reach_of k.lists.items) place in
     let only = has-only c.new.result c.with-ending.result c.number-2.result c.new.ensures c.with-ending.ensures in
     c.merge.ensures ∙ ap (λ (reach : List (List ℕ)). all_merged reach c.part.result) known
     ∙ ap (all_merged (reach_of k.known.items server))
