@@ -89,6 +89,10 @@ pub mod Joining
 pub mod Growing
 pub mod Thinning
 pub mod Replaced
+pub mod Groups
 pub mod Reached
+pub mod Parts
 pub mod Following
 pub mod Moved
+pub mod Tailed
+pub mod GoingOn

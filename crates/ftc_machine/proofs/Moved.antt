@@ -1,5 +1,5 @@
 -- A message as it is kept, and what of it stays where it moves.
-use Rattle.std.proofs.Common.{◌≡◌, ℕ, ◌+◌, ◌<◌, ◌==◌, false, List, [], Option, Some, slice_set, refl, sym, ◌∙◌, ap, subst, arith}
+use Rattle.std.proofs.Common.{◌≡◌, ℕ, ◌+◌, ◌<◌, ◌==◌, false, List, [], Option, Some, None, slice_set, refl, sym, ◌∙◌, ap, subst, arith}
 use Rattle.ftc_base.specs.Sets.{has}
 use Rattle.ftc_journal.specs.declared.event.VisitName.{VisitName}
 use Rattle.ftc_ring.specs.Ring.{RingShape, next_of}
@@ -20,6 +20,26 @@ use Rattle.ftc_machine.specs.State.{ChainState, Message, Where, Held, Queued}
 use Rattle.ftc_machine.specs.Visits.{Visits, union}
 use Rattle.ftc_machine.proofs.Reached.{AreWithin, merged_reaches}
 use Rattle.ftc_machine.proofs.Replaced.{row_replaced}
+
+-- a message as it is kept beside one trace, beside another
+module _ (partitions : ℕ) (trace after : List Entry) (numbers others : Numbers) (moves : (visits : Visits) (reach : List (List ℕ)) → Reaches partitions trace numbers visits reach → Reaches partitions after others visits reach) where
+  place_stays : (known : Visits) (at : Where) (kept : Place) → IsPlace partitions trace numbers known at kept → IsPlace partitions after others known at kept
+  place_stays known (Held server visited by_ring) (place.Held other said by) is = is
+  place_stays known (Held server visited by_ring) (place.Queued other reach) is = is
+  place_stays known (Queued link) (place.Held other said by) is = is
+  place_stays known (Queued link) (place.Queued other reach) is = (is.0, moves known reach.value is.1)
+
+  pub slot_stays : (o : Option Message) (slot : Option KeptMessage) → IsMessageSlot partitions trace numbers o slot → IsMessageSlot partitions after others o slot
+  slot_stays None None is = is
+  slot_stays None (Some kept) is = is
+  slot_stays (Some message) None is = is
+  slot_stays (Some message) (Some kept) is = record {
+    place = place_stays message.known message.place kept.place is.place;
+    since = is.since;
+    packet = is.packet;
+    logs = is.logs;
+    needs = is.needs;
+  }
 
 module _ (partitions : ℕ) (trace : List Entry) (numbers : Numbers) where
   -- the message that is there stands for the one that is kept

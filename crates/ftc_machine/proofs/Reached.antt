@@ -1,16 +1,16 @@
 -- How far sets of visits reach that are merged: of few middleboxes and few partitions a reach tells.
-use Rattle.std.proofs.Common.{◌≡◌, ℕ, ◌<◌, ◌≤◌, ◌||◌, Bool, List, [], length, max, inl, inr, refl, sym, ◌∙◌, ap, subst, arith}
+use Rattle.std.proofs.Common.{◌≡◌, ℕ, ◌<◌, ◌≤◌, ◌||◌, Bool, List, ◌∷◌, length, max, inl, inr, refl, sym, ◌∙◌, ap, subst, arith}
 use Rattle.std.proofs.lemmas.Bool.{cases_lt}
 use Rattle.std.proofs.lemmas.List.{get_or_past}
-use Rattle.std.proofs.lemmas.List.FromFn.{length-map-range_with_len}
 use Rattle.ftc_base.specs.declared.limits.TheConstants.{MOST_PARTITIONS, MOST_SERVERS}
 use Rattle.ftc_vector.specs.Vector.{number_at, merged}
-use Rattle.ftc_vector.specs.Commits.{vector_of, by_group, all_merged}
+use Rattle.ftc_vector.specs.Commits.{vector_of, all_merged}
 use Rattle.ftc_vector.proofs.Partitions.{length-by_partition, get_or-by_partition}
 use Rattle.ftc_vector.proofs.GroupLists.{vector_of-all_merged}
-use Rattle.ftc_serial.specs.Serial.{Entry}
+use Rattle.ftc_serial.specs.Serial.{Entry, Given}
 use Rattle.ftc_machine.specs.Visits.{Visits, union}
 use Rattle.ftc_machine.specs.Reach.{Numbers, IsReach, IsChangingIn, Reaches, reach_in}
+use Rattle.ftc_machine.proofs.Groups.{vector_of-past}
 use Rattle.ftc_machine.proofs.Reaching.{both_reach}
 
 -- each changing visit of the trace is of one of these middleboxes, and changes one of the partitions
@@ -69,7 +69,6 @@ module _ (partitions : ℕ) (trace : List Entry) (numbers : Numbers) where
     -- all rows are merged
     pub merged_reaches : (one other : Visits) (first second : List (List ℕ)) → Reaches partitions trace numbers one first → Reaches partitions trace numbers other second
         → Reaches partitions trace numbers (union one other) (all_merged first second)
-    unfolding by_group
     merged_reaches one other first second is are server = elim (cases_lt server MOST_SERVERS) [
       | inl less ↦
           let row : merged (vector_of first server) (vector_of second server) ≡ vector_of (all_merged first second) server = sym (vector_of-all_merged first second server less) in
@@ -77,8 +76,13 @@ module _ (partitions : ℕ) (trace : List Entry) (numbers : Numbers) where
           (merged_row server (one server) (other server) (vector_of first server) (vector_of second server) (is server) (are server))
       | inr past ↦
           outside server (union one other server) (reach_in (all_merged first second) server) past
-          (λ partition. ap (λ (vector : List ℕ). number_at vector partition) (get_or_past (all_merged first second) server [] (by_length past)))
+          (λ partition. ap (λ (vector : List ℕ). number_at vector partition) (vector_of-past (λ group. merged (vector_of first group) (vector_of second group)) server past))
     ]
-      where
-        by_length : MOST_SERVERS ≤ server → length (all_merged first second) ≤ server
-        by_length past = omega (arith, length-map-range_with_len (λ group. merged (vector_of first group) (vector_of second group)) 0 MOST_SERVERS)
+
+-- a release tells nothing
+pub given_reaches : (partitions : ℕ) (trace : List Entry) (numbers : Numbers) (packet : ℕ) (bytes : List ℕ) (visits : Visits) (reach : List (List ℕ)) → Reaches partitions trace numbers visits reach
+    → Reaches partitions (Given packet bytes ∷ trace) numbers visits reach
+given_reaches partitions trace numbers packet bytes visits reach is server = record {
+  each = λ other partition changes. elim changes [ inl here ↦ absurd here | inr below ↦ (is server).each other partition below ];
+  last = λ partition some. let found = (is server).last partition some in (found.0, inr found.1, found.2);
+}

@@ -1,5 +1,8 @@
 -- Places one of which is given something else, beside a function that changes there.
-use Rattle.std.proofs.Common.{◌≡◌, ◌≢◌, ℕ, ◌<◌, List, Option, None, length, slice_set, slice_index_or, sym, ◌∙◌, ap, subst, get_or-set_same, get_or-set_other}
+use Rattle.std.proofs.Common.{◌≡◌, ◌≢◌, ℕ, ◌<◌, List, Option, None, length, slice_set, slice_index_or, inl, inr, sym, ◌∙◌, ap, subst, arith, get_or-set_same, get_or-set_other}
+use Rattle.std.proofs.Math.ListN.{length-set}
+use Rattle.std.proofs.lemmas.Bool.{cases_lt}
+use Rattle.std.proofs.lemmas.List.{get_or_past}
 use Rattle.ftc_serial.specs.Words.{with_at}
 use Rattle.ftc_serial.proofs.Functions.{with_at_cases}
 use Rattle.ftc_machine.specs.Slots.{slot_at}
@@ -35,3 +38,20 @@ left {A} {B} R f old new place v is same each other =
 -- what is taken out of one place leaves the others as they were
 pub others_left : {B : Type 0} (old new : List (Option B)) (place : ℕ) → new ≡ slice_set old place None → (other : ℕ) → other ≢ place → slot_at new other ≡ slot_at old other
 others_left {B} old new place is other ne = ap (λ (slots : List (Option B)). slot_at slots other) is ∙ get_or-set_other old place other None None ne
+
+none_there : {B : Type 0} (slots : List (Option B)) (place : ℕ) → slot_at (slice_set slots place None) place ≡ None
+none_there {B} slots place = elim (cases_lt place (length slots)) [
+  | inl less ↦ get_or-set_same slots place None None less
+  | inr past ↦ get_or_past (slice_set slots place None) place None (omega (arith, length-set slots place (let nothing : Option B = None in nothing)))
+]
+
+-- the same where a place is left with nothing, be it there or not
+pub cleared : {A B : Type 0} (R : ℕ → A → Option B → Type 0) (f : ℕ → A) (old new : List (Option B)) (place : ℕ) (v : A) → new ≡ slice_set old place None → R place v None
+    → ((other : ℕ) → R other (f other) (slot_at old other)) → (other : ℕ) → R other (with_at f place v other) (slot_at new other)
+cleared {A} {B} R f old new place v is here each other =
+    let at : slot_at new other ≡ slot_at (slice_set old place None) other = ap (λ (slots : List (Option B)). slot_at slots other) is in
+    with_at_cases (λ (x : A). R other x (slot_at new other)) f place v other
+    (λ e.
+    let nothing : slot_at (slice_set old place None) other ≡ None = subst (λ p. slot_at (slice_set old place None) p ≡ None) (sym e) (none_there old place) in
+    subst (λ (y : Option B). R other v y) (sym (at ∙ nothing)) (subst (λ p. R p v None) (sym e) here))
+    (λ ne. subst (λ (y : Option B). R other (f other) y) (sym (others_left old new place is other ne)) (each other))

@@ -1,6 +1,9 @@
 -- What an event does to what the machine keeps.
+use Rattle.std.specs.Prelude.{List, [], Option, Some, None}
 use Rattle.ftc_journal.specs.declared.event.Event.{Event}
+use Rattle.ftc_journal.specs.declared.event.VisitName.{VisitName}
 use Rattle.ftc_machine.specs.declared.kept.Kept.{Kept}
+use Rattle.ftc_machine.specs.declared.message.Message.{Message}
 use Rattle.ftc_machine.specs.Setting.{Setting}
 use Rattle.ftc_machine.specs.State.{ChainState}
 use Rattle.ftc_machine.specs.Next.{next}
@@ -9,3 +12,8 @@ use Rattle.ftc_machine.specs.Kept.{MayFollow, GoesOver}
 -- what stood for a state after which the event may follow stands for the state after the event
 abbrev pub StandsAfter : Setting → ChainState → Event → Kept → Kept → Type 0
 StandsAfter c s event old new = MayFollow c s event → GoesOver c s (next c s event) old new
+
+-- the logs of a message that may not be there
+abbrev pub logs_in : Option Message → List VisitName
+logs_in None = []
+logs_in (Some message) = message.logs

@@ -22,6 +22,7 @@ pub mod Tests
 pub mod Due
 pub mod Judging
 pub mod Effects
+pub mod Tails
 pub mod Whole
 pub mod Marking
 pub mod Making

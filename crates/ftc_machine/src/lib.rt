@@ -3,19 +3,24 @@
 #![tactic(auto)]
 
 mod due;
+mod carry;
+mod enter;
 mod fate;
 mod footprint;
 mod sets;
 mod going;
-mod enter;
 mod fresh;
 mod judge;
 mod kept;
 mod laws;
 mod legal;
 mod message;
+mod onward;
+mod part;
 mod propagate;
+mod release;
 mod slots;
+mod tails;
 mod take;
 mod trace;
 

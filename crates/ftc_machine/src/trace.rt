@@ -34,7 +34,7 @@ fn all_undone(alloc: Global, events: &[Event]) -> Result<VisitNames, NoMemory>
 }
 
 /// Whether the visit is among these.
-pub(crate) fn is_among(undone: &[VisitName], server: ServerId, packet: PacketNo) -> bool
+pub fn is_among(undone: &[VisitName], server: ServerId, packet: PacketNo) -> bool
     ensures { result ≡ names undone.now server packet }
 {
     undone.iter().any(|name| name.server.number() == server.number() && name.packet == packet)

@@ -1,0 +1,19 @@
+-- What is kept of some groups alone, and of the groups' tails.
+use Rattle.std.specs.Prelude.{ℕ, ◌+◌, ◌-◌, ◌==◌, Bool, nat_le, List, if◌then◌else◌}
+use Rattle.ftc_ring.specs.Ring.{RingShape}
+use Rattle.ftc_vector.specs.Vector.{by_partition, merged}
+use Rattle.ftc_vector.specs.Commits.{by_group, vector_of, all_merged}
+use Rattle.ftc_machine.specs.declared.kept.Kept.{Kept}
+use Rattle.ftc_machine.specs.Kept.{reach_of}
+
+-- how far a set reaches of these groups' visits alone
+abbrev pub part_of : (ℕ → Bool) → List (List ℕ) → List (List ℕ)
+part_of groups reach = by_group (λ group. if groups group then merged (by_partition (λ _. 0)) (vector_of reach group) else by_partition (λ _. 0))
+
+-- the group whose tail a server is
+abbrev pub group_ending : RingShape → ℕ → ℕ
+group_ending ring server = if nat_le ring.failures server then server - ring.failures else server + ring.servers - ring.failures
+
+-- how far reaches what a server knows to be at the tails: of the group whose tail it is, at least as far as its own list
+abbrev pub known_at : Kept → ℕ → List (List ℕ)
+known_at k server = all_merged (reach_of k.known.items server) (part_of (λ group. group == group_ending k.ring server) (reach_of k.lists.items server))
