@@ -10,7 +10,7 @@ use Rattle.ftc_machine.specs.Changes.{Changes, changes}
 use Rattle.ftc_machine.specs.declared.kept.Kept.{Kept}
 use Rattle.ftc_machine.specs.Kept.{IsKept, MayFollow}
 use Rattle.ftc_machine.specs.Reach.{IsChangingIn}
-use Rattle.ftc_machine.specs.Setting.{Setting, servers}
+use Rattle.ftc_machine.specs.Setting.{Setting, servers, IsSetting}
 use Rattle.ftc_machine.specs.State.{ChainState}
 use Rattle.ftc_machine.specs.Trace.{IsInTrace}
 use Rattle.ftc_machine.proofs.Complete.{IsReached, reached}
@@ -35,20 +35,26 @@ changes_within partitions outcome partition some any = among outcome.writes any
       | inr there ↦ among writes there
     ]
 
+-- the visits of a trace that was reached are of the chain's servers
+pub reached_below : (c : Setting) → IsSetting c → (s : ChainState) → IsReached c s → (server packet partition : ℕ) → IsChangingIn c.partitions s.trace server packet partition → server < servers c
+reached_below c is s r server packet partition changes =
+    stands_below c is.ring.some (λ o. Changes c.partitions o partition) s.trace r.live.inv.world.serial server packet changes
+
+-- of so few that a reach tells
+pub reached_within : (c : Setting) → IsSetting c → (s : ChainState) → IsReached c s → (k : Kept) → IsKept c s k → AreWithin c.partitions s.trace
+reached_within c setting s r k is = let some = k.some_partition in let few = k.few_partitions in let same = is.partitions in record {
+  server = λ server packet partition changes. let below : server < servers c = reached_below c setting s r server packet partition changes in let most = setting.ring.servers in omega arith;
+  partition = λ server packet partition changes.
+      let found = outcome_of (λ o. Changes c.partitions o partition) s.trace server packet changes in
+      let less : partition < c.partitions = changes_within c.partitions found.0 partition (omega arith) found.1 in omega arith;
+}
+
 module _ (c : Setting) (s : ChainState) (event : Event) (may : MayFollow c s event) where
   pub reached_before : IsReached c s
   reached_before = subst (λ (state : ChainState). IsReached c state) may.state (reached c may.setting may.journal may.run)
 
-  -- the visits of the trace are of the chain's servers
   pub visits_below : (server packet partition : ℕ) → IsChangingIn c.partitions s.trace server packet partition → server < servers c
-  visits_below server packet partition changes =
-      stands_below c may.setting.ring.some (λ o. Changes c.partitions o partition) s.trace reached_before.live.inv.world.serial server packet changes
+  visits_below = reached_below c may.setting s reached_before
 
-  -- of so few that a reach tells
   pub visits_within : (k : Kept) → IsKept c s k → AreWithin c.partitions s.trace
-  visits_within k is = let some = k.some_partition in let few = k.few_partitions in let same = is.partitions in record {
-    server = λ server packet partition changes. let below : server < servers c = visits_below server packet partition changes in let most = may.setting.ring.servers in omega arith;
-    partition = λ server packet partition changes.
-        let found = outcome_of (λ o. Changes c.partitions o partition) s.trace server packet changes in
-        let less : partition < c.partitions = changes_within c.partitions found.0 partition (omega arith) found.1 in omega arith;
-  }
+  visits_within k is = reached_within c may.setting s reached_before k is

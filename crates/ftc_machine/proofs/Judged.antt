@@ -63,7 +63,7 @@ module _ (c : Setting) (s : ChainState) (k : Kept) (h : IsKept c s k) where
       let found = footprint_there P c.partitions (footprints_of k) s.trace h.sets.footprints server packet there in
       let some : IsSomeVisit s.trace server packet = stands_map P (λ o. Unit {0}) (λ o x. tt) s.trace server packet there in
       let test : has_named (footprints_of k) reach (name_of server packet) ≡ is_had_by found.0 (vector_of reach server) =
-          ap (λ (o : Option Footprint). option_map_or (λ (f : Footprint). is_had_by f (vector_of reach server)) o true) found.1 in
+      ap (λ (o : Option Footprint). option_map_or (λ (f : Footprint). is_had_by f (vector_of reach server)) o true) found.1 in
       let both = had_has c.partitions (s.events + 1) s.trace (footprints_of k) h.sets.rising h.sets.footprints server packet found.0 some found.1 visits (vector_of reach server) (reaches server) in
       (λ is. both.0 (sym test ∙ is), λ has. test ∙ both.1 has)
 

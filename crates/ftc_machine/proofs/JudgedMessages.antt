@@ -143,19 +143,22 @@ module _ (c : Setting) (is : IsSetting c) (s : ChainState) (r : IsReached c s) (
         let kept = found.0 in
         let both = and_parts (is_queued link kept.place) (not (list_any (has_such (is_older link kept.since)) k.messages)) found.2 in
         let said = said_message c s k h origin kept found.1 in
-        let message = said.0 in
-        (message, said.1, queued_said c.partitions s.trace Numbered message.known message.place kept.place link said.2.place both.0,
-        λ other queued there at.
-            let one = kept_message c s k h other queued there in
-            elim (cases_lt queued.since message.since) [
-              | inr more ↦ more
-              | inl less ↦
-                  let early : one.0.since < kept.since = let a = one.2.since in let b = said.2.since in omega arith in
-                  absurd (not_so (list_any (has_such (is_older link kept.since)) k.messages) both.1
-                  (item_any (is_older link kept.since) k.messages other one.0 one.1
-                  (and_from (is_queued link one.0.place) (nat_lt one.0.since kept.since)
-                  (queued_kept c.partitions s.trace Numbered queued.known queued.place one.0.place link one.2.place at) (lt-ltb one.0.since kept.since early))))
-            ]),
+        let message = said.0 in (
+          message,
+          said.1,
+          queued_said c.partitions s.trace Numbered message.known message.place kept.place link said.2.place both.0,
+          λ other queued there at.
+              let one = kept_message c s k h other queued there in
+              elim (cases_lt queued.since message.since) [
+                | inr more ↦ more
+                | inl less ↦
+                    let early : one.0.since < kept.since = let a = one.2.since in let b = said.2.since in omega arith in
+                    absurd (not_so (list_any (has_such (is_older link kept.since)) k.messages) both.1
+                    (item_any (is_older link kept.since) k.messages other one.0 one.1
+                    (and_from (is_queued link one.0.place) (nat_lt one.0.since kept.since)
+                    (queued_kept c.partitions s.trace Numbered queued.known queued.place one.0.place link one.2.place at) (lt-ltb one.0.since kept.since early))))
+              ],
+        ),
     λ may.
         let message = may.0 in
         let one = kept_message c s k h origin message may.1 in
@@ -163,12 +166,12 @@ module _ (c : Setting) (is : IsSetting c) (s : ChainState) (r : IsReached c s) (
         (and_from (is_queued link one.0.place) (not (list_any (has_such (is_older link one.0.since)) k.messages))
         (queued_kept c.partitions s.trace Numbered message.known message.place one.0.place link one.2.place may.2)
         (untrue (list_any (has_such (is_older link one.0.since)) k.messages) (λ any.
-            let found = any_item (is_older link one.0.since) k.messages any in
-            let both = and_parts (is_queued link found.1.place) (nat_lt found.1.since one.0.since) found.3 in
-            let said = said_message c s k h found.0 found.1 found.2 in
-            let least : message.since ≤ said.0.since = may.3 found.0 said.0 said.1 (queued_said c.partitions s.trace Numbered said.0.known said.0.place found.1.place link said.2.place both.0) in
-            let less : found.1.since < one.0.since = ltb-true found.1.since one.0.since both.1 in
-            let a = one.2.since in let b = said.2.since in omega arith))),
+        let found = any_item (is_older link one.0.since) k.messages any in
+        let both = and_parts (is_queued link found.1.place) (nat_lt found.1.since one.0.since) found.3 in
+        let said = said_message c s k h found.0 found.1 found.2 in
+        let least : message.since ≤ said.0.since = may.3 found.0 said.0 said.1 (queued_said c.partitions s.trace Numbered said.0.known said.0.place found.1.place link said.2.place both.0) in
+        let less : found.1.since < one.0.since = ltb-true found.1.since one.0.since both.1 in
+        let a = one.2.since in let b = said.2.since in omega arith))),
   )
 
   -- ---- apply
@@ -197,17 +200,21 @@ module _ (c : Setting) (is : IsSetting c) (s : ChainState) (r : IsReached c s) (
         let some = stands_map _ (λ o. Unit {0}) (λ o x. tt) s.trace group packet there in
         let changing = (changed_changing c.partitions (s.events + 1) s.trace (footprints_of k) h.sets.rising h.sets.footprints group packet print some foot.1).0 first.0 in
         let inside = contains_in c.partitions (s.events + 1) s.trace (footprints_of k) h.sets.rising h.sets.footprints group packet print some foot.1 (s.lists server) vector (h.sets.lists server below group) changing in
-        let behind = follows_all c.partitions (s.events + 1) s.trace (footprints_of k) h.sets.rising h.sets.footprints group packet print some foot.1 (s.lists server) vector (h.sets.lists server below group) in
-        (message, (said.1, at.0, at.1, at.2), log, changing,
-        elim (cases_Bool (s.lists server group packet)) [ inr isnt ↦ isnt | inl in_it ↦ absurd (not_so (contains print vector) first.1 (inside.1 in_it)) ],
-        behind.0 both.1,
-        λ smaller less carried.
-            let named : names kept.logs smaller packet ≡ true = said.2.logs smaller packet ∙ carried in
-            let turn = each_name (is_in_turn k server group packet) kept.logs smaller packet outer.1 named in
-            elim (or_cases (not (packet == packet && nat_lt smaller group)) (has_named (footprints_of k) (list_of k server) (name_of smaller packet)) turn) [
-              | inl isnt ↦ absurd (not_so (packet == packet && nat_lt smaller group) isnt (and_from (packet == packet) (nat_lt smaller group) (eq-eqb packet packet refl) (lt-ltb smaller group less)))
-              | inr had ↦ (named_has c s k h _ (s.lists server) (list_of k server) (h.sets.lists server below) smaller packet (touching origin message said.1 smaller packet carried)).0 had
-            ]),
+        let behind = follows_all c.partitions (s.events + 1) s.trace (footprints_of k) h.sets.rising h.sets.footprints group packet print some foot.1 (s.lists server) vector (h.sets.lists server below group) in (
+          message,
+          (said.1, at.0, at.1, at.2),
+          log,
+          changing,
+          elim (cases_Bool (s.lists server group packet)) [ inr isnt ↦ isnt | inl in_it ↦ absurd (not_so (contains print vector) first.1 (inside.1 in_it)) ],
+          behind.0 both.1,
+          λ smaller less carried.
+              let named : names kept.logs smaller packet ≡ true = said.2.logs smaller packet ∙ carried in
+              let turn = each_name (is_in_turn k server group packet) kept.logs smaller packet outer.1 named in
+              elim (or_cases (not (packet == packet && nat_lt smaller group)) (has_named (footprints_of k) (list_of k server) (name_of smaller packet)) turn) [
+                | inl isnt ↦ absurd (not_so (packet == packet && nat_lt smaller group) isnt (and_from (packet == packet) (nat_lt smaller group) (eq-eqb packet packet refl) (lt-ltb smaller group less)))
+                | inr had ↦ (named_has c s k h _ (s.lists server) (list_of k server) (h.sets.lists server below) smaller packet (touching origin message said.1 smaller packet carried)).0 had
+              ],
+        ),
     λ may.
         let message = may.0 in
         let one = kept_message c s k h origin message may.1.0 in
@@ -224,17 +231,17 @@ module _ (c : Setting) (is : IsSetting c) (s : ChainState) (r : IsReached c s) (
         let inside = contains_in c.partitions (s.events + 1) s.trace (footprints_of k) h.sets.rising h.sets.footprints group packet print some foot.1 (s.lists server) vector (h.sets.lists server below group) may.3 in
         let behind = follows_all c.partitions (s.events + 1) s.trace (footprints_of k) h.sets.rising h.sets.footprints group packet print some foot.1 (s.lists server) vector (h.sets.lists server below group) in
         let turns = all_names (is_in_turn k server group packet) kept.logs (λ other passed listed.
-            elim (cases_Bool (passed == packet && nat_lt other group)) [
-              | inr isnt ↦ or_left (not (passed == packet && nat_lt other group)) (has_named (footprints_of k) (list_of k server) (name_of other passed)) (ap not isnt)
-              | inl both ↦
-                  let parts = and_parts (passed == packet) (nat_lt other group) both in
-                  let same : passed ≡ packet = eqb-true passed packet parts.0 in
-                  let carried : In message.logs other packet = subst (λ p. In message.logs other p) same (sym (one.2.logs other passed) ∙ listed) in
-                  let has = may.6 other (ltb-true other group parts.1) carried in
-                  or_right (not (passed == packet && nat_lt other group)) (has_named (footprints_of k) (list_of k server) (name_of other passed))
-                  (subst (λ p. has_named (footprints_of k) (list_of k server) (name_of other p) ≡ true) (sym same)
-                  ((named_has c s k h _ (s.lists server) (list_of k server) (h.sets.lists server below) other packet (touching origin message may.1.0 other packet carried)).1 has))
-            ]) in
+        elim (cases_Bool (passed == packet && nat_lt other group)) [
+          | inr isnt ↦ or_left (not (passed == packet && nat_lt other group)) (has_named (footprints_of k) (list_of k server) (name_of other passed)) (ap not isnt)
+          | inl both ↦
+              let parts = and_parts (passed == packet) (nat_lt other group) both in
+              let same : passed ≡ packet = eqb-true passed packet parts.0 in
+              let carried : In message.logs other packet = subst (λ p. In message.logs other p) same (sym (one.2.logs other passed) ∙ listed) in
+              let has = may.6 other (ltb-true other group parts.1) carried in
+              or_right (not (passed == packet && nat_lt other group)) (has_named (footprints_of k) (list_of k server) (name_of other passed))
+              (subst (λ p. has_named (footprints_of k) (list_of k server) (name_of other p) ≡ true) (sym same)
+              ((named_has c s k h _ (s.lists server) (list_of k server) (h.sets.lists server below) other packet (touching origin message may.1.0 other packet carried)).1 has))
+        ]) in
         and_from (carries k server origin group packet) (has_such (may_add vector) (footprints_of k group packet))
         (item_such (carries_test server group packet) (slot_at k.messages origin) kept one.1
         (and_from (is_held server kept.place && names kept.logs group packet) (list_all (is_in_turn k server group packet) kept.logs) (and_from (is_held server kept.place) (names kept.logs group packet) held named) turns))
@@ -286,14 +293,16 @@ module _ (c : Setting) (is : IsSetting c) (s : ChainState) (r : IsReached c s) (
       let both = and_parts (may_go server (is_none kept.packet) kept.place) (is_ready k server kept) found.2 in
       let said = said_message c s k h origin kept found.1 in
       let message = said.0 in
-      let at = going_said c.partitions s.trace Numbered message.known message.place kept.place server (is_none kept.packet) said.2.place both.0 in
-      (message, record {
-        there = said.1;
-        visited = at.0;
-        held = at.1;
-        ready = (ready_is server below origin message said.1 kept said.2).0 both.1;
-        done = elim at.2 [ inl visited ↦ inl visited | inr bare ↦ inr (sym said.2.packet ∙ none_bytes kept.packet bare) ];
-      })
+      let at = going_said c.partitions s.trace Numbered message.known message.place kept.place server (is_none kept.packet) said.2.place both.0 in (
+        message,
+        record {
+          there = said.1;
+          visited = at.0;
+          held = at.1;
+          ready = (ready_is server below origin message said.1 kept said.2).0 both.1;
+          done = elim at.2 [ inl visited ↦ inl visited | inr bare ↦ inr (sym said.2.packet ∙ none_bytes kept.packet bare) ];
+        },
+      )
 
   may_left : (server : ℕ) → server < servers c → (origin : ℕ) (message : Message) → MayLeave c s server origin message → may_leave k server origin ≡ true
   may_left server below origin message may =
@@ -301,10 +310,10 @@ module _ (c : Setting) (is : IsSetting c) (s : ChainState) (r : IsReached c s) (
       let kept = one.0 in
       let at = held_kept c.partitions s.trace Numbered message.known message.place kept.place server may.visited false one.2.place may.held in
       let goes : at.1 || is_none kept.packet ≡ true =
-          elim may.done [
-            | inl visited ↦ or_left at.1 (is_none kept.packet) (at.5 ∙ visited)
-            | inr bare ↦ or_right at.1 (is_none kept.packet) (ap is_none (one.2.packet ∙ bare))
-          ] in
+      elim may.done [
+        | inl visited ↦ or_left at.1 (is_none kept.packet) (at.5 ∙ visited)
+        | inr bare ↦ or_right at.1 (is_none kept.packet) (ap is_none (one.2.packet ∙ bare))
+      ] in
       item_such (leave_test server) (slot_at k.messages origin) kept one.1
       (and_from (may_go server (is_none kept.packet) kept.place) (is_ready k server kept)
       (subst (λ p. may_go server (is_none kept.packet) p ≡ true) (sym at.3)
@@ -327,11 +336,14 @@ module _ (c : Setting) (is : IsSetting c) (s : ChainState) (r : IsReached c s) (
     right_pass server below origin = (
       λ test.
           let both = and_parts (may_leave k server origin) (is_none (loses_of script.loses server origin) || not (sends k.ring server)) test in
-          let left = leaves server below origin both.0 in
-          (left.0, left.1, elim (or_cases (is_none (loses_of script.loses server origin)) (not (sends k.ring server)) both.1) [
-            | inl kept ↦ inl (given.loses server origin ∙ off (is_some (loses_of script.loses server origin)) (sym (none_some (loses_of script.loses server origin)) ∙ kept))
-            | inr unsent ↦ inr (sym (sends_is server) ∙ off (sends k.ring server) unsent)
-          ]),
+          let left = leaves server below origin both.0 in (
+            left.0,
+            left.1,
+            elim (or_cases (is_none (loses_of script.loses server origin)) (not (sends k.ring server)) both.1) [
+              | inl kept ↦ inl (given.loses server origin ∙ off (is_some (loses_of script.loses server origin)) (sym (none_some (loses_of script.loses server origin)) ∙ kept))
+              | inr unsent ↦ inr (sym (sends_is server) ∙ off (sends k.ring server) unsent)
+            ],
+          ),
       λ may. and_from (may_leave k server origin) (is_none (loses_of script.loses server origin) || not (sends k.ring server))
           (may_left server below origin may.0 may.1)
           (elim may.2 [

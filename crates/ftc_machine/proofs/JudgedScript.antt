@@ -6,7 +6,6 @@ use Rattle.std.proofs.lemmas.Option.{none-some, same_Some}
 use Rattle.ftc_base.specs.Sets.{has}
 use Rattle.ftc_ring.specs.Ring.{next_of}
 use Rattle.ftc_ring.specs.Live.{is_live}
-
 use Rattle.ftc_journal.specs.declared.event.VisitName.{VisitName}
 use Rattle.ftc_journal.specs.declared.event.Event.TheVariants as event
 use Rattle.ftc_script.specs.declared.line.ScriptLine.{ScriptLine}
@@ -38,7 +37,7 @@ none_at [] packet isnt = tt
 none_at (line ∷ lines) packet isnt = (
   λ same. not_so (list_any (λ (l : ScriptLine). at_of l == packet) (line ∷ lines)) isnt (or_left (at_of line == packet) (list_any (λ (l : ScriptLine). at_of l == packet) lines) (eq-eqb (at_of line) packet same)),
   none_at lines packet (untrue (list_any (λ (l : ScriptLine). at_of l == packet) lines)
-    (λ any. not_so (list_any (λ (l : ScriptLine). at_of l == packet) (line ∷ lines)) isnt (or_right (at_of line == packet) (list_any (λ (l : ScriptLine). at_of l == packet) lines) any))),
+      (λ any. not_so (list_any (λ (l : ScriptLine). at_of l == packet) (line ∷ lines)) isnt (or_right (at_of line == packet) (list_any (λ (l : ScriptLine). at_of l == packet) lines) any))),
 )
 
 pub at_none : (lines : List ScriptLine) (packet : ℕ) → AllByRecursion (λ (line : ScriptLine). at_of line ≢ packet) lines → list_any (λ (line : ScriptLine). at_of line == packet) lines ≡ true → ⊥
@@ -147,9 +146,11 @@ module _ (c : Setting) (is : IsSetting c) (s : ChainState) (r : IsReached c s) (
           let outer = and_parts (packet == k.entered && nat_lt packet packets) (not (list_any (λ (line : ScriptLine). at_of line == packet) (lines_left k script))) test in
           let inner = and_parts (packet == k.entered) (nat_lt packet packets) outer.0 in
           let less : packet < packets = ltb-true packet packets inner.1 in
-          let same = given.counted in
-          (eqb-true packet k.entered inner.0 ∙ h.entered, omega arith,
-          subst (λ (lines : List ScriptLine). AllByRecursion (λ (line : ScriptLine). at_of line ≢ packet) lines) (sym left) (none_at (lines_left k script) packet outer.1)),
+          let same = given.counted in (
+            eqb-true packet k.entered inner.0 ∙ h.entered,
+            omega arith,
+            subst (λ (lines : List ScriptLine). AllByRecursion (λ (line : ScriptLine). at_of line ≢ packet) lines) (sym left) (none_at (lines_left k script) packet outer.1),
+          ),
       λ may.
           let less : packet < count c = may.1 in
           let same = given.counted in
@@ -236,17 +237,19 @@ module _ (c : Setting) (is : IsSetting c) (s : ChainState) (r : IsReached c s) (
           let p1 = and_parts (k.entered == packets) (all_below k.ring.servers (is_live k.down)) p2.0 in
           let all_in : k.entered ≡ packets = eqb-true k.entered packets p1.0 in
           let number : origin ≡ packets + k.propagates = eqb-true origin (packets + k.propagates) p4.1 in
-          let n1 = given.counted in let n2 = h.entered in let n3 = h.propagates in
-          (omega arith, all_up p1.1,
-          (λ other message there visited at.
-              let one = kept_message c s k h other message there in
-              not_so (list_any (has_such begun_test) k.messages) p2.1
-              (item_any begun_test k.messages other one.0 one.1 (begun_kept c.partitions s.trace _ message.known message.place one.0.place visited one.2.place at))),
-          elim (or_cases (is_some_list k.forwarder) (is_stalled k) p3.1) [
-            | inl some ↦ let found = some_name k.forwarder some in inl (found.0, found.1, sym (h.forwarder found.0 found.1) ∙ found.2)
-            | inr stalled ↦ inr (stalled_said stalled)
-          ],
-          omega arith),
+          let n1 = given.counted in let n2 = h.entered in let n3 = h.propagates in (
+            omega arith,
+            all_up p1.1,
+            (λ other message there visited at.
+                let one = kept_message c s k h other message there in
+                not_so (list_any (has_such begun_test) k.messages) p2.1
+                (item_any begun_test k.messages other one.0 one.1 (begun_kept c.partitions s.trace _ message.known message.place one.0.place visited one.2.place at))),
+            elim (or_cases (is_some_list k.forwarder) (is_stalled k) p3.1) [
+              | inl some ↦ let found = some_name k.forwarder some in inl (found.0, found.1, sym (h.forwarder found.0 found.1) ∙ found.2)
+              | inr stalled ↦ inr (stalled_said stalled)
+            ],
+            omega arith,
+          ),
       λ may.
           let n1 = given.counted in let n2 = h.entered in let n3 = h.propagates in
           let m0 : s.entered ≡ count c = may.0 in let m4 : origin ≡ count c + s.propagates = may.4 in
@@ -257,10 +260,10 @@ module _ (c : Setting) (is : IsSetting c) (s : ChainState) (r : IsReached c s) (
           (eq-eqb k.entered packets (omega arith))
           (below_each k.ring.servers (is_live k.down) (λ server below. let less : server < servers c = (let n = servers_is in omega arith) in sym (h.up server less) ∙ may.1 server less)))
           (untrue (list_any (has_such begun_test) k.messages) (λ any.
-              let found = any_item begun_test k.messages any in
-              let said = said_message c s k h found.0 found.1 found.2 in
-              let at = begun_said c.partitions s.trace _ said.0.known said.0.place found.1.place said.2.place found.3 in
-              may.2 found.0 said.0 said.1 at.0 at.1)))
+          let found = any_item begun_test k.messages any in
+          let said = said_message c s k h found.0 found.1 found.2 in
+          let at = begun_said c.partitions s.trace _ said.0.known said.0.place found.1.place said.2.place found.3 in
+          may.2 found.0 said.0 said.1 at.0 at.1)))
           (elim may.3 [
             | inl log ↦ or_left (is_some_list k.forwarder) (is_stalled k) (name_some k.forwarder log.0 log.1 (h.forwarder log.0 log.1 ∙ log.2))
             | inr stalled ↦ or_right (is_some_list k.forwarder) (is_stalled k) (said_stalled stalled)
@@ -277,10 +280,11 @@ module _ (c : Setting) (is : IsSetting c) (s : ChainState) (r : IsReached c s) (
         let p3 = and_parts (nat_lt link k.ring.servers && is_live k.down link && is_live k.down (next_of k.ring.servers link)) (has k.gaps link) test in
         let p2 = and_parts (nat_lt link k.ring.servers && is_live k.down link) (is_live k.down (next_of k.ring.servers link)) p3.0 in
         let p1 = and_parts (nat_lt link k.ring.servers) (is_live k.down link) p2.0 in
-        let below : link < servers c = let less = ltb-true link k.ring.servers p1.0 in let n = servers_same in omega arith in
-        (h.up link below ∙ p1.1,
-        h.up (next_of (servers c) link) (next_less below) ∙ subst (λ n. is_live k.down (next_of n link) ≡ true) servers_same p2.1,
-        sym (h.gaps link below) ∙ p3.1),
+        let below : link < servers c = let less = ltb-true link k.ring.servers p1.0 in let n = servers_same in omega arith in (
+          h.up link below ∙ p1.1,
+          h.up (next_of (servers c) link) (next_less below) ∙ subst (λ n. is_live k.down (next_of n link) ≡ true) servers_same p2.1,
+          sym (h.gaps link below) ∙ p3.1,
+        ),
     λ may.
         let below : link < servers c = r.live.inv.world.inside link may.0 in
         and_from (nat_lt link k.ring.servers && is_live k.down link && is_live k.down (next_of k.ring.servers link)) (has k.gaps link)

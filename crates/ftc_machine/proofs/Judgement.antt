@@ -1,8 +1,8 @@
 -- From what stands for a state to what is so of it.
-use Rattle.std.proofs.Common.{◌≡◌, Bool, true, false, sym, subst, ◌∙◌, ◌↔◌}
+use Rattle.std.proofs.Common.{◌≡◌, ℕ, ◌<◌, Bool, true, false, sym, ap, subst, ◌∙◌, ◌↔◌}
 use Rattle.std.proofs.lemmas.Bool.{true≢false}
 use Rattle.ftc_machine.specs.declared.kept.Kept.{Kept}
-use Rattle.ftc_machine.specs.Setting.{Setting}
+use Rattle.ftc_machine.specs.Setting.{Setting, servers}
 use Rattle.ftc_machine.specs.State.{ChainState}
 use Rattle.ftc_machine.specs.Kept.{StandsFor}
 use Rattle.ftc_machine.proofs.Complete.{IsReached, reached}
@@ -16,3 +16,11 @@ right_as {said} {test} {P} same right = (λ is. right.0 (sym same ∙ is), λ p.
 
 pub never : {P : Type 0} → (P → ⊥) → (false ≡ true) ↔ P
 never {P} no_way = (λ wrong. absurd (true≢false (sym wrong)), λ p. absurd (no_way p))
+
+-- the servers of what is kept are the chain's
+pub is_below : {c : Setting} {s : ChainState} {k : Kept} → StandsFor c s k → (server : ℕ) (said : Bool) → (said ≡ true) ↔ (server < k.ring.servers) → said ≡ true → server < servers c
+is_below {c} {s} {k} stands server said tells is = subst (λ n. server < n) (ap (λ ring. ring.servers) stands.kept.ring) (tells.0 is)
+
+pub isnt_below : {c : Setting} {s : ChainState} {k : Kept} → StandsFor c s k → (server : ℕ) (said : Bool) → (said ≡ true) ↔ (server < k.ring.servers) → said ≡ false → server < servers c → ⊥
+isnt_below {c} {s} {k} stands server said tells isnt below =
+    true≢false (sym (tells.1 (subst (λ n. server < n) (sym (ap (λ ring. ring.servers) stands.kept.ring)) below)) ∙ isnt)

@@ -39,6 +39,7 @@ mod Judged
 mod Judgement
 mod JudgedScript
 mod Needing
+mod Knowing
 mod JudgedDue
 mod JudgedMessages
 mod Lines

@@ -72,9 +72,9 @@ module _ (c : Setting) (some : 0 < servers c) (out : ℕ → ℕ → Bool) (trac
   place_stays packet (Queued link) bytes was still = waits_stay packet (next_of (servers c) link) 0 bytes bytes was still
   place_stays packet (Held k true by_ring) bytes was still = elim (k + 1 == servers c) as (λ b. (serial_of c trace).place packet ≡ placed b k bytes
       → (serial_of c (left_of out trace)).place packet ≡ placed b k bytes → (group : ℕ) → IsTouching trace group packet → IsTouching (left_of out trace) group packet) [
-    | true ↦ λ was still. passed_stay packet bytes bytes still
-    | false ↦ λ was still. waits_stay packet (k + 1) 0 bytes bytes was still
-  ] was still
+        | true ↦ λ was still. passed_stay packet bytes bytes still
+        | false ↦ λ was still. waits_stay packet (k + 1) 0 bytes bytes was still
+      ] was still
 
 module _ (c : Setting) (good : IsGood c) (some : 0 < servers c) (s : ChainState) (a : AreNeeding c s) where
   with_message : (p : ℕ) (o : Option Message) → ((m : Message) → o ≡ Some m → IsNeeding s.trace p m.packet m.needs) → (q : ℕ) (m : Message) → with_at s.message p o q ≡ Some m → IsNeeding s.trace q m.packet m.needs

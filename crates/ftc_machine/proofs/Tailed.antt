@@ -6,11 +6,12 @@ use Rattle.ftc_machine.specs.declared.kept.Kept.{Kept}
 use Rattle.ftc_machine.specs.Kept.{IsKept, MayFollow, footprints_in, reach_of}
 use Rattle.ftc_machine.specs.Known.{knows}
 use Rattle.ftc_machine.specs.Reach.{Reaches, numbers_of, reach_in}
-use Rattle.ftc_machine.specs.Setting.{Setting, servers, is_tail}
+use Rattle.ftc_machine.specs.Setting.{Setting, servers, is_tail, IsSetting}
 use Rattle.ftc_machine.specs.State.{ChainState}
 use Rattle.ftc_machine.specs.Tails.{group_ending, known_at, part_of}
 use Rattle.ftc_machine.specs.Visits.{Visits}
-use Rattle.ftc_machine.proofs.Following.{visits_below, visits_within}
+use Rattle.ftc_machine.proofs.Complete.{IsReached}
+use Rattle.ftc_machine.proofs.Following.{reached_before, reached_below, reached_within}
 use Rattle.ftc_machine.proofs.Parts.{part_reaches}
 use Rattle.ftc_machine.proofs.Reached.{merged_reaches, reach_moves}
 use Rattle.ftc_machine.proofs.Ring.{apart_cases}
@@ -34,16 +35,16 @@ ends n f group server below within small =
     (λ is. let at : apart n group server ≡ f = eqb-true (apart n group server) f is in eq-eqb group (group_ending (record { servers = n; failures = f }) server) (omega arith))
     (λ is. let at : group ≡ group_ending (record { servers = n; failures = f }) server = eqb-true group (group_ending (record { servers = n; failures = f }) server) is in eq-eqb (apart n group server) f (omega arith))
 
-module _ (c : Setting) (s : ChainState) (event : Event) (may : MayFollow c s event) (k : Kept) (is : IsKept c s k) where
+module _ (c : Setting) (setting : IsSetting c) (s : ChainState) (r : IsReached c s) (k : Kept) (is : IsKept c s k) where
   -- of a group of the chain
-  pub ends_here : (group server : ℕ) → group < servers c → server < servers c → is_tail c group server ≡ (group == group_ending k.ring server)
-  ends_here group server below within =
-      subst (λ (ring : RingShape). is_tail c group server ≡ (group == group_ending ring server)) (sym is.ring) (ends (servers c) c.failures group server below within may.setting.ring.failures)
+  pub reached_ends : (group server : ℕ) → group < servers c → server < servers c → is_tail c group server ≡ (group == group_ending k.ring server)
+  reached_ends group server below within =
+      subst (λ (ring : RingShape). is_tail c group server ≡ (group == group_ending ring server)) (sym is.ring) (ends (servers c) c.failures group server below within setting.ring.failures)
 
   -- what a server knows
-  pub knows_reaches : (server : ℕ) → server < servers c → Reaches c.partitions s.trace (numbers_of (footprints_in k.visits.items)) (knows c s server) (known_at k server)
-  knows_reaches server below =
-      let few = visits_within c s event may k is in
+  pub reached_knows : (server : ℕ) → server < servers c → Reaches c.partitions s.trace (numbers_of (footprints_in k.visits.items)) (knows c s server) (known_at k server)
+  reached_knows server below =
+      let few = reached_within c setting s r k is in
       let numbers = numbers_of (footprints_in k.visits.items) in
       let own : Visits = λ group packet. is_tail c group server && s.lists server group packet in
       let ending = group_ending k.ring server in
@@ -53,5 +54,12 @@ module _ (c : Setting) (s : ChainState) (event : Event) (may : MayFollow c s eve
       (λ group.
       reach_moves c.partitions s.trace numbers group (λ packet. (group == ending) && s.lists server group packet) (own group)
       (reach_in (part_of (λ other. other == ending) list) group) (reach_in (part_of (λ other. other == ending) list) group)
-      (λ packet partition changes. ap (λ test. test && s.lists server group packet) (sym (ends_here group server (visits_below c s event may group packet partition changes) below)))
+      (λ packet partition changes. ap (λ test. test && s.lists server group packet) (sym (reached_ends group server (reached_below c setting s r group packet partition changes) below)))
       (λ packet partition changes. refl) (λ partition some. refl) (part group))
+
+module _ (c : Setting) (s : ChainState) (event : Event) (may : MayFollow c s event) (k : Kept) (is : IsKept c s k) where
+  pub ends_here : (group server : ℕ) → group < servers c → server < servers c → is_tail c group server ≡ (group == group_ending k.ring server)
+  ends_here = reached_ends c may.setting s (reached_before c s event may) k is
+
+  pub knows_reaches : (server : ℕ) → server < servers c → Reaches c.partitions s.trace (numbers_of (footprints_in k.visits.items)) (knows c s server) (known_at k server)
+  knows_reaches = reached_knows c may.setting s (reached_before c s event may) k is

@@ -2,22 +2,16 @@
 use Rattle.std.specs.Prelude.{ℕ, ◌-◌, ◌&&◌, ◌||◌, nat_lt, not, Bool, List}
 use Rattle.std.specs.List.{list_any}
 use Rattle.ftc_base.specs.Sets.{has}
-use Rattle.ftc_vector.specs.Commits.{vector_of, group_raised}
-use Rattle.ftc_ring.specs.Ring.{RingShape}
 use Rattle.ftc_journal.specs.declared.event.VisitName.{VisitName}
 use Rattle.ftc_machine.specs.declared.kept.Kept.{Kept}
 use Rattle.ftc_machine.specs.declared.message.Withheld.{Withheld}
 use Rattle.ftc_machine.specs.Slots.{slot_at, has_such}
-use Rattle.ftc_machine.specs.Kept.{reach_of}
-use Rattle.ftc_machine.specs.Tests.{footprints_of, list_of, has_named, all_below}
-
--- the last server is the tail of this group
-abbrev pub last_group : RingShape → ℕ
-last_group ring = ring.servers - 1 - ring.failures
+use Rattle.ftc_machine.specs.Tails.{known_at}
+use Rattle.ftc_machine.specs.Tests.{footprints_of, has_named, all_below}
 
 -- how far reaches what the last server knows to be at the tails
 abbrev pub known_last : Kept → List (List ℕ)
-known_last k = group_raised (reach_of k.known.items (k.ring.servers - 1)) (last_group k.ring) (vector_of (list_of k (k.ring.servers - 1)) (last_group k.ring))
+known_last k = known_at k (k.ring.servers - 1)
 
 abbrev pub named : ℕ → ℕ → VisitName
 named server packet = record { server = server; packet = packet }

@@ -14,16 +14,11 @@ use ftc_journal::VisitName;
 use ftc_vector::Commits;
 
 impl Kept {
-    /// How far reaches what the last server knows to be at the tails: of the group whose tail it is, at
-    /// least its own list.
+    /// How far reaches what the last server knows to be at the tails.
     fn known_last(&self) -> Commits
         ensures { result ≡ known_last self.now }
     {
-        let last = self.ring.servers() - 1;
-        let group = ServerId::new(last - self.ring.failures()).unwrap();
-        let mut known = self.known[usize::from(last)];
-        known.raise(group, self.lists[usize::from(last)].of(group));
-        known
+        self.knows(ServerId::new(self.ring.servers() - 1).unwrap())
     }
 
     /// Whether the packet has no need of that group, or its visit there is known so far.
@@ -84,12 +79,7 @@ impl Kept {
         }
     }
 
-    fn is_any_due_before(
-        &self,
-        reach: &Commits,
-        since: u64,
-        slots: &[Option<Withheld>],
-    ) -> bool
+    fn is_any_due_before(&self, reach: &Commits, since: u64, slots: &[Option<Withheld>]) -> bool
         ensures { result ≡ list_any (has_such (is_due_before self.now reach.now since)) slots.now }
     {
         slots
@@ -110,8 +100,7 @@ impl Kept {
         let reach = self.known_last();
         match self.buffer.get(packet as usize) {
             Some(withheld) => {
-                self.is_due_by(&reach, withheld)
-                    && !self.has_due_before(&reach, withheld.since)
+                self.is_due_by(&reach, withheld) && !self.has_due_before(&reach, withheld.since)
             }
             None => false,
         }

@@ -1,11 +1,13 @@
 //! Whether an event may happen, by what is kept.
 
-ghost use Rattle.std.specs.Prelude.{◌≡◌, ◌↔◌, ◌<◌, ℕ, true};
+ghost use Rattle.std.specs.Prelude.{◌≡◌, ◌↔◌, ◌<◌, ℕ, true, List};
+ghost use Rattle.ftc_script.specs.Script.{ScriptShape};
+ghost use Rattle.ftc_journal.specs.declared.event.Event.TheVariants as event;
+ghost use Rattle.ftc_journal.specs.declared.event.VisitName.{VisitName as AName};
 ghost use Rattle.ftc_machine.specs.Setting.{Setting};
 ghost use Rattle.ftc_machine.specs.State.{ChainState};
 ghost use Rattle.ftc_machine.specs.Kept.{StandsFor, AreInputs};
 ghost use Rattle.ftc_machine.specs.Judging.{IsRight};
-ghost use Rattle.ftc_journal.specs.declared.event.Event.TheVariants as event;
 
 use crate::kept::Kept;
 use ftc_base::{PacketNo, ServerId};
@@ -27,37 +29,92 @@ impl Kept {
         self.may_enter(script, count, packet)
     }
 
-    /// Whether a log may be applied.
-    pub fn judge_apply(
-        &self,
-        server: ServerId,
-        origin: PacketNo,
-        group: ServerId,
-        packet: PacketNo,
-    ) -> bool
-        ensures { (c : Setting) (s : ChainState) → StandsFor c s self.now → IsRight c s (event.Apply server origin group packet) result }
+    /// Whether a message may be taken.
+    pub fn judge_take(&self, link: ServerId, origin: PacketNo) -> bool
+        ensures { (c : Setting) (s : ChainState) → StandsFor c s self.now → IsRight c s (event.Take link origin) result }
     {
-        let log = VisitName {
-            server: group,
-            packet,
-        };
-        if !self.is_server(server) {
-            return false;
-        }
-        self.may_apply(server, origin, &log)
+        self.may_take(link, origin)
+    }
+
+    /// Whether the forwarder may take a message.
+    pub fn judge_carry(&self, origin: PacketNo) -> bool
+        ensures { (c : Setting) (s : ChainState) → StandsFor c s self.now → IsRight c s (event.Carry origin) result }
+    {
+        self.may_carry(origin)
+    }
+
+    /// Whether a server may crash.
+    pub fn judge_crash(&self, script: &Script, server: ServerId) -> bool
+        ensures { (c : Setting) (s : ChainState) → StandsFor c s self.now → (packets : ℕ) → AreInputs c script.now packets → IsRight c s (event.Crash server) result }
+    {
+        self.may_crash(script, server)
+    }
+
+    /// Whether a server may be replaced.
+    pub fn judge_recover(&self, script: &Script, server: ServerId) -> bool
+        ensures { (c : Setting) (s : ChainState) → StandsFor c s self.now → (packets : ℕ) (undone : List AName) → AreInputs c script.now packets → IsRight c s (event.Recover server undone) result }
+    {
+        self.may_recover(script, server)
+    }
+
+    /// Whether the receiver of a link may pull.
+    pub fn judge_pull(&self, link: ServerId) -> bool
+        ensures { (c : Setting) (s : ChainState) → StandsFor c s self.now → IsRight c s (event.Pull link) result }
+    {
+        self.may_pull(link)
     }
 
     /// Whether a message without a packet may begin.
-    pub fn judge_propagate(&self, script: &Script, count: u32, origin: PacketNo) -> bool
-        ensures { (c : Setting) (s : ChainState) → StandsFor c s self.now → AreInputs c script.now count → IsRight c s (event.Propagate origin) result }
+    pub fn judge_propagate(&self, count: u32, origin: PacketNo) -> bool
+        ensures { (c : Setting) (s : ChainState) → StandsFor c s self.now → (script : ScriptShape) → AreInputs c script count → IsRight c s (event.Propagate origin) result }
     {
         self.may_propagate(count, origin)
     }
 
-    /// Whether the packet may be released.
+    /// Whether a packet may be released.
     pub fn judge_release(&self, packet: PacketNo) -> bool
         ensures { (c : Setting) (s : ChainState) → StandsFor c s self.now → IsRight c s (event.Release packet) result }
     {
         self.may_release(packet)
+    }
+
+    /// Whether a log may be applied.
+    pub fn judge_apply(&self, server: ServerId, origin: PacketNo, log: &VisitName) -> bool
+        ensures { (c : Setting) (s : ChainState) → StandsFor c s self.now → IsRight c s (event.Apply server origin log.now.server log.now.packet) result }
+    {
+        if !self.is_server(server) {
+            return false;
+        }
+        self.may_apply(server, origin, log)
+    }
+
+    /// Whether a packet may go through a middlebox.
+    pub fn judge_visit(&self, server: ServerId, packet: PacketNo) -> bool
+        ensures { (c : Setting) (s : ChainState) → StandsFor c s self.now → (worker : ℕ) → IsRight c s (event.Visit server packet worker) result }
+    {
+        if !self.is_server(server) {
+            return false;
+        }
+        self.may_visit(server, packet)
+    }
+
+    /// Whether a message may be sent on.
+    pub fn judge_pass(&self, script: &Script, server: ServerId, origin: PacketNo) -> bool
+        ensures { (c : Setting) (s : ChainState) → StandsFor c s self.now → (packets : ℕ) → AreInputs c script.now packets → IsRight c s (event.Pass server origin) result }
+    {
+        if !self.is_server(server) {
+            return false;
+        }
+        self.may_pass(script, server, origin)
+    }
+
+    /// Whether a link may lose a message.
+    pub fn judge_lose(&self, script: &Script, server: ServerId, origin: PacketNo) -> bool
+        ensures { (c : Setting) (s : ChainState) → StandsFor c s self.now → (packets : ℕ) → AreInputs c script.now packets → IsRight c s (event.Lose server origin) result }
+    {
+        if !self.is_server(server) {
+            return false;
+        }
+        self.may_lose(script, server, origin)
     }
 }

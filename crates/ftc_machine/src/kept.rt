@@ -1,5 +1,8 @@
 //! What the machine keeps of the protocol's state.
 
+ghost use Rattle.std.specs.Prelude.{◌≡◌, ◌≤◌, length};
+ghost use Rattle.ftc_base.specs.declared.limits.TheConstants.{MOST_PARTITIONS};
+
 use crate::Fate;
 use crate::footprint::Footprint;
 use crate::message::{Message, Withheld};
@@ -9,9 +12,6 @@ use ftc_journal::VisitNames;
 use ftc_ring::Ring;
 use ftc_store::Store;
 use ftc_vector::Commits;
-
-ghost use Rattle.std.specs.Prelude.{◌≡◌, ◌≤◌, length};
-ghost use Rattle.ftc_base.specs.declared.limits.TheConstants.{MOST_PARTITIONS};
 
 /// The state of the protocol. A set of visits is kept as how far it reaches: of each group and partition as
 /// the number of its last visit that changes the partition.

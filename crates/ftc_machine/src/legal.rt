@@ -66,9 +66,7 @@ impl Kept {
     {
         match self.footprint(name) {
             Some(footprint) => {
-                footprint.has_changed()
-                    && !footprint.contains(vector)
-                    && footprint.follows(vector)
+                footprint.has_changed() && !footprint.contains(vector) && footprint.follows(vector)
             }
             None => false,
         }
@@ -79,8 +77,7 @@ impl Kept {
         requires { server < self.now.ring.servers }
         ensures { result ≡ is_in_turn self.now server log.now.server log.now.packet name.now }
     {
-        let is_first =
-            name.packet == log.packet && name.server.number() < log.server.number();
+        let is_first = name.packet == log.packet && name.server.number() < log.server.number();
         !is_first || self.has(&self.lists[usize::from(server.number())], name)
     }
 

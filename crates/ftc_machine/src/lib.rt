@@ -2,14 +2,13 @@
 //! of each packet. It has no vector, log, frame or lock: what the chain of servers does is judged by it.
 #![tactic(auto)]
 
-mod due;
 mod carry;
+mod due;
 mod enter;
 mod fate;
 mod footprint;
-mod sets;
-mod going;
 mod fresh;
+mod going;
 mod judge;
 mod kept;
 mod laws;
@@ -19,6 +18,7 @@ mod onward;
 mod part;
 mod propagate;
 mod release;
+mod sets;
 mod slots;
 mod tails;
 mod take;

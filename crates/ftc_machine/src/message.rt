@@ -16,7 +16,10 @@ pub enum Place {
         by_ring: bool,
     },
     /// It is queued on a link, with what its sender knew to be at the tails.
-    Queued { link: ServerId, known: Box<Commits> },
+    Queued {
+        link: ServerId,
+        known: Box<Commits>,
+    },
 }
 
 impl Place {
@@ -66,7 +69,9 @@ impl Place {
     {
         match self {
             Place::Held {
-                server, by_ring, ..
+                server,
+                by_ring,
+                ..
             } => server.number() == 0 && *by_ring,
             Place::Queued { .. } => false,
         }
@@ -78,7 +83,9 @@ impl Place {
     {
         match self {
             Place::Held {
-                server, by_ring, ..
+                server,
+                by_ring,
+                ..
             } => server.number() == 0 && !*by_ring,
             Place::Queued { .. } => false,
         }

@@ -1,7 +1,12 @@
-use Rattle.std.proofs.Common.{◌∙◌, sym, ap}
 use Rattle.ftc_machine.proofs.JudgedMessages.{right_apply, apply_below}
-use Rattle.ftc_machine.proofs.Judgement.{reached_by, right_as, never}
+use Rattle.ftc_machine.proofs.Judgement.{reached_by, right_as, never, is_below, isnt_below}
 use Rattle.ftc_machine.proofs.kept.Kept.judge_apply.Goals as goal
 
-pub returns-then-is_server : goal.returns-then-is_server
-returns-then-is_server c setting state stands = ?
+pub returns-then-not-is_server : goal.returns-then-not-is_server
+returns-then-not-is_server c setting state stands =
+    never (λ may. isnt_below stands c.args.server c.is_server.result c.is_server.ensures c.if-not-is_server.true
+    (apply_below setting stands.setting state (reached_by stands) c.args.self.now stands.kept c.args.server c.args.origin c.args.log.now.server c.args.log.now.packet may))
+
+pub returns : goal.returns
+returns c setting state stands =
+    right_as c.may_apply.ensures (right_apply setting stands.setting state (reached_by stands) c.args.self.now stands.kept c.args.server (is_below stands c.args.server c.is_server.result c.is_server.ensures c.if-not-is_server.false) c.args.origin c.args.log.now.server c.args.log.now.packet)

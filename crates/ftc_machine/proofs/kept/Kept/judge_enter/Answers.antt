@@ -1,4 +1,3 @@
-use Rattle.std.proofs.Common.{◌∙◌, sym}
 use Rattle.ftc_machine.proofs.JudgedScript.{right_enter}
 use Rattle.ftc_machine.proofs.Judgement.{reached_by, right_as}
 use Rattle.ftc_machine.proofs.kept.Kept.judge_enter.Goals as goal

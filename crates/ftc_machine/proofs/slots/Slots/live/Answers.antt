@@ -11,7 +11,7 @@ returns-in-Some g c test =
     let first = c.self.inside.first in
     let found = c.in-Some.ensures.lookup.0 in
     let range : c.in-Some.places.now ≡ take (length items - first) (drop first items) =
-        subst (λ xs. c.in-Some.places.now ≡ slice_range xs first (length xs)) c.deref.ensures.value found.2 in
+    subst (λ xs. c.in-Some.places.now ≡ slice_range xs first (length xs)) c.deref.ensures.value found.2 in
     ap (list_any (has_such test)) (range ∙ take_all (length items - first) (drop first items) (let l = length-drop first items in omega arith))
     ∙ any_live test items first c.self.invariant ∙ ap (list_any (has_such test)) c.self.view_is
 
@@ -19,8 +19,8 @@ pub returns-in-None : goal.returns-in-None
 returns-in-None g c test =
     let items = c.self.inside.places.items in
     let past : length items ≤ c.self.inside.first =
-        elim c.in-None.ensures.lookup.0 [
-          | inl less ↦ let same = ap length c.deref.ensures.value in omega arith
-          | inr more ↦ omega arith
-        ] in
+    elim c.in-None.ensures.lookup.0 [
+      | inl less ↦ let same = ap length c.deref.ensures.value in omega arith
+      | inr more ↦ omega arith
+    ] in
     nothing_live test items c.self.inside.first c.self.invariant past ∙ ap (list_any (has_such test)) c.self.view_is
