@@ -2,11 +2,11 @@ use Rattle.ftc_machine.proofs.JudgedMessages.{right_apply, apply_below}
 use Rattle.ftc_machine.proofs.Judgement.{reached_by, right_as, never, is_below, isnt_below}
 use Rattle.ftc_machine.proofs.kept.Kept.judge_apply.Goals as goal
 
-pub returns-then-not-is_server : goal.returns-then-not-is_server
-returns-then-not-is_server c setting state stands =
+pub returns-then-not-is_server-clause-right : goal.returns-then-not-is_server-clause-right
+returns-then-not-is_server-clause-right c setting state stands =
     never (λ may. isnt_below stands c.args.server c.is_server.result c.is_server.ensures c.if-not-is_server.true
     (apply_below setting stands.setting state (reached_by stands) c.args.self.now stands.kept c.args.server c.args.origin c.args.log.now.server c.args.log.now.packet may))
 
-pub returns : goal.returns
-returns c setting state stands =
+pub returns-clause-right : goal.returns-clause-right
+returns-clause-right c setting state stands =
     right_as c.may_apply.ensures (right_apply setting stands.setting state (reached_by stands) c.args.self.now stands.kept c.args.server (is_below stands c.args.server c.is_server.result c.is_server.ensures c.if-not-is_server.false) c.args.origin c.args.log.now.server c.args.log.now.packet)
