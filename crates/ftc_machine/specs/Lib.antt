@@ -21,6 +21,7 @@ pub mod Kept
 pub mod Tests
 pub mod Due
 pub mod Judging
+pub mod Played
 pub mod Effects
 pub mod Tails
 pub mod Whole

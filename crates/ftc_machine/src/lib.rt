@@ -13,6 +13,7 @@ mod judge;
 mod kept;
 mod laws;
 mod legal;
+mod machine;
 mod message;
 mod onward;
 mod part;
