@@ -3,6 +3,7 @@
 #![tactic(auto)]
 
 mod carry;
+mod departure;
 mod enter;
 mod fate;
 mod footprint;
@@ -14,11 +15,13 @@ mod onward;
 mod part;
 mod propagate;
 mod release;
+mod send;
 mod sets;
 mod slots;
 mod tails;
 mod take;
 mod trace;
+mod way;
 
 pub use fate::Fate;
 pub use laws::{
