@@ -97,3 +97,4 @@ pub mod Following
 pub mod Moved
 pub mod Tailed
 pub mod GoingOn
+pub mod Departing

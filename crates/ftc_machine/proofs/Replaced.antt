@@ -1,5 +1,5 @@
 -- Places one of which is given something else, beside a function that changes there.
-use Rattle.std.proofs.Common.{◌≡◌, ◌≢◌, ℕ, ◌<◌, List, Option, None, length, slice_set, slice_index_or, inl, inr, sym, ◌∙◌, ap, subst, arith, get_or-set_same, get_or-set_other}
+use Rattle.std.proofs.Common.{◌≡◌, ◌≢◌, ℕ, ◌<◌, Bool, true, false, if◌then◌else◌, List, Option, None, length, slice_set, slice_index_or, inl, inr, sym, ◌∙◌, ap, subst, arith, get_or-set_same, get_or-set_other}
 use Rattle.std.proofs.Math.ListN.{length-set}
 use Rattle.std.proofs.lemmas.Bool.{cases_lt}
 use Rattle.std.proofs.lemmas.List.{get_or_past}
@@ -39,7 +39,8 @@ left {A} {B} R f old new place v is same each other =
 pub others_left : {B : Type 0} (old new : List (Option B)) (place : ℕ) → new ≡ slice_set old place None → (other : ℕ) → other ≢ place → slot_at new other ≡ slot_at old other
 others_left {B} old new place is other ne = ap (λ (slots : List (Option B)). slot_at slots other) is ∙ get_or-set_other old place other None None ne
 
-none_there : {B : Type 0} (slots : List (Option B)) (place : ℕ) → slot_at (slice_set slots place None) place ≡ None
+-- a place that is given nothing has nothing
+pub none_there : {B : Type 0} (slots : List (Option B)) (place : ℕ) → slot_at (slice_set slots place None) place ≡ None
 none_there {B} slots place = elim (cases_lt place (length slots)) [
   | inl less ↦ get_or-set_same slots place None None less
   | inr past ↦ get_or_past (slice_set slots place None) place None (omega (arith, length-set slots place (let nothing : Option B = None in nothing)))
@@ -55,3 +56,19 @@ cleared {A} {B} R f old new place v is here each other =
     let nothing : slot_at (slice_set old place None) other ≡ None = subst (λ p. slot_at (slice_set old place None) p ≡ None) (sym e) (none_there old place) in
     subst (λ (y : Option B). R other v y) (sym (at ∙ nothing)) (subst (λ p. R p v None) (sym e) here))
     (λ ne. subst (λ (y : Option B). R other (f other) y) (sym (others_left old new place is other ne)) (each other))
+
+-- the same where the place is given that only where a test is true
+pub changed_if : {A B : Type 0} (R : ℕ → A → Option B → Type 0) (f : ℕ → A) (old room new : List (Option B)) (place : ℕ) (test given : Bool) (v before : A) (w : Option B) → test ≡ given
+    → new ≡ (if test then slice_set room place w else room) → place < length room → ((other : ℕ) → other ≢ place → slot_at room other ≡ slot_at old other)
+    → R place v w → R place before (slot_at room place) → ((other : ℕ) → R other (f other) (slot_at old other))
+    → (other : ℕ) → R other (with_at f place (if given then v else before) other) (slot_at new other)
+changed_if {A} {B} R f old room new place test given v before w alike is within same here stays each other =
+    subst (λ b. R other (with_at f place (if b then v else before) other) (slot_at new other)) alike
+    (elim test as (λ b. new ≡ (if b then slice_set room place w else room) → R other (with_at f place (if b then v else before) other) (slot_at new other)) [
+      | true ↦ λ set. replaced R f old room new place v w set within same here each other
+      | false ↦ λ none_set.
+          let at : slot_at new other ≡ slot_at room other = ap (λ (slots : List (Option B)). slot_at slots other) none_set in
+          with_at_cases (λ (x : A). R other x (slot_at new other)) f place before other
+          (λ e. subst (λ (y : Option B). R other before y) (sym at) (subst (λ p. R p before (slot_at room p)) (sym e) stays))
+          (λ ne. subst (λ (y : Option B). R other (f other) y) (sym (at ∙ same other ne)) (each other))
+    ] is)

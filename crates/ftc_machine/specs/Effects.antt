@@ -1,6 +1,7 @@
 -- What an event does to what the machine keeps.
-use Rattle.std.specs.Prelude.{List, [], Option, Some, None}
+use Rattle.std.specs.Prelude.{ℕ, Bool, true, false, List, [], Option, Some, None}
 use Rattle.ftc_journal.specs.declared.event.Event.{Event}
+use Rattle.ftc_journal.specs.declared.event.Event.TheVariants as event
 use Rattle.ftc_journal.specs.declared.event.VisitName.{VisitName}
 use Rattle.ftc_machine.specs.declared.kept.Kept.{Kept}
 use Rattle.ftc_machine.specs.declared.message.Message.{Message}
@@ -17,3 +18,8 @@ StandsAfter c s event old new = MayFollow c s event → GoesOver c s (next c s e
 abbrev pub logs_in : Option Message → List VisitName
 logs_in None = []
 logs_in (Some message) = message.logs
+
+-- the event by which a server sends a message on, by a link that loses it or not
+abbrev pub sending : Bool → ℕ → ℕ → Event
+sending true server origin = event.Lose server origin
+sending false server origin = event.Pass server origin

@@ -4,6 +4,7 @@
 
 mod carry;
 mod due;
+mod departure;
 mod enter;
 mod fate;
 mod footprint;
@@ -19,11 +20,13 @@ mod onward;
 mod part;
 mod propagate;
 mod release;
+mod send;
 mod sets;
 mod slots;
 mod tails;
 mod take;
 mod trace;
+mod way;
 
 pub use fate::Fate;
 pub use laws::{

@@ -1,6 +1,6 @@
 //! Items by number.
 
-ghost use Rattle.std.specs.Prelude.{◌≡◌, ◌<◌, ℕ, Bool, Option, false, Some, None, length, OnOk, OnSome, option_map, slice_set, []};
+ghost use Rattle.std.specs.Prelude.{◌≡◌, ◌<◌, ℕ, Bool, Option, false, Some, None, length, OnOk, OnSome, option_map, slice_set, [], if◌then◌else◌};
 ghost use Rattle.std.specs.List.{list_any};
 ghost use Rattle.ftc_machine.specs.Slots.{slot_at, has_such};
 
@@ -77,6 +77,19 @@ impl<T: Drop> Slots<T> {
         self.places[place] = Some(item);
         if place < self.first {
             self.first = place;
+        }
+    }
+
+    /// Gives a place an item or nothing, where the test is true.
+    pub fn set_if(&mut self, test: bool, place: usize, item: Option<T>)
+        requires { place < length self.old }
+        ensures { self.new ≡ (if test then slice_set self.old place item else self.old) }
+    {
+        if test {
+            match item {
+                Some(item) => self.put(place, item),
+                None => self.clear(place),
+            }
         }
     }
 

@@ -1,4 +1,4 @@
-use Rattle.std.proofs.Common.{◌≡◌, ◌<◌, ◌≤◌, ◌∙◌, ℕ, List, [], length, if◌then◌else◌, ap, arith}
+use Rattle.std.proofs.Common.{◌∙◌, ℕ, List, [], length, if◌then◌else◌, ap, arith}
 use Rattle.ftc_base.specs.Sets.{has}
 use Rattle.ftc_vector.specs.Vector.{by_partition, merged}
 use Rattle.ftc_vector.specs.Commits.{vector_of}
