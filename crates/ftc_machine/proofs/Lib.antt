@@ -85,3 +85,5 @@ pub mod Replaced
 pub mod Reached
 pub mod Following
 pub mod Moved
+pub mod Raised
+pub mod Joined

@@ -2,18 +2,19 @@
 //! of each packet. It has no vector, log, frame or lock: what the chain of servers does is judged by it.
 #![tactic(auto)]
 
+mod apply;
 mod due;
+mod enter;
 mod fate;
 mod footprint;
-mod sets;
-mod going;
-mod enter;
 mod fresh;
+mod going;
 mod kept;
 mod laws;
 mod legal;
 mod message;
 mod propagate;
+mod sets;
 mod slots;
 mod take;
 mod trace;
