@@ -87,3 +87,7 @@ pub mod Following
 pub mod Moved
 pub mod Raised
 pub mod Joined
+pub mod Alike
+pub mod Added
+pub mod Doing
+pub mod Results

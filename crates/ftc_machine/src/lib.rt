@@ -18,6 +18,8 @@ mod sets;
 mod slots;
 mod take;
 mod trace;
+mod visit;
+mod visited;
 
 pub use fate::Fate;
 pub use laws::{
