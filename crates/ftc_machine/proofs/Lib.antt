@@ -98,3 +98,9 @@ pub mod Moved
 pub mod Tailed
 pub mod GoingOn
 pub mod Departing
+pub mod Raised
+pub mod Joined
+pub mod Alike
+pub mod Added
+pub mod Doing
+pub mod Results

@@ -1,5 +1,6 @@
 pub mod Setting
 pub mod Visits
+pub mod VisitEffect
 pub mod Changes
 pub mod Trace
 pub mod State

@@ -5,6 +5,7 @@
 mod carry;
 mod due;
 mod departure;
+mod apply;
 mod enter;
 mod fate;
 mod footprint;
@@ -27,6 +28,8 @@ mod tails;
 mod take;
 mod trace;
 mod way;
+mod visit;
+mod visited;
 
 pub use fate::Fate;
 pub use laws::{
