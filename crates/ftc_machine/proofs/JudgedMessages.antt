@@ -27,6 +27,7 @@ use Rattle.ftc_machine.specs.Kept.{IsKept, IsMessage, IsPlace, AreInputs}
 use Rattle.ftc_machine.specs.Tests.{footprints_of, list_of, has_named, is_held, is_unvisited, may_go, came_by_ring, is_queued, is_ready, is_older, may_take, may_add, is_in_turn, carries, may_apply, may_visit, may_leave, sends, may_pass, may_lose, may_carry}
 use Rattle.ftc_machine.proofs.Complete.{IsReached}
 use Rattle.ftc_machine.proofs.Awake.{IsUp}
+use Rattle.ftc_machine.proofs.Waiting.{IsRinged}
 use Rattle.ftc_machine.proofs.Standing.{stands_map}
 use Rattle.ftc_machine.proofs.Stores.{touching_changing}
 use Rattle.ftc_machine.proofs.Footprints.{changed_changing, contains_in, follows_all}
@@ -120,6 +121,9 @@ module _ (c : Setting) (is : IsSetting c) (s : ChainState) (r : IsReached c s) (
 
   pub apply_below : (server origin group packet : ℕ) → MayHappen c s (Apply server origin group packet) → server < servers c
   apply_below server origin group packet may = held_below origin may.0 server may.1.1 may.1.2 may.1.0 may.1.3
+
+  pub take_below : (link origin : ℕ) → MayHappen c s (Take link origin) → link < servers c
+  take_below link origin may = subst (λ (at : Where). IsRinged (servers c) at may.0.logs) may.2 (r.live.timed.ringed origin may.0 may.1)
 
   pub visit_below : (server packet worker : ℕ) → MayHappen c s (Visit server packet worker) → server < servers c
   visit_below server packet worker may = held_below packet may.0 server false may.2 may.3 may.4

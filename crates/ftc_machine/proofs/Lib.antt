@@ -40,6 +40,7 @@ mod Judgement
 mod JudgedScript
 mod Needing
 mod Knowing
+mod Trying
 mod JudgedDue
 mod JudgedMessages
 mod Lines

@@ -23,6 +23,7 @@ pub mod Tests
 pub mod Due
 pub mod Judging
 pub mod Played
+pub mod Attempts
 pub mod Effects
 pub mod Tails
 pub mod Whole

@@ -190,6 +190,6 @@ impl Kept {
             && self.are_all_live()
             && !self.has_begun()
             && (!self.forwarder.is_empty() || self.is_stalled())
-            && u64::from(origin) == u64::from(count) + u64::from(self.propagates)
+            && u64::from(origin) == u64::from(count) + self.propagates
     }
 }

@@ -41,7 +41,7 @@ pub struct Kept {
     /// begun without a packet.
     pub done: usize,
     pub entered: PacketNo,
-    pub propagates: PacketNo,
+    pub propagates: u64,
     /// What became of packets. Where nothing is said the packet is inside.
     pub fates: Slots<Fate>,
     ghost some_server: { 1 ≤ ring.servers },

@@ -2,6 +2,7 @@
 //! of each packet. It has no vector, log, frame or lock: what the chain of servers does is judged by it.
 #![tactic(auto)]
 
+mod attempt;
 mod carry;
 mod due;
 mod departure;

@@ -15,7 +15,7 @@ use std::alloc::Global;
 impl Kept {
     /// Server 0 holds a new message without a packet.
     pub fn propagate(&mut self, alloc: Global, origin: PacketNo, now: u64) -> Result<(), NoMemory>
-        requires { self.old.propagates < u32.MAX }
+        requires { self.old.propagates < u64.MAX }
         ensures ok { OnOk result ((c : Setting) (s : ChainState) → now ≡ s.events →
             StandsAfter c s (event.Propagate origin) self.old self.new) }
         ensures err { OnErr result (StandsStill self.old self.new) }

@@ -1,0 +1,11 @@
+use Rattle.ftc_journal.specs.declared.event.Event.TheVariants as event
+use Rattle.ftc_machine.proofs.Trying.{made, passed_over, not_said}
+use Rattle.ftc_machine.proofs.kept.Kept.try_pass.Goals as goal
+
+pub returns-then-not-judge_pass-clause-tried : goal.returns-then-not-judge_pass-clause-tried
+returns-then-not-judge_pass-clause-tried c setting state packets given stands due now =
+    passed_over stands (event.Pass c.args.server c.args.origin) (not_said (c.judge_pass.ensures.right setting state stands packets given) c.if-not-judge_pass.true)
+
+pub returns-clause-tried : goal.returns-clause-tried
+returns-clause-tried c setting state packets given stands due now =
+    made stands (event.Pass c.args.server c.args.origin) c.send.new.self due ((c.judge_pass.ensures.right setting state stands packets given).0 c.if-not-judge_pass.false) (c.in_ok-send.ensures.ok setting state now)

@@ -1,0 +1,11 @@
+use Rattle.ftc_journal.specs.declared.event.Event.TheVariants as event
+use Rattle.ftc_machine.proofs.Trying.{made, passed_over, not_said}
+use Rattle.ftc_machine.proofs.kept.Kept.try_visit.Goals as goal
+
+pub returns-then-not-judge_visit-clause-tried : goal.returns-then-not-judge_visit-clause-tried
+returns-then-not-judge_visit-clause-tried c setting state worker rules_are stands due now =
+    passed_over stands (event.Visit c.args.server c.args.packet worker) (not_said (c.judge_visit.ensures.right setting state stands worker) c.if-not-judge_visit.true)
+
+pub returns-clause-tried : goal.returns-clause-tried
+returns-clause-tried c setting state worker rules_are stands due now =
+    made stands (event.Visit c.args.server c.args.packet worker) c.visit.new.self due ((c.judge_visit.ensures.right setting state stands worker).0 c.if-not-judge_visit.false) (c.in_ok-visit.ensures.ok setting state worker ? now)
