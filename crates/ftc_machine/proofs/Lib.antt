@@ -83,3 +83,4 @@ pub mod Moved
 pub mod Tailed
 pub mod GoingOn
 pub mod Departing
+pub mod Fetching

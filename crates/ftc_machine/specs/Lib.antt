@@ -21,4 +21,5 @@ pub mod Kept
 pub mod Tests
 pub mod Effects
 pub mod Tails
+pub mod News
 pub mod Whole

@@ -3,6 +3,7 @@
 #![tactic(auto)]
 
 mod carry;
+mod choice;
 mod departure;
 mod enter;
 mod fate;
@@ -10,10 +11,13 @@ mod footprint;
 mod fresh;
 mod kept;
 mod laws;
+mod membership;
 mod message;
+mod news;
 mod onward;
 mod part;
 mod propagate;
+mod pull;
 mod release;
 mod send;
 mod sets;
