@@ -105,3 +105,4 @@ pub mod Alike
 pub mod Added
 pub mod Doing
 pub mod Results
+pub mod Fetching

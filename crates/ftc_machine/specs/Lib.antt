@@ -26,6 +26,7 @@ pub mod Played
 pub mod Attempts
 pub mod Effects
 pub mod Tails
+pub mod News
 pub mod Whole
 pub mod Marking
 pub mod Making

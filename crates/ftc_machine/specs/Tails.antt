@@ -1,6 +1,6 @@
--- What is kept of some groups alone, and of the groups' tails.
-use Rattle.std.specs.Prelude.{ℕ, ◌+◌, ◌-◌, ◌==◌, Bool, nat_le, List, if◌then◌else◌}
-use Rattle.ftc_ring.specs.Ring.{RingShape}
+-- What is kept of some groups alone, the groups behind whose heads a server stands, and the group that it ends.
+use Rattle.std.specs.Prelude.{ℕ, ◌+◌, ◌-◌, ◌==◌, ◌&&◌, Bool, not, nat_le, List, if◌then◌else◌}
+use Rattle.ftc_ring.specs.Ring.{RingShape, apart}
 use Rattle.ftc_vector.specs.Vector.{by_partition, merged}
 use Rattle.ftc_vector.specs.Commits.{by_group, vector_of, all_merged}
 use Rattle.ftc_machine.specs.declared.kept.Kept.{Kept}
@@ -9,6 +9,10 @@ use Rattle.ftc_machine.specs.Kept.{reach_of}
 -- how far a set reaches of these groups' visits alone
 abbrev pub part_of : (ℕ → Bool) → List (List ℕ) → List (List ℕ)
 part_of groups reach = by_group (λ group. if groups group then merged (by_partition (λ _. 0)) (vector_of reach group) else by_partition (λ _. 0))
+
+-- a server belongs to a group and doesn't head it
+abbrev pub is_behind : RingShape → ℕ → ℕ → Bool
+is_behind ring group server = not (group == server) && nat_le (apart ring.servers group server) ring.failures
 
 -- the group whose tail a server is
 abbrev pub group_ending : RingShape → ℕ → ℕ

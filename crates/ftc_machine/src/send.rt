@@ -1,7 +1,6 @@
 //! A server sends a message on.
 
-ghost use Rattle.std.specs.Prelude.{◌≡◌, ◌<◌, ◌==◌, ◌&&◌, ◌||◌, ℕ, true, OnOk, OnErr, [], if◌then◌else◌};
-ghost use Rattle.ftc_base.specs.Sets.{has};
+ghost use Rattle.std.specs.Prelude.{◌≡◌, ◌<◌, true, OnOk, OnErr};
 ghost use Rattle.ftc_machine.specs.Setting.{Setting};
 ghost use Rattle.ftc_machine.specs.State.{ChainState};
 ghost use Rattle.ftc_machine.specs.Kept.{StandsStill};
@@ -9,28 +8,12 @@ ghost use Rattle.ftc_machine.specs.Tests.{may_leave};
 ghost use Rattle.ftc_machine.specs.Effects.{StandsAfter, sending};
 
 use crate::Fate;
+use crate::choice::{clear_if, with_if};
 use crate::departure::{behind, withheld};
 use crate::kept::Kept;
 use crate::message::Place;
-use ftc_base::{NoMemory, PacketNo, ServerId, ServerSet};
-use ftc_journal::VisitNames;
+use ftc_base::{NoMemory, PacketNo, ServerId};
 use std::alloc::Global;
-
-/// The set with the server, where the test is true.
-fn with_if(set: ServerSet, test: bool, server: ServerId) -> ServerSet
-    ensures { (member : ℕ) → has result member ≡ ((member == server && test) || has set member) }
-{
-    if test { set.with(server.number()) } else { set }
-}
-
-/// Empties the list, where the test is true.
-fn clear_if(list: &mut VisitNames, test: bool, alloc: Global)
-    ensures { list.new ≡ (if test then [] else list.old) }
-{
-    if test {
-        *list = VisitNames::new(alloc);
-    }
-}
 
 impl Kept {
     /// The message leaves the server for the next one, with what the server knows, and the forwarder's
