@@ -91,3 +91,6 @@ pub mod Alike
 pub mod Added
 pub mod Doing
 pub mod Results
+pub mod Sweeping
+pub mod Dropping
+pub mod Downed

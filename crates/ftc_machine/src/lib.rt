@@ -3,6 +3,7 @@
 #![tactic(auto)]
 
 mod apply;
+mod crash;
 mod due;
 mod enter;
 mod fate;
@@ -12,6 +13,7 @@ mod going;
 mod kept;
 mod laws;
 mod legal;
+mod losses;
 mod message;
 mod propagate;
 mod sets;
