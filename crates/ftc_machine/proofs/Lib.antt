@@ -106,3 +106,6 @@ pub mod Added
 pub mod Doing
 pub mod Results
 pub mod Fetching
+pub mod Sweeping
+pub mod Dropping
+pub mod Downed

@@ -4,10 +4,11 @@
 
 mod attempt;
 mod carry;
+mod apply;
+mod crash;
 mod due;
 mod choice;
 mod departure;
-mod apply;
 mod enter;
 mod fate;
 mod footprint;
@@ -19,6 +20,7 @@ mod laws;
 mod legal;
 mod machine;
 mod membership;
+mod losses;
 mod message;
 mod news;
 mod onward;
