@@ -1,0 +1,3 @@
+mod Grouping
+mod Numbering
+mod Legal

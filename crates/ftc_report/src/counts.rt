@@ -1,0 +1,88 @@
+//! The header, and how many packets have each fate.
+
+ghost use Rattle.std.specs.Prelude.{◌≡◌, ◌++◌, OnOk, IfOk, count_by, string_bytes};
+ghost use Rattle.ftc_report.specs.Text.{is_released, is_filtered, is_lost, head};
+
+use crate::fates::Fates;
+use ftc_base::{Bytes, NoMemory};
+use ftc_machine::Fate;
+use std::alloc::{AllocError, Global};
+
+fn is_released(fate: &Fate) -> bool
+    ensures { result ≡ is_released fate.now }
+{
+    match fate {
+        Fate::Released => true,
+        _ => false,
+    }
+}
+
+fn is_filtered(fate: &Fate) -> bool
+    ensures { result ≡ is_filtered fate.now }
+{
+    match fate {
+        Fate::Filtered { .. } => true,
+        _ => false,
+    }
+}
+
+fn is_lost(fate: &Fate) -> bool
+    ensures { result ≡ is_lost fate.now }
+{
+    match fate {
+        Fate::Lost { .. } => true,
+        _ => false,
+    }
+}
+
+fn released(fates: &Fates) -> usize
+    ensures { result ≡ count_by is_released fates.now }
+{
+    fates
+        .as_slice()
+        .iter()
+        .filter(|fate| is_released(*fate))
+        .count()
+}
+
+fn filtered(fates: &Fates) -> usize
+    ensures { result ≡ count_by is_filtered fates.now }
+{
+    fates
+        .as_slice()
+        .iter()
+        .filter(|fate| is_filtered(*fate))
+        .count()
+}
+
+fn lost(fates: &Fates) -> usize
+    ensures { result ≡ count_by is_lost fates.now }
+{
+    fates
+        .as_slice()
+        .iter()
+        .filter(|fate| is_lost(*fate))
+        .count()
+}
+
+/// The header, and the line of each count.
+#[tactic(auto, unfolding(crate::specs::Text::head))]
+fn head(alloc: Global, fates: &Fates) -> Result<String, AllocError>
+    ensures { IfOk result (λ text. string_bytes text ≡ head fates.now) }
+{
+    let packets = fates.len();
+    let released = released(fates);
+    let filtered = filtered(fates);
+    let lost = lost(fates);
+    format!(in alloc;
+        "ftc-report 1\npackets {packets}\nreleased {released}\nfiltered {filtered}\nlost {lost}\n"
+    )
+}
+
+/// Adds the header and the counts.
+pub fn append_head(alloc: Global, fates: &Fates, out: &mut Bytes) -> Result<(), NoMemory>
+    ensures { OnOk result (out.new ≡ out.old ++ head fates.now) }
+{
+    let text = head(alloc, fates)?;
+    out.append(text.as_bytes())
+}

@@ -1,0 +1,153 @@
+use crate::stores::value_text;
+use crate::{Fates, print, report_over};
+use ftc_base::{Bytes, Items, Lines, ServerId, Value, WorkerId};
+use ftc_journal::{Event, Journal, VisitName};
+use ftc_machine::{Fate, trace_of};
+use ftc_mbox::{ChainSpec, Rule};
+use ftc_pcap::{Packet, Packets};
+use ftc_serial::Serial;
+use std::alloc::Global;
+use std::process::Abort;
+use std::test::Fail;
+
+/// UDP datagrams without content: from 10.0.0.5 and from 10.0.0.6.
+const DATAGRAMS: [[u8; 42]; 2] = [
+    [
+        2, 0, 0, 0, 0, 1, 2, 0, 0, 0, 0, 2, 8, 0, 0x45, 0, 0, 28, 0, 1, 0, 0, 64, 17, 0x46, 0x91,
+        10, 0, 0, 5, 198, 51, 100, 7, 0x13, 0x89, 0, 53, 0, 8, 0xb7, 0xe0,
+    ],
+    [
+        2, 0, 0, 0, 0, 1, 2, 0, 0, 0, 0, 2, 8, 0, 0x45, 0, 0, 28, 0, 1, 0, 0, 64, 17, 0x46, 0x90,
+        10, 0, 0, 6, 198, 51, 100, 7, 0x13, 0x89, 0, 53, 0, 8, 0xb7, 0xdf,
+    ],
+];
+
+fn bytes_of(alloc: Global, text: &[u8]) -> Result<Bytes, Fail> {
+    let mut bytes = Bytes::new(alloc);
+    bytes.append(text)?;
+    Ok(bytes)
+}
+
+fn packets_of(alloc: Global, rt: &impl Abort) -> Result<Packets, Fail> {
+    let mut packets = Packets::new(alloc);
+    for datagram in DATAGRAMS {
+        let bytes = bytes_of(alloc, datagram.as_slice())?;
+        assert!(rt; bytes.len() < 100);
+        assert!(rt; packets.len() < 10);
+        packets.push(Packet {
+            seconds: 1,
+            fraction: 0,
+            original: 42,
+            bytes,
+        })?;
+    }
+    Ok(packets)
+}
+
+/// A monitor of eight groups, and a middlebox that passes everything.
+fn chain_of(alloc: Global) -> Result<ChainSpec, Fail> {
+    let mut rules = Items::new(alloc);
+    rules.push(Rule::Monitor { groups: 8 })?;
+    rules.push(Rule::Pass)?;
+    Ok(ChainSpec::new(0, 4, rules))
+}
+
+fn server(rt: &impl Abort, number: u8) -> ServerId {
+    ServerId::new(number).expect(rt, "a server")
+}
+
+fn fates_of(alloc: Global, fates: &[Fate]) -> Result<Fates, Fail> {
+    let mut list = Fates::new(alloc);
+    for fate in fates {
+        list.push(*fate)?;
+    }
+    Ok(list)
+}
+
+fn taps_of(alloc: Global, texts: &[&str]) -> Result<Lines, Fail> {
+    let mut taps = Lines::new(alloc);
+    for text in texts {
+        taps.push(bytes_of(alloc, text.as_bytes())?)?;
+    }
+    Ok(taps)
+}
+
+#[test]
+fn each_line_is_in_its_place(rt: HostRuntime) -> Result<(), Fail> {
+    let alloc = rt.alloc();
+    let mut serial = Serial::new(alloc, &chain_of(alloc)?, &packets_of(alloc, &rt)?)?;
+    let (first, second) = (server(&rt, 0), server(&rt, 1));
+    assert!(rt; serial.visit(first, 0).is_ok());
+    assert!(rt; serial.visit(first, 1).is_ok());
+    assert!(rt; serial.visit(second, 0).is_ok());
+    assert!(rt; serial.release(0).is_ok());
+    let fates = [
+        Fate::Released,
+        Fate::Filtered { server: second },
+        Fate::Lost { event: 12 },
+        Fate::Inside,
+        Fate::Lost { event: 0 },
+    ];
+    let fates = fates_of(alloc, fates.as_slice())?;
+    let taps = taps_of(alloc, ["packets 3 bytes 126", "list 3"].as_slice())?;
+    // 10 + 0 + 0 + 5 is 7 modulo 8, and with a 6 it is 0.
+    let expected =
+        b"ftc-report 1\npackets 5\nreleased 1\nfiltered 1\nlost 2\nfate 0 released\nfate 1 filtered 1\nfate 2 lost 12\nfate 3 inside\nfate 4 lost 0\nstore 0 2\nkey 6d0000 0000000000000001\nkey 6d0007 0000000000000001\nstore 1 0\ntap packets 3 bytes 126\ntap list 3\n".as_slice();
+    assert_eq!(rt; print(alloc, &fates, &serial, &taps)?.as_slice(), expected);
+    Ok(())
+}
+
+#[test]
+fn an_empty_value_is_a_dash(rt: HostRuntime) -> Result<(), Fail> {
+    let alloc = rt.alloc();
+    assert_eq!(rt; value_text(alloc, &Value::empty())?.as_str(), "-");
+    let value = Value::new(&[0x0a, 0xff, 0]).expect(&rt, "three bytes");
+    assert_eq!(rt; value_text(alloc, &value)?.as_str(), "0aff00");
+    Ok(())
+}
+
+/// Packet 0 visits both middleboxes and leaves. Packet 1 visits the first, and a recovery undoes that.
+fn journal_of(alloc: Global, rt: &impl Abort) -> Result<Journal, Fail> {
+    let worker = WorkerId::new(63).expect(rt, "a worker");
+    let (first, second) = (server(rt, 0), server(rt, 1));
+    let mut journal = Journal::new(alloc);
+    for (server, packet) in [(first, 0), (first, 1), (second, 0)] {
+        journal.push(Event::Visit {
+            server,
+            packet,
+            worker,
+        })?;
+    }
+    let mut undone = Items::new(alloc);
+    undone.push(VisitName {
+        server: first,
+        packet: 1,
+    })?;
+    journal.push(Event::Recover {
+        server: first,
+        undone,
+    })?;
+    journal.push(Event::Release { packet: 0 })?;
+    Ok(journal)
+}
+
+#[test]
+fn undone_visits_are_not_reported(rt: HostRuntime) -> Result<(), Fail> {
+    let alloc = rt.alloc();
+    let spec = chain_of(alloc)?;
+    let packets = packets_of(alloc, &rt)?;
+    let journal = journal_of(alloc, &rt)?;
+    let fates = fates_of(alloc, [Fate::Released, Fate::Lost { event: 3 }].as_slice())?;
+    let taps = taps_of(alloc, [].as_slice())?;
+    let trace = trace_of(alloc, &journal)?;
+    match Serial::run(alloc, &spec, &packets, &trace) {
+        Ok(_) => {
+            let text = report_over(alloc, &spec, &packets, &journal, &fates, &taps)?;
+            let expected =
+                b"ftc-report 1\npackets 2\nreleased 1\nfiltered 0\nlost 1\nfate 0 released\nfate 1 lost 3\nstore 0 1\nkey 6d0007 0000000000000001\nstore 1 0\n".as_slice();
+            assert_eq!(rt; text.as_slice(), expected);
+        }
+        Err(_) => assert!(rt; false, "all steps are legal"),
+    }
+    Ok(())
+}
