@@ -41,6 +41,7 @@ mod JudgedScript
 mod Needing
 mod Knowing
 mod Trying
+mod Handed
 mod JudgedDue
 mod JudgedMessages
 mod Lines

@@ -176,4 +176,16 @@ impl Kept {
         self.release(packet)?;
         Ok(true)
     }
+
+    /// The receiver of a link pulls from its sender.
+    pub fn try_pull(&mut self, link: ServerId) -> Result<bool, NoMemory>
+        ensures tried { IfOk result (λ made. (c : Setting) (s : ChainState) → Tries c s s.events (event.Pull link) self.old self.new made) }
+        ensures err { OnErr result (StandsStill self.old self.new) }
+    {
+        if !self.judge_pull(link) {
+            return Ok(false);
+        }
+        self.pull(link)?;
+        Ok(true)
+    }
 }

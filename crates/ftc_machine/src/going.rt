@@ -1,6 +1,6 @@
 //! Whether an event may happen that has to do with the script, the links or the buffer, by what is kept.
 
-ghost use Rattle.std.specs.Prelude.{◌≡◌, ◌==◌, true, not};
+ghost use Rattle.std.specs.Prelude.{◌≡◌, ◌==◌, ◌+◌, true, not};
 ghost use Rattle.std.specs.List.{list_any, list_all};
 ghost use Rattle.ftc_base.specs.Sets.{has};
 ghost use Rattle.ftc_ring.specs.Live.{is_live};
@@ -182,6 +182,13 @@ impl Kept {
         !self.has_message() && self.is_whole() && self.has_withheld()
     }
 
+    /// Whether the next message without a packet has that origin, behind so many packets.
+    fn is_next_origin(&self, count: u32, origin: PacketNo) -> bool
+        ensures { result ≡ (origin == count + self.now.propagates) }
+    {
+        origin >= count && u64::from(origin - count) == self.propagates
+    }
+
     /// Whether a message without a packet may begin, behind so many packets.
     pub fn may_propagate(&self, count: u32, origin: PacketNo) -> bool
         ensures { result ≡ may_propagate self.now count origin }
@@ -190,6 +197,6 @@ impl Kept {
             && self.are_all_live()
             && !self.has_begun()
             && (!self.forwarder.is_empty() || self.is_stalled())
-            && u64::from(origin) == u64::from(count) + self.propagates
+            && self.is_next_origin(count, origin)
     }
 }

@@ -1,3 +1,5 @@
+use Rattle.std.proofs.Common.{◌∙◌}
+use Rattle.ftc_machine.proofs.Handed.{rule_is}
 use Rattle.ftc_journal.specs.declared.event.Event.TheVariants as event
 use Rattle.ftc_machine.proofs.Trying.{made, passed_over, not_said}
 use Rattle.ftc_machine.proofs.kept.Kept.try_visit.Goals as goal
@@ -8,4 +10,4 @@ returns-then-not-judge_visit-clause-tried c setting state worker rules_are stand
 
 pub returns-clause-tried : goal.returns-clause-tried
 returns-clause-tried c setting state worker rules_are stands due now =
-    made stands (event.Visit c.args.server c.args.packet worker) c.visit.new.self due ((c.judge_visit.ensures.right setting state stands worker).0 c.if-not-judge_visit.false) (c.in_ok-visit.ensures.ok setting state worker ? now)
+    made stands (event.Visit c.args.server c.args.packet worker) c.visit.new.self due ((c.judge_visit.ensures.right setting state stands worker).0 c.if-not-judge_visit.false) (c.in_ok-visit.ensures.ok setting state worker (rule_is setting c.args.rules.now c.from.result c.args.server c.at-rule.result.now rules_are (c.from.ensures ∙ c.number.ensures.same) c.at-rule.ensures) now)
