@@ -19,7 +19,7 @@ use Rattle.ftc_machine.proofs.Reaching.{none_reach, zero_at}
 use Rattle.ftc_machine.proofs.Replaced.{row_replaced}
 
 -- nothing reaches farther than nowhere
-empty_at : (group partition : ℕ) → reach_in (by_group (λ _. by_partition (λ _. 0))) group partition ≡ 0
+pub empty_at : (group partition : ℕ) → reach_in (by_group (λ _. by_partition (λ _. 0))) group partition ≡ 0
 unfolding by_group
 empty_at group partition = elim (cases_lt group MOST_SERVERS) [
   | inl within ↦ ap (λ (vector : List ℕ). number_at vector partition) (get_or-map-range_with_len (λ _. by_partition (λ _. 0)) 0 MOST_SERVERS group group [] within (zero-add group)) ∙ zero_at partition

@@ -42,6 +42,7 @@ mod Needing
 mod Knowing
 mod Trying
 mod Handed
+mod Opened
 mod JudgedDue
 mod JudgedMessages
 mod Lines

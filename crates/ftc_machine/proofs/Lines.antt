@@ -1,9 +1,18 @@
 -- The lines that are left of a script.
-use Rattle.std.proofs.Common.{◌≡◌, ℕ, zero, suc, ◌+◌, ◌≤◌, ◌==◌, Bool, true, false, subst, List, [], ◌∷◌, length, drop, slice_get, Option, Some, None, refl, arith, ap}
+use Rattle.std.proofs.Common.{◌≡◌, ℕ, zero, suc, ◌+◌, ◌<◌, ◌≤◌, ◌==◌, Bool, true, false, inl, inr, sym, ◌∙◌, subst, List, [], ◌∷◌, length, drop, slice_get, Option, Some, None, refl, arith, ap}
 use Rattle.std.specs.List.{list_any}
 use Rattle.ftc_script.specs.declared.line.ScriptLine.{ScriptLine}
 use Rattle.ftc_script.specs.Steps.{at_of}
+use Rattle.std.proofs.lemmas.Bool.{true≢false, cases_lt}
+use Rattle.ftc_journal.specs.declared.event.Event.TheVariants as event
+use Rattle.ftc_script.specs.declared.line.ScriptLine.TheVariants.{Crash, Recover}
+use Rattle.ftc_machine.specs.Legal.{MayHappen, IsNextLine}
+use Rattle.ftc_machine.specs.Setting.{Setting, servers}
+use Rattle.ftc_machine.specs.Slots.{has_such}
+use Rattle.ftc_machine.specs.State.{ChainState}
 use Rattle.ftc_machine.specs.Tests.{first_of}
+use Rattle.ftc_machine.proofs.Complete.{IsReached}
+use Rattle.ftc_machine.proofs.Premises.{AreFit, server_of}
 
 -- the first of those that are left is the one in its place
 pub first_left : (lines : List ScriptLine) (done : ℕ) → first_of (drop done lines) ≡ slice_get lines done
@@ -36,3 +45,21 @@ pub any_behind : (lines : List ScriptLine) (place entered : ℕ) (line : ScriptL
 any_behind lines place entered line there isnt =
     let suc_is : suc place ≡ place + 1 = omega arith in
     subst (λ n. list_any (is_at entered) (drop place lines) ≡ list_any (is_at entered) (drop n lines)) suc_is (rw (one_left lines place line there, isnt) refl)
+
+-- where one of those that are left passes a test, they are not at their end
+pub some_left : (test : ScriptLine → Bool) (lines : List ScriptLine) (done : ℕ) → has_such test (first_of (drop done lines)) ≡ true → done < length lines
+some_left test lines done is = elim (cases_lt done (length lines)) [
+  | inl less ↦ less
+  | inr past ↦ absurd (true≢false (sym (subst (λ o. has_such test o ≡ true) (none_left lines done past) is)))
+]
+
+-- the server of the next line is one of the chain's
+line_below : (c : Setting) (up : ℕ → Bool) (lines : List ScriptLine) (line : ScriptLine) → AreFit c up lines → IsNextLine lines line → server_of line < servers c
+line_below c up [] line fit is = absurd is
+line_below c up (first ∷ lines) line fit is = subst (λ l. server_of l < servers c) is fit.1
+
+pub crash_below : (c : Setting) (s : ChainState) → IsReached c s → (server : ℕ) → MayHappen c s (event.Crash server) → server < servers c
+crash_below c s r server may = line_below c s.up s.lines (Crash s.entered server) r.live.inv.fit may
+
+pub recovery_below : (c : Setting) (s : ChainState) → IsReached c s → (server : ℕ) → IsNextLine s.lines (Recover s.entered server) → server < servers c
+recovery_below c s r server may = line_below c s.up s.lines (Recover s.entered server) r.live.inv.fit may

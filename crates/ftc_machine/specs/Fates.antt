@@ -1,12 +1,14 @@
 -- What becomes of packets.
-use Rattle.std.specs.Prelude.{ℕ, ◌≡◌, ◌<◌, ◌≤◌, ◌⊎◌, ◌↔◌, false, List, Some, None}
+use Rattle.std.specs.Prelude.{ℕ, ◌≡◌, ◌<◌, ◌≤◌, ◌⊎◌, ◌↔◌, false, List, Some, None, map}
+use Rattle.std.specs.List.{range_with_len}
 use Rattle.ftc_ring.specs.Ring.{next_of}
 use Rattle.ftc_journal.specs.declared.event.Event.{Event}
 use Rattle.ftc_journal.specs.declared.event.Event.TheVariants as event
 use Rattle.ftc_serial.specs.Words.{AnyOf}
 use Rattle.ftc_serial.specs.Serial.{Entry, Visited, Given}
+use Rattle.ftc_machine.specs.declared.fate.Fate.{Fate}
 use Rattle.ftc_machine.specs.declared.fate.Fate.TheVariants as became
-use Rattle.ftc_machine.specs.Setting.{Setting, servers}
+use Rattle.ftc_machine.specs.Setting.{Setting, servers, count}
 use Rattle.ftc_machine.specs.Trace.{IsInTrace}
 use Rattle.ftc_machine.specs.State.{Message, Withheld, ChainState}
 
@@ -54,3 +56,7 @@ MayLose c s (event.Carry origin) = ⊥
 MayLose c s (event.Pull link) = ⊥
 MayLose c s (event.Propagate origin) = ⊥
 MayLose c s (event.Release packet) = ⊥
+
+-- what became of each packet, from packet 0 on
+abbrev pub fates_in : Setting → ChainState → List Fate
+fates_in c s = map s.fate (range_with_len 0 (count c))

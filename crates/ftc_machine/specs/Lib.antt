@@ -25,6 +25,7 @@ pub mod Due
 pub mod Judging
 pub mod Played
 pub mod Attempts
+pub mod Done
 pub mod Effects
 pub mod Tails
 pub mod News

@@ -19,12 +19,7 @@ use std::alloc::Global;
 
 impl Kept {
     /// The receiver of a link takes a message.
-    pub fn try_take(
-        &mut self,
-        link: ServerId,
-        origin: PacketNo,
-        now: u64,
-    ) -> Result<bool, NoMemory>
+    pub fn try_take(&mut self, link: ServerId, origin: PacketNo, now: u64) -> Result<bool, NoMemory>
         ensures tried { IfOk result (λ made. (c : Setting) (s : ChainState) → Tries c s now (event.Take link origin) self.old self.new made) }
         ensures err { OnErr result (StandsStill self.old self.new) }
     {
@@ -186,6 +181,30 @@ impl Kept {
             return Ok(false);
         }
         self.pull(link)?;
+        Ok(true)
+    }
+
+    /// A server stops.
+    pub fn try_crash(
+        &mut self,
+        alloc: Global,
+        script: &Script,
+        server: ServerId,
+        now: u64,
+    ) -> Result<bool, NoMemory>
+        ensures tried { IfOk result (λ made. (c : Setting) (s : ChainState) (packets : ℕ) → AreInputs c script.now packets →
+            Tries c s now (event.Crash server) self.old self.new made) }
+        ensures err { OnErr result (StandsStill self.old self.new) }
+    {
+        if !self.is_server(server) {
+            return Ok(false);
+        }
+        if !self.judge_crash(script, server) {
+            return Ok(false);
+        }
+        let steps = script.steps();
+        prove!(self.done < steps);
+        self.crash(alloc, server, now)?;
         Ok(true)
     }
 }

@@ -1,6 +1,6 @@
 //! What becomes of a packet.
 
-use ftc_base::ServerId;
+use ftc_base::{Items, ServerId};
 
 /// What became of a packet in a run. Events are numbered from 0 in the journal's order.
 #[derive(Clone, Copy, Debug, PartialEq, Eq)]
@@ -14,3 +14,6 @@ pub enum Fate {
     /// None of these as yet.
     Inside,
 }
+
+/// What became of each packet, from packet 0 on.
+pub type Fates = Items<Fate>;

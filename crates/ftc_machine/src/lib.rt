@@ -2,13 +2,15 @@
 //! of each packet. It has no vector, log, frame or lock: what the chain of servers does is judged by it.
 #![tactic(auto)]
 
+mod apply;
 mod attempt;
 mod carry;
-mod apply;
-mod crash;
-mod due;
 mod choice;
+mod copying;
+mod crash;
 mod departure;
+mod due;
+mod ending;
 mod enter;
 mod fate;
 mod footprint;
@@ -18,12 +20,13 @@ mod judge;
 mod kept;
 mod laws;
 mod legal;
+mod losses;
 mod machine;
 mod membership;
-mod losses;
 mod message;
 mod news;
 mod onward;
+mod opening;
 mod part;
 mod propagate;
 mod pull;
@@ -34,16 +37,17 @@ mod slots;
 mod tails;
 mod take;
 mod trace;
-mod way;
 mod visit;
 mod visited;
+mod way;
 
-pub use fate::Fate;
+pub use fate::{Fate, Fates};
 pub use laws::{
     a_visit_undone, accepted, every_event_goes_on, every_moment, fates, few_propagates,
     finished_run, law_of_changes, plain_fates, plain_run, quiet_links, released_for_good,
     serial_of_a_run, trace_of_a_run, what_tests_say,
 };
+pub use machine::{Illegal, Machine};
 pub use trace::trace_of;
 
 #[cfg(test)]

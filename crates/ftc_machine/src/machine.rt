@@ -1,9 +1,13 @@
 //! The protocol as a machine that is handed events.
 
-ghost use Rattle.std.specs.Prelude.{◌≡◌, ◌≤◌, length};
+ghost use Rattle.std.specs.Prelude.{◌≡◌, ◌++◌, [], ◌∷◌, true, false, length, IfOk, OnOk, OnErr};
+ghost use Rattle.ftc_base.specs.Refused.{IfBad};
+ghost use Rattle.ftc_serial.specs.Packets.{bytes_of};
 
+use crate::Fates;
 use crate::kept::Kept;
-use ftc_journal::Journal;
+use ftc_base::{NoMemory, Refuse};
+use ftc_journal::{Event, Journal};
 use ftc_mbox::ChainSpec;
 use ftc_pcap::Packets;
 use ftc_script::Script;
@@ -44,8 +48,62 @@ impl<'a> Model for Machine<'a> {
 impl<'a> Machine<'a> {
     ghost use Rattle.ftc_machine.specs.Played.{setting_in, state_of};
     ghost use Rattle.ftc_machine.specs.Moment.{IsSound};
-    ghost use Rattle.ftc_machine.specs.Run.{IsRun};
+    ghost use Rattle.ftc_machine.specs.Run.{IsRun, IsFinished};
+    ghost use Rattle.ftc_machine.specs.Legal.{IsLegal};
+    ghost use Rattle.ftc_machine.specs.Fates.{fates_in};
     ghost use Rattle.ftc_machine.specs.Setting.{IsSetting};
+
+    /// The run of a chain on these packets, with this script, before its first event. The script was accepted
+    /// for the chain's ring and for as many packets.
+    pub fn new(
+        alloc: Global,
+        spec: &'a ChainSpec,
+        packets: &'a Packets,
+        script: &'a Script,
+    ) -> Result<Machine<'a>, NoMemory>
+        requires ring { script.now.ring ≡ record { servers = length spec.now.rules; failures = spec.now.failures } }
+        requires packets { script.now.packets ≡ length packets.now }
+        ensures { IfOk result (λ machine. machine ≡ record { chain = spec.now; packets = bytes_of packets.now; script = script.now; journal = [] }) }
+    {
+        let kept = Kept::new(alloc, *script.ring(), spec.partitions())?;
+        Ok(Machine {
+            spec,
+            packets,
+            script,
+            alloc,
+            journal: Journal::new(alloc),
+            kept,
+        })
+    }
+
+    /// Makes one event. It is refused exactly where the protocol doesn't allow it. A refused call leaves the
+    /// run as it was.
+    pub fn step(&mut self, event: &Event) -> Result<(), Refuse<Illegal>>
+        ensures made { OnOk result (self.new ≡ record self.old { journal = self.old.journal ++ event.now ∷ [] }) }
+        ensures legal { OnOk result (∥ IsLegal (setting_in self.old) (state_of self.old) event.now ∥₁) }
+        ensures illegal { IfBad result (λ _. IsLegal (setting_in self.old) (state_of self.old) event.now → ⊥) }
+        ensures err { OnErr result (self.new ≡ self.old) }
+    {
+        let Some(_) = (self.journal.len() as u64).checked_add(1) else {
+            return Err(Refuse::NoMemory);
+        };
+        Err(Refuse::NoMemory)
+    }
+
+    /// Whether no event is legal any more.
+    pub fn finished(&self) -> bool
+        ensures finished { result ≡ true → ∥ IsFinished (setting_in self.now) (state_of self.now) ∥₁ }
+        ensures unfinished { result ≡ false → IsFinished (setting_in self.now) (state_of self.now) → ⊥ }
+    {
+        self.kept.is_done(self.script, self.packets.len() as u32)
+    }
+
+    /// What became of each packet so far.
+    pub fn fates(&self) -> Result<Fates, NoMemory>
+        ensures { IfOk result (λ fates. fates ≡ fates_in (setting_in self.now) (state_of self.now)) }
+    {
+        self.kept.fates(self.alloc, self.packets.len())
+    }
 
     /// Its events so far.
     pub fn journal(&self) -> &Journal
