@@ -1,10 +1,10 @@
 -- The shortest front of a text, and one line more.
-use Rattle.std.proofs.Common.{◌≡◌, ◌≢◌, ◌⊎◌, inl, inr, ℕ, ◌+◌, ◌≤◌, ◌<◌, Bool, true, false, List, [], ◌∷◌, ◌++◌, length, refl, ap, sym, subst, ◌∙◌, arith, append_assoc, length-append}
+use Rattle.std.proofs.Common.{◌≡◌, ◌≢◌, inl, inr, ℕ, ◌≤◌, ◌<◌, true, false, List, [], ◌∷◌, ◌++◌, length, refl, ap, sym, subst, ◌∙◌, arith, append_assoc, length-append}
 use Rattle.std.specs.Prelude.{◌&&◌}
 use Rattle.std.specs.List.{AllPass, list_all}
 use Rattle.std.proofs.lemmas.Bool.{cases_lt, and_parts}
 use Rattle.std.proofs.lemmas.List.{append-nil}
-use Rattle.std.proofs.lemmas.List.Elements.{All-nil, All-append}
+use Rattle.std.proofs.lemmas.List.Elements.{All-nil}
 use Rattle.std.proofs.lemmas.List.Folds.{list_all-append}
 use Rattle.std.proofs.lemmas.List.Sums.{AllPass-from_list_all, list_all-from_AllPass}
 use Rattle.ftc_base.specs.Text.{lines_of}

@@ -1,5 +1,5 @@
 -- A list of steps has no serial run where one of them isn't legal.
-use Rattle.std.proofs.Common.{◌≡◌, ℕ, zero, suc, List, [], ◌∷◌, Option, Some, None, refl, take}
+use Rattle.std.proofs.Common.{◌≡◌, ℕ, zero, suc, List, [], ◌∷◌, Some, None, refl, take}
 use Rattle.std.specs.Prelude.{slice_get, option_and_then, IsSome}
 use Rattle.ftc_mbox.specs.declared.rule.Rule.{Rule}
 use Rattle.ftc_serial.specs.declared.step.Step.{Step}

@@ -1,4 +1,4 @@
-use Rattle.std.proofs.Common.{◌≡◌, ◌≢◌, ◌<◌, ◌≤◌, length, sym, ◌∙◌, arith}
+use Rattle.std.proofs.Common.{◌≢◌, ◌<◌, length, sym, ◌∙◌, arith}
 use Rattle.ftc_check.proofs.Pieces.{goes_on, stays_within, between_next, next_tap, next_other}
 use Rattle.ftc_check.proofs.report.front_len.Goals as goal
 

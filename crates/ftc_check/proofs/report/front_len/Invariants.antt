@@ -1,5 +1,5 @@
 -- the lines so far stand between lines, and what is left of them without taps is known
-use Rattle.std.proofs.Common.{◌≡◌, ◌≤◌, ◌-◌, length, take, drop}
+use Rattle.std.proofs.Common.{◌≤◌, ◌-◌, length, take, drop}
 use Rattle.ftc_check.specs.Taps.{IsBetweenLines, IsWithoutTaps}
 use Rattle.ftc_check.proofs.report.front_len.Given as goal
 

@@ -1,4 +1,4 @@
-use Rattle.std.proofs.Common.{◌∙◌, sym}
+use Rattle.std.proofs.Common.{◌∙◌}
 use Rattle.ftc_report.specs.Text.{fate_line}
 use Rattle.ftc_report.proofs.Numbering.{lines_of_list}
 use Rattle.ftc_report.proofs.fates.append_fates.Goals as goal

@@ -1,4 +1,4 @@
-use Rattle.std.proofs.Common.{◌≡◌, ◌∙◌, ap, sym, rules}
+use Rattle.std.proofs.Common.{◌≡◌, ◌∙◌, ap}
 use Rattle.std.specs.Prelude.{ℕ}
 use Rattle.ftc_store.specs.Store.{Content}
 use Rattle.ftc_serial.specs.Held.{state_of}
