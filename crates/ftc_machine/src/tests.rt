@@ -1,3 +1,5 @@
+mod effects;
+
 use crate::trace_of;
 use ftc_base::{Items, ServerId, WorkerId};
 use ftc_journal::{Event, Journal, VisitName};
