@@ -23,7 +23,8 @@ impl Kept {
         ensures err { OnErr result (StandsStill self.old self.new) }
     {
         let receiver = self.ring.next(link);
-        let (from, to) = (link.number() as usize, receiver.number() as usize);
+        let from = usize::from(link.number());
+        let to = usize::from(receiver.number());
         let got = part(&self.lists[from], self.groups_behind(receiver));
         let news = has_news(&got, &self.lists[to], self.group_ending(receiver));
         self.lists[to].merge(&got);

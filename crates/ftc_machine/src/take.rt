@@ -28,30 +28,27 @@ impl Kept {
         };
         let Message {
             place,
-            since: _,
             packet,
             logs,
             needs,
+            ..
         } = message;
-        let Place::Queued { link: _, known } = place else {
+        let Place::Queued { known, .. } = place else {
             unreachable!();
         };
         self.known[usize::from(receiver.number())].merge(&known);
-        let place = Place::Held {
-            server: receiver,
-            visited: false,
-            by_ring,
-        };
-        self.messages.put(
-            origin as usize,
-            Message {
-                place,
-                since: now,
-                packet,
-                logs,
-                needs,
+        let message = Message {
+            place: Place::Held {
+                server: receiver,
+                visited: false,
+                by_ring,
             },
-        );
+            since: now,
+            packet,
+            logs,
+            needs,
+        };
+        self.messages.put(origin as usize, message);
         Ok(())
     }
 }

@@ -1,3 +1,5 @@
+mod effects;
+
 use crate::footprint::{Footprint, Touched};
 use crate::trace_of;
 use ftc_base::{Answer, Answers, Items, Key, ServerId, Value, WorkerId, Write, Writes};

@@ -1,4 +1,4 @@
-use Rattle.std.proofs.Common.{◌≡◌, ◌+◌, ◌∙◌, ℕ, Bool, not, true, false, if◌then◌else◌, Option, Some, refl, sym, subst, ap, arith}
+use Rattle.std.proofs.Common.{◌≡◌, ◌+◌, ◌∙◌, not, true, false, if◌then◌else◌, Option, Some, sym, subst, ap, arith}
 use Rattle.std.specs.Option.{option_map_or}
 use Rattle.ftc_machine.specs.declared.fate.Fate.{Fate}
 use Rattle.ftc_machine.specs.declared.fate.Fate.TheVariants.{Inside, Lost}

@@ -1,4 +1,4 @@
-use Rattle.std.proofs.Common.{◌≡◌, ◌+◌, Option, Some, None, sym, subst, ap, arith}
+use Rattle.std.proofs.Common.{◌+◌, Option, Some, None, subst, ap, arith}
 use Rattle.ftc_machine.specs.declared.message.Message.{Message as KeptMessage}
 use Rattle.ftc_machine.specs.State.{Message}
 use Rattle.ftc_machine.specs.Next.{fresh_message}

@@ -26,18 +26,18 @@ returns-clause-ok c setting s may is =
     let first : link < servers setting = link_below setting s link may k is in
     let second : receiver < servers setting = next_below setting s link may k is in
     let next : c.next-receiver.result ≡ receiver = c.next-receiver.ensures.same ∙ ap (λ number. next_of number link) size in
-    let from : c.number.result ≡ link = c.number.ensures.same in
-    let to : c.number-2.result ≡ receiver = c.number-2.ensures.same ∙ next in
+    let from : c.from-from.result ≡ link = c.from-from.ensures ∙ c.number.ensures.same in
+    let to : c.from-to.result ≡ receiver = c.from-to.ensures ∙ c.number-2.ensures.same ∙ next in
     let are : (group : ℕ) → has groups group ≡ (nat_lt group k.ring.servers && is_behind k.ring group receiver) =
     λ group. c.groups_behind.ensures group ∙ ap (λ server. nat_lt group k.ring.servers && is_behind k.ring group server) next in
     let got : c.part-got.result ≡ part_of (has groups) (reach_of rows link) =
-    c.part-got.ensures ∙ ap (part_of (has groups)) (get_or_read rows c.number.result c.index.result.now (let all = long size in omega arith) c.index.ensures [] ∙ ap (reach_of rows) from) in
+    c.part-got.ensures ∙ ap (part_of (has groups)) (get_or_read rows c.from-from.result c.index.result.now (let all = long size in omega arith) c.index.ensures [] ∙ ap (reach_of rows) from) in
     let row : c.index-2.result.now ≡ reach_of rows receiver =
-    get_or_read rows c.number-2.result c.index-2.result.now (let all = long size in omega arith) c.index-2.ensures [] ∙ ap (reach_of rows) to in
-    let merged : c.merge.new.self ≡ all_merged (reach_of rows c.number-2.result) (part_of (has groups) (reach_of rows link)) =
+    get_or_read rows c.from-to.result c.index-2.result.now (let all = long size in omega arith) c.index-2.ensures [] ∙ ap (reach_of rows) to in
+    let merged : c.merge.new.self ≡ all_merged (reach_of rows c.from-to.result) (part_of (has groups) (reach_of rows link)) =
     c.merge.ensures
-    ∙ ap (λ (reach : List (List ℕ)). all_merged reach c.part-got.result) (get_or_read rows c.number-2.result c.index_mut.result.now (let all = long size in omega arith) c.index_mut.ensures.value [])
-    ∙ ap (all_merged (reach_of rows c.number-2.result)) got in
+    ∙ ap (λ (reach : List (List ℕ)). all_merged reach c.part-got.result) (get_or_read rows c.from-to.result c.index_mut.result.now (let all = long size in omega arith) c.index_mut.ensures.value [])
+    ∙ ap (all_merged (reach_of rows c.from-to.result)) got in
     let are_news : (news ≡ true) ↔ HasNews (part_of (has groups) (reach_of rows link)) (reach_of rows receiver) (group_ending k.ring receiver) =
     subst (λ (reach : List (List ℕ)). (news ≡ true) ↔ HasNews reach (reach_of rows receiver) (group_ending k.ring receiver)) got
     (subst (λ (reach : List (List ℕ)). (news ≡ true) ↔ HasNews c.part-got.result reach (group_ending k.ring receiver)) row
@@ -54,7 +54,7 @@ returns-clause-ok c setting s may is =
         rising = rising_more numbers (s.events + 1) (s.events + 1 + 1) s.trace (omega arith) is.sets.rising;
         footprints = is.sets.footprints;
         order = is.sets.order;
-        lists = lists_pulled setting s link may k is groups are c.number-2.result c.merge.new.self _ to merged refl;
+        lists = lists_pulled setting s link may k is groups are c.from-to.result c.merge.new.self _ to merged refl;
         known = is.sets.known;
         messages = is.sets.messages;
         stores = stores_pulled setting s link may k is;
