@@ -4,7 +4,10 @@ use Rattle.ftc_pcap.specs.declared.packets.Packet.{Packet}
 use Rattle.ftc_mbox.specs.declared.rule.Rule.{Rule}
 use Rattle.ftc_mbox.specs.declared.rule.Rule.TheVariants.{Pass}
 use Rattle.ftc_serial.specs.Packets.{bytes_of}
-use Rattle.ftc_machine.specs.Setting.{Setting, packet_at, rule_at}
+use Rattle.ftc_mbox.specs.Chain.{Chain}
+use Rattle.ftc_script.specs.Script.{ScriptShape}
+use Rattle.ftc_machine.specs.Kept.{AreInputs}
+use Rattle.ftc_machine.specs.Setting.{Setting, setting_of, packet_at, rule_at}
 
 bytes_at : (packets : List Packet) (place : ℕ) (packet : Packet) → slice_get packets place ≡ Some packet → packet.bytes ≡ slice_index_or (bytes_of packets) place []
 bytes_at [] place packet there = absurd (cc)
@@ -26,3 +29,7 @@ rule_is c rules place server rule are same there = subst (λ n. rule ≡ rule_at
 pub bytes_count : (packets : List Packet) → length (bytes_of packets) ≡ length packets
 bytes_count [] = refl
 bytes_count (packet ∷ packets) = ap suc (bytes_count packets)
+
+-- the script and the count of packets of a setting that is made of them
+pub inputs_of : (chain : Chain) (packets : List Packet) (script : ScriptShape) (most : ℕ) → length packets ≡ most → AreInputs (setting_of chain (bytes_of packets) script) script most
+inputs_of chain packets script most same = record { lines = refl; loses = λ link origin. refl; counted = bytes_count packets ∙ same }

@@ -43,6 +43,8 @@ mod Knowing
 mod Trying
 mod Handed
 mod Opened
+mod Conclusion
+mod Playing
 mod JudgedDue
 mod JudgedMessages
 mod Lines

@@ -26,6 +26,7 @@ pub mod Judging
 pub mod Played
 pub mod Attempts
 pub mod Done
+pub mod Dispatch
 pub mod Effects
 pub mod Tails
 pub mod News

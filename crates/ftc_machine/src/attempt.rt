@@ -75,16 +75,19 @@ impl Kept {
         packet: PacketNo,
         now: u64,
     ) -> Result<bool, NoMemory>
-        requires rules { length rules.now ≡ self.old.ring.servers }
-        requires time { now < u64.MAX }
+        requires { now < u64.MAX }
         ensures tried { IfOk result (λ made. (c : Setting) (s : ChainState) (worker : ℕ) → c.rules ≡ rules.now →
             Tries c s now (event.Visit server packet worker) self.old self.new made) }
         ensures err { OnErr result (StandsStill self.old self.new) }
     {
+        let place = usize::from(server.number());
+        if place >= rules.len() {
+            return Ok(false);
+        }
         if !self.judge_visit(server, packet) {
             return Ok(false);
         }
-        let rule = rules.at(usize::from(server.number()));
+        let rule = rules.at(place);
         self.visit(alloc, server, packet, rule, now)?;
         Ok(true)
     }

@@ -16,6 +16,7 @@ mod fate;
 mod footprint;
 mod fresh;
 mod going;
+mod happen;
 mod judge;
 mod kept;
 mod laws;
