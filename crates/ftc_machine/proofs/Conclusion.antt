@@ -80,18 +80,18 @@ module _ (c : Setting) (is : IsSetting c) (s : ChainState) (r : IsReached c s) (
       (and_from (nat_le (length script.steps) k.done && k.entered == packets) (not some_message)
       (and_from (nat_le (length script.steps) k.done) (k.entered == packets)
       (le-leb (length script.steps) k.done
-        (let none_left : drop k.done script.steps ≡ [] = sym (ap (drop k.done) given.lines) ∙ (sym h.lines ∙ complete.lines) in
-        let long = length-drop k.done script.steps in
-        let none_long : length (drop k.done script.steps) ≡ 0 = ap length none_left in omega arith))
+      (let none_left : drop k.done script.steps ≡ [] = sym (ap (drop k.done) given.lines) ∙ (sym h.lines ∙ complete.lines) in
+      let long = length-drop k.done script.steps in
+      let none_long : length (drop k.done script.steps) ≡ 0 = ap length none_left in omega arith))
       (eq-eqb k.entered packets (h.entered ∙ (complete.entered ∙ given.counted))))
       (untrue some_message (λ any.
-          let found = any_item (λ (m : KeptMessage). true) k.messages any in
-          let said = said_message c s k h found.0 found.1 found.2 in
-          none-some said.0 (sym (complete.message found.0) ∙ said.1))))
+      let found = any_item (λ (m : KeptMessage). true) k.messages any in
+      let said = said_message c s k h found.0 found.1 found.2 in
+      none-some said.0 (sym (complete.message found.0) ∙ said.1))))
       (names_none k.forwarder (λ server packet. h.forwarder server packet ∙ complete.forwarder server packet)))
       (below_each k.ring.servers (λ link. not (has k.gaps link)) (λ link below.
-        let less : link < servers c = (let n = servers_are in omega arith) in ap not (h.gaps link less ∙ complete.gap link less))))
+      let less : link < servers c = (let n = servers_are in omega arith) in ap not (h.gaps link less ∙ complete.gap link less))))
       (untrue some_withheld (λ any.
-          let found = any_item (λ (w : KeptWithheld). true) k.buffer any in
-          let said = said_withheld found.0 (s.withheld found.0) (slot_at k.buffer found.0) found.1 (h.buffer found.0) found.2 in
-          none-some said.0 (sym (complete.withheld found.0) ∙ said.1)))
+      let found = any_item (λ (w : KeptWithheld). true) k.buffer any in
+      let said = said_withheld found.0 (s.withheld found.0) (slot_at k.buffer found.0) found.1 (h.buffer found.0) found.2 in
+      none-some said.0 (sym (complete.withheld found.0) ∙ said.1)))

@@ -61,4 +61,34 @@ impl Kept {
             _ => Ok(false),
         }
     }
+
+    /// An event happens where it may, while no packet is due or where it is a release.
+    pub fn happen(
+        &mut self,
+        alloc: Global,
+        spec: &ChainSpec,
+        packets: &Packets,
+        script: &Script,
+        event: &Event,
+        now: u64,
+    ) -> Result<bool, NoMemory>
+        requires { now < u64.MAX }
+        ensures tried { IfOk result (λ made. (s : ChainState) → StandsFor (setting_of spec.now (bytes_of packets.now) script.now) s self.old →
+            (is_release event.now ≡ false → NoneDue (setting_of spec.now (bytes_of packets.now) script.now) s) → now ≡ s.events →
+            IsTried (setting_of spec.now (bytes_of packets.now) script.now) s event.now self.new made) }
+        ensures err { OnErr result (StandsStill self.old self.new) }
+    {
+        match event {
+            Event::Enter { packet } => self.try_enter(alloc, script, packets, *packet, now),
+            Event::Crash { server } => self.try_crash(alloc, script, *server, now),
+            Event::Recover { .. } => Err(NoMemory),
+            Event::Pull { link } => self.try_pull(*link),
+            Event::Propagate { origin } => {
+                let count = packets.len() as u32;
+                self.try_propagate(alloc, count, *origin, now)
+            }
+            Event::Release { packet } => self.try_release(*packet),
+            _ => self.happen_on_way(alloc, spec, packets, script, event, now),
+        }
+    }
 }

@@ -3,8 +3,10 @@
 ghost use Rattle.std.specs.Prelude.{◌≡◌, ◌++◌, [], ◌∷◌, true, false, length, IfOk, OnOk, OnErr};
 ghost use Rattle.ftc_base.specs.Refused.{IfBad};
 ghost use Rattle.ftc_serial.specs.Packets.{bytes_of};
+ghost use Rattle.ftc_machine.specs.Legal.{is_release};
 
 use crate::Fates;
+use crate::copying::copy_event;
 use crate::kept::Kept;
 use ftc_base::{NoMemory, Refuse};
 use ftc_journal::{Event, Journal};
@@ -19,6 +21,16 @@ use thiserror::Error;
 #[derive(Clone, Copy, Debug, PartialEq, Eq, Error)]
 #[error("the protocol does not allow the event")]
 pub struct Illegal;
+
+/// Whether the event is a release.
+fn is_release(event: &Event) -> bool
+    ensures { result ≡ is_release event.now }
+{
+    match event {
+        Event::Release { .. } => true,
+        _ => false,
+    }
+}
 
 /// A run of the protocol, event by event. It is plain: there is no vector of a replica, no frame and no
 /// lock, and what it does is what the protocol's definitions say. A contract sees what the run was given and
@@ -84,10 +96,21 @@ impl<'a> Machine<'a> {
         ensures illegal { IfBad result (λ _. IsLegal (setting_in self.old) (state_of self.old) event.now → ⊥) }
         ensures err { OnErr result (self.new ≡ self.old) }
     {
-        let Some(_) = (self.journal.len() as u64).checked_add(1) else {
+        let now = self.journal.len() as u64;
+        if now == u64::MAX {
             return Err(Refuse::NoMemory);
-        };
-        Err(Refuse::NoMemory)
+        }
+        if !is_release(event) && self.kept.is_some_due() {
+            return Err(Refuse::Bad(Illegal));
+        }
+        let copy = copy_event(self.alloc, event)?;
+        self.journal.reserve(1)?;
+        let made = self.kept.happen(self.alloc, self.spec, self.packets, self.script, event, now)?;
+        if !made {
+            return Err(Refuse::Bad(Illegal));
+        }
+        self.journal.push(copy)?;
+        Ok(())
     }
 
     /// Whether no event is legal any more.

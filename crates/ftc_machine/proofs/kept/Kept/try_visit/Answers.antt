@@ -14,11 +14,11 @@ returns-then-not-judge_visit-clause-tried c setting state worker rules_are stand
 pub returns-then-place-len-clause-tried : goal.returns-then-place-len-clause-tried
 returns-then-place-len-clause-tried c setting state worker rules_are stands due now =
     passed_over stands (event.Visit c.args.server c.args.packet worker) (λ may.
-        let below : c.args.server < servers setting = visit_below setting stands.setting state (reached_by stands) c.args.self.now stands.kept c.args.server c.args.packet worker may in
-        let long : servers setting ≡ c.len.result = ap length rules_are ∙ sym c.len.ensures in
-        let place : c.from-place.result ≡ c.args.server = c.from-place.ensures ∙ c.number.ensures.same in
-        let past = c.if-place-len.true in
-        omega arith)
+    let below : c.args.server < servers setting = visit_below setting stands.setting state (reached_by stands) c.args.self.now stands.kept c.args.server c.args.packet worker may in
+    let long : servers setting ≡ c.len.result = ap length rules_are ∙ sym c.len.ensures in
+    let place : c.from-place.result ≡ c.args.server = c.from-place.ensures ∙ c.number.ensures.same in
+    let past = c.if-place-len.true in
+    omega arith)
 
 pub returns-clause-tried : goal.returns-clause-tried
 returns-clause-tried c setting state worker rules_are stands due now =

@@ -17,6 +17,6 @@ returns c =
     let setting : Setting = setting_of m.spec.now (bytes_of m.packets.now) m.script.now in
     ok_map c.fates.result (λ fates. fates ≡ map (fate_in m.kept.fates) (range_with_len 0 c.len.result)) (λ fates. fates ≡ fates_in (setting_in c.args.self.now) (state_of c.args.self.now))
     (λ fates is.
-        subst (λ (p : Played). fates ≡ fates_in (setting_in p) (state_of p)) c.self.view_is
-        (is ∙ fates_are setting m.journal.items m.kept c.len.result (bytes_count m.packets.now ∙ sym c.len.ensures.same) c.self.invariant))
+    subst (λ (p : Played). fates ≡ fates_in (setting_in p) (state_of p)) c.self.view_is
+    (is ∙ fates_are setting m.journal.items m.kept c.len.result (bytes_count m.packets.now ∙ sym c.len.ensures.same) c.self.invariant))
     c.fates.ensures
