@@ -24,6 +24,7 @@ pub mod Tests
 pub mod Due
 pub mod Judging
 pub mod Played
+pub mod Illegal
 pub mod Attempts
 pub mod Done
 pub mod Dispatch

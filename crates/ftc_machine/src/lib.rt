@@ -32,6 +32,7 @@ mod part;
 mod propagate;
 mod pull;
 mod release;
+mod replaying;
 mod send;
 mod sets;
 mod slots;
@@ -49,6 +50,7 @@ pub use laws::{
     serial_of_a_run, trace_of_a_run, what_tests_say,
 };
 pub use machine::{Illegal, Machine};
+pub use replaying::{IllegalEvent, fates_of, replay};
 pub use trace::trace_of;
 
 #[cfg(test)]

@@ -57,7 +57,7 @@ invariant_of-self-2 c =
       | else-not-is_release-via-else-not-is_release w ↦ absurd (true≢false (sym w.if-not-is_release.false ∙ (c.is_release.ensures ∙ isnt)))
     ]) in
     let grown : c.push.new.self.items ≡ m.journal.items ++ c.args.event.now ∷ [] =
-        c.in_ok-push.ensures.ok ∙ (ap (λ (events : List Event). events ++ c.in_ok-copy.copy ∷ []) c.reserve.ensures.items ∙ ap (λ (event : Event). m.journal.items ++ event ∷ []) c.in_ok-copy.ensures) in
+    c.in_ok-push.ensures.ok ∙ (ap (λ (events : List Event). events ++ c.in_ok-copy.copy ∷ []) c.reserve.ensures.items ∙ ap (λ (event : Event). m.journal.items ++ event ∷ []) c.in_ok-copy.ensures) in
     subst (λ (events : List Event). ∥ IsPlayed setting events c.happen.new.self ∥₁) (sym grown)
     (made_played setting m.journal.items m.kept c.happen.new.self c.args.event.now c.len-now.result c.len-now.ensures due
     (subst (HasTried setting m.journal.items m.kept c.happen.new.self c.args.event.now c.len-now.result c.len-now.ensures due) c.if-not-made.false c.in_ok-made.ensures.tried) c.self.invariant)

@@ -1,0 +1,14 @@
+-- The first event of a journal that isn't legal.
+use Rattle.std.specs.Prelude.{ℕ, ◌≡◌, List, take, slice_get, Some}
+use Rattle.ftc_journal.specs.declared.event.Event.{Event}
+use Rattle.ftc_machine.specs.Setting.{Setting}
+use Rattle.ftc_machine.specs.State.{opening}
+use Rattle.ftc_machine.specs.Legal.{IsLegal}
+use Rattle.ftc_machine.specs.Run.{IsRun, state_after}
+
+-- the events before that place are a run, after which the event there isn't legal
+pub record IsFirstIllegal (c : Setting) (journal : List Event) (place : ℕ) : Type 0 where
+  pub before : ∥ IsRun c (take place journal) ∥₁
+  pub event : Event
+  pub there : slice_get journal place ≡ Some event
+  pub illegal : IsLegal c (state_after c (opening c) (take place journal)) event → ⊥
