@@ -94,3 +94,5 @@ pub mod Results
 pub mod Sweeping
 pub mod Dropping
 pub mod Downed
+pub mod Chained
+pub mod UndoneKept

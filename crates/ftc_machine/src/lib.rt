@@ -2,6 +2,7 @@
 //! of each packet. It has no vector, log, frame or lock: what the chain of servers does is judged by it.
 #![tactic(auto)]
 
+mod apart;
 mod apply;
 mod crash;
 mod due;
@@ -20,6 +21,7 @@ mod sets;
 mod slots;
 mod take;
 mod trace;
+mod undo;
 mod visit;
 mod visited;
 
