@@ -96,3 +96,8 @@ pub mod Dropping
 pub mod Downed
 pub mod Chained
 pub mod UndoneKept
+pub mod Filtering
+pub mod Handing
+pub mod Rebuilding
+pub mod Judging
+pub mod Recovered

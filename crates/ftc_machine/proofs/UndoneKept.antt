@@ -85,7 +85,7 @@ module _ (c : Setting) (s : ChainState) (k : Kept) (is : IsKept c s k) (server :
 
 -- ---- the list
 
-filter_append : (test : VisitName → Bool) (xs ys : List VisitName) → filter test (xs ++ ys) ≡ filter test xs ++ filter test ys
+pub filter_append : (test : VisitName → Bool) (xs ys : List VisitName) → filter test (xs ++ ys) ≡ filter test xs ++ filter test ys
 filter_append test [] ys = refl
 filter_append test (x ∷ xs) ys = elim (test x) as (λ b. (if b then x ∷ filter test (xs ++ ys) else filter test (xs ++ ys)) ≡ (if b then x ∷ filter test xs else filter test xs) ++ filter test ys) [
   | true ↦ ap (λ rest. x ∷ rest) (filter_append test xs ys)
