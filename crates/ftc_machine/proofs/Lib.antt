@@ -113,3 +113,10 @@ pub mod Fetching
 pub mod Sweeping
 pub mod Dropping
 pub mod Downed
+pub mod Chained
+pub mod UndoneKept
+pub mod Filtering
+pub mod Handing
+pub mod Rebuilding
+pub mod Judging
+pub mod Recovered

@@ -2,6 +2,7 @@
 //! of each packet. It has no vector, log, frame or lock: what the chain of servers does is judged by it.
 #![tactic(auto)]
 
+mod apart;
 mod apply;
 mod attempt;
 mod carry;
@@ -9,6 +10,7 @@ mod choice;
 mod copying;
 mod crash;
 mod departure;
+mod dropped;
 mod due;
 mod ending;
 mod enter;
@@ -18,6 +20,7 @@ mod fresh;
 mod going;
 mod happen;
 mod judge;
+mod handover;
 mod kept;
 mod laws;
 mod legal;
@@ -34,11 +37,14 @@ mod pull;
 mod release;
 mod replaying;
 mod send;
+mod rebuild;
+mod recover;
 mod sets;
 mod slots;
 mod tails;
 mod take;
 mod trace;
+mod undo;
 mod visit;
 mod visited;
 mod way;
