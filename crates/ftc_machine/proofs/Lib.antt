@@ -42,6 +42,8 @@ mod Needing
 mod Knowing
 mod Trying
 mod Handed
+mod SameNames
+mod Replayed
 mod Opened
 mod Conclusion
 mod Playing
