@@ -23,7 +23,8 @@ returns-then-not-are_same-clause-tried c setting state packets given stands due 
 
 pub returns-clause-tried : goal.returns-clause-tried
 returns-clause-tried c setting state packets given stands due now =
-    made stands (event.Recover c.args.server c.args.undone.now) c.recover.new.self due
-    ((c.judge_recover.ensures.right setting state stands packets c.args.undone.now given).0 c.if-not-judge_recover.false,
-    sym (c.are_same.ensures.0 c.if-not-are_same.false) ∙ (c.as_slice.ensures ∙ c.in_ok-names.ensures setting state (of_run stands) stands.kept))
+    made stands (event.Recover c.args.server c.args.undone.now) c.recover.new.self due (
+      (c.judge_recover.ensures.right setting state stands packets c.args.undone.now given).0 c.if-not-judge_recover.false,
+      sym (c.are_same.ensures.0 c.if-not-are_same.false) ∙ (c.as_slice.ensures ∙ c.in_ok-names.ensures setting state (of_run stands) stands.kept),
+    )
     (c.in_ok-recover.ensures.ok setting state now)
