@@ -24,7 +24,7 @@ demo: bin/ftc
 test:
 	rt ci
 	@if [ -x "$(CASES)/compare" ]; then \
-		$(MAKE) bin/ftc && "$(CASES)/compare" bin/ftc $(addprefix $(CASES)/,$(CASE_SETS)) --no-report; \
+		$(MAKE) bin/ftc && "$(CASES)/compare" bin/ftc $(addprefix $(CASES)/,$(CASE_SETS)); \
 	fi
 
 bench: bin/ftc

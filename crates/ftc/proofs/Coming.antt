@@ -1,6 +1,6 @@
 -- Where a packet is after a step of its drive, and that no other packet has moved.
-use Rattle.std.proofs.Common.{◌≡◌, ◌≢◌, ℕ, ◌+◌, ◌<◌, ◌≤◌, Bool, true, false, List, [], ◌∷◌, ◌++◌, length, Option, Some, None, refl, sym, ap, ◌∙◌, cond, arith, eq-eqb, subst, get_or, Result, Ok, Err, IfSome}
-use Rattle.std.specs.Prelude.{◌==◌, nat_le, slice_get, option_map}
+use Rattle.std.proofs.Common.{◌≡◌, ◌≢◌, ℕ, ◌+◌, ◌<◌, true, false, List, length, Option, Some, None, refl, sym, ap, ◌∙◌, cond, arith, eq-eqb, subst, get_or, Result, Err, IfSome}
+use Rattle.std.specs.Prelude.{◌==◌, slice_get, option_map}
 use Rattle.std.proofs.lemmas.Bool.{eqb-true, le-leb, lt-leb}
 use Rattle.std.proofs.lemmas.Option.{slice_get-get_or}
 use Rattle.ftc_base.specs.declared.refusal.Refuse.{Refuse}

@@ -1,5 +1,5 @@
 -- Packet after packet is driven through the chain.
-use Rattle.std.proofs.Common.{◌≡◌, ◌≢◌, ◌⊎◌, ℕ, zero, suc, ◌+◌, ◌<◌, ◌≤◌, Bool, true, false, List, [], ◌∷◌, ◌++◌, length, map, Option, Some, None, refl, inl, inr, sym, ap, ◌∙◌, cond, arith, subst, Contains, get_or}
+use Rattle.std.proofs.Common.{◌≡◌, ℕ, suc, ◌+◌, ◌<◌, ◌≤◌, Bool, true, false, List, [], ◌∷◌, ◌++◌, length, Option, Some, None, refl, inl, inr, sym, ap, ◌∙◌, cond, arith, subst, Contains, get_or}
 use Rattle.std.proofs.lemmas.Bool.{ltb-true, ltb-false}
 use Rattle.std.specs.Prelude.{nat_lt, slice_get, option_map}
 use Rattle.std.specs.List.{flat_map, AllByRecursion}
@@ -10,11 +10,10 @@ use Rattle.ftc_journal.specs.declared.event.VisitName.{VisitName}
 use Rattle.ftc_mbox.specs.declared.rule.Rule.{Rule}
 use Rattle.ftc_serial.specs.declared.position.Position.{Position}
 use Rattle.ftc_serial.specs.declared.position.Position.TheVariants as position
-use Rattle.ftc_serial.specs.declared.step.Step.{Step}
-use Rattle.ftc_serial.specs.declared.step.Step.TheVariants.{Visit, Release}
+use Rattle.ftc_serial.specs.declared.step.Step.TheVariants.{Visit}
 use Rattle.ftc_serial.specs.Words.{each_below}
 use Rattle.ftc_serial.specs.Serial.{State, opening, serial_run}
-use Rattle.ftc_serial.specs.Trace.{undone_by, steps_of, trace_of}
+use Rattle.ftc_serial.specs.Trace.{steps_of, trace_of}
 use Rattle.ftc_serial.specs.Drive.{filtered_at, is_visited, server_events, take_events, packet_events, release_events, drive, IsSettled, IsDriven}
 use Rattle.ftc.specs.Running.{HasCome, LeadsTo, GoesOn, OthersStay, ReleasedVisited}
 use Rattle.ftc.proofs.Through.{each_below_same}

@@ -1,5 +1,5 @@
 -- One more event of a journal.
-use Rattle.std.proofs.Common.{◌≡◌, ℕ, List, [], ◌∷◌, ◌++◌, refl, sym, ap, ◌∙◌, Option, Some, None, append-nil}
+use Rattle.std.proofs.Common.{◌≡◌, List, [], ◌∷◌, ◌++◌, ap, ◌∙◌, Option, Some, None, append-nil}
 use Rattle.std.specs.Prelude.{option_and_then}
 use Rattle.std.specs.List.{flat_map}
 use Rattle.std.proofs.lemmas.List.Concat.{flat_map-append}
@@ -9,7 +9,7 @@ use Rattle.ftc_mbox.specs.declared.rule.Rule.{Rule}
 use Rattle.ftc_serial.specs.declared.step.Step.{Step}
 use Rattle.ftc_serial.specs.Serial.{State, serial_run, serial_step}
 use Rattle.ftc_serial.specs.Trace.{undone_by, steps_of}
-use Rattle.ftc.specs.Running.{LeadsTo, IsQuiet, GoesOn}
+use Rattle.ftc.specs.Running.{IsQuiet, GoesOn}
 
 -- what holds from every next state holds from the step's
 on_step : (rules : List Rule) (steps more : List Step) (state : State) → ((next : State) → serial_run rules next steps ≡ Some state → serial_run rules next (steps ++ more) ≡ serial_run rules state more) → (o : Option State) → option_and_then (λ next. serial_run rules next steps) o ≡ Some state → option_and_then (λ next. serial_run rules next (steps ++ more)) o ≡ serial_run rules state more

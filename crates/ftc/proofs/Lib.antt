@@ -8,3 +8,6 @@ pub mod WordLemmas
 pub mod OutLemmas
 pub mod DistinctLemmas
 pub mod EndLemmas
+pub mod Accepted
+pub mod Plain
+pub mod Reported

@@ -1,5 +1,5 @@
 -- What is in a list that is put together of lists.
-use Rattle.std.proofs.Common.{◌≡◌, ◌⊎◌, ℕ, zero, suc, ◌+◌, ◌<◌, List, [], ◌∷◌, ◌++◌, length, refl, inl, inr, ap, ◌∙◌, sym, arith, subst, Contains, get_or, Bool, true, false, ◌≢◌, eq-eqb}
+use Rattle.std.proofs.Common.{◌≡◌, ◌⊎◌, ℕ, zero, suc, ◌<◌, List, [], ◌∷◌, ◌++◌, refl, inl, inr, ◌∙◌, sym, arith, subst, Contains, true, false, ◌≢◌, eq-eqb}
 use Rattle.std.specs.Prelude.{◌==◌}
 use Rattle.std.proofs.lemmas.Bool.{eqb-true}
 use Rattle.ftc.proofs.Coming.{clash}

@@ -9,7 +9,8 @@ use Rattle.ftc_base.specs.declared.released.Released.{Released}
 use Rattle.ftc_pcap.specs.declared.capture.Capture.{Capture}
 use Rattle.ftc_pcap.specs.declared.packets.Packet.{Packet}
 use Rattle.ftc_pcap.specs.Grammar.{record_bytes, rewritten}
-use Rattle.ftc.specs.Output.{MayHold, released_record}
+use Rattle.ftc_report.specs.Output.{released_record}
+use Rattle.ftc.specs.Output.{MayHold}
 
 -- the piece of the item at a place stands behind those of the items before it
 pub one_more : {A : Type 0} (f : A → List ℕ) (xs : List A) (place : ℕ) (x : A) → slice_get xs place ≡ Some x → flat_map f (take (suc place) xs) ≡ flat_map f (take place xs) ++ f x

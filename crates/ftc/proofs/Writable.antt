@@ -1,5 +1,5 @@
 -- Each released packet has no more bytes than a record may have.
-use Rattle.std.proofs.Common.{◌≡◌, ◌≢◌, ℕ, zero, suc, ◌+◌, ◌<◌, ◌≤◌, Bool, true, false, List, [], ◌∷◌, ◌++◌, length, map, Option, Some, None, refl, sym, ap, ◌∙◌, cond, arith, subst, get_or, eq-eqb}
+use Rattle.std.proofs.Common.{◌≡◌, ℕ, zero, suc, ◌+◌, ◌<◌, ◌≤◌, Bool, true, false, List, [], ◌∷◌, length, Option, Some, None, refl, sym, cond, subst}
 use Rattle.std.specs.Prelude.{◌==◌, slice_get, option_map, option_and_then}
 use Rattle.std.specs.List.{AllByRecursion}
 use Rattle.std.proofs.lemmas.Bool.{eqb-true}
@@ -9,7 +9,6 @@ use Rattle.ftc_base.specs.declared.ask.Change.{Change}
 use Rattle.ftc_base.specs.declared.ask.Change.TheVariants.{Keep, Source, Destination}
 use Rattle.ftc_base.specs.declared.ask.Verdict.{Verdict}
 use Rattle.ftc_base.specs.declared.ask.Verdict.TheVariants.{Forward, Filter}
-use Rattle.ftc_base.specs.declared.released.Released.{Released}
 use Rattle.ftc_packet.specs.Rewrite.{with_end, with_source, with_destination}
 use Rattle.ftc_packet.proofs.WordEdits.{length-with_word}
 use Rattle.ftc_pcap.specs.declared.packets.Packet.{Packet}
@@ -20,10 +19,10 @@ use Rattle.ftc_serial.specs.declared.position.Position.TheVariants as position
 use Rattle.ftc_serial.specs.declared.step.Step.{Step}
 use Rattle.ftc_serial.specs.declared.step.Step.TheVariants.{Visit, Release}
 use Rattle.ftc_serial.specs.Words.{with_at}
-use Rattle.ftc_serial.specs.Take.{Outcome, taken, asked, packet_after}
+use Rattle.ftc_serial.specs.Take.{taken, asked, packet_after}
 use Rattle.ftc_serial.specs.Packets.{bytes_of}
 use Rattle.ftc_serial.specs.Serial.{State, opening, Visited, Given, after, position_after, visit_at, release_at, serial_step, serial_run}
-use Rattle.ftc.specs.Running.{IsWritable, AreWritable}
+use Rattle.ftc_report.specs.Output.{IsWritable, AreWritable}
 use Rattle.ftc.proofs.Members.{all_push}
 
 -- a rewrite keeps the packet's length

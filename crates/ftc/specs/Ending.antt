@@ -12,6 +12,8 @@ use Rattle.ftc_conf.specs.declared.fault.ChainCause.{ChainCause}
 use Rattle.ftc_serial.specs.Serial.{State}
 use Rattle.ftc_serial.specs.Packets.{bytes_of}
 use Rattle.ftc_serial.specs.Drive.{IsDriven}
+use Rattle.ftc_report.specs.Output.{out_bytes}
+use Rattle.ftc_report.specs.Report.{report_of}
 use Rattle.ftc.specs.declared.words.Names.{Names}
 use Rattle.ftc.specs.declared.status.Status.{Status}
 use Rattle.ftc.specs.declared.status.Status.TheVariants as status
@@ -19,7 +21,8 @@ use Rattle.ftc.specs.declared.status.ScriptCause.{ScriptCause}
 use Rattle.ftc.specs.declared.status.ScriptCause.TheVariants as script
 use Rattle.ftc.specs.Words.{Words, AreNames}
 use Rattle.ftc.specs.Running.{ReleasedVisited}
-use Rattle.ftc.specs.Output.{out_bytes, MayHold}
+use Rattle.ftc.specs.Plain.{plain_setting, IsWholeRun}
+use Rattle.ftc.specs.Output.{MayHold}
 
 -- The files spell this chain, and then this capture; and then the script is empty.
 pub record HasChain (names : Names) (files : Files) (chain : Chain) : Type 0 where
@@ -63,37 +66,45 @@ pub record IsScriptFault (names : Names) (files : Files) (line : ℕ) (cause : S
   pub first : line ≡ 1
   pub word : cause ≡ script.Word
 
--- A journal of the texts, and the state that its serial run ends in.
-pub record IsRun (names : Names) (files : Files) (capture : Capture) (journal : List Event) (end : State) : Type 0 where
-  pub chain : Chain
+-- A journal of the texts, and the state that its serial run ends in. The journal is also a whole run of the protocol.
+pub record IsRun (names : Names) (files : Files) (chain : Chain) (capture : Capture) (journal : List Event) (end : State) : Type 0 where
   pub texts : AreTexts names files chain capture
   pub driven : IsDriven chain.rules (bytes_of capture.packets) journal end
   pub visited : ReleasedVisited (length chain.rules) journal
+  pub whole : IsWholeRun chain (bytes_of capture.packets) journal
 
--- No file but these two has changed.
-abbrev pub SameButAtTwo : List ℕ → List ℕ → Files → Files → Type 0
-SameButAtTwo one two old new = (name : List ℕ) → name ≢ one → name ≢ two → new name ≡ old name
+-- the report over the protocol's state after the journal and the stores of its serial run; there are no taps
+abbrev pub report_bytes : Chain → Capture → List Event → List ℕ
+report_bytes chain capture journal = report_of (plain_setting chain (bytes_of capture.packets)) journal []
+
+-- No file but these three has changed.
+abbrev pub SameButAtThree : List ℕ → List ℕ → List ℕ → Files → Files → Type 0
+SameButAtThree one two three old new = (name : List ℕ) → name ≢ one → name ≢ two → name ≢ three → new name ≡ old name
 
 -- What a run leaves that is done: the records of the packets that were released, with the bytes that the journal's serial
--- run gives them, and the journal.
+-- run gives them, the journal, and its report.
 pub record IsDone (names : Names) (old new : Files) : Type 0 where
+  pub chain : Chain
   pub capture : Capture
   pub journal : List Event
   pub end : State
-  pub run : IsRun names old capture journal end
+  pub run : IsRun names old chain capture journal end
   pub out_file : new names.out.now ≡ Some (out_bytes capture end.released)
   pub journal_file : new names.journal.now ≡ Some (spelling journal)
-  pub others : SameButAtTwo names.out.now names.journal.now old new
+  pub report_file : new names.report.now ≡ Some (report_bytes chain capture journal)
+  pub others : SameButAtThree names.out.now names.journal.now names.report.now old new
 
 -- What a run leaves that was cut short in its writing: of each file some front of what it would have held.
 pub record IsCutShort (names : Names) (old new : Files) : Type 0 where
+  pub chain : Chain
   pub capture : Capture
   pub journal : List Event
   pub end : State
-  pub run : IsRun names old capture journal end
+  pub run : IsRun names old chain capture journal end
   pub out_file : MayHold (old names.out.now) (new names.out.now) (out_bytes capture end.released)
   pub journal_file : MayHold (old names.journal.now) (new names.journal.now) (spelling journal)
-  pub others : SameButAtTwo names.out.now names.journal.now old new
+  pub report_file : MayHold (old names.report.now) (new names.report.now) (report_bytes chain capture journal)
+  pub others : SameButAtThree names.out.now names.journal.now names.report.now old new
 
 -- How a run with these names ends. A run that fails has changed nothing yet, or was cut short.
 abbrev pub Ends : Names → Files → Files → Status → Type 0

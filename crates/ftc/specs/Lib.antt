@@ -2,6 +2,8 @@ pub mod Status
 pub mod Running
 pub mod Words
 pub mod Output
+pub mod Plain
+pub mod Fate
 pub mod Ending
 pub mod Texts
 pub mod Writing

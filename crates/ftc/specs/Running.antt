@@ -1,8 +1,6 @@
 -- A journal so far, and the state of the serial chain that it leads to.
-use Rattle.std.specs.Prelude.{ℕ, ◌≡◌, ◌≢◌, ◌<◌, ◌≤◌, List, [], ◌∷◌, ◌++◌, length, Option, Some, None, Contains}
-use Rattle.std.specs.List.{flat_map, AllByRecursion}
-use Rattle.ftc_base.specs.declared.limits.TheConstants.{MOST_CAPTURED}
-use Rattle.ftc_base.specs.declared.released.Released.{Released}
+use Rattle.std.specs.Prelude.{ℕ, ◌≡◌, ◌≢◌, ◌<◌, List, [], ◌∷◌, Option, Some, None, Contains}
+use Rattle.std.specs.List.{flat_map}
 use Rattle.ftc_journal.specs.declared.event.Event.{Event}
 use Rattle.ftc_journal.specs.declared.event.Event.TheVariants as event
 use Rattle.ftc_mbox.specs.declared.rule.Rule.{Rule}
@@ -10,7 +8,6 @@ use Rattle.ftc_serial.specs.declared.position.Position.{Position}
 use Rattle.ftc_serial.specs.declared.position.Position.TheVariants as position
 use Rattle.ftc_serial.specs.Words.{each_below}
 use Rattle.ftc_serial.specs.Serial.{State, serial_run}
-use Rattle.ftc_pcap.specs.declared.packets.Packet.{Packet}
 use Rattle.ftc_serial.specs.declared.step.Step.TheVariants.{Visit}
 use Rattle.ftc_serial.specs.Trace.{undone_by, steps_of, trace_of}
 use Rattle.ftc_serial.specs.Drive.{server_events, filtered_at, is_visited}
@@ -54,10 +51,3 @@ SameBefore server old new = (earlier : ℕ) → earlier < server → is_visited 
 abbrev pub ReleasedVisited : ℕ → List Event → Type 0
 ReleasedVisited servers journal =
     (packet server : ℕ) → Contains journal (event.Release packet) → server < servers → Contains (trace_of journal) (Visit server packet)
-
--- the record of a packet that was released with other bytes fits into a capture
-abbrev pub IsWritable : List Packet → Released → Type 0
-IsWritable packets released = (released.packet < length packets) × (length released.bytes ≤ MOST_CAPTURED)
-
-abbrev pub AreWritable : List Packet → List Released → Type 0
-AreWritable packets released = AllByRecursion (IsWritable packets) released

@@ -7,7 +7,8 @@ ghost use Rattle.ftc_serial.specs.Serial.{State};
 ghost use Rattle.ftc_serial.specs.Words.{each_below};
 ghost use Rattle.ftc_serial.specs.Drive.{IsDriven, IsSettled, visit_events, server_events, release_events, packet_events, filtered_at};
 ghost use Rattle.ftc_mbox.specs.declared.rule.Rule.{Rule};
-ghost use Rattle.ftc.specs.Running.{GoesOn, OthersStay, HasCome, SameBefore, IsQuiet, ReleasedVisited, AreWritable};
+ghost use Rattle.ftc_report.specs.Output.{AreWritable};
+ghost use Rattle.ftc.specs.Running.{GoesOn, OthersStay, HasCome, SameBefore, IsQuiet, ReleasedVisited};
 
 use ftc_base::limits::FINISHING_SLOT;
 use ftc_base::{NoMemory, PacketNo, Refuse, ServerId, WorkerId};
@@ -148,6 +149,7 @@ pub fn drive(alloc: Global, spec: &ChainSpec, packets: &Packets) -> Result<Drive
     ensures driven { IfOk result (λ driven. IsDriven spec.now.rules (bytes_of packets.now) driven.journal.items (state_of driven.serial)) }
     ensures visited { IfOk result (λ driven. ReleasedVisited (length spec.now.rules) driven.journal.items) }
     ensures writable { IfOk result (λ driven. AreWritable packets.now (state_of driven.serial).released) }
+    ensures rules { IfOk result (λ driven. rules_of driven.serial ≡ spec.now.rules) }
 {
     let mut serial = Serial::new(alloc, spec, packets)?;
     let mut journal = Journal::new(alloc);

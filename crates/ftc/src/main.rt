@@ -3,6 +3,8 @@
 
 mod drive;
 mod output;
+mod protocol;
+mod report;
 mod status;
 mod texts;
 mod top;

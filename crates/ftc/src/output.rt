@@ -3,8 +3,8 @@
 ghost use Rattle.std.specs.Prelude.{◌≡◌, ◌≤◌, OnOk, OnErr, IsErrOf, Some};
 ghost use Rattle.ftc_outside.specs.Desk.{SameButAt, GrewAt, MayHaveGrownAt, Rose};
 ghost use Rattle.ftc_journal.specs.Text.{spelling};
-ghost use Rattle.ftc.specs.Running.{IsWritable, AreWritable};
-ghost use Rattle.ftc.specs.Output.{released_record, out_bytes, MayHold};
+ghost use Rattle.ftc_report.specs.Output.{released_record, out_bytes, IsWritable, AreWritable};
+ghost use Rattle.ftc.specs.Output.{MayHold};
 
 use ftc_base::{Bytes, Released, ReleasedList};
 use ftc_journal::{Journal, print};
@@ -61,6 +61,24 @@ pub fn write_out<D: Desk>(
     Ok(())
 }
 
+/// Writes a text to a new file of that name.
+pub fn write_text<D: Desk>(
+    alloc: Global,
+    desk: &mut D,
+    name: &str,
+    text: &Bytes,
+) -> Result<(), DeskError>
+    ensures written { D.tells desk.old → OnOk result (D.file desk.new name.now ≡ Some text.now) }
+    ensures refused { D.tells desk.old → OnErr result (MayHold (D.file desk.old name.now) (D.file desk.new name.now) text.now) }
+    ensures others { D.tells desk.old → SameButAt name.now (D.file desk.old) (D.file desk.new) }
+    ensures tells { D.tells desk.old → D.tells desk.new }
+    ensures count { D.faults desk.old ≤ D.faults desk.new }
+    ensures cause { IsErrOf result DeskError.Failed → Rose (D.faults desk.old) (D.faults desk.new) }
+{
+    desk.make(alloc, name)?;
+    desk.append(alloc, name, text.as_slice())
+}
+
 /// Writes the text of the journal to a new file of that name.
 pub fn write_journal<D: Desk>(
     alloc: Global,
@@ -75,7 +93,6 @@ pub fn write_journal<D: Desk>(
     ensures count { D.faults desk.old ≤ D.faults desk.new }
     ensures cause { IsErrOf result DeskError.Failed → Rose (D.faults desk.old) (D.faults desk.new) }
 {
-    desk.make(alloc, name)?;
     let text = print(alloc, journal)?;
-    desk.append(alloc, name, text.as_slice())
+    write_text(alloc, desk, name, &text)
 }

@@ -20,9 +20,10 @@ pub struct Texts {
     pub capture: Capture,
 }
 
-/// Fetches and reads the chain.
+/// Fetches and reads the chain. As yet every chain that may have servers down is refused.
 fn fetch_chain<D: Desk>(alloc: Global, names: Names<'_>, desk: &mut D) -> Result<ChainSpec, Status>
     ensures accepted { D.tells desk.old → IfOk result (HasChain names.entry (D.file desk.old)) }
+    ensures plain { IfOk result (λ spec. spec.failures ≡ 0) }
     ensures refused { D.tells desk.old → IfErr result (IsChainRefused names.entry (D.file desk.old)) }
     ensures known { IfErr result (λ ending. ending ≢ Status.Usage) }
     ensures files { D.tells desk.old → SameFiles (D.file desk.old) (D.file desk.new) }
@@ -71,6 +72,7 @@ fn fetch_script<D: Desk>(alloc: Global, names: Names<'_>, desk: &mut D) -> Resul
 /// Fetches and reads chain, capture and script in this order, each before the next.
 pub fn read_texts<D: Desk>(alloc: Global, names: Names<'_>, desk: &mut D) -> Result<Texts, Status>
     ensures accepted { D.tells desk.old → IfOk result (λ texts. AreTexts names.entry (D.file desk.old) texts.spec texts.capture) }
+    ensures plain { IfOk result (λ texts. texts.spec.failures ≡ 0) }
     ensures refused { D.tells desk.old → IfErr result (AreRefused names.entry (D.file desk.old)) }
     ensures known { IfErr result (λ ending. ending ≢ Status.Usage) }
     ensures files { D.tells desk.old → SameFiles (D.file desk.old) (D.file desk.new) }

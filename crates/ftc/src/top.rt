@@ -4,44 +4,47 @@ ghost use Rattle.std.specs.Prelude.{◌≡◌, ◌≢◌, ◌≤◌, ◌↔◌, 
 ghost use Rattle.ftc_journal.specs.Text.{spelling};
 ghost use Rattle.ftc_outside.specs.Desk.{SameFiles, Rose};
 ghost use Rattle.ftc_serial.specs.Held.{state_of};
+ghost use Rattle.ftc_report.specs.Output.{out_bytes, AreWritable};
 ghost use Rattle.ftc.specs.Words.{is_run};
-ghost use Rattle.ftc.specs.Output.{out_bytes};
-ghost use Rattle.ftc.specs.Running.{AreWritable};
-ghost use Rattle.ftc.specs.Writing.{AreWritten, AreCutShort};
+ghost use Rattle.ftc.specs.Writing.{AreApart, AreWritten, AreCutShort};
 ghost use Rattle.ftc.specs.Ending.{Ends, HasEnded};
 
 use crate::drive::{Driven, drive};
-use crate::output::{write_journal, write_out};
+use crate::output::{write_journal, write_out, write_text};
+use crate::report::report_of;
 use crate::status::Status;
 use crate::texts::read_texts;
 use crate::words::{Names, names_of};
+use ftc_base::Bytes;
 use ftc_outside::{Desk, DeskError};
 use ftc_pcap::Capture;
 use std::alloc::Global;
 
-/// Writes the released packets, and then the journal.
+/// Writes the released packets, then the journal, and then the report.
 fn write_files<D: Desk>(
     alloc: Global,
     names: Names<'_>,
     desk: &mut D,
     capture: &Capture,
     driven: &Driven,
+    report: &Bytes,
 ) -> Result<(), DeskError>
-    requires distinct { names.out.now ≢ names.journal.now }
+    requires apart { AreApart names }
     requires writable { AreWritable capture.now.packets (state_of driven.now.serial).released }
-    ensures written { D.tells desk.old → OnOk result (AreWritten names.entry (out_bytes capture.now (state_of driven.now.serial).released) (spelling driven.now.journal.items) (D.file desk.old) (D.file desk.new)) }
-    ensures refused { D.tells desk.old → OnErr result (AreCutShort names.entry (out_bytes capture.now (state_of driven.now.serial).released) (spelling driven.now.journal.items) (D.file desk.old) (D.file desk.new)) }
+    ensures written { D.tells desk.old → OnOk result (AreWritten names.entry (out_bytes capture.now (state_of driven.now.serial).released) (spelling driven.now.journal.items) report.now (D.file desk.old) (D.file desk.new)) }
+    ensures refused { D.tells desk.old → OnErr result (AreCutShort names.entry (out_bytes capture.now (state_of driven.now.serial).released) (spelling driven.now.journal.items) report.now (D.file desk.old) (D.file desk.new)) }
     ensures count { D.faults desk.old ≤ D.faults desk.new }
     ensures cause { IsErrOf result DeskError.Failed → Rose (D.faults desk.old) (D.faults desk.new) }
 {
     let released = driven.serial.released();
     write_out(alloc, desk, names.out, capture, released)?;
-    write_journal(alloc, desk, names.journal, &driven.journal)
+    write_journal(alloc, desk, names.journal, &driven.journal)?;
+    write_text(alloc, desk, names.report, report)
 }
 
 /// Runs with these names.
 fn run_names<D: Desk>(alloc: Global, names: Names<'_>, desk: &mut D) -> Status
-    requires distinct { names.out.now ≢ names.journal.now }
+    requires apart { AreApart names }
     ensures ends { D.tells desk.old → Ends names.entry (D.file desk.old) (D.file desk.new) result }
     ensures known { result ≢ Status.Usage }
     ensures count { D.faults desk.old ≤ D.faults desk.new }
@@ -51,17 +54,21 @@ fn run_names<D: Desk>(alloc: Global, names: Names<'_>, desk: &mut D) -> Status
         Ok(texts) => texts,
         Err(status) => return status,
     };
-    let Ok(driven) = drive(alloc, &texts.spec, &texts.capture.packets) else {
+    let packets = &texts.capture.packets;
+    let Ok(driven) = drive(alloc, &texts.spec, packets) else {
         return Status::NoMemory;
     };
-    match write_files(alloc, names, desk, &texts.capture, &driven) {
+    let Ok(report) = report_of(alloc, &texts.spec, packets, &driven) else {
+        return Status::NoMemory;
+    };
+    match write_files(alloc, names, desk, &texts.capture, &driven, &report) {
         Ok(()) => Status::Done,
         Err(error) => Status::from(error),
     }
 }
 
 /// Runs the command of the words: `run CHAIN SCRIPT CAPTURE OUT JOURNAL REPORT`, with six different
-/// names of files. The file of the name REPORT is not touched.
+/// names of files.
 pub fn run<R: AllocGlobal, D: Desk>(rt: &R, words: &[&str], desk: &mut D) -> Status
     // The words are no command, exactly.
     ensures usage { result ≡ Status.Usage ↔ (is_run words.now ≡ false) }

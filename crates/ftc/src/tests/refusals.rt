@@ -91,22 +91,26 @@ fn a_chain_that_is_not_there(rt: HostRuntime) -> Result<(), Fail> {
 fn a_call_that_fails(rt: HostRuntime) -> Result<(), Fail> {
     let capture = capture_of(&rt, &[&DATAGRAM])?;
     let bytes = capture.as_slice();
+    let events: &[u8] = b"ftc-journal 2\nenter 0\nvisit 0 0 63\npass 0 0\nrelease 0\n";
     // What the files hold where the call of that number fails: three fetch the texts.
-    let cases: [(u64, Option<&[u8]>, Option<&[u8]>); 7] = [
-        (0, None, None),
-        (2, None, None),
-        (3, None, None),
-        (4, Some(b""), None),
-        (5, Some(&HEADER), None),
-        (6, Some(bytes), None),
-        (7, Some(bytes), Some(b"")),
+    let cases: [(u64, Option<&[u8]>, Option<&[u8]>, Option<&[u8]>); 9] = [
+        (0, None, None, None),
+        (2, None, None, None),
+        (3, None, None, None),
+        (4, Some(b""), None, None),
+        (5, Some(&HEADER), None, None),
+        (6, Some(bytes), None, None),
+        (7, Some(bytes), Some(b""), None),
+        (8, Some(bytes), Some(events), None),
+        (9, Some(bytes), Some(events), Some(b"")),
     ];
-    for (call, out, journal) in cases {
+    for (call, out, journal, report) in cases {
         let desk = desk_of(&rt, MONITOR, bytes)?;
         let mut desk = FailingDesk::new(rt.alloc(), desk, &[call])?;
         assert_eq!(rt; run(&rt, &WORDS, &mut desk), Status::DeskFault, "at {call}");
         assert_eq!(rt; desk.inner().get("out"), out, "at {call}");
         assert_eq!(rt; desk.inner().get("journal"), journal, "at {call}");
+        assert_eq!(rt; desk.inner().get("report"), report, "at {call}");
     }
     Ok(())
 }

@@ -1,7 +1,7 @@
-use Rattle.std.proofs.Common.{◌≡◌, ℕ, suc, ◌≤◌, ◌+◌, List, length, map, sym, ap, ◌∙◌, arith, subst, add-one}
+use Rattle.std.proofs.Common.{◌≡◌, ℕ, ◌≤◌, List, length, sym, ◌∙◌, arith, subst, add-one}
 use Rattle.std.proofs.lemmas.List.{length-map}
 use Rattle.ftc_mbox.specs.declared.rule.Rule.{Rule}
-use Rattle.ftc_serial.specs.Serial.{State, opening}
+use Rattle.ftc_serial.specs.Serial.{State}
 use Rattle.ftc_serial.specs.Trace.{trace_of}
 use Rattle.ftc_serial.specs.Held.{rules_of, state_of}
 use Rattle.ftc_serial.specs.Packets.{bytes_of}

@@ -1,9 +1,8 @@
-use Rattle.std.proofs.Common.{◌≡◌, List, subst}
+use Rattle.std.proofs.Common.{List, subst}
 use Rattle.std.proofs.lemmas.Result.{on_ok_weaker}
 use Rattle.ftc_mbox.specs.declared.rule.Rule.{Rule}
-use Rattle.ftc_serial.specs.Serial.{State}
 use Rattle.ftc_serial.specs.Held.{rules_of, state_of}
-use Rattle.ftc.specs.Running.{GoesOn, LeadsTo}
+use Rattle.ftc.specs.Running.{LeadsTo}
 use Rattle.ftc.proofs.drive.drive_packet.Goals as goal
 
 pub returns-clause-goes_on : goal.returns-clause-goes_on

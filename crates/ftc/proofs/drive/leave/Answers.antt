@@ -1,4 +1,4 @@
-use Rattle.std.proofs.Common.{◌≡◌, ℕ, List, ◌++◌, [], ◌∷◌, length, Option, Some, None, ap, ◌∙◌, sym, refl, append-nil}
+use Rattle.std.proofs.Common.{◌≡◌, ℕ, ◌++◌, Option, Some, None, ap, ◌∙◌, sym, refl, append-nil}
 use Rattle.std.proofs.lemmas.Result.{on_ok_weaker}
 use Rattle.ftc_serial.specs.declared.step.Step.TheVariants.{Release}
 use Rattle.ftc_serial.specs.Held.{rules_of, state_of}

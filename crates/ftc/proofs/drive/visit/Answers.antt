@@ -1,11 +1,8 @@
-use Rattle.std.proofs.Common.{◌≡◌, ℕ, Bool, true, false, List, ◌++◌, [], ◌∷◌, length, Some, None, ap, ◌∙◌, sym, refl, cond, append-nil}
+use Rattle.std.proofs.Common.{ℕ, Bool, ◌++◌, [], ◌∷◌, length, ap, ◌∙◌, sym, refl, cond, append-nil}
 use Rattle.std.proofs.lemmas.Result.{on_ok_weaker}
-use Rattle.ftc_journal.specs.declared.event.Event.{Event}
 use Rattle.ftc_journal.specs.declared.event.Event.TheVariants as event
 use Rattle.ftc_serial.specs.declared.step.Step.TheVariants.{Visit}
-use Rattle.ftc_serial.specs.Serial.{State}
 use Rattle.ftc_serial.specs.Held.{rules_of, state_of}
-use Rattle.ftc_serial.specs.Drive.{visit_events, filtered_at}
 use Rattle.ftc.proofs.Leads.{leads_step}
 use Rattle.ftc.proofs.Coming.{HasVisited, StoodStill, visit_made, visit_refused, if_bad, if_some}
 use Rattle.ftc.proofs.drive.visit.Goals as goal

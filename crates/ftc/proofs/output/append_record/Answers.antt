@@ -1,6 +1,5 @@
-use Rattle.std.proofs.Common.{◌≡◌, ◌∙◌, ◌++◌, [], refl, sym, ap}
-use Rattle.ftc_pcap.specs.Grammar.{record_bytes, rewritten}
-use Rattle.ftc.specs.Output.{released_record}
+use Rattle.std.proofs.Common.{◌≡◌, ◌∙◌}
+use Rattle.ftc_report.specs.Output.{released_record}
 use Rattle.ftc.proofs.OutLemmas.{record_piece}
 use Rattle.ftc.proofs.output.append_record.Goals as goal
 

@@ -1,9 +1,9 @@
 use Rattle.std.proofs.lemmas.Grind.{common_steps}
-use Rattle.std.proofs.Common.{◌≡◌, ◌++◌, [], refl, ◌<◌, ◌∙◌, length, arith, rules}
+use Rattle.std.proofs.Common.{◌≡◌, [], refl, length, arith, rules}
 use Rattle.std.specs.List.{flat_map}
 use Rattle.std.proofs.lemmas.Option.{slice_get_read}
-use Rattle.ftc.specs.Output.{released_record, out_bytes}
-use Rattle.ftc.proofs.OutLemmas.{written_more, may_hold, piece_cut, on_err}
+use Rattle.ftc_report.specs.Output.{released_record, out_bytes}
+use Rattle.ftc.proofs.OutLemmas.{may_hold, piece_cut, on_err}
 use Rattle.ftc.proofs.output.write_out.Goals as goal
 
 pub returns-in_err-append-clause-refused : goal.returns-in_err-append-clause-refused

@@ -2,7 +2,7 @@
 use Rattle.std.proofs.Common.{◌≡◌, ◌≤◌, ◌++◌, take, Some}
 use Rattle.std.specs.List.{flat_map}
 use Rattle.ftc_outside.specs.Desk.{SameButAt}
-use Rattle.ftc.specs.Output.{released_record}
+use Rattle.ftc_report.specs.Output.{released_record}
 use Rattle.ftc.proofs.output.write_out.Given as goal
 
 abbrev pub invariant-loop-packet : goal.invariant-loop-packet
