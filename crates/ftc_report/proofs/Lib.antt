@@ -1,3 +1,4 @@
 mod Grouping
 mod Numbering
 mod Legal
+mod Recorded

@@ -1,3 +1,4 @@
 pub mod Text
 pub mod Contents
 pub mod Report
+pub mod Output

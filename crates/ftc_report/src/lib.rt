@@ -1,16 +1,19 @@
-//! The report of a run: what became of each packet, what the middleboxes have, and what the taps say.
+//! The report of a run: what became of each packet, what the middleboxes have, and what the taps say. And the
+//! bytes of the packets that came out.
 #![tactic(auto)]
 
 mod counts;
 mod fates;
 mod over;
 mod printer;
+mod released;
 mod stores;
 mod taps;
 
 pub use fates::Fates;
 pub use over::report_over;
 pub use printer::print;
+pub use released::out_of;
 
 #[cfg(test)]
 mod tests;

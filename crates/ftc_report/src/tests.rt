@@ -1,10 +1,10 @@
 use crate::stores::value_text;
-use crate::{Fates, print, report_over};
-use ftc_base::{Bytes, Items, Lines, ServerId, Value, WorkerId};
+use crate::{Fates, out_of, print, report_over};
+use ftc_base::{Bytes, Items, Lines, Released, ReleasedList, ServerId, Value, WorkerId};
 use ftc_journal::{Event, Journal, VisitName};
 use ftc_machine::{Fate, trace_of};
 use ftc_mbox::{ChainSpec, Rule};
-use ftc_pcap::{Packet, Packets};
+use ftc_pcap::{Capture, Packet, Packets};
 use ftc_serial::Serial;
 use std::alloc::Global;
 use std::process::Abort;
@@ -149,5 +149,25 @@ fn undone_visits_are_not_reported(rt: HostRuntime) -> Result<(), Fail> {
         }
         Err(_) => assert!(rt; false, "all steps are legal"),
     }
+    Ok(())
+}
+
+#[test]
+fn released_packets_have_their_own_stamps(rt: HostRuntime) -> Result<(), Fail> {
+    let alloc = rt.alloc();
+    let capture = Capture {
+        header: [7; 24],
+        big: true,
+        packets: packets_of(alloc, &rt)?,
+    };
+    let mut released = ReleasedList::new(alloc);
+    released.push(Released {
+        packet: 1,
+        bytes: bytes_of(alloc, &[8, 9])?,
+    })?;
+    let mut expected = bytes_of(alloc, &[7; 24])?;
+    expected.append(&[0, 0, 0, 1, 0, 0, 0, 0, 0, 0, 0, 2, 0, 0, 0, 42, 8, 9])?;
+    let out = out_of(alloc, &capture, &released)?;
+    assert_eq!(rt; out.as_slice(), expected.as_slice());
     Ok(())
 }
