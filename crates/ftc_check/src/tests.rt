@@ -1,3 +1,5 @@
+mod check;
+
 use crate::{first_difference, without_taps};
 
 #[test]
