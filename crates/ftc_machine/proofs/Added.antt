@@ -100,11 +100,11 @@ content_without (Visited visited passed outcome ∷ older) server packet packets
           (ap (λ (content : Content). if packets passed then written outcome.writes content else content) rest)
     ] refl
 
-no_writes : (writes : List Write) (f : Write → ℕ) → is_some_list (map f writes) ≡ false → writes ≡ []
+pub no_writes : (writes : List Write) (f : Write → ℕ) → is_some_list (map f writes) ≡ false → writes ≡ []
 no_writes [] f none_there = refl
 no_writes (write ∷ writes) f none_there = absurd (true≢false none_there)
 
-unchanged : (partitions : ℕ) (outcome : Outcome) → is_changing partitions outcome ≡ false → outcome.writes ≡ []
+pub unchanged : (partitions : ℕ) (outcome : Outcome) → is_changing partitions outcome ≡ false → outcome.writes ≡ []
 unfolding changes
 unchanged partitions outcome none_there = no_writes outcome.writes (λ (write : Write). partition_of partitions write.key) none_there
 

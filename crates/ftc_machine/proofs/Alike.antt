@@ -90,6 +90,10 @@ module _ (old new : Kept) (alike : AreAlike old new) (c : Setting) (s : ChainSta
 pub stands_still : (old new : Kept) → AreAlike old new → StandsStill old new
 stands_still old new alike c s is = stands_for old new alike c s is
 
+-- what follows where the new one stands for a state follows where the old one does
+pub stands_first : {R : Type 0} (old new : Kept) (c : Setting) (s : ChainState) → (IsKept c s new → R) → AreAlike old new → IsKept c s old → R
+stands_first old new c s follows alike is = follows (stands_for old new alike c s is)
+
 -- ---- rows that tell the same
 
 -- the footprints, where a row has the same in each place

@@ -10,7 +10,7 @@ use Rattle.ftc_serial.specs.Words.{with_at}
 use Rattle.ftc_serial.proofs.Functions.{with_at_cases}
 use Rattle.ftc_store.specs.Store.{Content}
 use Rattle.ftc_vector.specs.Vector.{by_partition, number_at}
-use Rattle.ftc_vector.specs.Commits.{by_group}
+use Rattle.ftc_vector.specs.Commits.{by_group, vector_of}
 use Rattle.ftc_machine.specs.Reach.{Numbers, AreRising, Reaches, reach_in}
 use Rattle.ftc_machine.specs.Kept.{reach_of}
 use Rattle.ftc_machine.specs.Trace.{content_of}
@@ -18,13 +18,19 @@ use Rattle.ftc_machine.specs.Visits.{Visits, no_visits}
 use Rattle.ftc_machine.proofs.Reaching.{none_reach, zero_at}
 use Rattle.ftc_machine.proofs.Replaced.{row_replaced}
 
--- nothing reaches farther than nowhere
-pub empty_at : (group partition : ℕ) → reach_in (by_group (λ _. by_partition (λ _. 0))) group partition ≡ 0
+-- the rows of a reach that is nowhere
+pub none_length : length (by_group {A = List ℕ} (λ _. by_partition {A = ℕ} (λ _. 0))) ≡ MOST_SERVERS
 unfolding by_group
+none_length = length-map-range_with_len (λ _. by_partition {A = ℕ} (λ _. 0)) 0 MOST_SERVERS
+
+pub none_row : (group : ℕ) → group < MOST_SERVERS → vector_of (by_group (λ _. by_partition (λ _. 0))) group ≡ by_partition (λ _. 0)
+unfolding by_group
+none_row group within = get_or-map-range_with_len (λ _. by_partition (λ _. 0)) 0 MOST_SERVERS group group [] within (zero-add group)
+
+pub empty_at : (group partition : ℕ) → reach_in (by_group (λ _. by_partition (λ _. 0))) group partition ≡ 0
 empty_at group partition = elim (cases_lt group MOST_SERVERS) [
-  | inl within ↦ ap (λ (vector : List ℕ). number_at vector partition) (get_or-map-range_with_len (λ _. by_partition (λ _. 0)) 0 MOST_SERVERS group group [] within (zero-add group)) ∙ zero_at partition
-  | inr past ↦ ap (λ (vector : List ℕ). number_at vector partition)
-      (get_or_past (by_group (λ _. by_partition (λ _. 0))) group [] (omega (arith, length-map-range_with_len (λ _. by_partition {A = ℕ} (λ _. 0)) 0 MOST_SERVERS)))
+  | inl within ↦ ap (λ (vector : List ℕ). number_at vector partition) (none_row group within) ∙ zero_at partition
+  | inr past ↦ ap (λ (vector : List ℕ). number_at vector partition) (get_or_past (by_group (λ _. by_partition (λ _. 0))) group [] (omega (arith, none_length)))
 ]
 
 module _ (partitions : ℕ) (trace : List Entry) (numbers : Numbers) (bound : ℕ) (rising : AreRising numbers bound trace) where

@@ -42,6 +42,8 @@ mod Needing
 mod Knowing
 mod Trying
 mod Handed
+mod SameNames
+mod Replayed
 mod Opened
 mod Conclusion
 mod Playing
@@ -113,3 +115,10 @@ pub mod Fetching
 pub mod Sweeping
 pub mod Dropping
 pub mod Downed
+pub mod Chained
+pub mod UndoneKept
+pub mod Filtering
+pub mod Handing
+pub mod Rebuilding
+pub mod Judging
+pub mod Recovered

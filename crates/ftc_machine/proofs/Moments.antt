@@ -60,7 +60,7 @@ closed_by c some trace gone before later released (e ∷ older) is lift up' =
     ]
 
 -- the store of a set that has no visit that is taken out
-store_left : (gone : Visits) (trace : List Entry) (j : ℕ) (set : ℕ → Bool) → ((p : ℕ) → IsInTrace Somehow trace j p → gone j p ≡ true → set p ≡ false) → content_of trace set j ≡ content_of (left_of gone trace) set j
+pub store_left : (gone : Visits) (trace : List Entry) (j : ℕ) (set : ℕ → Bool) → ((p : ℕ) → IsInTrace Somehow trace j p → gone j p ≡ true → set p ≡ false) → content_of trace set j ≡ content_of (left_of gone trace) set j
 store_left gone [] j set apart_cases = refl
 store_left gone (Given p b ∷ older) j set apart_cases = store_left gone older j set (λ q st. apart_cases q (inr st))
 store_left gone (Visited k p o ∷ older) j set apart_cases =

@@ -37,3 +37,20 @@ module _ (partitions : ℕ) (trace : List Entry) (numbers : Numbers) (within : A
           (λ packet. again (one group packet) (extra group packet))
           (λ partition. ap (λ (row : List ℕ). number_at row partition) (sym (get_or-set_same commits group (merged (vector_of commits group) vector) [] long)))
           (merged_row partitions trace numbers within group (one group) (union one extra group) (vector_of commits group) vector (reaches group) here)
+
+  -- the same where the vector reaches the visits that are added
+  pub joined_reaches : (one extra : Visits) (commits : List (List ℕ)) (group : ℕ) (vector : List ℕ) → group < length commits
+      → ((other packet : ℕ) → other ≢ group → extra other packet ≡ false)
+      → IsReach partitions trace numbers group (extra group) (number_at vector)
+      → Reaches partitions trace numbers one commits → Reaches partitions trace numbers (union one extra) (group_raised commits group vector)
+  joined_reaches one extra commits group vector long elsewhere here reaches other = elim (cases_eq other group) [
+    | inl same ↦ subst (λ g. IsReach partitions trace numbers g (union one extra g) (reach_in (group_raised commits group vector) g)) (sym same)
+        (same_reach partitions trace numbers group (union one extra group) (union one extra group) (number_at (merged (vector_of commits group) vector)) (reach_in (group_raised commits group vector) group)
+        (λ packet. refl)
+        (λ partition. ap (λ (row : List ℕ). number_at row partition) (sym (get_or-set_same commits group (merged (vector_of commits group) vector) [] long)))
+        (merged_row partitions trace numbers within group (one group) (extra group) (vector_of commits group) vector (reaches group) here))
+    | inr differs ↦ same_reach partitions trace numbers other (one other) (union one extra other) (reach_in commits other) (reach_in (group_raised commits group vector) other)
+        (λ packet. sym (or_false (one other packet) (extra other packet) (elsewhere other packet differs)))
+        (λ partition. ap (λ (row : List ℕ). number_at row partition) (sym (get_or-set_other commits group other (merged (vector_of commits group) vector) [] differs)))
+        (reaches other)
+  ]

@@ -9,6 +9,7 @@ use Rattle.ftc_machine.specs.State.{ChainState}
 use Rattle.ftc_machine.specs.Legal.{MayHappen}
 use Rattle.ftc_machine.specs.Kept.{StandsFor}
 use Rattle.ftc_machine.specs.Effects.{StandsAfter}
+use Rattle.ftc_machine.specs.RecoveryEffect.{IsOfRun}
 use Rattle.ftc_machine.specs.Attempts.{NoneDue, IsMade, IsPassedOver}
 
 module _ {c : Setting} {s : ChainState} {old : Kept} (stands : StandsFor c s old) where
@@ -31,3 +32,6 @@ module _ {c : Setting} {s : ChainState} {old : Kept} (stands : StandsFor c s old
 -- what is said to be false isn't so
 pub not_said : {said : Bool} {P : Type 0} → (said ≡ true) ↔ P → said ≡ false → P → ⊥
 not_said {said} {P} right isnt so = true≢false (sym (right.1 so) ∙ isnt)
+
+pub of_run : {c : Setting} {s : ChainState} {k : Kept} → StandsFor c s k → IsOfRun c s
+of_run {c} {s} {k} stands = record { setting = stands.setting; journal = stands.journal; run = stands.run; state = stands.state }

@@ -75,7 +75,7 @@ module _ (c : Setting) (s : ChainState) (some : 0 < (servers c)) (sound : IsSoun
         | inr other ↦ root.3 (earlier t i j p is (omega arith) root.0 (member_after c s m r t inside down before after admissible i il (root.1, root.2)))
       ]
 
-  undone_before : (j p q : ℕ) → IsUndone c s r t j p → IsBefore c.partitions s.trace j p q → IsUndone c s r t j q
+  pub undone_before : (j p q : ℕ) → IsUndone c s r t j p → IsBefore c.partitions s.trace j p q → IsUndone c s r t j q
   undone_before j p q u is =
       let first = before_first c.partitions s.trace j p q is in
       let between = head_between j p u (some_stands _ s.trace j p first) in

@@ -2,6 +2,7 @@ pub mod Setting
 pub mod Visits
 pub mod VisitEffect
 pub mod Losses
+pub mod RecoveryEffect
 pub mod Changes
 pub mod Trace
 pub mod State

@@ -1,8 +1,8 @@
 -- What goes away with messages, by what is kept.
-use Rattle.std.specs.Prelude.{ℕ, ◌==◌, ◌&&◌, Bool, Option, Some, None, is_some, if◌then◌else◌}
+use Rattle.std.specs.Prelude.{ℕ, ◌==◌, ◌&&◌, Bool, false, Option, Some, None, is_some, if◌then◌else◌}
 use Rattle.ftc_ring.specs.Ring.{next_of}
 use Rattle.ftc_machine.specs.declared.fate.Fate.{Fate}
-use Rattle.ftc_machine.specs.declared.fate.Fate.TheVariants.{Lost}
+use Rattle.ftc_machine.specs.declared.fate.Fate.TheVariants.{Filtered, Inside, Lost, Released}
 use Rattle.ftc_machine.specs.declared.message.Message.{Message}
 use Rattle.ftc_machine.specs.declared.message.Place.{Place}
 use Rattle.ftc_machine.specs.declared.message.Place.TheVariants.{Held, Queued}
@@ -25,3 +25,10 @@ fate_lost lost event fate = if lost then Some (Lost event) else fate
 abbrev pub is_kept_at : ℕ → ℕ → Place → Bool
 is_kept_at n server (Held other visited by_ring) = other == server
 is_kept_at n server (Queued link known) = next_of n link == server
+
+-- the middlebox of that server dropped the packet
+abbrev pub was_filtered : ℕ → Fate → Bool
+was_filtered server (Filtered by) = server == by
+was_filtered server (Lost event) = false
+was_filtered server Released = false
+was_filtered server Inside = false

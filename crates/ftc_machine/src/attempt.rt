@@ -1,6 +1,6 @@
 //! Events that happen where they may.
 
-ghost use Rattle.std.specs.Prelude.{◌≡◌, ◌<◌, ℕ, OnErr, IfOk, length};
+ghost use Rattle.std.specs.Prelude.{◌≡◌, ◌<◌, ◌↔◌, ℕ, true, OnErr, IfOk, length};
 ghost use Rattle.ftc_journal.specs.declared.event.Event.TheVariants as event;
 ghost use Rattle.ftc_script.specs.Script.{ScriptShape};
 ghost use Rattle.ftc_machine.specs.Setting.{Setting};
@@ -16,6 +16,13 @@ use ftc_mbox::Rules;
 use ftc_pcap::Packets;
 use ftc_script::Script;
 use std::alloc::Global;
+
+/// Whether the lists of visits are the same.
+fn are_same(one: &[VisitName], other: &[VisitName]) -> bool
+    ensures { (result ≡ true) ↔ (one.now ≡ other.now) }
+{
+    one == other
+}
 
 impl Kept {
     /// The receiver of a link takes a message.
@@ -208,6 +215,35 @@ impl Kept {
         let steps = script.steps();
         prove!(self.done < steps);
         self.crash(alloc, server, now)?;
+        Ok(true)
+    }
+
+    /// A new server takes the place of one, which undoes these visits.
+    pub fn try_recover(
+        &mut self,
+        alloc: Global,
+        script: &Script,
+        server: ServerId,
+        undone: &[VisitName],
+        now: u64,
+    ) -> Result<bool, NoMemory>
+        ensures tried { IfOk result (λ made. (c : Setting) (s : ChainState) (packets : ℕ) → AreInputs c script.now packets →
+            Tries c s now (event.Recover server undone.now) self.old self.new made) }
+        ensures err { OnErr result (StandsStill self.old self.new) }
+    {
+        if !self.is_server(server) {
+            return Ok(false);
+        }
+        if !self.judge_recover(script, server) {
+            return Ok(false);
+        }
+        let names = self.undone(alloc, server)?;
+        if !are_same(names.as_slice(), undone) {
+            return Ok(false);
+        }
+        let steps = script.steps();
+        prove!(self.done < steps);
+        self.recover(alloc, server, undone, now)?;
         Ok(true)
     }
 }

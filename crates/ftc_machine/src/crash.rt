@@ -21,7 +21,7 @@ use ftc_vector::Commits;
 use std::alloc::Global;
 
 /// The number of the server to which a link leads, in a ring of so many.
-fn next_of(servers: u8, link: ServerId) -> u8
+pub fn next_of(servers: u8, link: ServerId) -> u8
     ensures { result ≡ next_of servers link }
 {
     let number = link.number() + 1;

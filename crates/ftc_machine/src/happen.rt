@@ -81,7 +81,9 @@ impl Kept {
         match event {
             Event::Enter { packet } => self.try_enter(alloc, script, packets, *packet, now),
             Event::Crash { server } => self.try_crash(alloc, script, *server, now),
-            Event::Recover { .. } => Err(NoMemory),
+            Event::Recover { server, undone } => {
+                self.try_recover(alloc, script, *server, undone.as_slice(), now)
+            }
             Event::Pull { link } => self.try_pull(*link),
             Event::Propagate { origin } => {
                 let count = packets.len() as u32;

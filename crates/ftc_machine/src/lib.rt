@@ -2,6 +2,7 @@
 //! of each packet. It has no vector, log, frame or lock: what the chain of servers does is judged by it.
 #![tactic(auto)]
 
+mod apart;
 mod apply;
 mod attempt;
 mod carry;
@@ -9,6 +10,7 @@ mod choice;
 mod copying;
 mod crash;
 mod departure;
+mod dropped;
 mod due;
 mod ending;
 mod enter;
@@ -16,6 +18,7 @@ mod fate;
 mod footprint;
 mod fresh;
 mod going;
+mod handover;
 mod happen;
 mod judge;
 mod kept;
@@ -31,6 +34,8 @@ mod opening;
 mod part;
 mod propagate;
 mod pull;
+mod rebuild;
+mod recover;
 mod release;
 mod replaying;
 mod send;
@@ -39,6 +44,7 @@ mod slots;
 mod tails;
 mod take;
 mod trace;
+mod undo;
 mod visit;
 mod visited;
 mod way;

@@ -1,16 +1,19 @@
 //! What goes away with messages and withheld packets.
 
-ghost use Rattle.std.specs.Prelude.{ℕ, ◌≡◌, ◌<◌, ◌≤◌, ◌&&◌, not, length, Some, None, is_some, slice_set, if◌then◌else◌};
+ghost use Rattle.std.specs.Prelude.{ℕ, ◌≡◌, ◌<◌, ◌≤◌, ◌&&◌, not, length, Some, None, is_some, option_map, slice_set, if◌then◌else◌};
 ghost use Rattle.ftc_serial.specs.Trace.{names};
 ghost use Rattle.ftc_machine.specs.declared.fate.Fate.TheVariants as became;
 ghost use Rattle.ftc_machine.specs.declared.message.Message.{Message as AMessage};
-ghost use Rattle.ftc_machine.specs.Losses.{fate_lost};
+ghost use Rattle.ftc_machine.specs.Kept.{fate_in};
+ghost use Rattle.ftc_machine.specs.Losses.{fate_lost, was_filtered};
+ghost use Rattle.ftc_machine.specs.Next.{is_undone_drop};
 ghost use Rattle.ftc_machine.specs.Slots.{slot_at, has_such};
 
 use crate::Fate;
 use crate::message::{Message, Withheld};
 use crate::slots::Slots;
-use ftc_journal::VisitNames;
+use ftc_base::ServerId;
+use ftc_journal::{VisitName, VisitNames};
 use std::alloc::Global;
 
 /// Takes a message away. The packet that it carries is lost by that event.
@@ -56,5 +59,32 @@ pub fn lose_forwarder(alloc: Global, is_first: bool, forwarder: &mut VisitNames)
 {
     if is_first {
         *forwarder = VisitNames::new(alloc);
+    }
+}
+
+/// Whether that server's middlebox dropped a packet, of which this became.
+fn was_filtered(server: ServerId, fate: Option<&Fate>) -> bool
+    ensures { result ≡ has_such (was_filtered server) (option_map (λ each. each.now) fate.entry) }
+{
+    let Some(fate) = fate else {
+        return false;
+    };
+    match fate {
+        Fate::Filtered { server: by } => server.number() == by.number(),
+        Fate::Released | Fate::Lost { .. } | Fate::Inside => false,
+    }
+}
+
+/// The packets that these visits dropped are lost by that event.
+pub fn lose_filtered(undone: &[VisitName], fates: &mut Slots<Fate>, event: u64)
+    ensures fates { (packet : ℕ) → fate_in fates.new packet ≡
+        (if is_undone_drop undone.now packet (fate_in fates.old packet) then became.Lost event else fate_in fates.old packet) }
+    ensures wide { length fates.new ≡ length fates.old }
+{
+    for name in undone {
+        let place = name.packet as usize;
+        if was_filtered(name.server, fates.get(place)) {
+            fates.put(place, Fate::Lost { event });
+        }
     }
 }

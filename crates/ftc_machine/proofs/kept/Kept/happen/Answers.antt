@@ -1,6 +1,8 @@
-use Rattle.std.proofs.Common.{◌≡◌, length, refl, sym, ap, subst}
+use Rattle.std.proofs.Common.{◌≡◌, ◌∙◌, List, length, refl, sym, ap, subst}
 use Rattle.ftc_serial.specs.Packets.{bytes_of}
 use Rattle.ftc_machine.specs.Attempts.{IsTried}
+use Rattle.ftc_journal.specs.declared.event.Event.TheVariants.{Recover}
+use Rattle.ftc_journal.specs.declared.event.VisitName.{VisitName}
 use Rattle.ftc_machine.specs.Legal.{is_release}
 use Rattle.ftc_machine.specs.Setting.{Setting, setting_of}
 use Rattle.ftc_machine.proofs.Handed.{inputs_of}
@@ -42,6 +44,15 @@ returns-in-Propagate-clause-tried c =
     subst (λ event. IsTried setting state event c.try_propagate.new.self made) (sym c.in-Propagate.is)
     (tried setting state c.args.script.now (inputs_of c.args.spec.now c.args.packets.now c.args.script.now c.len-count.result (sym c.len-count.ensures.same)) stands (none_due (ap is_release c.in-Propagate.is)) now))
     c.try_propagate.ensures.tried
+
+pub returns-in-Recover-clause-tried : goal.returns-in-Recover-clause-tried
+returns-in-Recover-clause-tried c =
+    let setting : Setting = setting_of c.args.spec.now (bytes_of c.args.packets.now) c.args.script.now in
+    ok_map c.try_recover.result _ _
+    (λ made tried state stands none_due now.
+    subst (λ event. IsTried setting state event c.try_recover.new.self made) (ap (λ (undone : List VisitName). Recover c.in-Recover.server undone) c.as_slice.ensures ∙ sym c.in-Recover.is)
+    (tried setting state (length c.args.packets.now) (inputs_of c.args.spec.now c.args.packets.now c.args.script.now (length c.args.packets.now) refl) stands (none_due (ap is_release c.in-Recover.is)) now))
+    c.try_recover.ensures.tried
 
 pub returns-in_default-clause-tried : goal.returns-in_default-clause-tried
 returns-in_default-clause-tried c =

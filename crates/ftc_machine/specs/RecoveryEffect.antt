@@ -1,0 +1,102 @@
+-- What a recovery does, by what is kept.
+use Rattle.std.specs.Prelude.{ℕ, ◌≡◌, ◌+◌, ◌-◌, ◌==◌, ◌&&◌, ◌||◌, not, nat_lt, nat_le, Bool, List, [], Option, Some, None, unwrap_or, if◌then◌else◌}
+use Rattle.std.specs.List.{list_any, range_with_len}
+use Rattle.ftc_base.specs.declared.ask.Write.{Write}
+use Rattle.ftc_journal.specs.declared.event.Event.{Event}
+use Rattle.ftc_journal.specs.declared.event.VisitName.{VisitName}
+use Rattle.ftc_ring.specs.Ring.{RingShape, apart, next_of}
+use Rattle.ftc_ring.specs.Live.{is_live, live_before_of, live_after_of, source_between}
+use Rattle.ftc_serial.specs.Trace.{names}
+use Rattle.ftc_store.specs.Store.{Content, written}
+use Rattle.ftc_vector.specs.Vector.{by_partition, merged}
+use Rattle.ftc_vector.specs.Commits.{vector_of, all_merged, group_raised}
+use Rattle.ftc_machine.specs.declared.footprint.Footprint.{Footprint}
+use Rattle.ftc_machine.specs.declared.kept.Kept.{Kept}
+use Rattle.ftc_machine.specs.declared.message.Message.{Message}
+use Rattle.ftc_machine.specs.declared.message.Place.{Place}
+use Rattle.ftc_machine.specs.declared.message.Place.TheVariants.{Held, Queued}
+use Rattle.ftc_machine.specs.Changes.{is_some_list}
+use Rattle.ftc_machine.specs.Kept.{reach_of}
+use Rattle.ftc_machine.specs.Reach.{Footprints, is_had_by}
+use Rattle.ftc_machine.specs.Recovery.{is_between}
+use Rattle.ftc_machine.specs.Run.{IsRun, state_after}
+use Rattle.ftc_machine.specs.Setting.{Setting, IsSetting}
+use Rattle.ftc_machine.specs.Slots.{has_such}
+use Rattle.ftc_machine.specs.State.{ChainState, opening}
+use Rattle.ftc_machine.specs.Tests.{footprints_of, list_of, is_ready}
+
+-- a run leads to the state
+pub record IsOfRun (c : Setting) (s : ChainState) : Type 0 where
+  pub setting : IsSetting c
+  pub journal : List Event
+  pub run : IsRun c journal
+  pub state : state_after c (opening c) journal ≡ s
+
+-- the nearest other live server before, and the nearest after, or the server itself where there is none
+abbrev pub kept_previous : Kept → ℕ → ℕ
+kept_previous k server = unwrap_or (live_before_of k.ring.servers (is_live k.down) server) server
+
+abbrev pub kept_following : Kept → ℕ → ℕ
+kept_following k server = unwrap_or (live_after_of k.ring.servers (is_live k.down) server) server
+
+-- the visit touches something, and a set that reaches so far at its middlebox lacks it
+abbrev pub is_lacked : List ℕ → Footprint → Bool
+is_lacked vector footprint = is_some_list footprint.touched.items && not (is_had_by footprint vector)
+
+-- a visit is undone by itself where its head lies between and the live server after lacks it
+abbrev pub is_undone_alone : Kept → ℕ → ℕ → ℕ → ℕ → Bool
+is_undone_alone k previous following packet group =
+    is_between k.ring.servers previous following group && has_such (is_lacked (vector_of (list_of k following) group)) (footprints_of k group packet)
+
+-- and with it the later visits of its packet
+abbrev pub is_undone_kept : Kept → ℕ → ℕ → VisitName → Bool
+is_undone_kept k previous following name = list_any (is_undone_alone k previous following name.packet) (range_with_len 0 (name.server + 1))
+
+-- ---- what the new server gets
+
+-- the vector that it gets of a group: that of the live server from which it gets the group's list, where it is a member
+abbrev pub got_vector : Kept → ℕ → ℕ → ℕ → ℕ → List ℕ
+got_vector k server previous following group =
+    if nat_lt group k.ring.servers && nat_le (apart k.ring.servers group server) k.ring.failures
+    then merged (by_partition (λ _. 0)) (vector_of (list_of k (source_between k.ring.servers previous following group server)) group)
+    else by_partition (λ _. 0)
+
+-- the group whose tail a server is
+abbrev pub tail_group : RingShape → ℕ → ℕ
+tail_group ring server = if nat_le ring.failures server then server - ring.failures else server + ring.servers - ring.failures
+
+-- to what is known the list of that group is added
+abbrev pub tail_added : Kept → ℕ → List (List ℕ) → List (List ℕ)
+tail_added k server known = group_raised known (tail_group k.ring server) (vector_of (list_of k server) (tail_group k.ring server))
+
+-- what two servers know to be at the tails
+abbrev pub both_known : Kept → ℕ → ℕ → List (List ℕ)
+both_known k one other = tail_added k other (tail_added k one (all_merged (reach_of k.known.items one) (reach_of k.known.items other)))
+
+-- the visits that stay
+abbrev pub is_left : List VisitName → VisitName → Bool
+is_left undone name = not (names undone name.server name.packet)
+
+-- what a visit wrote
+abbrev pub writes_kept : Option Footprint → List Write
+writes_kept None = []
+writes_kept (Some footprint) = footprint.writes.items
+
+-- the content of a server's middlebox behind one more visit
+abbrev pub rewritten : Footprints → ℕ → Content → VisitName → Content
+rewritten footprints server content name =
+    if name.server == server then written (writes_kept (footprints name.server name.packet)) content else content
+
+-- ---- what goes
+
+-- a message that is queued to the live server after, or that it holds and isn't ready there
+abbrev pub is_dropped_from : Kept → ℕ → Message → Place → Bool
+is_dropped_from k following message (Held server visited by_ring) = server == following && not (is_ready k following message)
+is_dropped_from k following message (Queued link known) = next_of k.ring.servers link == following
+
+abbrev pub is_dropped_kept : Kept → ℕ → Message → Bool
+is_dropped_kept k following message = is_dropped_from k following message message.place
+
+-- the links into a server and out of it get gaps
+abbrev pub gaps_through : ℕ → (ℕ → Bool) → ℕ → ℕ → Bool
+gaps_through n gap server link = gap link || (link == server) || (next_of n link == server)
