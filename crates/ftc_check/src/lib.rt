@@ -1,13 +1,13 @@
 //! The check of a run's files: whether a journal, an OUT and a report are those of one run of the protocol.
 #![tactic(auto)]
 
-mod check;
+mod checking;
 mod difference;
 mod laws;
 mod report;
 mod verdict;
 
-pub use check::check;
+pub use checking::check;
 pub use difference::first_difference;
 pub use laws::{one_difference, one_front};
 pub use report::without_taps;

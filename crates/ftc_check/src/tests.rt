@@ -1,4 +1,4 @@
-mod check;
+mod files;
 
 use crate::{first_difference, without_taps};
 
