@@ -23,8 +23,8 @@ some_once found = ≡_prop coded_bool _ _
 has_end : (c : Setting) (journal : List Event) → ((setting : Setting) → IsSetting setting → (journal : List Event) → IsRun setting journal → HasSerialRun setting journal) → ∥ IsSetting c ∥₁ → ∥ IsRun c journal ∥₁ → IsSome (serial_run c.rules (serial.opening c.packets) (trace_of journal))
 has_end c journal law setting run =
     ∥∥₁_elim setting (some_once _) (λ is. ∥∥₁_elim run (some_once _) (λ legal.
-      let found : HasSerialRun c journal = law c is journal legal in
-      subst (λ (o : Option State). IsSome o) (sym found.exists) refl))
+    let found : HasSerialRun c journal = law c is journal legal in
+    subst (λ (o : Option State). IsSome o) (sym found.exists) refl))
 
 -- and so it has for a chain and packets that are those of the run
 pub has_end_there : (played : Played) (chain : Chain) (packets : List (List ℕ)) (events : List Event) (steps : List Step) → ((setting : Setting) → IsSetting setting → (journal : List Event) → IsRun setting journal → HasSerialRun setting journal) → ∥ IsSetting (setting_in played) ∥₁ → ∥ IsRun (setting_in played) played.journal ∥₁

@@ -19,7 +19,8 @@ const CAPTURE: [u8; 82] = [
 const JOURNAL: &str = "ftc-journal 2\nenter 0\nvisit 0 0 63\npass 0 0\nrelease 0\n";
 
 // 10 + 0 + 0 + 5 is 7 modulo 8.
-const REPORT: &str = "ftc-report 1\npackets 1\nreleased 1\nfiltered 0\nlost 0\nfate 0 released\nstore 0 1\nkey 6d0007 0000000000000001\n";
+const REPORT: &str =
+    "ftc-report 1\npackets 1\nreleased 1\nfiltered 0\nlost 0\nfate 0 released\nstore 0 1\nkey 6d0007 0000000000000001\n";
 
 /// What the check says of these files, for one server that counts packets in eight groups. None where a text
 /// is refused.
@@ -46,7 +47,15 @@ fn answer(
         Err(_) => return Ok(None),
     };
     accepted();
-    let verdict = check(alloc, &spec, &capture, &script, out, &journal, report.as_bytes())?;
+    let verdict = check(
+        alloc,
+        &spec,
+        &capture,
+        &script,
+        out,
+        &journal,
+        report.as_bytes(),
+    )?;
     Ok(Some(verdict))
 }
 
@@ -59,8 +68,12 @@ fn answer_to(alloc: Global, journal: &str) -> Result<Option<Checked>, NoMemory> 
 fn files_of_one_run_are_right(rt: HostRuntime) -> Result<(), Fail> {
     let alloc = rt.alloc();
     assert_eq!(rt; answer_to(alloc, JOURNAL)?, Some(Checked::Yes));
-    let report = "ftc-report 1\npackets 1\nreleased 1\nfiltered 0\nlost 0\nfate 0 released\nstore 0 1\nkey 6d0007 0000000000000001\ntap packets 1\n";
-    assert_eq!(rt; answer(alloc, CAPTURE.as_slice(), JOURNAL, report)?, Some(Checked::Yes));
+    let report =
+        "ftc-report 1\npackets 1\nreleased 1\nfiltered 0\nlost 0\nfate 0 released\nstore 0 1\nkey 6d0007 0000000000000001\ntap packets 1\n";
+    assert_eq!(rt;
+        answer(alloc, CAPTURE.as_slice(), JOURNAL, report)?,
+        Some(Checked::Yes)
+    );
     Ok(())
 }
 
@@ -68,12 +81,28 @@ fn files_of_one_run_are_right(rt: HostRuntime) -> Result<(), Fail> {
 fn the_first_event_that_is_not_allowed_is_named(rt: HostRuntime) -> Result<(), Fail> {
     let alloc = rt.alloc();
     for (journal, event) in [
-        ("ftc-journal 2\nvisit 0 0 63\nenter 0\npass 0 0\nrelease 0\n", 0),
-        ("ftc-journal 2\nenter 0\npass 0 0\nvisit 0 0 63\nrelease 0\n", 1),
-        ("ftc-journal 2\nenter 0\nvisit 0 0 63\nrelease 0\npass 0 0\n", 2),
-        ("ftc-journal 2\nenter 0\nvisit 0 0 63\npass 0 0\nrelease 0\nrelease 0\n", 4),
+        (
+            "ftc-journal 2\nvisit 0 0 63\nenter 0\npass 0 0\nrelease 0\n",
+            0,
+        ),
+        (
+            "ftc-journal 2\nenter 0\npass 0 0\nvisit 0 0 63\nrelease 0\n",
+            1,
+        ),
+        (
+            "ftc-journal 2\nenter 0\nvisit 0 0 63\nrelease 0\npass 0 0\n",
+            2,
+        ),
+        (
+            "ftc-journal 2\nenter 0\nvisit 0 0 63\npass 0 0\nrelease 0\nrelease 0\n",
+            4,
+        ),
     ] {
-        assert_eq!(rt; answer_to(alloc, journal)?, Some(Checked::NotRun { event }), "{journal}");
+        assert_eq!(rt;
+            answer_to(alloc, journal)?,
+            Some(Checked::NotRun { event }),
+            "{journal}"
+        );
     }
     Ok(())
 }
@@ -86,7 +115,11 @@ fn a_run_that_goes_on_is_unfinished(rt: HostRuntime) -> Result<(), Fail> {
         "ftc-journal 2\nenter 0\nvisit 0 0 63\n",
         "ftc-journal 2\nenter 0\nvisit 0 0 63\npass 0 0\n",
     ] {
-        assert_eq!(rt; answer_to(alloc, journal)?, Some(Checked::Unfinished), "{journal}");
+        assert_eq!(rt;
+            answer_to(alloc, journal)?,
+            Some(Checked::Unfinished),
+            "{journal}"
+        );
     }
     Ok(())
 }
@@ -95,8 +128,14 @@ fn a_run_that_goes_on_is_unfinished(rt: HostRuntime) -> Result<(), Fail> {
 fn the_first_wrong_byte_is_named(rt: HostRuntime) -> Result<(), Fail> {
     let alloc = rt.alloc();
     let cut = &CAPTURE[..81];
-    assert_eq!(rt; answer(alloc, cut, JOURNAL, REPORT)?, Some(Checked::OutDiffers { at: 81 }));
-    assert_eq!(rt; answer(alloc, b"", JOURNAL, "")?, Some(Checked::OutDiffers { at: 0 }));
+    assert_eq!(rt;
+        answer(alloc, cut, JOURNAL, REPORT)?,
+        Some(Checked::OutDiffers { at: 81 })
+    );
+    assert_eq!(rt;
+        answer(alloc, b"", JOURNAL, "")?,
+        Some(Checked::OutDiffers { at: 0 })
+    );
     let more = "ftc-report 1\npackets 2\n";
     let wrong = Some(Checked::ReportDiffers { at: 21 });
     assert_eq!(rt; answer(alloc, CAPTURE.as_slice(), JOURNAL, more)?, wrong);

@@ -1,4 +1,4 @@
-use Rattle.std.proofs.Common.{◌≡◌, ap, subst, sym, refl, ℕ, Option, Some, None}
+use Rattle.std.proofs.Common.{◌≡◌, subst, refl, ℕ, Option}
 use Rattle.std.specs.Prelude.{IfSome, IsNone}
 use Rattle.ftc_serial.specs.Packets.{bytes_of}
 use Rattle.ftc_serial.specs.Held.{state_of}
