@@ -1,3 +1,4 @@
 mod Lines
 mod Pieces
 mod Cuts
+mod Files

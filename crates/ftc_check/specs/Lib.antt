@@ -1,3 +1,4 @@
 pub mod Difference
 pub mod Taps
 pub mod Laws
+pub mod Verdict

@@ -1,13 +1,17 @@
-//! What the check of a run compares: two texts, and a report without its taps' lines.
+//! The check of a run's files: whether a journal, an OUT and a report are those of one run of the protocol.
 #![tactic(auto)]
 
+mod checking;
 mod difference;
 mod laws;
 mod report;
+mod verdict;
 
+pub use checking::check;
 pub use difference::first_difference;
 pub use laws::{one_difference, one_front};
 pub use report::without_taps;
+pub use verdict::Checked;
 
 #[cfg(test)]
 mod tests;

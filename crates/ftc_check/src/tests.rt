@@ -1,3 +1,5 @@
+mod files;
+
 use crate::{first_difference, without_taps};
 
 #[test]

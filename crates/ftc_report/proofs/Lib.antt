@@ -2,3 +2,4 @@ mod Grouping
 mod Numbering
 mod Legal
 mod Recorded
+mod Writable

@@ -4,6 +4,7 @@
 
 mod counts;
 mod fates;
+mod laws;
 mod over;
 mod printer;
 mod released;
@@ -11,7 +12,8 @@ mod stores;
 mod taps;
 
 pub use fates::Fates;
-pub use over::report_over;
+pub use laws::released_fit;
+pub use over::{chain_after, report_over};
 pub use printer::print;
 pub use released::out_of;
 

@@ -19,7 +19,7 @@ use ftc_serial::{Serial, Trace};
 use std::alloc::Global;
 
 /// The serial chain after a trace all of whose steps are legal.
-fn chain_after(
+pub fn chain_after(
     alloc: Global,
     spec: &ChainSpec,
     packets: &Packets,

@@ -66,7 +66,7 @@ fn a_packet_enters_or_is_lost(rt: HostRuntime) -> Result<(), Fail> {
 fn a_message_begins_and_ends(rt: HostRuntime) -> Result<(), Fail> {
     let alloc = rt.alloc();
     let mut kept = opening(alloc)?;
-    assert!(rt; kept.propagates < u32::MAX);
+    assert!(rt; kept.propagates < u64::MAX);
     kept.propagate(alloc, 4, 0)?;
     assert!(rt;
         kept.messages
