@@ -155,16 +155,17 @@ fn undone_visits_are_not_reported(rt: HostRuntime) -> Result<(), Fail> {
 #[test]
 fn released_packets_have_their_own_stamps(rt: HostRuntime) -> Result<(), Fail> {
     let alloc = rt.alloc();
+    let packets = packets_of(alloc, &rt)?;
+    assert!(rt; packets.len() > 1);
     let capture = Capture {
         header: [7; 24],
         big: true,
-        packets: packets_of(alloc, &rt)?,
+        packets,
     };
+    let bytes = bytes_of(alloc, &[8, 9])?;
+    assert!(rt; bytes.len() < 100);
     let mut released = ReleasedList::new(alloc);
-    released.push(Released {
-        packet: 1,
-        bytes: bytes_of(alloc, &[8, 9])?,
-    })?;
+    released.push(Released { packet: 1, bytes })?;
     let mut expected = bytes_of(alloc, &[7; 24])?;
     expected.append(&[0, 0, 0, 1, 0, 0, 0, 0, 0, 0, 0, 2, 0, 0, 0, 42, 8, 9])?;
     let out = out_of(alloc, &capture, &released)?;
