@@ -19,30 +19,30 @@ use Rattle.ftc_machine.specs.declared.kept.Kept.{Kept}
 use Rattle.ftc_machine.specs.declared.message.Message.{Message as KeptMessage}
 use Rattle.ftc_machine.specs.declared.message.Place.{Place}
 use Rattle.ftc_machine.specs.declared.message.Place.TheVariants as place
-use Rattle.ftc_machine.specs.Changes.{changes, is_changing, is_some_list}
+use Rattle.ftc_protocol.specs.Changes.{changes, is_changing, is_some_list}
 use Rattle.ftc_machine.specs.Kept.{IsKept, IsPlace, IsMessageSlot, MayFollow, footprints_in, reach_of}
 use Rattle.ftc_machine.specs.Making.{IsMade}
 use Rattle.ftc_machine.specs.Marking.{marked_at}
-use Rattle.ftc_machine.specs.Next.{outcome_at}
+use Rattle.ftc_protocol.specs.Next.{outcome_at}
 use Rattle.ftc_machine.specs.Reach.{Footprints, AreRising, AreFootprints, IsFootprint, IsReach, Reaches, numbers_of, reach_in}
-use Rattle.ftc_machine.specs.Setting.{Setting, servers}
+use Rattle.ftc_protocol.specs.Setting.{Setting, servers}
 use Rattle.ftc_machine.specs.Slots.{slot_at}
-use Rattle.ftc_machine.specs.State.{ChainState, Message, Where, Held, Queued}
-use Rattle.ftc_machine.specs.Trace.{IsChanging, IsSomeVisit, content_of}
-use Rattle.ftc_machine.specs.Visits.{Visits, In, just, union}
-use Rattle.ftc_machine.proofs.Awake.{IsUp}
+use Rattle.ftc_protocol.specs.State.{ChainState, Message, Where, Held, Queued}
+use Rattle.ftc_protocol.specs.Trace.{IsChanging, IsSomeVisit, content_of}
+use Rattle.ftc_protocol.specs.Visits.{Visits, In, just, union}
+use Rattle.ftc_protocol.proofs.Awake.{IsUp}
 use Rattle.ftc_machine.proofs.Following.{reached_before, visits_within, changes_within}
 use Rattle.ftc_machine.proofs.Growing.{rising_grows, footprints_grow, others_grow, head_grows}
-use Rattle.ftc_machine.proofs.Inv.{Inv, expected}
-use Rattle.ftc_machine.proofs.Listing.{in_one}
+use Rattle.ftc_protocol.proofs.Inv.{Inv, expected}
+use Rattle.ftc_protocol.proofs.Listing.{in_one}
 use Rattle.ftc_machine.proofs.Makes.{footprint_of}
-use Rattle.ftc_machine.proofs.Places.{Waits, serial_of}
+use Rattle.ftc_protocol.proofs.Places.{Waits, serial_of}
 use Rattle.ftc_machine.proofs.Raised.{raised_reaches, or_false}
 use Rattle.ftc_machine.proofs.Reached.{AreWithin}
 use Rattle.ftc_machine.proofs.Reaching.{same_reach, head_last}
 use Rattle.ftc_machine.proofs.Replaced.{row_replaced}
-use Rattle.ftc_machine.proofs.Standing.{stands_map, visited_earlier}
-use Rattle.ftc_machine.proofs.Supposed.{changed_touched}
+use Rattle.ftc_protocol.proofs.Standing.{stands_map, visited_earlier}
+use Rattle.ftc_protocol.proofs.Supposed.{changed_touched}
 
 pub some_length : {A : Type 0} (xs : List A) → is_some_list xs ≡ not (length xs == 0)
 some_length [] = refl

@@ -15,17 +15,17 @@ use Rattle.ftc_serial.specs.Words.{with_at}
 use Rattle.ftc_serial.proofs.Functions.{with_at_cases}
 use Rattle.ftc_serial.proofs.Places.{get_set}
 use Rattle.ftc_store.specs.Store.{Content, Stored}
-use Rattle.ftc_machine.specs.declared.fate.Fate.{Fate}
-use Rattle.ftc_machine.specs.declared.fate.Fate.TheVariants.{Inside}
+use Rattle.ftc_protocol.specs.declared.fate.Fate.{Fate}
+use Rattle.ftc_protocol.specs.declared.fate.Fate.TheVariants.{Inside}
 use Rattle.ftc_machine.specs.declared.footprint.Footprint.{Footprint}
 use Rattle.ftc_machine.specs.declared.kept.Kept.{Kept}
 use Rattle.ftc_machine.specs.declared.message.Message.{Message as KeptMessage}
 use Rattle.ftc_machine.specs.declared.message.Withheld.{Withheld as KeptWithheld}
 use Rattle.ftc_machine.specs.Kept.{IsKept, AreKeptSets, IsMessageSlot, IsWithheldSlot, StandsStill, footprints_in, reach_of}
 use Rattle.ftc_machine.specs.Reach.{Footprints, AreRising, AreFootprints, Reaches, numbers_of}
-use Rattle.ftc_machine.specs.Setting.{Setting}
+use Rattle.ftc_protocol.specs.Setting.{Setting}
 use Rattle.ftc_machine.specs.Slots.{slot_at}
-use Rattle.ftc_machine.specs.State.{ChainState}
+use Rattle.ftc_protocol.specs.State.{ChainState}
 
 -- the parts that are no tables of footprints, stores, messages, withheld packets or fates
 pub record AreEqual (old new : Kept) : Type 0 where

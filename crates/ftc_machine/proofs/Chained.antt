@@ -4,10 +4,10 @@ use Rattle.std.specs.Prelude.{slice_get}
 use Rattle.std.proofs.lemmas.Bool.{cases_eq}
 use Rattle.ftc_serial.specs.Serial.{Entry, Visited, Given}
 use Rattle.ftc_serial.proofs.Functions.{with_at_cases}
-use Rattle.ftc_machine.specs.Setting.{Setting, servers}
-use Rattle.ftc_machine.specs.Trace.{IsSomeVisit}
-use Rattle.ftc_machine.proofs.Places.{IsSerial, Waits, Released, place_after, serial_of, opening_waits}
-use Rattle.ftc_machine.proofs.Standing.{waits_past}
+use Rattle.ftc_protocol.specs.Setting.{Setting, servers}
+use Rattle.ftc_protocol.specs.Trace.{IsSomeVisit}
+use Rattle.ftc_protocol.proofs.Places.{IsSerial, Waits, Released, place_after, serial_of, opening_waits}
+use Rattle.ftc_protocol.proofs.Standing.{waits_past}
 
 -- one that waits for a middlebox has visited all before it
 waited : (c : Setting) (trace : List Entry) (k p : ℕ) (bytes : List ℕ) → IsSerial c trace → (serial_of c trace).place p ≡ Waits k bytes → (i : ℕ) → i < k → IsSomeVisit trace i p

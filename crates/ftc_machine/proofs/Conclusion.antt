@@ -1,27 +1,26 @@
 -- A run has ended where what is kept says so.
-use Rattle.std.proofs.Common.{◌≡◌, ℕ, ◌<◌, ◌≤◌, ◌==◌, ◌&&◌, nat_le, not, Bool, true, false, List, [], ◌∷◌, length, drop, Option, Some, None, refl, sym, ap, subst, ◌∙◌, inl, inr, arith, eqb-true, eq-eqb, leb-true, le-leb}
+use Rattle.std.proofs.Common.{◌≡◌, ℕ, ◌<◌, ◌≤◌, ◌==◌, ◌&&◌, nat_le, not, Bool, true, false, List, [], ◌∷◌, length, drop, Some, None, refl, sym, ap, ◌∙◌, arith, eqb-true, eq-eqb, leb-true, le-leb}
 use Rattle.std.specs.List.{list_any}
-use Rattle.std.proofs.lemmas.Bool.{true≢false, and_parts, and_from, cases_Bool}
+use Rattle.std.proofs.lemmas.Bool.{true≢false, and_parts, and_from}
 use Rattle.std.proofs.lemmas.Option.{none-some}
 use Rattle.std.proofs.lemmas.List.{drop_all, length-drop}
 use Rattle.ftc_base.specs.Sets.{has}
 use Rattle.ftc_journal.specs.declared.event.VisitName.{VisitName}
 use Rattle.ftc_script.specs.Script.{ScriptShape}
-use Rattle.ftc_script.specs.declared.line.ScriptLine.{ScriptLine}
 use Rattle.ftc_serial.specs.Trace.{names}
 use Rattle.ftc_machine.specs.declared.kept.Kept.{Kept}
 use Rattle.ftc_machine.specs.declared.message.Message.{Message as KeptMessage}
 use Rattle.ftc_machine.specs.declared.message.Withheld.{Withheld as KeptWithheld}
-use Rattle.ftc_machine.specs.Setting.{Setting, servers, count, IsSetting}
-use Rattle.ftc_machine.specs.State.{ChainState, Message, Withheld}
-use Rattle.ftc_machine.specs.Run.{IsFinished}
-use Rattle.ftc_machine.specs.Finish.{IsComplete}
+use Rattle.ftc_protocol.specs.Setting.{Setting, servers, IsSetting}
+use Rattle.ftc_protocol.specs.State.{ChainState}
+use Rattle.ftc_protocol.specs.Run.{IsFinished}
+use Rattle.ftc_protocol.specs.Finish.{IsComplete}
 use Rattle.ftc_machine.specs.Slots.{slot_at, has_such}
-use Rattle.ftc_machine.specs.Kept.{IsKept, IsMessage, IsWithheld, AreInputs}
+use Rattle.ftc_machine.specs.Kept.{IsKept, AreInputs}
 use Rattle.ftc_machine.specs.Tests.{all_below}
 use Rattle.ftc_machine.specs.Done.{is_done}
-use Rattle.ftc_machine.proofs.Complete.{IsReached}
-use Rattle.ftc_machine.proofs.Stopped.{nothing_left}
+use Rattle.ftc_protocol.proofs.Complete.{IsReached}
+use Rattle.ftc_protocol.proofs.Stopped.{nothing_left}
 use Rattle.ftc_machine.proofs.Told.{any_item, item_any, names_here, untrue, not_so}
 use Rattle.ftc_machine.proofs.Judged.{said_message}
 use Rattle.ftc_machine.proofs.JudgedScript.{none_said, no_gap, below_each, kept_withheld, said_withheld}

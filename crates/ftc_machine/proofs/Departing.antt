@@ -12,8 +12,8 @@ use Rattle.ftc_ring.proofs.Geometry.{next_within}
 use Rattle.ftc_serial.specs.Trace.{names}
 use Rattle.ftc_serial.specs.Words.{with_at}
 use Rattle.ftc_serial.proofs.Functions.{with_at_cases}
-use Rattle.ftc_machine.specs.declared.fate.Fate.{Fate}
-use Rattle.ftc_machine.specs.declared.fate.Fate.TheVariants.{Inside, Lost}
+use Rattle.ftc_protocol.specs.declared.fate.Fate.{Fate}
+use Rattle.ftc_protocol.specs.declared.fate.Fate.TheVariants.{Inside, Lost}
 use Rattle.ftc_machine.specs.declared.kept.Kept.{Kept}
 use Rattle.ftc_machine.specs.declared.message.Message.{Message as KeptMessage}
 use Rattle.ftc_machine.specs.declared.message.Place.{Place}
@@ -21,13 +21,13 @@ use Rattle.ftc_machine.specs.declared.message.Place.TheVariants as place
 use Rattle.ftc_machine.specs.declared.message.Withheld.{Withheld as KeptWithheld}
 use Rattle.ftc_machine.specs.Effects.{logs_in, sending}
 use Rattle.ftc_machine.specs.Kept.{IsKept, IsMessageSlot, IsPlace, IsWithheldSlot, MayFollow, fate_in, footprints_in}
-use Rattle.ftc_machine.specs.Known.{knows}
-use Rattle.ftc_machine.specs.Legal.{MayHappen, MayLeave, is_sent}
-use Rattle.ftc_machine.specs.Next.{next, is_away, has_packet, logs_of, sent_message, sent_on, withheld_of, withheld_packet}
+use Rattle.ftc_protocol.specs.Known.{knows}
+use Rattle.ftc_protocol.specs.Legal.{MayHappen, MayLeave, is_sent}
+use Rattle.ftc_protocol.specs.Next.{next, is_away, has_packet, logs_of, sent_message, sent_on, withheld_of, withheld_packet}
 use Rattle.ftc_machine.specs.Reach.{Reaches, numbers_of}
-use Rattle.ftc_machine.specs.Setting.{Setting, servers, is_tail}
+use Rattle.ftc_protocol.specs.Setting.{Setting, servers, is_tail}
 use Rattle.ftc_machine.specs.Slots.{slot_at}
-use Rattle.ftc_machine.specs.State.{ChainState, Message, Withheld, Queued}
+use Rattle.ftc_protocol.specs.State.{ChainState, Message, Withheld, Queued}
 use Rattle.ftc_machine.specs.Tails.{group_ending, known_at}
 use Rattle.ftc_machine.specs.Tests.{sends}
 use Rattle.ftc_machine.proofs.GoingOn.{logs_go_on}

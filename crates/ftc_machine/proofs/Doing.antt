@@ -14,17 +14,17 @@ use Rattle.ftc_serial.specs.Trace.{names}
 use Rattle.ftc_store.specs.Store.{Content}
 use Rattle.ftc_machine.specs.declared.kept.Kept.{Kept}
 use Rattle.ftc_machine.specs.declared.message.Message.{Message as KeptMessage}
-use Rattle.ftc_machine.specs.Changes.{is_some_list}
+use Rattle.ftc_protocol.specs.Changes.{is_some_list}
 use Rattle.ftc_machine.specs.Kept.{IsKept, IsMessageSlot, MayFollow, footprints_in}
-use Rattle.ftc_machine.specs.Next.{bytes_in, bytes_of, logs_of, outcome_at}
+use Rattle.ftc_protocol.specs.Next.{bytes_in, bytes_of, logs_of, outcome_at}
 use Rattle.ftc_machine.specs.Reach.{Numbers}
-use Rattle.ftc_machine.specs.Setting.{Setting, rule_at}
+use Rattle.ftc_protocol.specs.Setting.{Setting, rule_at}
 use Rattle.ftc_machine.specs.Slots.{slot_at}
-use Rattle.ftc_machine.specs.State.{ChainState, Message}
+use Rattle.ftc_protocol.specs.State.{ChainState, Message}
 use Rattle.ftc_machine.specs.VisitEffect.{bytes_kept, logs_kept, outcome_kept, logs_behind}
-use Rattle.ftc_machine.specs.Visits.{just, union}
+use Rattle.ftc_protocol.specs.Visits.{just, union}
 use Rattle.ftc_machine.proofs.Added.{below, live}
-use Rattle.ftc_machine.proofs.Listed.{any_name}
+use Rattle.ftc_protocol.proofs.Listed.{any_name}
 use Rattle.ftc_machine.proofs.Raised.{or_false}
 
 eqb_other_way : (a b : ℕ) → (a == b) ≡ (b == a)

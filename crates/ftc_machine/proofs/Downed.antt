@@ -13,8 +13,8 @@ use Rattle.ftc_vector.specs.Vector.{by_partition, number_at}
 use Rattle.ftc_vector.specs.Commits.{by_group, vector_of}
 use Rattle.ftc_machine.specs.Reach.{Numbers, AreRising, Reaches, reach_in}
 use Rattle.ftc_machine.specs.Kept.{reach_of}
-use Rattle.ftc_machine.specs.Trace.{content_of}
-use Rattle.ftc_machine.specs.Visits.{Visits, no_visits}
+use Rattle.ftc_protocol.specs.Trace.{content_of}
+use Rattle.ftc_protocol.specs.Visits.{Visits, no_visits}
 use Rattle.ftc_machine.proofs.Reaching.{none_reach, zero_at}
 use Rattle.ftc_machine.proofs.Replaced.{row_replaced}
 

@@ -4,19 +4,19 @@ use Rattle.std.specs.Option.{option_map_or}
 use Rattle.ftc_ring.specs.Ring.{next_of}
 use Rattle.ftc_script.specs.declared.line.ScriptLine.{ScriptLine}
 use Rattle.ftc_serial.specs.Serial.{Entry}
-use Rattle.ftc_machine.specs.declared.fate.Fate.{Fate}
-use Rattle.ftc_machine.specs.declared.fate.Fate.TheVariants.{Inside, Lost}
+use Rattle.ftc_protocol.specs.declared.fate.Fate.{Fate}
+use Rattle.ftc_protocol.specs.declared.fate.Fate.TheVariants.{Inside, Lost}
 use Rattle.ftc_machine.specs.declared.message.Message.{Message as KeptMessage}
 use Rattle.ftc_machine.specs.declared.message.Place.{Place}
 use Rattle.ftc_machine.specs.declared.message.Place.TheVariants as place
 use Rattle.ftc_machine.specs.declared.message.Withheld.{Withheld as KeptWithheld}
 use Rattle.ftc_machine.specs.Kept.{IsMessage, IsMessageSlot, IsPlace, IsWithheldSlot}
 use Rattle.ftc_machine.specs.Losses.{drop_kept, loses_kept, fate_lost, is_kept_at}
-use Rattle.ftc_machine.specs.Next.{drop_if, loses_packet, is_at, lines_behind}
+use Rattle.ftc_protocol.specs.Next.{drop_if, loses_packet, is_at, lines_behind}
 use Rattle.ftc_machine.specs.Reach.{Numbers}
-use Rattle.ftc_machine.specs.Setting.{Setting, servers}
-use Rattle.ftc_machine.specs.State.{Where, Held, Queued, Message, Withheld}
-use Rattle.ftc_machine.specs.Visits.{Visits}
+use Rattle.ftc_protocol.specs.Setting.{Setting, servers}
+use Rattle.ftc_protocol.specs.State.{Where, Held, Queued, Message, Withheld}
+use Rattle.ftc_protocol.specs.Visits.{Visits}
 
 -- the lines behind the next one that is left
 pub lines_left_behind : (done : ℕ) (lines : List ScriptLine) → lines_behind (drop done lines) ≡ drop (done + 1) lines

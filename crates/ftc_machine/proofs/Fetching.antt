@@ -14,23 +14,23 @@ use Rattle.ftc_serial.proofs.Functions.{with_at_cases}
 use Rattle.ftc_store.specs.Store.{Content, written}
 use Rattle.ftc_vector.specs.Commits.{all_merged}
 use Rattle.ftc_machine.specs.declared.kept.Kept.{Kept}
-use Rattle.ftc_machine.specs.Changes.{changes}
+use Rattle.ftc_protocol.specs.Changes.{changes}
 use Rattle.ftc_machine.specs.Kept.{IsKept, MayFollow, footprints_in, reach_of}
 use Rattle.ftc_machine.specs.News.{HasNews}
-use Rattle.ftc_machine.specs.Next.{is_news, pulled_list}
+use Rattle.ftc_protocol.specs.Next.{is_news, pulled_list}
 use Rattle.ftc_machine.specs.Reach.{Reaches, IsChangingIn, numbers_of, reach_in}
-use Rattle.ftc_machine.specs.Setting.{Setting, servers, is_member, is_tail}
-use Rattle.ftc_machine.specs.State.{ChainState}
+use Rattle.ftc_protocol.specs.Setting.{Setting, servers, is_member, is_tail}
+use Rattle.ftc_protocol.specs.State.{ChainState}
 use Rattle.ftc_machine.specs.Tails.{group_ending, is_behind, part_of}
-use Rattle.ftc_machine.specs.Trace.{IsChanging, IsInTrace, content_of}
-use Rattle.ftc_machine.specs.Visits.{In, Visits, union}
-use Rattle.ftc_machine.proofs.Complete.{IsReached}
+use Rattle.ftc_protocol.specs.Trace.{IsChanging, IsInTrace, content_of}
+use Rattle.ftc_protocol.specs.Visits.{In, Visits, union}
+use Rattle.ftc_protocol.proofs.Complete.{IsReached}
 use Rattle.ftc_machine.proofs.Following.{reached_before, visits_below, visits_within}
 use Rattle.ftc_machine.proofs.Parts.{part_reaches}
 use Rattle.ftc_machine.proofs.Reached.{merged_reaches, reach_moves}
 use Rattle.ftc_machine.proofs.Replaced.{row_replaced}
-use Rattle.ftc_machine.proofs.Ring.{apart_after, apart_cases}
-use Rattle.ftc_machine.proofs.Stores.{some_changes}
+use Rattle.ftc_protocol.proofs.Ring.{apart_after, apart_cases}
+use Rattle.ftc_protocol.proofs.Stores.{some_changes}
 use Rattle.ftc_machine.proofs.Tailed.{ends_here, same_test}
 
 -- a changing visit changes some partition

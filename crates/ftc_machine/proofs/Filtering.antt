@@ -5,13 +5,13 @@ use Rattle.std.proofs.lemmas.Bool.{true≢false, cases_eq, cases_lt, ne_eqb}
 use Rattle.std.proofs.lemmas.List.{take_more, get_or_past}
 use Rattle.ftc_journal.specs.declared.event.VisitName.{VisitName}
 use Rattle.ftc_serial.specs.Trace.{names}
-use Rattle.ftc_machine.specs.declared.fate.Fate.{Fate}
-use Rattle.ftc_machine.specs.declared.fate.Fate.TheVariants.{Filtered, Inside, Lost, Released}
+use Rattle.ftc_protocol.specs.declared.fate.Fate.{Fate}
+use Rattle.ftc_protocol.specs.declared.fate.Fate.TheVariants.{Filtered, Inside, Lost, Released}
 use Rattle.ftc_machine.specs.Kept.{fate_in}
 use Rattle.ftc_machine.specs.Losses.{was_filtered}
-use Rattle.ftc_machine.specs.Next.{is_undone_drop}
+use Rattle.ftc_protocol.specs.Next.{is_undone_drop}
 use Rattle.ftc_machine.specs.Slots.{slot_at, has_such}
-use Rattle.ftc_machine.proofs.Listed.{any_name}
+use Rattle.ftc_protocol.proofs.Listed.{any_name}
 use Rattle.ftc_machine.proofs.Raised.{or_false}
 
 drop_more : (undone : List VisitName) (name : VisitName) (packet : ℕ) (fate : Fate)

@@ -6,16 +6,16 @@ use Rattle.ftc_journal.specs.declared.event.Event.{Event}
 use Rattle.ftc_serial.specs.Serial.{Entry, Visited, Given}
 use Rattle.ftc_serial.specs.Take.{Outcome}
 use Rattle.ftc_serial.specs.Words.{AnyOf}
-use Rattle.ftc_machine.specs.Changes.{Changes, changes}
+use Rattle.ftc_protocol.specs.Changes.{Changes, changes}
 use Rattle.ftc_machine.specs.declared.kept.Kept.{Kept}
 use Rattle.ftc_machine.specs.Kept.{IsKept, MayFollow}
 use Rattle.ftc_machine.specs.Reach.{IsChangingIn}
-use Rattle.ftc_machine.specs.Setting.{Setting, servers, IsSetting}
-use Rattle.ftc_machine.specs.State.{ChainState}
-use Rattle.ftc_machine.specs.Trace.{IsInTrace}
-use Rattle.ftc_machine.proofs.Complete.{IsReached, reached}
+use Rattle.ftc_protocol.specs.Setting.{Setting, servers, IsSetting}
+use Rattle.ftc_protocol.specs.State.{ChainState}
+use Rattle.ftc_protocol.specs.Trace.{IsInTrace}
+use Rattle.ftc_protocol.proofs.Complete.{IsReached, reached}
 use Rattle.ftc_machine.proofs.Reached.{AreWithin}
-use Rattle.ftc_machine.proofs.Stores.{stands_below}
+use Rattle.ftc_protocol.proofs.Stores.{stands_below}
 
 -- a visit of the trace has some outcome
 pub outcome_of : (P : Outcome → Type 0) (trace : List Entry) (server packet : ℕ) → IsInTrace P trace server packet → (outcome : Outcome) × P outcome

@@ -14,13 +14,13 @@ use Rattle.ftc_serial.specs.Serial.{Entry, Visited, Given}
 use Rattle.ftc_serial.proofs.Functions.{any_of_all}
 use Rattle.ftc_machine.specs.declared.footprint.Touched.{Touched}
 use Rattle.ftc_machine.specs.declared.footprint.Footprint.{Footprint}
-use Rattle.ftc_machine.specs.Visits.{Visits, In}
-use Rattle.ftc_machine.specs.Changes.{Changes, Meets, changes, is_touching, is_changing, is_some_list}
-use Rattle.ftc_machine.specs.Trace.{IsInTrace, IsSomeVisit, IsTouching, IsChanging, IsBefore, Has}
+use Rattle.ftc_protocol.specs.Visits.{Visits, In}
+use Rattle.ftc_protocol.specs.Changes.{Changes, Meets, changes, is_touching, is_changing, is_some_list}
+use Rattle.ftc_protocol.specs.Trace.{IsInTrace, IsSomeVisit, IsTouching, IsChanging, IsBefore, Has}
 use Rattle.ftc_machine.specs.Reach.{Numbers, Footprints, AreRising, AreFootprints, IsChangingIn, IsReach, IsLast, IsFootprint, numbers_of, has_changed, follows, contains, is_had_by}
-use Rattle.ftc_machine.proofs.Changing.{any_mapped}
-use Rattle.ftc_machine.proofs.Standing.{any_map, stands_map}
-use Rattle.ftc_machine.proofs.Stores.{some_changes}
+use Rattle.ftc_protocol.proofs.Changing.{any_mapped}
+use Rattle.ftc_protocol.proofs.Standing.{any_map, stands_map}
+use Rattle.ftc_protocol.proofs.Stores.{some_changes}
 use Rattle.ftc_machine.proofs.Placed.{IsPlaced, place_of, stands, stood}
 
 -- ---- lists

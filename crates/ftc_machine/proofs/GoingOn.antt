@@ -8,11 +8,11 @@ use Rattle.ftc_machine.specs.declared.kept.Kept.{Kept}
 use Rattle.ftc_machine.specs.declared.message.Message.{Message as KeptMessage}
 use Rattle.ftc_machine.specs.Effects.{logs_in}
 use Rattle.ftc_machine.specs.Kept.{IsKept, IsMessageSlot, MayFollow, footprints_in}
-use Rattle.ftc_machine.specs.Next.{logs_of}
+use Rattle.ftc_protocol.specs.Next.{logs_of}
 use Rattle.ftc_machine.specs.Reach.{Numbers, numbers_of}
-use Rattle.ftc_machine.specs.Setting.{Setting, servers, is_tail}
+use Rattle.ftc_protocol.specs.Setting.{Setting, servers, is_tail}
 use Rattle.ftc_machine.specs.Slots.{slot_at}
-use Rattle.ftc_machine.specs.State.{ChainState, Message}
+use Rattle.ftc_protocol.specs.State.{ChainState, Message}
 use Rattle.ftc_machine.specs.Tails.{group_ending}
 use Rattle.ftc_machine.proofs.Following.{reached_before}
 use Rattle.ftc_machine.proofs.Tailed.{ends_here}

@@ -1,5 +1,5 @@
 -- What a run was handed: its packets' bytes and its rules.
-use Rattle.std.proofs.Common.{◌≡◌, ℕ, zero, suc, List, [], ◌∷◌, map, length, slice_get, slice_index_or, Option, Some, None, refl, sym, ap, subst, ◌∙◌}
+use Rattle.std.proofs.Common.{◌≡◌, ℕ, zero, suc, List, [], ◌∷◌, length, slice_get, slice_index_or, Some, refl, sym, ap, subst, ◌∙◌}
 use Rattle.ftc_pcap.specs.declared.packets.Packet.{Packet}
 use Rattle.ftc_mbox.specs.declared.rule.Rule.{Rule}
 use Rattle.ftc_mbox.specs.declared.rule.Rule.TheVariants.{Pass}
@@ -7,7 +7,7 @@ use Rattle.ftc_serial.specs.Packets.{bytes_of}
 use Rattle.ftc_mbox.specs.Chain.{Chain}
 use Rattle.ftc_script.specs.Script.{ScriptShape}
 use Rattle.ftc_machine.specs.Kept.{AreInputs}
-use Rattle.ftc_machine.specs.Setting.{Setting, setting_of, packet_at, rule_at}
+use Rattle.ftc_protocol.specs.Setting.{Setting, setting_of, packet_at, rule_at}
 
 bytes_at : (packets : List Packet) (place : ℕ) (packet : Packet) → slice_get packets place ≡ Some packet → packet.bytes ≡ slice_index_or (bytes_of packets) place []
 bytes_at [] place packet there = absurd (cc)

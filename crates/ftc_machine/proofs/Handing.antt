@@ -12,21 +12,22 @@ use Rattle.ftc_ring.proofs.Geometry.{same_start, apart_cases}
 use Rattle.ftc_vector.specs.Vector.{by_partition, number_at, merged}
 use Rattle.ftc_vector.specs.Commits.{vector_of, by_group, all_merged, group_raised}
 use Rattle.ftc_machine.specs.declared.kept.Kept.{Kept}
-use Rattle.ftc_machine.specs.Changes.{is_changing}
+use Rattle.ftc_protocol.specs.Changes.{is_changing}
 use Rattle.ftc_machine.specs.Kept.{IsKept, footprints_in, reach_of}
-use Rattle.ftc_machine.specs.Known.{knows}
+use Rattle.ftc_protocol.specs.Known.{knows}
 use Rattle.ftc_machine.specs.Reach.{IsReach, Reaches, numbers_of, reach_in}
-use Rattle.ftc_machine.specs.Recovery.{list_got}
-use Rattle.ftc_machine.specs.RecoveryEffect.{got_vector, tail_group, tail_added, both_known}
-use Rattle.ftc_machine.specs.Setting.{Setting, servers, shape, is_member, is_tail, IsSetting}
-use Rattle.ftc_machine.specs.State.{ChainState}
+use Rattle.ftc_protocol.specs.Recovery.{list_got}
+use Rattle.ftc_machine.specs.RecoveryEffect.{got_vector, tail_added, both_known}
+use Rattle.ftc_machine.specs.Tails.{group_ending}
+use Rattle.ftc_protocol.specs.Setting.{Setting, servers, shape, is_member, is_tail, IsSetting}
+use Rattle.ftc_protocol.specs.State.{ChainState}
 use Rattle.ftc_machine.specs.Tests.{list_of}
-use Rattle.ftc_machine.specs.Visits.{Visits, In, no_visits, union}
-use Rattle.ftc_machine.proofs.Inv.{Inv}
+use Rattle.ftc_protocol.specs.Visits.{Visits, In, no_visits, union}
+use Rattle.ftc_protocol.proofs.Inv.{Inv}
 use Rattle.ftc_machine.proofs.Raised.{joined_reaches}
 use Rattle.ftc_machine.proofs.Reached.{AreWithin, merged_row, merged_reaches, outside}
 use Rattle.ftc_machine.proofs.Reaching.{same_reach, zero_reach}
-use Rattle.ftc_machine.proofs.Stores.{stands_below}
+use Rattle.ftc_protocol.proofs.Stores.{stands_below}
 
 merged_length : (one other : List (List ℕ)) → length (all_merged one other) ≡ MOST_SERVERS
 unfolding by_group
@@ -84,19 +85,19 @@ module _ (c : Setting) (setting : IsSetting c) (s : ChainState) (inv : Inv c s) 
   tails : ℕ → Visits
   tails x group packet = is_tail c group x && s.lists x group packet
 
-  tail_cases : (x : ℕ) → ((c.failures ≤ x) × (tail_group (shape c) x ≡ x - c.failures)) ⊎ ((x < c.failures) × (tail_group (shape c) x ≡ x + servers c - c.failures))
+  tail_cases : (x : ℕ) → ((c.failures ≤ x) × (group_ending (shape c) x ≡ x - c.failures)) ⊎ ((x < c.failures) × (group_ending (shape c) x ≡ x + servers c - c.failures))
   tail_cases x = elim (cases_lt x c.failures) [
     | inl less ↦ inr (less, ap (λ b. if b then x - c.failures else x + servers c - c.failures) (false_from_ne_true (nat_le c.failures x) (λ le. let more : c.failures ≤ x = leb-true c.failures x le in omega arith)))
     | inr most ↦ inl (most, ap (λ b. if b then x - c.failures else x + servers c - c.failures) (le-leb c.failures x most))
   ]
 
-  tail_below : (x : ℕ) → x < servers c → tail_group (shape c) x < servers c
+  tail_below : (x : ℕ) → x < servers c → group_ending (shape c) x < servers c
   tail_below x below = let small : c.failures < servers c = setting.ring.failures in omega (arith, tail_cases x)
 
-  tail_apart : (x : ℕ) → x < servers c → apart (servers c) (tail_group (shape c) x) x ≡ c.failures
+  tail_apart : (x : ℕ) → x < servers c → apart (servers c) (group_ending (shape c) x) x ≡ c.failures
   tail_apart x below =
       let small : c.failures < servers c = setting.ring.failures in
-      let far = apart_cases (servers c) (tail_group (shape c) x) x (tail_below x below) below in
+      let far = apart_cases (servers c) (group_ending (shape c) x) x (tail_below x below) below in
       let cases = tail_cases x in
       omega arith
 
@@ -105,9 +106,9 @@ module _ (c : Setting) (setting : IsSetting c) (s : ChainState) (inv : Inv c s) 
   unfolding tails
   tail_reaches x below set commits size reaches =
       let numbers = numbers_of (footprints_in k.visits.items) in
-      let group = tail_group (shape c) x in
+      let group = group_ending (shape c) x in
       let low : group < servers c = tail_below x below in
-      subst (λ (ring : RingShape). Reaches c.partitions s.trace numbers (union set (tails x)) (group_raised commits (tail_group ring x) (vector_of (list_of k x) (tail_group ring x)))) (sym is.ring)
+      subst (λ (ring : RingShape). Reaches c.partitions s.trace numbers (union set (tails x)) (group_raised commits (group_ending ring x) (vector_of (list_of k x) (group_ending ring x)))) (sym is.ring)
       (joined_reaches c.partitions s.trace numbers few set (tails x) commits group (vector_of (list_of k x) group) (let most = setting.ring.servers in omega arith)
       (λ other packet differs. false_from_ne_true (is_tail c other x && s.lists x other packet) (λ member.
       let both = and_parts (is_tail c other x) (s.lists x other packet) member in
@@ -135,7 +136,7 @@ module _ (c : Setting) (setting : IsSetting c) (s : ChainState) (inv : Inv c s) 
       let one = tail_reaches r rl known merged_known (merged_length (reach_of k.known.items r) (reach_of k.known.items t))
       (merged_reaches c.partitions s.trace numbers few (s.known r) (s.known t) (reach_of k.known.items r) (reach_of k.known.items t) (is.sets.known r rl) (is.sets.known t tl)) in
       let size : length (tail_added k r merged_known) ≡ MOST_SERVERS =
-      length-set merged_known (tail_group k.ring r) (merged (vector_of merged_known (tail_group k.ring r)) (vector_of (list_of k r) (tail_group k.ring r))) ∙ merged_length (reach_of k.known.items r) (reach_of k.known.items t) in
+      length-set merged_known (group_ending k.ring r) (merged (vector_of merged_known (group_ending k.ring r)) (vector_of (list_of k r) (group_ending k.ring r))) ∙ merged_length (reach_of k.known.items r) (reach_of k.known.items t) in
       let both = tail_reaches t tl (union known (tails r)) (tail_added k r merged_known) size one in
       same_reach c.partitions s.trace numbers group (union (union known (tails r)) (tails t) group) (union (knows c s r) (knows c s t) group) (reach_in (both_known k r t) group) (reach_in (both_known k r t) group)
       (λ packet. together (s.known r group packet) (s.known t group packet) (tails r group packet) (tails t group packet)) (λ partition. refl) (both group)

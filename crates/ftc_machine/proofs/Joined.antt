@@ -13,23 +13,23 @@ use Rattle.ftc_vector.specs.Vector.{number_at}
 use Rattle.ftc_vector.specs.Commits.{vector_of, group_raised}
 use Rattle.ftc_machine.specs.declared.footprint.Footprint.{Footprint}
 use Rattle.ftc_machine.specs.declared.kept.Kept.{Kept}
-use Rattle.ftc_machine.specs.Changes.{is_changing}
+use Rattle.ftc_protocol.specs.Changes.{is_changing}
 use Rattle.ftc_machine.specs.Kept.{IsKept, MayFollow, footprints_in, reach_of}
 use Rattle.ftc_machine.specs.Marking.{marked_at}
 use Rattle.ftc_machine.specs.Reach.{Footprints, Reaches, AreFootprints, numbers_of}
-use Rattle.ftc_machine.specs.Setting.{Setting, servers}
-use Rattle.ftc_machine.specs.State.{ChainState}
-use Rattle.ftc_machine.specs.Trace.{IsChanging, IsInTrace, IsSomeVisit, content_of}
-use Rattle.ftc_machine.specs.Visits.{Visits, just, union}
-use Rattle.ftc_machine.proofs.Awake.{IsUp}
+use Rattle.ftc_protocol.specs.Setting.{Setting, servers}
+use Rattle.ftc_protocol.specs.State.{ChainState}
+use Rattle.ftc_protocol.specs.Trace.{IsChanging, IsInTrace, IsSomeVisit, content_of}
+use Rattle.ftc_protocol.specs.Visits.{Visits, just, union}
+use Rattle.ftc_protocol.proofs.Awake.{IsUp}
 use Rattle.ftc_machine.proofs.Following.{reached_before, visits_within}
 use Rattle.ftc_machine.proofs.Joining.{apply_reach}
-use Rattle.ftc_machine.proofs.Listing.{in_one}
+use Rattle.ftc_protocol.proofs.Listing.{in_one}
 use Rattle.ftc_machine.proofs.Raised.{raised_reaches, or_false}
 use Rattle.ftc_machine.proofs.Reaching.{same_reach}
 use Rattle.ftc_machine.proofs.Replaced.{row_replaced}
-use Rattle.ftc_machine.proofs.Standing.{stands_map}
-use Rattle.ftc_machine.proofs.Stores.{stands_below}
+use Rattle.ftc_protocol.proofs.Standing.{stands_map}
+use Rattle.ftc_protocol.proofs.Stores.{stands_below}
 
 -- a visit of the trace has a footprint
 pub footprint_there : (P : Outcome → Type 0) (partitions : ℕ) (footprints : Footprints) (trace : List Entry) → AreFootprints partitions footprints trace → (server packet : ℕ) → IsInTrace P trace server packet

@@ -5,8 +5,8 @@ use Rattle.ftc_serial.specs.Take.{Outcome}
 use Rattle.ftc_serial.specs.Entries.{Touches}
 use Rattle.ftc_serial.specs.Serial.{Entry}
 use Rattle.ftc_machine.specs.declared.footprint.Footprint.{Footprint}
-use Rattle.ftc_machine.specs.Changes.{Changes}
-use Rattle.ftc_machine.specs.Trace.{IsInTrace, IsSomeVisit, IsBefore}
+use Rattle.ftc_protocol.specs.Changes.{Changes}
+use Rattle.ftc_protocol.specs.Trace.{IsInTrace, IsSomeVisit, IsBefore}
 use Rattle.ftc_machine.specs.Reach.{Footprints, AreRising, AreFootprints, IsChangingIn, IsReach, numbers_of}
 use Rattle.ftc_machine.specs.Marking.{marked_at}
 use Rattle.ftc_machine.proofs.Rising.{one_number, before_by_number}

@@ -1,24 +1,22 @@
 -- What is kept of the messages, and what a kept set has.
-use Rattle.std.proofs.Common.{◌≡◌, ℕ, ◌<◌, ◌+◌, Bool, true, false, List, [], ◌∷◌, Option, Some, None, inl, inr, refl, sym, ap, subst, ◌∙◌, ◌↔◌}
+use Rattle.std.proofs.Common.{◌≡◌, ℕ, ◌<◌, ◌+◌, true, List, [], ◌∷◌, Option, Some, None, inl, inr, refl, sym, ap, subst, ◌∙◌, ◌↔◌}
 use Rattle.std.specs.Option.{option_map_or}
 use Rattle.ftc_vector.specs.Commits.{vector_of}
-use Rattle.ftc_vector.specs.Vector.{number_at}
 use Rattle.ftc_serial.specs.Serial.{Entry, Visited, Given}
 use Rattle.ftc_serial.specs.Take.{Outcome}
-use Rattle.ftc_serial.specs.Trace.{names}
 use Rattle.ftc_machine.specs.declared.footprint.Footprint.{Footprint}
 use Rattle.ftc_machine.specs.declared.kept.Kept.{Kept}
 use Rattle.ftc_machine.specs.declared.message.Message.{Message as KeptMessage}
-use Rattle.ftc_machine.specs.Setting.{Setting, servers}
-use Rattle.ftc_machine.specs.Visits.{Visits, In}
-use Rattle.ftc_machine.specs.Trace.{IsInTrace, IsSomeVisit, IsTouching, Has}
-use Rattle.ftc_machine.specs.State.{ChainState, Message}
-use Rattle.ftc_machine.specs.Known.{IsReady, ServerHas}
+use Rattle.ftc_protocol.specs.Setting.{Setting, servers}
+use Rattle.ftc_protocol.specs.Visits.{Visits, In}
+use Rattle.ftc_protocol.specs.Trace.{IsInTrace, IsSomeVisit, IsTouching, Has}
+use Rattle.ftc_protocol.specs.State.{ChainState, Message}
+use Rattle.ftc_protocol.specs.Known.{IsReady}
 use Rattle.ftc_machine.specs.Slots.{slot_at}
 use Rattle.ftc_machine.specs.Reach.{Numbers, Footprints, numbers_of, AreFootprints, Reaches, is_had_by}
-use Rattle.ftc_machine.specs.Kept.{IsKept, IsMessage, IsMessageSlot, footprints_in, reach_of}
-use Rattle.ftc_machine.specs.Tests.{footprints_of, list_of, has_named, has_all, is_ready}
-use Rattle.ftc_machine.proofs.Standing.{stands_map}
+use Rattle.ftc_machine.specs.Kept.{IsKept, IsMessage, IsMessageSlot}
+use Rattle.ftc_machine.specs.Tests.{footprints_of, list_of, has_named, is_ready}
+use Rattle.ftc_protocol.proofs.Standing.{stands_map}
 use Rattle.ftc_machine.proofs.Footprints.{had_has}
 use Rattle.ftc_machine.proofs.Told.{name_of, each_name, all_names}
 

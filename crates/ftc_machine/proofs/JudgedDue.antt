@@ -1,28 +1,24 @@
 -- Tests of the packets of the buffer say which are due.
-use Rattle.std.proofs.Common.{◌≡◌, ◌≢◌, ℕ, ◌<◌, ◌≤◌, ◌+◌, ◌-◌, ◌==◌, ◌&&◌, ◌||◌, nat_lt, not, Bool, true, false, List, Option, Some, None, inl, inr, refl, sym, ap, subst, ◌∙◌, ◌↔◌, arith, eqb-true, eq-eqb, lt-ltb, max}
+use Rattle.std.proofs.Common.{◌≡◌, ℕ, ◌<◌, ◌≤◌, ◌-◌, ◌&&◌, ◌||◌, nat_lt, not, Bool, true, Some, inl, inr, sym, ap, subst, ◌∙◌, ◌↔◌, arith, lt-ltb}
 use Rattle.std.specs.List.{list_any}
-use Rattle.std.proofs.lemmas.Bool.{true≢false, and_parts, and_from, or_cases, or_left, or_right, cases_Bool, cases_lt, cases_eq, ltb-true, ne_eqb}
+use Rattle.std.proofs.lemmas.Bool.{and_parts, and_from, or_cases, or_left, or_right, cases_Bool, cases_lt, ltb-true}
 use Rattle.ftc_base.specs.Sets.{has}
-use Rattle.ftc_vector.specs.Commits.{vector_of, group_raised}
-use Rattle.ftc_vector.specs.Vector.{number_at, merged}
-use Rattle.ftc_ring.specs.Ring.{apart}
 use Rattle.ftc_journal.specs.declared.event.Event.TheVariants as event
 use Rattle.ftc_machine.specs.declared.kept.Kept.{Kept}
 use Rattle.ftc_machine.specs.declared.message.Withheld.{Withheld as KeptWithheld}
-use Rattle.ftc_machine.specs.Setting.{Setting, servers, is_tail, IsSetting}
-use Rattle.ftc_machine.specs.Visits.{Visits, In}
-use Rattle.ftc_machine.specs.Trace.{IsTouching, Has}
-use Rattle.ftc_machine.specs.State.{ChainState, Withheld}
-use Rattle.ftc_machine.specs.Known.{knows, IsDue}
-use Rattle.ftc_machine.specs.Legal.{MayHappen}
+use Rattle.ftc_protocol.specs.Setting.{Setting, servers, IsSetting}
+use Rattle.ftc_protocol.specs.Trace.{IsTouching}
+use Rattle.ftc_protocol.specs.State.{ChainState, Withheld}
+use Rattle.ftc_protocol.specs.Known.{knows, IsDue}
+use Rattle.ftc_protocol.specs.Legal.{MayHappen}
 use Rattle.ftc_machine.specs.Slots.{slot_at, has_such}
-use Rattle.ftc_machine.specs.Reach.{Numbers, numbers_of, Reaches}
-use Rattle.ftc_machine.specs.Kept.{IsKept, IsWithheld, reach_of}
-use Rattle.ftc_machine.specs.Tests.{footprints_of, list_of, has_named, all_below}
+use Rattle.ftc_machine.specs.Reach.{numbers_of, Reaches}
+use Rattle.ftc_machine.specs.Kept.{IsKept, IsWithheld}
+use Rattle.ftc_machine.specs.Tests.{footprints_of, has_named}
 use Rattle.ftc_machine.specs.Due.{known_last, is_due_by, is_due_before, is_any_due, may_release, named}
-use Rattle.ftc_machine.specs.Changes.{is_touching}
-use Rattle.ftc_machine.proofs.Stores.{stands_below}
-use Rattle.ftc_machine.proofs.Complete.{IsReached}
+use Rattle.ftc_protocol.specs.Changes.{is_touching}
+use Rattle.ftc_protocol.proofs.Stores.{stands_below}
+use Rattle.ftc_protocol.proofs.Complete.{IsReached}
 use Rattle.ftc_machine.proofs.Told.{such_item, item_such, any_item, item_any, untrue, not_so}
 use Rattle.ftc_machine.proofs.Judged.{named_has}
 use Rattle.ftc_machine.proofs.JudgedScript.{kept_withheld, said_withheld, each_below, below_each}

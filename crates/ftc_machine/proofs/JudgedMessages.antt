@@ -1,35 +1,30 @@
 -- Tests of events that have to do with a message say when the event may happen.
-use Rattle.std.proofs.Common.{◌≡◌, ◌≢◌, ℕ, ◌<◌, ◌≤◌, ◌+◌, ◌==◌, ◌&&◌, ◌||◌, nat_lt, not, Bool, true, false, List, Option, Some, None, is_some, is_none, inl, inr, refl, sym, ap, subst, ◌∙◌, ◌↔◌, ◌⊎◌, arith, eqb-true, eq-eqb, lt-ltb}
+use Rattle.std.proofs.Common.{◌≡◌, ℕ, ◌<◌, ◌≤◌, ◌+◌, ◌==◌, ◌&&◌, ◌||◌, nat_lt, not, Bool, true, false, List, Option, Some, None, is_some, is_none, inl, inr, refl, sym, ap, subst, ◌∙◌, ◌↔◌, ◌⊎◌, arith, eqb-true, eq-eqb, lt-ltb}
 use Rattle.std.specs.List.{list_all, list_any}
 use Rattle.std.proofs.lemmas.Bool.{true≢false, and_parts, and_from, or_cases, or_left, or_right, cases_Bool, cases_lt, ltb-true}
-use Rattle.std.proofs.lemmas.Option.{none-some, same_Some}
 use Rattle.ftc_vector.specs.Commits.{vector_of}
-use Rattle.ftc_ring.specs.Ring.{next_of}
-use Rattle.ftc_journal.specs.declared.event.VisitName.{VisitName}
 use Rattle.ftc_journal.specs.declared.event.Event.TheVariants.{Take, Apply, Visit, Pass, Lose, Carry}
 use Rattle.ftc_script.specs.Script.{ScriptShape, loses_of}
 use Rattle.ftc_serial.specs.Serial.{Entry}
 use Rattle.ftc_serial.specs.Trace.{names}
-use Rattle.ftc_machine.specs.declared.footprint.Footprint.{Footprint}
 use Rattle.ftc_machine.specs.declared.kept.Kept.{Kept}
 use Rattle.ftc_machine.specs.declared.message.Message.{Message as KeptMessage}
 use Rattle.ftc_machine.specs.declared.message.Place.{Place}
 use Rattle.ftc_machine.specs.declared.message.Place.TheVariants as place
-use Rattle.ftc_machine.specs.Setting.{Setting, servers, count, shape, IsSetting}
-use Rattle.ftc_machine.specs.Visits.{Visits, In}
-use Rattle.ftc_machine.specs.Trace.{IsTouching, IsChanging, IsBefore, Has}
-use Rattle.ftc_machine.specs.State.{ChainState, Message, Where, Held, Queued}
-use Rattle.ftc_machine.specs.Known.{IsReady, ServerHas}
-use Rattle.ftc_machine.specs.Legal.{MayHappen, MayLeave, IsHeld, is_sent}
+use Rattle.ftc_protocol.specs.Setting.{Setting, servers, IsSetting}
+use Rattle.ftc_protocol.specs.Visits.{Visits, In}
+use Rattle.ftc_protocol.specs.Trace.{IsTouching}
+use Rattle.ftc_protocol.specs.State.{ChainState, Message, Where, Held, Queued}
+use Rattle.ftc_protocol.specs.Known.{IsReady}
+use Rattle.ftc_protocol.specs.Legal.{MayHappen, MayLeave, is_sent}
 use Rattle.ftc_machine.specs.Slots.{slot_at, has_such}
 use Rattle.ftc_machine.specs.Reach.{Numbers, numbers_of, has_changed, contains, follows}
 use Rattle.ftc_machine.specs.Kept.{IsKept, IsMessage, IsPlace, AreInputs}
 use Rattle.ftc_machine.specs.Tests.{footprints_of, list_of, has_named, is_held, is_unvisited, may_go, came_by_ring, is_queued, is_ready, is_older, may_take, may_add, is_in_turn, carries, may_apply, may_visit, may_leave, sends, may_pass, may_lose, may_carry}
-use Rattle.ftc_machine.proofs.Complete.{IsReached}
-use Rattle.ftc_machine.proofs.Awake.{IsUp}
-use Rattle.ftc_machine.proofs.Waiting.{IsRinged}
-use Rattle.ftc_machine.proofs.Standing.{stands_map}
-use Rattle.ftc_machine.proofs.Stores.{touching_changing}
+use Rattle.ftc_protocol.proofs.Complete.{IsReached}
+use Rattle.ftc_protocol.proofs.Awake.{IsUp}
+use Rattle.ftc_protocol.proofs.Waiting.{IsRinged}
+use Rattle.ftc_protocol.proofs.Standing.{stands_map}
 use Rattle.ftc_machine.proofs.Footprints.{changed_changing, contains_in, follows_all}
 use Rattle.ftc_machine.proofs.Told.{such_item, item_such, any_item, item_any, name_of, each_name, all_names, untrue, not_so}
 use Rattle.ftc_machine.proofs.Judged.{kept_message, said_message, footprint_there, named_has, ready_tests}

@@ -1,8 +1,8 @@
 -- Tests of events that have to do with the script and the links say when the event may happen.
-use Rattle.std.proofs.Common.{◌≡◌, ◌≢◌, ℕ, zero, suc, ◌<◌, ◌≤◌, ◌+◌, ◌==◌, ◌&&◌, ◌||◌, nat_lt, not, Bool, true, false, List, [], ◌∷◌, drop, Option, Some, None, inl, inr, refl, sym, ap, subst, ◌∙◌, ◌↔◌, ◌⊎◌, arith, eqb-true, eq-eqb, lt-ltb, if◌then◌else◌}
+use Rattle.std.proofs.Common.{◌≡◌, ◌≢◌, ℕ, zero, suc, ◌<◌, ◌≤◌, ◌+◌, ◌==◌, ◌&&◌, ◌||◌, nat_lt, not, Bool, true, false, List, [], ◌∷◌, drop, Option, Some, None, inl, inr, refl, sym, ap, subst, ◌∙◌, ◌↔◌, arith, eqb-true, eq-eqb, lt-ltb, if◌then◌else◌}
 use Rattle.std.specs.List.{AllByRecursion, list_all, list_any, range_with_len}
-use Rattle.std.proofs.lemmas.Bool.{true≢false, and_parts, and_from, or_cases, or_left, or_right, cases_Bool, cases_eq, ltb-true, ne_eqb}
-use Rattle.std.proofs.lemmas.Option.{none-some, same_Some}
+use Rattle.std.proofs.lemmas.Bool.{true≢false, and_parts, and_from, or_cases, or_left, or_right, cases_eq, ltb-true, ne_eqb}
+use Rattle.std.proofs.lemmas.Option.{none-some}
 use Rattle.ftc_base.specs.Sets.{has}
 use Rattle.ftc_ring.specs.Ring.{next_of}
 use Rattle.ftc_ring.specs.Live.{is_live}
@@ -18,16 +18,16 @@ use Rattle.ftc_machine.specs.declared.message.Message.{Message as KeptMessage}
 use Rattle.ftc_machine.specs.declared.message.Place.{Place}
 use Rattle.ftc_machine.specs.declared.message.Place.TheVariants as place
 use Rattle.ftc_machine.specs.declared.message.Withheld.{Withheld as KeptWithheld}
-use Rattle.ftc_machine.specs.Changes.{is_some_list}
-use Rattle.ftc_machine.specs.Setting.{Setting, servers, count, IsSetting}
-use Rattle.ftc_machine.specs.Visits.{Visits, In}
-use Rattle.ftc_machine.specs.State.{ChainState, Message, Withheld, Where, Held, Queued}
-use Rattle.ftc_machine.specs.Legal.{MayHappen, IsNextLine, IsStalled}
+use Rattle.ftc_protocol.specs.Changes.{is_some_list}
+use Rattle.ftc_protocol.specs.Setting.{Setting, servers, count, IsSetting}
+use Rattle.ftc_protocol.specs.Visits.{Visits}
+use Rattle.ftc_protocol.specs.State.{ChainState, Withheld, Where, Held, Queued}
+use Rattle.ftc_protocol.specs.Legal.{MayHappen, IsNextLine, IsStalled}
 use Rattle.ftc_machine.specs.Slots.{slot_at, has_such}
-use Rattle.ftc_machine.specs.Kept.{IsKept, IsMessage, IsPlace, IsWithheld, IsWithheldSlot, AreInputs}
+use Rattle.ftc_machine.specs.Kept.{IsKept, IsPlace, IsWithheld, IsWithheldSlot, AreInputs}
 use Rattle.ftc_machine.specs.Tests.{lines_left, first_of, may_enter, is_crash, is_recovery, may_crash, may_recover, may_pull, all_below, is_begun, is_stalled, may_propagate}
-use Rattle.ftc_machine.proofs.Complete.{IsReached}
-use Rattle.ftc_machine.proofs.Told.{such_item, item_such, any_item, item_any, name_of, names_here, untrue, not_so}
+use Rattle.ftc_protocol.proofs.Complete.{IsReached}
+use Rattle.ftc_machine.proofs.Told.{any_item, item_any, names_here, untrue, not_so}
 use Rattle.ftc_machine.proofs.Judged.{kept_message, said_message}
 
 -- ---- lines

@@ -2,10 +2,10 @@
 use Rattle.std.proofs.Common.{◌≡◌, ℕ, ◌<◌, Bool, true, false, sym, ap, subst, ◌∙◌, ◌↔◌}
 use Rattle.std.proofs.lemmas.Bool.{true≢false}
 use Rattle.ftc_machine.specs.declared.kept.Kept.{Kept}
-use Rattle.ftc_machine.specs.Setting.{Setting, servers}
-use Rattle.ftc_machine.specs.State.{ChainState}
+use Rattle.ftc_protocol.specs.Setting.{Setting, servers}
+use Rattle.ftc_protocol.specs.State.{ChainState}
 use Rattle.ftc_machine.specs.Kept.{StandsFor}
-use Rattle.ftc_machine.proofs.Complete.{IsReached, reached}
+use Rattle.ftc_protocol.proofs.Complete.{IsReached, reached}
 
 pub reached_by : {c : Setting} {s : ChainState} {k : Kept} → StandsFor c s k → IsReached c s
 reached_by {c} {s} {k} stands = subst (λ (state : ChainState). IsReached c state) stands.state (reached c stands.setting stands.journal stands.run)

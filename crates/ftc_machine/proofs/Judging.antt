@@ -12,22 +12,22 @@ use Rattle.ftc_machine.specs.declared.kept.Kept.{Kept}
 use Rattle.ftc_machine.specs.declared.message.Message.{Message as KeptMessage}
 use Rattle.ftc_machine.specs.declared.message.Place.{Place}
 use Rattle.ftc_machine.specs.declared.message.Place.TheVariants as place
-use Rattle.ftc_machine.specs.Changes.{is_touching}
+use Rattle.ftc_protocol.specs.Changes.{is_touching}
 use Rattle.ftc_machine.specs.Kept.{IsKept, IsMessage, IsPlace, footprints_in}
 use Rattle.ftc_machine.specs.Reach.{is_had_by, numbers_of}
-use Rattle.ftc_machine.specs.Recovery.{is_dropped, is_dropped_at}
+use Rattle.ftc_protocol.specs.Recovery.{is_dropped, is_dropped_at}
 use Rattle.ftc_machine.specs.RecoveryEffect.{is_dropped_from, is_dropped_kept}
-use Rattle.ftc_machine.specs.Setting.{Setting, servers}
-use Rattle.ftc_machine.specs.State.{ChainState, Message, Where, Held, Queued}
+use Rattle.ftc_protocol.specs.Setting.{Setting, servers}
+use Rattle.ftc_protocol.specs.State.{ChainState, Message, Where, Held, Queued}
 use Rattle.ftc_machine.specs.Tests.{footprints_of, list_of, has_named, is_ready}
-use Rattle.ftc_machine.specs.Trace.{IsTouching, Has, has_each}
-use Rattle.ftc_machine.specs.Visits.{In}
+use Rattle.ftc_protocol.specs.Trace.{IsTouching, Has, has_each}
+use Rattle.ftc_protocol.specs.Visits.{In}
 use Rattle.ftc_machine.proofs.Footprints.{had_has}
-use Rattle.ftc_machine.proofs.HasEach.{each_has}
-use Rattle.ftc_machine.proofs.Inv.{Inv}
+use Rattle.ftc_protocol.proofs.HasEach.{each_has}
+use Rattle.ftc_protocol.proofs.Inv.{Inv}
 use Rattle.ftc_machine.proofs.Joined.{footprint_there}
-use Rattle.ftc_machine.proofs.Passed.{some_stands}
-use Rattle.ftc_machine.proofs.Ready.{each_had}
+use Rattle.ftc_protocol.proofs.Passed.{some_stands}
+use Rattle.ftc_protocol.proofs.Ready.{each_had}
 use Rattle.ftc_machine.proofs.UndoneKept.{same_tests}
 
 -- ---- tests of all names of a list

@@ -1,16 +1,16 @@
 -- What the last server knows, as it is kept, and what packets of the buffer need.
-use Rattle.std.proofs.Common.{◌≡◌, ℕ, ◌<◌, ◌-◌, true, Some, sym, ap, subst, arith}
+use Rattle.std.proofs.Common.{◌≡◌, ℕ, ◌-◌, true, Some, sym, ap, subst, arith}
 use Rattle.ftc_machine.specs.declared.kept.Kept.{Kept}
-use Rattle.ftc_machine.specs.Setting.{Setting, servers, IsSetting}
-use Rattle.ftc_machine.specs.State.{ChainState, Withheld}
-use Rattle.ftc_machine.specs.Trace.{IsTouching}
-use Rattle.ftc_machine.specs.Known.{knows}
+use Rattle.ftc_protocol.specs.Setting.{Setting, servers, IsSetting}
+use Rattle.ftc_protocol.specs.State.{ChainState, Withheld}
+use Rattle.ftc_protocol.specs.Trace.{IsTouching}
+use Rattle.ftc_protocol.specs.Known.{knows}
 use Rattle.ftc_machine.specs.Reach.{numbers_of, Reaches}
 use Rattle.ftc_machine.specs.Kept.{IsKept, StandsFor}
 use Rattle.ftc_machine.specs.Tails.{known_at}
 use Rattle.ftc_machine.specs.Tests.{footprints_of}
 use Rattle.ftc_machine.specs.Due.{known_last}
-use Rattle.ftc_machine.proofs.Complete.{IsReached}
+use Rattle.ftc_protocol.proofs.Complete.{IsReached}
 use Rattle.ftc_machine.proofs.Needing.{AreNeeding, needing}
 use Rattle.ftc_machine.proofs.Tailed.{reached_knows}
 

@@ -1,37 +1,3 @@
-pub mod Places
-pub mod Removed
-pub mod Undone
-pub mod Ring
-pub mod Standing
-pub mod Awake
-pub mod Listing
-pub mod Nesting
-pub mod Carrying
-pub mod Between
-pub mod Ready
-pub mod Premises
-pub mod Having
-pub mod Within
-pub mod Passed
-pub mod Changing
-pub mod Stores
-pub mod Undoing
-pub mod World
-pub mod Inv
-pub mod SmallEvents
-pub mod Ends
-pub mod Visiting
-pub mod Leaving
-pub mod Listed
-pub mod Recovering
-pub mod Every
-pub mod First
-pub mod Fallen
-pub mod Moments
-pub mod Sound
-pub mod Pending
-pub mod Waiting
-pub mod Soon
 mod Slotted
 mod Tested
 mod Told
@@ -41,7 +7,7 @@ mod JudgedScript
 mod Needing
 mod Knowing
 mod Trying
-mod Handed
+pub mod Handed
 mod SameNames
 mod Replayed
 mod Opened
@@ -50,42 +16,6 @@ mod Playing
 mod JudgedDue
 mod JudgedMessages
 mod Lines
-pub mod Progress
-pub mod Finished
-pub mod Forever
-pub mod Supposed
-pub mod Prefixes
-pub mod Lined
-pub mod Inside
-pub mod Full
-pub mod Complete
-pub mod Losing
-pub mod Calm
-pub mod Shapes
-pub mod Ended
-pub mod HasEach
-pub mod Counting
-pub mod Telling
-pub mod Few
-pub mod Falling
-pub mod Example
-pub mod Traced
-pub mod Stopped
-pub mod Whole
-pub mod Droppable
-pub mod Driven
-pub mod Lone
-pub mod Entering
-pub mod LoneVisit
-pub mod LonePass
-pub mod LoneTake
-pub mod LastPass
-pub mod LoneRelease
-pub mod Course
-pub mod DriveTrace
-pub mod PlainRun
-pub mod PlacedFates
-pub mod PlainFates
 pub mod Rising
 pub mod Reaching
 pub mod Placed

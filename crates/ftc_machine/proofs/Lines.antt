@@ -1,18 +1,18 @@
 -- The lines that are left of a script.
-use Rattle.std.proofs.Common.{◌≡◌, ℕ, zero, suc, ◌+◌, ◌<◌, ◌≤◌, ◌==◌, Bool, true, false, inl, inr, sym, ◌∙◌, subst, List, [], ◌∷◌, length, drop, slice_get, Option, Some, None, refl, arith, ap}
+use Rattle.std.proofs.Common.{◌≡◌, ℕ, zero, suc, ◌+◌, ◌<◌, ◌≤◌, ◌==◌, Bool, true, false, inl, inr, sym, subst, List, [], ◌∷◌, length, drop, slice_get, Some, None, refl, arith, ap}
 use Rattle.std.specs.List.{list_any}
 use Rattle.ftc_script.specs.declared.line.ScriptLine.{ScriptLine}
 use Rattle.ftc_script.specs.Steps.{at_of}
 use Rattle.std.proofs.lemmas.Bool.{true≢false, cases_lt}
 use Rattle.ftc_journal.specs.declared.event.Event.TheVariants as event
 use Rattle.ftc_script.specs.declared.line.ScriptLine.TheVariants.{Crash, Recover}
-use Rattle.ftc_machine.specs.Legal.{MayHappen, IsNextLine}
-use Rattle.ftc_machine.specs.Setting.{Setting, servers}
+use Rattle.ftc_protocol.specs.Legal.{MayHappen, IsNextLine}
+use Rattle.ftc_protocol.specs.Setting.{Setting, servers}
 use Rattle.ftc_machine.specs.Slots.{has_such}
-use Rattle.ftc_machine.specs.State.{ChainState}
+use Rattle.ftc_protocol.specs.State.{ChainState}
 use Rattle.ftc_machine.specs.Tests.{first_of}
-use Rattle.ftc_machine.proofs.Complete.{IsReached}
-use Rattle.ftc_machine.proofs.Premises.{AreFit, server_of}
+use Rattle.ftc_protocol.proofs.Complete.{IsReached}
+use Rattle.ftc_protocol.proofs.Premises.{AreFit, server_of}
 
 -- the first of those that are left is the one in its place
 pub first_left : (lines : List ScriptLine) (done : ℕ) → first_of (drop done lines) ≡ slice_get lines done

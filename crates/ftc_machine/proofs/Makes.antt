@@ -14,7 +14,7 @@ use Rattle.ftc_serial.specs.Serial.{Entry}
 use Rattle.ftc_serial.proofs.Functions.{all_map}
 use Rattle.ftc_machine.specs.declared.footprint.Touched.{Touched}
 use Rattle.ftc_machine.specs.declared.footprint.Footprint.{Footprint}
-use Rattle.ftc_machine.specs.Changes.{Changes, changes}
+use Rattle.ftc_protocol.specs.Changes.{Changes, changes}
 use Rattle.ftc_machine.specs.Reach.{Numbers, IsLast, IsFootprint}
 use Rattle.ftc_machine.specs.Making.{is_written, IsTouched, IsMade}
 

@@ -7,7 +7,7 @@ use Rattle.ftc_serial.specs.Take.{Outcome}
 use Rattle.ftc_serial.specs.Serial.{Entry}
 use Rattle.ftc_machine.specs.declared.footprint.Touched.{Touched}
 use Rattle.ftc_machine.specs.declared.footprint.Footprint.{Footprint}
-use Rattle.ftc_machine.specs.Changes.{Changes}
+use Rattle.ftc_protocol.specs.Changes.{Changes}
 use Rattle.ftc_machine.specs.Reach.{Numbers, IsFootprint}
 use Rattle.ftc_machine.specs.Marking.{marked_at}
 use Rattle.ftc_machine.proofs.Footprints.{one_of, touched_of}

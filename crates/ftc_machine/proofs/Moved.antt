@@ -12,12 +12,12 @@ use Rattle.ftc_machine.specs.declared.message.Message.{Message as KeptMessage}
 use Rattle.ftc_machine.specs.declared.message.Place.{Place}
 use Rattle.ftc_machine.specs.declared.message.Place.TheVariants as place
 use Rattle.ftc_machine.specs.Kept.{IsKept, IsMessage, IsMessageSlot, IsPlace, footprints_in, reach_of}
-use Rattle.ftc_machine.specs.Next.{taken_message}
+use Rattle.ftc_protocol.specs.Next.{taken_message}
 use Rattle.ftc_machine.specs.Reach.{Numbers, Reaches, numbers_of}
-use Rattle.ftc_machine.specs.Setting.{Setting, servers}
+use Rattle.ftc_protocol.specs.Setting.{Setting, servers}
 use Rattle.ftc_machine.specs.Slots.{slot_at}
-use Rattle.ftc_machine.specs.State.{ChainState, Message, Where, Held, Queued}
-use Rattle.ftc_machine.specs.Visits.{Visits, union}
+use Rattle.ftc_protocol.specs.State.{ChainState, Message, Where, Held, Queued}
+use Rattle.ftc_protocol.specs.Visits.{Visits, union}
 use Rattle.ftc_machine.proofs.Reached.{AreWithin, merged_reaches}
 use Rattle.ftc_machine.proofs.Replaced.{row_replaced}
 

@@ -1,6 +1,6 @@
 -- What a packet needs, it touched: the visits are in the trace. A message without a packet needs nothing.
 use Rattle.std.proofs.Common.{◌≡◌, ℕ, ◌+◌, ◌<◌, ◌==◌, ◌&&◌, ◌||◌, if◌then◌else◌, Bool, true, false, not, List, [], ◌∷◌, refl, sym, ap, subst, ◌∙◌, arith, inl, inr, eqb-true, Option, Some, None, is_some}
-use Rattle.std.proofs.lemmas.Bool.{true≢false, and_parts, or_cases, cases_Bool, cases_lt, cases_eq, ne_eqb}
+use Rattle.std.proofs.lemmas.Bool.{true≢false, and_parts, or_cases}
 use Rattle.std.proofs.lemmas.Option.{none-some, same_Some}
 use Rattle.ftc_ring.specs.Ring.{next_of}
 use Rattle.ftc_journal.specs.declared.event.VisitName.{VisitName}
@@ -12,23 +12,23 @@ use Rattle.ftc_serial.specs.Trace.{names}
 use Rattle.ftc_serial.specs.Removal.{left_of}
 use Rattle.ftc_serial.specs.Take.{Outcome}
 use Rattle.ftc_serial.proofs.Functions.{with_at_cases}
-use Rattle.ftc_machine.specs.Setting.{Setting, servers, packet_at, IsSetting}
-use Rattle.ftc_machine.specs.Changes.{is_touching}
-use Rattle.ftc_machine.specs.State.{ChainState, Message, Withheld, Where, Held, Queued, opening}
-use Rattle.ftc_machine.specs.Trace.{IsTouching, IsSomeVisit}
-use Rattle.ftc_machine.specs.Legal.{MayHappen, is_sent}
-use Rattle.ftc_machine.specs.Recovery.{is_dropped, following_live}
-use Rattle.ftc_machine.specs.Next.{next, sent_on, is_away, is_at, fresh_message, taken_message, visited_message, sent_message, outcome_at, withheld_of, bytes_withheld, drop_if}
-use Rattle.ftc_machine.specs.Run.{AreLegal, IsRun, state_after}
-use Rattle.ftc_machine.proofs.Premises.{IsGood}
-use Rattle.ftc_machine.proofs.Supposed.{is_good}
-use Rattle.ftc_machine.proofs.Inv.{Inv, each_message, expected, target}
-use Rattle.ftc_machine.proofs.Places.{IsSerial, serial_of, Waits, Passed, placed, place_after}
-use Rattle.ftc_machine.proofs.Awake.{kept_drop}
-use Rattle.ftc_machine.proofs.Sound.{visited_before, visited_all}
-use Rattle.ftc_machine.proofs.Standing.{visited_earlier, visit_stood, visit_left, stands_map}
-use Rattle.ftc_machine.proofs.Stores.{stands_below}
-use Rattle.ftc_machine.proofs.Complete.{IsReached, keeps_reached, opens_reached}
+use Rattle.ftc_protocol.specs.Setting.{Setting, servers, packet_at, IsSetting}
+use Rattle.ftc_protocol.specs.Changes.{is_touching}
+use Rattle.ftc_protocol.specs.State.{ChainState, Message, Withheld, Where, Held, Queued, opening}
+use Rattle.ftc_protocol.specs.Trace.{IsTouching, IsSomeVisit}
+use Rattle.ftc_protocol.specs.Legal.{is_sent}
+use Rattle.ftc_protocol.specs.Recovery.{is_dropped, following_live}
+use Rattle.ftc_protocol.specs.Next.{next, sent_on, is_away, is_at, fresh_message, taken_message, visited_message, sent_message, outcome_at, withheld_of, bytes_withheld, drop_if}
+use Rattle.ftc_protocol.specs.Run.{AreLegal, IsRun, state_after}
+use Rattle.ftc_protocol.proofs.Premises.{IsGood}
+use Rattle.ftc_protocol.proofs.Supposed.{is_good}
+use Rattle.ftc_protocol.proofs.Inv.{Inv, each_message, expected}
+use Rattle.ftc_protocol.proofs.Places.{IsSerial, serial_of, Waits, Passed, placed}
+use Rattle.ftc_protocol.proofs.Awake.{kept_drop}
+use Rattle.ftc_protocol.proofs.Sound.{visited_before, visited_all}
+use Rattle.ftc_protocol.proofs.Standing.{visited_earlier, visit_stood, visit_left, stands_map}
+use Rattle.ftc_protocol.proofs.Stores.{stands_below}
+use Rattle.ftc_protocol.proofs.Complete.{IsReached, keeps_reached, opens_reached}
 
 -- of a message, and of a packet of the buffer
 pub record IsNeeding (trace : List Entry) (packet : ℕ) (bytes : Option (List ℕ)) (needs : ℕ → Bool) : Type 0 where
@@ -120,7 +120,7 @@ module _ (c : Setting) (good : IsGood c) (some : 0 < servers c) (s : ChainState)
   kept_withheld : (p : ℕ) (o : Option Message) → s.message p ≡ o → (w : Withheld) → withheld_of s o ≡ Some w → (group : ℕ) → w.needs group ≡ true → IsTouching s.trace group p
   kept_withheld p None was w is group need = absurd (none-some w is)
   kept_withheld p (Some old) was w is group need =
-      elim old.packet as (λ o. old.packet ≡ o → Rattle.ftc_machine.specs.Next.withheld_packet s old o ≡ Some w → IsTouching s.trace group p) [
+      elim old.packet as (λ o. old.packet ≡ o → Rattle.ftc_protocol.specs.Next.withheld_packet s old o ≡ Some w → IsTouching s.trace group p) [
         | None ↦ λ e x. absurd (none-some w x)
         | Some bytes ↦ λ e x. (a.messages p old was).touching group (subst (λ (v : Withheld). v.needs group ≡ true) (sym (same_Some _ w x)) need)
       ] refl is

@@ -1,20 +1,14 @@
 -- Lists whose items are all alike, and what is kept at the start.
-use Rattle.std.proofs.Common.{◌≡◌, ℕ, zero, suc, ◌<◌, ◌≤◌, ◌+◌, Bool, true, false, not, List, [], ◌∷◌, ◌++◌, length, slice_index_or, drop, Option, Some, None, refl, sym, ap, subst, ◌∙◌, inl, inr, arith, lt-ltb}
-use Rattle.std.proofs.lemmas.Bool.{true≢false, cases_lt}
+use Rattle.std.proofs.Common.{◌≡◌, ℕ, zero, suc, false, not, List, [], ◌∷◌, ◌++◌, slice_index_or, drop, None, refl, sym, ap, subst, ◌∙◌, arith, lt-ltb}
 use Rattle.std.specs.FinMap.{empty}
-use Rattle.std.proofs.lemmas.List.{get_or_past}
-use Rattle.std.proofs.lemmas.List.FromFn.{length-map-range_with_len}
-use Rattle.ftc_base.specs.declared.limits.TheConstants.{MOST_SERVERS}
 use Rattle.ftc_base.specs.Sets.{has}
-use Rattle.ftc_vector.specs.Vector.{by_partition, number_at}
-use Rattle.ftc_vector.specs.Commits.{by_group, vector_of}
-use Rattle.ftc_ring.specs.Live.{is_live}
-use Rattle.ftc_serial.specs.Serial.{Entry}
+use Rattle.ftc_vector.specs.Vector.{by_partition}
+use Rattle.ftc_vector.specs.Commits.{by_group}
 use Rattle.ftc_serial.specs.Contents.{content_at}
 use Rattle.ftc_machine.specs.declared.kept.Kept.{Kept}
-use Rattle.ftc_machine.specs.Setting.{Setting, servers, shape}
-use Rattle.ftc_machine.specs.State.{opening}
-use Rattle.ftc_machine.specs.Visits.{Visits, no_visits}
+use Rattle.ftc_protocol.specs.Setting.{Setting, servers, shape}
+use Rattle.ftc_protocol.specs.State.{opening}
+use Rattle.ftc_protocol.specs.Visits.{no_visits}
 use Rattle.ftc_serial.specs.Trace.{names}
 use Rattle.ftc_machine.specs.Reach.{Numbers, Reaches, reach_in, numbers_of}
 use Rattle.ftc_machine.specs.Kept.{IsKept, IsMessageSlot, IsWithheldSlot, footprints_in, reach_of, fate_in}

@@ -9,7 +9,7 @@ use Rattle.ftc_vector.specs.Vector.{by_partition, number_at, merged}
 use Rattle.ftc_vector.specs.Commits.{vector_of}
 use Rattle.ftc_machine.specs.Reach.{Numbers, AreRising, IsReach, Reaches, reach_in}
 use Rattle.ftc_machine.specs.Tails.{part_of}
-use Rattle.ftc_machine.specs.Visits.{Visits}
+use Rattle.ftc_protocol.specs.Visits.{Visits}
 use Rattle.ftc_machine.proofs.Groups.{by_group-same, vector_of-by_group, vector_of-past}
 use Rattle.ftc_machine.proofs.Reached.{AreWithin, merged_row, outside}
 use Rattle.ftc_machine.proofs.Reaching.{zero_reach}

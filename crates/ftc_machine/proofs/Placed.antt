@@ -4,10 +4,10 @@ use Rattle.std.specs.Option.{option_map_or}
 use Rattle.ftc_serial.specs.Take.{Outcome}
 use Rattle.ftc_serial.specs.Serial.{Entry, Visited, Given}
 use Rattle.ftc_machine.specs.declared.footprint.Footprint.{Footprint}
-use Rattle.ftc_machine.specs.Changes.{Meets}
-use Rattle.ftc_machine.specs.Trace.{IsInTrace, IsBefore}
+use Rattle.ftc_protocol.specs.Changes.{Meets}
+use Rattle.ftc_protocol.specs.Trace.{IsInTrace, IsBefore}
 use Rattle.ftc_machine.specs.Reach.{Numbers, AreRising, IsChangingIn, Footprints, numbers_of, IsFootprint, AreFootprints}
-use Rattle.ftc_machine.proofs.Standing.{stands_map, before_last}
+use Rattle.ftc_protocol.proofs.Standing.{stands_map, before_last}
 use Rattle.ftc_machine.proofs.Rising.{once, both_in}
 
 pub record IsPlaced (partitions : ℕ) (trace : List Entry) (numbers : Numbers) (server packet : ℕ) (footprint : Footprint) : Type 0 where

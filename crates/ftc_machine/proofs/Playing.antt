@@ -1,20 +1,19 @@
 -- What is so of a run whose state is kept.
-use Rattle.std.proofs.Common.{◌≡◌, ℕ, zero, suc, ◌+◌, ◌<◌, ◌++◌, Bool, true, false, List, [], ◌∷◌, length, map, Result, Ok, Err, refl, sym, ap, subst, ◌∙◌, arith}
+use Rattle.std.proofs.Common.{◌≡◌, ℕ, zero, suc, ◌+◌, ◌++◌, Bool, true, false, List, [], ◌∷◌, length, map, Result, Ok, Err, refl, sym, ap, subst, ◌∙◌, arith}
 use Rattle.std.specs.Result.{IfOk}
 use Rattle.std.specs.List.{range_with_len}
 use Rattle.std.proofs.Math.Logic.{∥∥₁_map, ∥∥₁_elim}
 use Rattle.std.proofs.lemmas.Bool.{true≢false}
-use Rattle.ftc_base.specs.declared.refusal.NoMemory.{NoMemory}
 use Rattle.ftc_journal.specs.declared.event.Event.{Event}
 use Rattle.ftc_script.specs.Script.{ScriptShape}
 use Rattle.std.specs.Coded.{Coded-set, coded_list}
-use Rattle.ftc_machine.specs.contracts.fate.Fate as contract
-use Rattle.ftc_machine.specs.declared.fate.Fate.{Fate}
+use Rattle.ftc_protocol.specs.contracts.fate.Fate as contract
+use Rattle.ftc_protocol.specs.declared.fate.Fate.{Fate}
 use Rattle.ftc_machine.specs.declared.kept.Kept.{Kept}
-use Rattle.ftc_machine.specs.Setting.{Setting, count}
-use Rattle.ftc_machine.specs.State.{ChainState, opening}
-use Rattle.ftc_machine.specs.Run.{IsRun, IsFinished, state_after}
-use Rattle.ftc_machine.specs.Fates.{fates_in}
+use Rattle.ftc_protocol.specs.Setting.{Setting, count}
+use Rattle.ftc_protocol.specs.State.{ChainState, opening}
+use Rattle.ftc_protocol.specs.Run.{IsFinished, state_after}
+use Rattle.ftc_protocol.specs.Fates.{fates_in}
 use Rattle.ftc_machine.specs.Kept.{AreInputs, StandsFor, fate_in}
 use Rattle.ftc_machine.specs.Played.{IsPlayed}
 use Rattle.ftc_machine.specs.Done.{is_done}
@@ -24,12 +23,12 @@ use Rattle.ftc_machine.specs.Attempts.{NoneDue, IsTried, IsPassedOver}
 use Rattle.ftc_machine.specs.Dispatch.{is_on_way}
 use Rattle.ftc_machine.specs.Due.{is_any_due}
 use Rattle.ftc_machine.specs.Kept.{IsKept, StandsStill}
-use Rattle.ftc_machine.specs.Legal.{IsLegal, is_release}
-use Rattle.ftc_machine.specs.Next.{next}
-use Rattle.ftc_machine.proofs.Forever.{run_on, next_on}
+use Rattle.ftc_protocol.specs.Legal.{IsLegal, is_release}
+use Rattle.ftc_protocol.specs.Next.{next}
+use Rattle.ftc_protocol.proofs.Forever.{run_on, next_on}
 use Rattle.ftc_machine.proofs.JudgedDue.{any_due, due_any}
 use Rattle.ftc_machine.proofs.Knowing.{known_reaches, needed_by}
-use Rattle.ftc_machine.proofs.Complete.{reached, completes}
+use Rattle.ftc_protocol.proofs.Complete.{reached, completes}
 use Rattle.ftc_machine.proofs.Conclusion.{done_finished, complete_done}
 
 module _ (c : Setting) (journal : List Event) (k : Kept) where

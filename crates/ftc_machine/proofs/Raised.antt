@@ -4,7 +4,7 @@ use Rattle.std.proofs.lemmas.Bool.{cases_eq}
 use Rattle.ftc_vector.specs.Vector.{number_at, merged}
 use Rattle.ftc_vector.specs.Commits.{vector_of, group_raised}
 use Rattle.ftc_serial.specs.Serial.{Entry}
-use Rattle.ftc_machine.specs.Visits.{Visits, union}
+use Rattle.ftc_protocol.specs.Visits.{Visits, union}
 use Rattle.ftc_machine.specs.Reach.{Numbers, IsReach, Reaches, reach_in}
 use Rattle.ftc_machine.proofs.Reaching.{same_reach}
 use Rattle.ftc_machine.proofs.Reached.{AreWithin, merged_row}

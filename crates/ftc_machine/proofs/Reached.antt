@@ -8,7 +8,7 @@ use Rattle.ftc_vector.specs.Commits.{vector_of, all_merged}
 use Rattle.ftc_vector.proofs.Partitions.{length-by_partition, get_or-by_partition}
 use Rattle.ftc_vector.proofs.GroupLists.{vector_of-all_merged}
 use Rattle.ftc_serial.specs.Serial.{Entry, Given}
-use Rattle.ftc_machine.specs.Visits.{Visits, union}
+use Rattle.ftc_protocol.specs.Visits.{Visits, union}
 use Rattle.ftc_machine.specs.Reach.{Numbers, IsReach, IsChangingIn, Reaches, reach_in}
 use Rattle.ftc_machine.proofs.Groups.{vector_of-past}
 use Rattle.ftc_machine.proofs.Reaching.{both_reach}

@@ -6,10 +6,10 @@ use Rattle.ftc_base.specs.declared.limits.TheConstants.{MOST_PARTITIONS}
 use Rattle.ftc_vector.specs.Vector.{by_partition, number_at, merged}
 use Rattle.ftc_vector.proofs.Partitions.{length-by_partition, get_or-by_partition}
 use Rattle.ftc_serial.specs.Serial.{Entry}
-use Rattle.ftc_machine.specs.Changes.{Changes, is_changing}
-use Rattle.ftc_machine.specs.Trace.{IsChanging}
+use Rattle.ftc_protocol.specs.Changes.{Changes, is_changing}
+use Rattle.ftc_protocol.specs.Trace.{IsChanging}
 use Rattle.ftc_machine.specs.Reach.{Numbers, AreRising, IsReach, IsLast}
-use Rattle.ftc_machine.proofs.Standing.{stands_map, changes_some}
+use Rattle.ftc_protocol.proofs.Standing.{stands_map, changes_some}
 use Rattle.ftc_machine.proofs.Rising.{in_bounds}
 
 -- ---- vectors, at each partition

@@ -12,11 +12,11 @@ use Rattle.ftc_serial.specs.Take.{Outcome}
 use Rattle.ftc_serial.specs.Trace.{names}
 use Rattle.ftc_store.specs.Store.{Content, written}
 use Rattle.ftc_machine.specs.declared.footprint.Footprint.{Footprint}
-use Rattle.ftc_machine.specs.Changes.{is_changing}
+use Rattle.ftc_protocol.specs.Changes.{is_changing}
 use Rattle.ftc_machine.specs.Kept.{visits_in}
 use Rattle.ftc_machine.specs.Reach.{Footprints, AreFootprints}
 use Rattle.ftc_machine.specs.RecoveryEffect.{is_left, writes_kept, rewritten}
-use Rattle.ftc_machine.specs.Trace.{IsChanging, content_of}
+use Rattle.ftc_protocol.specs.Trace.{IsChanging, content_of}
 use Rattle.ftc_machine.proofs.Added.{unchanged}
 use Rattle.ftc_machine.proofs.UndoneKept.{filter_append}
 

@@ -16,46 +16,46 @@ use Rattle.ftc_serial.specs.Trace.{names}
 use Rattle.ftc_serial.specs.Words.{with_at}
 use Rattle.ftc_serial.proofs.Functions.{with_at_cases}
 use Rattle.ftc_store.specs.Store.{Content}
-use Rattle.ftc_machine.specs.declared.fate.Fate.{Fate}
-use Rattle.ftc_machine.specs.declared.fate.Fate.TheVariants.{Inside, Lost}
+use Rattle.ftc_protocol.specs.declared.fate.Fate.{Fate}
+use Rattle.ftc_protocol.specs.declared.fate.Fate.TheVariants.{Inside, Lost}
 use Rattle.ftc_machine.specs.declared.kept.Kept.{Kept}
 use Rattle.ftc_machine.specs.declared.message.Message.{Message as KeptMessage}
 use Rattle.ftc_machine.specs.declared.message.Place.{Place}
 use Rattle.ftc_machine.specs.declared.message.Place.TheVariants as place
-use Rattle.ftc_machine.specs.Changes.{is_changing}
+use Rattle.ftc_protocol.specs.Changes.{is_changing}
 use Rattle.ftc_machine.specs.Kept.{IsKept, IsMessage, IsMessageSlot, IsPlace, MayFollow, footprints_in, reach_of, fate_in, visits_in}
-use Rattle.ftc_machine.specs.Known.{knows}
+use Rattle.ftc_protocol.specs.Known.{knows}
 use Rattle.ftc_machine.specs.Losses.{drop_kept, loses_kept, fate_lost}
-use Rattle.ftc_machine.specs.Next.{next, drop_if, loses_packet, is_undone_drop}
+use Rattle.ftc_protocol.specs.Next.{next, drop_if, loses_packet, is_undone_drop}
 use Rattle.ftc_machine.specs.Reach.{AreRising, AreFootprints, Reaches, numbers_of, reach_in}
-use Rattle.ftc_machine.specs.Recovery.{previous_live, following_live, list_got, is_dropped}
+use Rattle.ftc_protocol.specs.Recovery.{previous_live, following_live, list_got, is_dropped}
 use Rattle.ftc_machine.specs.RecoveryEffect.{got_vector, both_known, is_left, rewritten, is_dropped_kept}
-use Rattle.ftc_machine.specs.Setting.{Setting, servers}
+use Rattle.ftc_protocol.specs.Setting.{Setting, servers}
 use Rattle.ftc_machine.specs.Slots.{slot_at}
-use Rattle.ftc_machine.specs.State.{ChainState, Message, Where, Held, Queued}
+use Rattle.ftc_protocol.specs.State.{ChainState, Message, Where, Held, Queued}
 use Rattle.ftc_machine.specs.Tests.{footprints_of}
-use Rattle.ftc_machine.specs.Trace.{IsBefore, IsChanging, content_of}
-use Rattle.ftc_machine.specs.Visits.{Visits, In, union}
-use Rattle.ftc_machine.proofs.Complete.{IsReached, keeps_reached}
+use Rattle.ftc_protocol.specs.Trace.{IsBefore, IsChanging, content_of}
+use Rattle.ftc_protocol.specs.Visits.{Visits, In, union}
+use Rattle.ftc_protocol.proofs.Complete.{IsReached, keeps_reached}
 use Rattle.ftc_machine.proofs.Dropping.{drops, loses_same}
 use Rattle.ftc_machine.proofs.Following.{reached_before, visits_within}
 use Rattle.ftc_machine.proofs.Handing.{got_reaches, both_reach_known}
-use Rattle.ftc_machine.proofs.Inv.{Inv}
+use Rattle.ftc_protocol.proofs.Inv.{Inv}
 use Rattle.ftc_machine.proofs.Judging.{dropped_same}
-use Rattle.ftc_machine.proofs.Listed.{undone_listed}
-use Rattle.ftc_machine.proofs.Moments.{store_left}
-use Rattle.ftc_machine.proofs.Premises.{IsGood}
+use Rattle.ftc_protocol.proofs.Listed.{undone_listed}
+use Rattle.ftc_protocol.proofs.Moments.{store_left}
+use Rattle.ftc_protocol.proofs.Premises.{IsGood}
 use Rattle.ftc_machine.proofs.Rebuilding.{visits_left, rebuilt_content}
 use Rattle.ftc_machine.proofs.Replaced.{row_replaced}
-use Rattle.ftc_machine.proofs.Ring.{IsLastLive, IsNextLive, last_live, next_live}
+use Rattle.ftc_protocol.proofs.Ring.{IsLastLive, IsNextLive, last_live, next_live}
 use Rattle.ftc_machine.proofs.Rising.{rising_more}
-use Rattle.ftc_machine.proofs.SmallEvents.{fit_next, fit_now}
-use Rattle.ftc_machine.proofs.Standing.{visit_stood}
-use Rattle.ftc_machine.proofs.Supposed.{is_good}
+use Rattle.ftc_protocol.proofs.SmallEvents.{fit_next, fit_now}
+use Rattle.ftc_protocol.proofs.Standing.{visit_stood}
+use Rattle.ftc_protocol.proofs.Supposed.{is_good}
 use Rattle.ftc_machine.proofs.Thinning.{rising_left, reach_left, footprints_left}
-use Rattle.ftc_machine.proofs.Undone.{IsUndone}
-use Rattle.ftc_machine.proofs.Undoing.{undone_before}
-use Rattle.ftc_machine.proofs.World.{nobody_has}
+use Rattle.ftc_protocol.proofs.Undone.{IsUndone}
+use Rattle.ftc_protocol.proofs.Undoing.{undone_before}
+use Rattle.ftc_protocol.proofs.World.{nobody_has}
 
 -- at its own place a changed function has what it was given, and elsewhere what it had
 given : {A : Type 0} (f : ℕ → A) (k : ℕ) (v : A) → with_at f k v k ≡ v

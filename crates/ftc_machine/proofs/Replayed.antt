@@ -1,14 +1,14 @@
 -- A journal that is played again, event by event.
-use Rattle.std.proofs.Common.{◌≡◌, ℕ, zero, suc, ◌+◌, ◌<◌, ◌++◌, List, [], ◌∷◌, length, take, get_or, slice_get, Option, Some, refl, sym, ap, subst, ◌∙◌, arith}
-use Rattle.std.proofs.Math.Logic.{∥∥₁_map₂, ∥∥₁_elim}
+use Rattle.std.proofs.Common.{◌≡◌, ℕ, zero, suc, ◌+◌, ◌<◌, ◌++◌, List, [], ◌∷◌, length, take, get_or, slice_get, Some, sym, ap, subst, arith}
+use Rattle.std.proofs.Math.Logic.{∥∥₁_map₂}
 use Rattle.ftc_journal.specs.declared.event.Event.{Event}
-use Rattle.ftc_machine.specs.Setting.{Setting}
-use Rattle.ftc_machine.specs.State.{ChainState, opening}
-use Rattle.ftc_machine.specs.Legal.{IsLegal}
-use Rattle.ftc_machine.specs.Next.{next}
-use Rattle.ftc_machine.specs.Run.{AreLegal, IsRun, state_after}
+use Rattle.ftc_protocol.specs.Setting.{Setting}
+use Rattle.ftc_protocol.specs.State.{ChainState, opening}
+use Rattle.ftc_protocol.specs.Legal.{IsLegal}
+use Rattle.ftc_protocol.specs.Next.{next}
+use Rattle.ftc_protocol.specs.Run.{AreLegal, IsRun, state_after}
 use Rattle.ftc_machine.specs.Illegal.{IsFirstIllegal}
-use Rattle.ftc_machine.proofs.Forever.{run_on}
+use Rattle.ftc_protocol.proofs.Forever.{run_on}
 
 -- one more event of a list
 one_taken : (events : List Event) (place : ℕ) (event : Event) → slice_get events place ≡ Some event → take (suc place) events ≡ take place events ++ event ∷ []

@@ -1,5 +1,5 @@
 -- Looking through places that have items or none.
-use Rattle.std.proofs.Common.{◌≡◌, ℕ, zero, suc, ◌<◌, ◌≤◌, length, Bool, true, false, List, [], ◌∷◌, drop, Option, Some, None, refl, arith, sym, ◌∙◌}
+use Rattle.std.proofs.Common.{◌≡◌, ℕ, zero, suc, ◌<◌, ◌≤◌, length, Bool, false, List, [], ◌∷◌, drop, Option, Some, None, refl, arith}
 use Rattle.std.specs.List.{list_any}
 use Rattle.ftc_machine.specs.Slots.{slot_at, has_such}
 

@@ -4,17 +4,17 @@ use Rattle.ftc_journal.specs.declared.event.Event.{Event}
 use Rattle.ftc_ring.specs.Ring.{RingShape, apart}
 use Rattle.ftc_machine.specs.declared.kept.Kept.{Kept}
 use Rattle.ftc_machine.specs.Kept.{IsKept, MayFollow, footprints_in, reach_of}
-use Rattle.ftc_machine.specs.Known.{knows}
+use Rattle.ftc_protocol.specs.Known.{knows}
 use Rattle.ftc_machine.specs.Reach.{Reaches, numbers_of, reach_in}
-use Rattle.ftc_machine.specs.Setting.{Setting, servers, is_tail, IsSetting}
-use Rattle.ftc_machine.specs.State.{ChainState}
+use Rattle.ftc_protocol.specs.Setting.{Setting, servers, is_tail, IsSetting}
+use Rattle.ftc_protocol.specs.State.{ChainState}
 use Rattle.ftc_machine.specs.Tails.{group_ending, known_at, part_of}
-use Rattle.ftc_machine.specs.Visits.{Visits}
-use Rattle.ftc_machine.proofs.Complete.{IsReached}
+use Rattle.ftc_protocol.specs.Visits.{Visits}
+use Rattle.ftc_protocol.proofs.Complete.{IsReached}
 use Rattle.ftc_machine.proofs.Following.{reached_before, reached_below, reached_within}
 use Rattle.ftc_machine.proofs.Parts.{part_reaches}
 use Rattle.ftc_machine.proofs.Reached.{merged_reaches, reach_moves}
-use Rattle.ftc_machine.proofs.Ring.{apart_cases}
+use Rattle.ftc_protocol.proofs.Ring.{apart_cases}
 
 -- tests that imply one another are equal
 pub same_test : (one other : Bool) → (one ≡ true → other ≡ true) → (other ≡ true → one ≡ true) → one ≡ other

@@ -1,5 +1,5 @@
 -- What the tests of kept parts say.
-use Rattle.std.proofs.Common.{◌≡◌, ℕ, Bool, true, List, Some, None, Option, subst, ap, refl}
+use Rattle.std.proofs.Common.{◌≡◌, ℕ, true, List, Some, None, subst, ap, refl}
 use Rattle.std.specs.Option.{option_map_or}
 use Rattle.ftc_vector.specs.Commits.{vector_of}
 use Rattle.ftc_journal.specs.declared.event.VisitName.{VisitName}

@@ -1,12 +1,12 @@
 -- From what tests and effects say to what an attempt leaves.
-use Rattle.std.proofs.Common.{◌≡◌, ℕ, Bool, true, false, refl, sym, ◌∙◌, ◌↔◌}
+use Rattle.std.proofs.Common.{◌≡◌, ℕ, Bool, true, false, sym, ◌∙◌, ◌↔◌}
 use Rattle.std.proofs.lemmas.Bool.{true≢false}
 use Rattle.ftc_journal.specs.declared.event.Event.{Event}
 use Rattle.ftc_journal.specs.declared.event.Event.TheVariants as event
 use Rattle.ftc_machine.specs.declared.kept.Kept.{Kept}
-use Rattle.ftc_machine.specs.Setting.{Setting}
-use Rattle.ftc_machine.specs.State.{ChainState}
-use Rattle.ftc_machine.specs.Legal.{MayHappen}
+use Rattle.ftc_protocol.specs.Setting.{Setting}
+use Rattle.ftc_protocol.specs.State.{ChainState}
+use Rattle.ftc_protocol.specs.Legal.{MayHappen}
 use Rattle.ftc_machine.specs.Kept.{StandsFor}
 use Rattle.ftc_machine.specs.Effects.{StandsAfter}
 use Rattle.ftc_machine.specs.RecoveryEffect.{IsOfRun}

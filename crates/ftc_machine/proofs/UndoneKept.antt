@@ -9,22 +9,22 @@ use Rattle.ftc_ring.proofs.Geometry.{next_within, previous_within}
 use Rattle.ftc_serial.specs.Serial.{Entry, Visited, Given}
 use Rattle.ftc_vector.specs.Commits.{vector_of}
 use Rattle.ftc_machine.specs.declared.kept.Kept.{Kept}
-use Rattle.ftc_machine.specs.Changes.{is_some_list}
+use Rattle.ftc_protocol.specs.Changes.{is_some_list}
 use Rattle.ftc_machine.specs.Kept.{IsKept, footprints_in, visits_in}
 use Rattle.ftc_machine.specs.Reach.{is_had_by}
-use Rattle.ftc_machine.specs.Recovery.{is_between, is_undone_itself, is_up_to, is_undone, in_order, previous_live, following_live, undone_visits}
+use Rattle.ftc_protocol.specs.Recovery.{is_between, is_undone_itself, is_up_to, is_undone, in_order, previous_live, following_live, undone_visits}
 use Rattle.ftc_machine.specs.RecoveryEffect.{IsOfRun, kept_previous, kept_following, is_lacked, is_undone_alone, is_undone_kept}
-use Rattle.ftc_machine.specs.Setting.{Setting, servers}
+use Rattle.ftc_protocol.specs.Setting.{Setting, servers}
 use Rattle.ftc_machine.specs.Slots.{has_such}
-use Rattle.ftc_machine.specs.State.{ChainState}
+use Rattle.ftc_protocol.specs.State.{ChainState}
 use Rattle.ftc_machine.specs.Tests.{footprints_of, list_of}
-use Rattle.ftc_machine.specs.Trace.{IsSomeVisit, lacked_by}
-use Rattle.ftc_machine.specs.Visits.{Visits}
+use Rattle.ftc_protocol.specs.Trace.{IsSomeVisit, lacked_by}
+use Rattle.ftc_protocol.specs.Visits.{Visits}
 use Rattle.ftc_machine.proofs.Chained.{visited_before}
-use Rattle.ftc_machine.proofs.Complete.{IsReached, reached}
+use Rattle.ftc_protocol.proofs.Complete.{IsReached, reached}
 use Rattle.ftc_machine.proofs.Footprints.{touched_touching, had_has}
 use Rattle.ftc_machine.proofs.Joined.{footprint_there}
-use Rattle.ftc_machine.proofs.Listed.{lacked_says, lacked_has, up_to_says, up_to_has}
+use Rattle.ftc_protocol.proofs.Listed.{lacked_says, lacked_has, up_to_says, up_to_has}
 
 -- ---- tests
 

@@ -2,11 +2,11 @@
 use Rattle.std.specs.Prelude.{ℕ, ◌≡◌, Bool, true, false}
 use Rattle.ftc_journal.specs.declared.event.Event.{Event}
 use Rattle.ftc_machine.specs.declared.kept.Kept.{Kept}
-use Rattle.ftc_machine.specs.Setting.{Setting}
-use Rattle.ftc_machine.specs.State.{ChainState, Withheld}
-use Rattle.ftc_machine.specs.Known.{IsDue}
-use Rattle.ftc_machine.specs.Legal.{MayHappen}
-use Rattle.ftc_machine.specs.Next.{next}
+use Rattle.ftc_protocol.specs.Setting.{Setting}
+use Rattle.ftc_protocol.specs.State.{ChainState, Withheld}
+use Rattle.ftc_protocol.specs.Known.{IsDue}
+use Rattle.ftc_protocol.specs.Legal.{MayHappen}
+use Rattle.ftc_protocol.specs.Next.{next}
 use Rattle.ftc_machine.specs.Kept.{IsKept, StandsFor}
 
 -- no packet of the buffer is due

@@ -5,9 +5,9 @@ use Rattle.ftc_journal.specs.declared.event.Event.TheVariants as event
 use Rattle.ftc_journal.specs.declared.event.VisitName.{VisitName}
 use Rattle.ftc_machine.specs.declared.kept.Kept.{Kept}
 use Rattle.ftc_machine.specs.declared.message.Message.{Message}
-use Rattle.ftc_machine.specs.Setting.{Setting}
-use Rattle.ftc_machine.specs.State.{ChainState}
-use Rattle.ftc_machine.specs.Next.{next}
+use Rattle.ftc_protocol.specs.Setting.{Setting}
+use Rattle.ftc_protocol.specs.State.{ChainState}
+use Rattle.ftc_protocol.specs.Next.{next}
 use Rattle.ftc_machine.specs.Kept.{MayFollow, GoesOver}
 
 -- what stood for a state after which the event may follow stands for the state after the event

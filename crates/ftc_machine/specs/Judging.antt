@@ -3,9 +3,9 @@ use Rattle.std.specs.Prelude.{◌≡◌, ◌↔◌, Bool, true}
 use Rattle.ftc_journal.specs.declared.event.Event.{Event}
 use Rattle.ftc_journal.specs.declared.event.Event.TheVariants as event
 use Rattle.ftc_script.specs.declared.line.ScriptLine.TheVariants.{Recover}
-use Rattle.ftc_machine.specs.Setting.{Setting}
-use Rattle.ftc_machine.specs.State.{ChainState}
-use Rattle.ftc_machine.specs.Legal.{MayHappen, IsNextLine}
+use Rattle.ftc_protocol.specs.Setting.{Setting}
+use Rattle.ftc_protocol.specs.State.{ChainState}
+use Rattle.ftc_protocol.specs.Legal.{MayHappen, IsNextLine}
 
 -- it may happen; a recovery is the next line
 abbrev pub IsExpected : Setting → ChainState → Event → Type 0

@@ -1,16 +1,14 @@
 -- What the machine keeps, and the state for which it stands.
-use Rattle.std.specs.Prelude.{ℕ, ◌≡◌, ◌<◌, ◌+◌, Bool, true, false, List, [], ◌∷◌, ◌++◌, drop, slice_index_or, slice_get, Option, Some, None, is_some}
+use Rattle.std.specs.Prelude.{ℕ, ◌≡◌, ◌<◌, ◌+◌, true, List, [], ◌∷◌, ◌++◌, drop, slice_index_or, Option, Some, None, is_some}
 use Rattle.std.specs.Option.{option_map_or}
-use Rattle.std.specs.FinMap.{empty}
 use Rattle.ftc_base.specs.Sets.{has}
 use Rattle.ftc_journal.specs.declared.event.VisitName.{VisitName}
 use Rattle.ftc_ring.specs.Live.{is_live}
-use Rattle.ftc_store.specs.Store.{Content, Stored}
 use Rattle.ftc_serial.specs.Contents.{content_at}
 use Rattle.ftc_serial.specs.Serial.{Entry, Visited, Given}
 use Rattle.ftc_serial.specs.Trace.{names}
-use Rattle.ftc_machine.specs.declared.fate.Fate.{Fate}
-use Rattle.ftc_machine.specs.declared.fate.Fate.TheVariants as became
+use Rattle.ftc_protocol.specs.declared.fate.Fate.{Fate}
+use Rattle.ftc_protocol.specs.declared.fate.Fate.TheVariants as became
 use Rattle.ftc_machine.specs.declared.footprint.Footprint.{Footprint}
 use Rattle.ftc_machine.specs.declared.kept.Kept.{Kept}
 use Rattle.ftc_machine.specs.declared.message.Message.{Message as KeptMessage}
@@ -19,14 +17,14 @@ use Rattle.ftc_machine.specs.declared.message.Place.TheVariants as place
 use Rattle.ftc_machine.specs.declared.message.Withheld.{Withheld as KeptWithheld}
 use Rattle.ftc_journal.specs.declared.event.Event.{Event}
 use Rattle.ftc_script.specs.Script.{ScriptShape, loses_of}
-use Rattle.ftc_machine.specs.Setting.{Setting, servers, shape, count, IsSetting}
-use Rattle.ftc_machine.specs.Legal.{IsLegal}
-use Rattle.ftc_machine.specs.Run.{IsRun, state_after}
+use Rattle.ftc_protocol.specs.Setting.{Setting, servers, shape, count, IsSetting}
+use Rattle.ftc_protocol.specs.Legal.{IsLegal}
+use Rattle.ftc_protocol.specs.Run.{IsRun, state_after}
 use Rattle.ftc_machine.specs.Slots.{slot_at}
 use Rattle.ftc_machine.specs.Reach.{Numbers, AreRising, Reaches, Footprints, numbers_of, AreFootprints}
-use Rattle.ftc_machine.specs.State.{Where, Held, Queued, Message, Withheld, ChainState, opening}
-use Rattle.ftc_machine.specs.Trace.{content_of}
-use Rattle.ftc_machine.specs.Visits.{Visits}
+use Rattle.ftc_protocol.specs.State.{Where, Held, Queued, Message, Withheld, ChainState, opening}
+use Rattle.ftc_protocol.specs.Trace.{content_of}
+use Rattle.ftc_protocol.specs.Visits.{Visits}
 
 -- the footprint of a visit, the reach of a server's set
 abbrev pub footprints_in : List (List (Option Footprint)) → Footprints

@@ -1,8 +1,8 @@
 -- What goes away with messages, by what is kept.
 use Rattle.std.specs.Prelude.{ℕ, ◌==◌, ◌&&◌, Bool, false, Option, Some, None, is_some, if◌then◌else◌}
 use Rattle.ftc_ring.specs.Ring.{next_of}
-use Rattle.ftc_machine.specs.declared.fate.Fate.{Fate}
-use Rattle.ftc_machine.specs.declared.fate.Fate.TheVariants.{Filtered, Inside, Lost, Released}
+use Rattle.ftc_protocol.specs.declared.fate.Fate.{Fate}
+use Rattle.ftc_protocol.specs.declared.fate.Fate.TheVariants.{Filtered, Inside, Lost, Released}
 use Rattle.ftc_machine.specs.declared.message.Message.{Message}
 use Rattle.ftc_machine.specs.declared.message.Place.{Place}
 use Rattle.ftc_machine.specs.declared.message.Place.TheVariants.{Held, Queued}

@@ -1,12 +1,12 @@
 -- A run so far: what it was given, and its events.
-use Rattle.std.specs.Prelude.{ℕ, ◌≡◌, List}
+use Rattle.std.specs.Prelude.{ℕ, List}
 use Rattle.ftc_journal.specs.declared.event.Event.{Event}
 use Rattle.ftc_mbox.specs.Chain.{Chain}
 use Rattle.ftc_script.specs.Script.{ScriptShape}
 use Rattle.ftc_machine.specs.declared.kept.Kept.{Kept}
-use Rattle.ftc_machine.specs.Setting.{Setting, setting_of, IsSetting}
-use Rattle.ftc_machine.specs.State.{ChainState, opening}
-use Rattle.ftc_machine.specs.Run.{IsRun, state_after}
+use Rattle.ftc_protocol.specs.Setting.{Setting, setting_of, IsSetting}
+use Rattle.ftc_protocol.specs.State.{ChainState, opening}
+use Rattle.ftc_protocol.specs.Run.{IsRun, state_after}
 use Rattle.ftc_machine.specs.Kept.{IsKept}
 
 pub record Played : Type 0 where

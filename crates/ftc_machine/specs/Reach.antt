@@ -12,9 +12,9 @@ use Rattle.ftc_serial.specs.Entries.{Touches}
 use Rattle.ftc_serial.specs.Serial.{Entry, Visited, Given}
 use Rattle.ftc_machine.specs.declared.footprint.Touched.{Touched}
 use Rattle.ftc_machine.specs.declared.footprint.Footprint.{Footprint}
-use Rattle.ftc_machine.specs.Visits.{Visits}
-use Rattle.ftc_machine.specs.Changes.{Changes, is_some_list}
-use Rattle.ftc_machine.specs.Trace.{IsInTrace}
+use Rattle.ftc_protocol.specs.Visits.{Visits}
+use Rattle.ftc_protocol.specs.Changes.{Changes, is_some_list}
+use Rattle.ftc_protocol.specs.Trace.{IsInTrace}
 
 -- the number of a visit, by its middlebox and its packet
 abbrev pub Numbers : Type 0

@@ -1,10 +1,10 @@
 -- What a recovery does, by what is kept.
-use Rattle.std.specs.Prelude.{ℕ, ◌≡◌, ◌+◌, ◌-◌, ◌==◌, ◌&&◌, ◌||◌, not, nat_lt, nat_le, Bool, List, [], Option, Some, None, unwrap_or, if◌then◌else◌}
+use Rattle.std.specs.Prelude.{ℕ, ◌≡◌, ◌+◌, ◌==◌, ◌&&◌, ◌||◌, not, nat_lt, nat_le, Bool, List, [], Option, Some, None, unwrap_or, if◌then◌else◌}
 use Rattle.std.specs.List.{list_any, range_with_len}
 use Rattle.ftc_base.specs.declared.ask.Write.{Write}
 use Rattle.ftc_journal.specs.declared.event.Event.{Event}
 use Rattle.ftc_journal.specs.declared.event.VisitName.{VisitName}
-use Rattle.ftc_ring.specs.Ring.{RingShape, apart, next_of}
+use Rattle.ftc_ring.specs.Ring.{apart, next_of}
 use Rattle.ftc_ring.specs.Live.{is_live, live_before_of, live_after_of, source_between}
 use Rattle.ftc_serial.specs.Trace.{names}
 use Rattle.ftc_store.specs.Store.{Content, written}
@@ -15,14 +15,15 @@ use Rattle.ftc_machine.specs.declared.kept.Kept.{Kept}
 use Rattle.ftc_machine.specs.declared.message.Message.{Message}
 use Rattle.ftc_machine.specs.declared.message.Place.{Place}
 use Rattle.ftc_machine.specs.declared.message.Place.TheVariants.{Held, Queued}
-use Rattle.ftc_machine.specs.Changes.{is_some_list}
+use Rattle.ftc_protocol.specs.Changes.{is_some_list}
 use Rattle.ftc_machine.specs.Kept.{reach_of}
 use Rattle.ftc_machine.specs.Reach.{Footprints, is_had_by}
-use Rattle.ftc_machine.specs.Recovery.{is_between}
-use Rattle.ftc_machine.specs.Run.{IsRun, state_after}
-use Rattle.ftc_machine.specs.Setting.{Setting, IsSetting}
+use Rattle.ftc_protocol.specs.Recovery.{is_between}
+use Rattle.ftc_protocol.specs.Run.{IsRun, state_after}
+use Rattle.ftc_protocol.specs.Setting.{Setting, IsSetting}
 use Rattle.ftc_machine.specs.Slots.{has_such}
-use Rattle.ftc_machine.specs.State.{ChainState, opening}
+use Rattle.ftc_machine.specs.Tails.{group_ending}
+use Rattle.ftc_protocol.specs.State.{ChainState, opening}
 use Rattle.ftc_machine.specs.Tests.{footprints_of, list_of, is_ready}
 
 -- a run leads to the state
@@ -61,13 +62,9 @@ got_vector k server previous following group =
     then merged (by_partition (λ _. 0)) (vector_of (list_of k (source_between k.ring.servers previous following group server)) group)
     else by_partition (λ _. 0)
 
--- the group whose tail a server is
-abbrev pub tail_group : RingShape → ℕ → ℕ
-tail_group ring server = if nat_le ring.failures server then server - ring.failures else server + ring.servers - ring.failures
-
 -- to what is known the list of that group is added
 abbrev pub tail_added : Kept → ℕ → List (List ℕ) → List (List ℕ)
-tail_added k server known = group_raised known (tail_group k.ring server) (vector_of (list_of k server) (tail_group k.ring server))
+tail_added k server known = group_raised known (group_ending k.ring server) (vector_of (list_of k server) (group_ending k.ring server))
 
 -- what two servers know to be at the tails
 abbrev pub both_known : Kept → ℕ → ℕ → List (List ℕ)

@@ -1,5 +1,5 @@
 -- Places that are numbered from 0, each of which has an item or none.
-use Rattle.std.specs.Prelude.{ℕ, Bool, true, false, List, Option, Some, None, slice_index_or}
+use Rattle.std.specs.Prelude.{ℕ, Bool, false, List, Option, Some, None, slice_index_or}
 
 -- what a place has
 abbrev pub slot_at : {A : Type 0} → List (Option A) → ℕ → Option A

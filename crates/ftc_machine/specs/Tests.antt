@@ -1,9 +1,9 @@
 -- When the machine takes an event to be legal: tests of what it keeps.
-use Rattle.std.specs.Prelude.{ℕ, ◌+◌, ◌-◌, ◌==◌, ◌&&◌, ◌||◌, nat_lt, not, Bool, true, false, List, [], ◌∷◌, drop, is_some, is_none, Option, Some, None}
+use Rattle.std.specs.Prelude.{ℕ, ◌+◌, ◌==◌, ◌&&◌, ◌||◌, nat_lt, not, Bool, true, false, List, [], ◌∷◌, drop, is_some, is_none, Option, Some, None}
 use Rattle.std.specs.List.{list_all, list_any, range_with_len}
 use Rattle.std.specs.Option.{option_map_or}
 use Rattle.ftc_base.specs.Sets.{has}
-use Rattle.ftc_vector.specs.Commits.{vector_of, group_raised}
+use Rattle.ftc_vector.specs.Commits.{vector_of}
 use Rattle.ftc_ring.specs.Ring.{RingShape, next_of}
 use Rattle.ftc_ring.specs.Live.{is_live}
 use Rattle.ftc_journal.specs.declared.event.VisitName.{VisitName}
@@ -18,7 +18,7 @@ use Rattle.ftc_machine.specs.declared.message.Message.{Message}
 use Rattle.ftc_machine.specs.declared.message.Place.{Place}
 use Rattle.ftc_machine.specs.declared.message.Place.TheVariants.{Held, Queued}
 use Rattle.ftc_machine.specs.declared.message.Withheld.{Withheld}
-use Rattle.ftc_machine.specs.Changes.{is_some_list}
+use Rattle.ftc_protocol.specs.Changes.{is_some_list}
 use Rattle.ftc_machine.specs.Slots.{slot_at, has_such}
 use Rattle.ftc_machine.specs.Reach.{Footprints, has_changed, contains, follows, is_had_by}
 use Rattle.ftc_machine.specs.Kept.{footprints_in, reach_of}

@@ -9,8 +9,8 @@ use Rattle.ftc_serial.specs.Take.{Outcome, taken}
 use Rattle.ftc_store.specs.Store.{Stored}
 use Rattle.ftc_machine.specs.declared.kept.Kept.{Kept}
 use Rattle.ftc_machine.specs.declared.message.Message.{Message}
-use Rattle.ftc_machine.specs.Changes.{is_some_list}
-use Rattle.ftc_machine.specs.Next.{bytes_in}
+use Rattle.ftc_protocol.specs.Changes.{is_some_list}
+use Rattle.ftc_protocol.specs.Next.{bytes_in}
 use Rattle.ftc_machine.specs.Slots.{slot_at}
 
 -- the bytes and the logs that a message carries, none where there is no message

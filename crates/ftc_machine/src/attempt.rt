@@ -3,8 +3,8 @@
 ghost use Rattle.std.specs.Prelude.{◌≡◌, ◌<◌, ◌↔◌, ℕ, true, OnErr, IfOk, length};
 ghost use Rattle.ftc_journal.specs.declared.event.Event.TheVariants as event;
 ghost use Rattle.ftc_script.specs.Script.{ScriptShape};
-ghost use Rattle.ftc_machine.specs.Setting.{Setting};
-ghost use Rattle.ftc_machine.specs.State.{ChainState};
+ghost use Rattle.ftc_protocol.specs.Setting.{Setting};
+ghost use Rattle.ftc_protocol.specs.State.{ChainState};
 ghost use Rattle.ftc_machine.specs.Kept.{AreInputs, StandsFor, StandsStill};
 ghost use Rattle.ftc_machine.specs.Attempts.{Tries, IsTried};
 ghost use Rattle.ftc_serial.specs.Packets.{bytes_of};

@@ -7,9 +7,9 @@ ghost use Rattle.ftc_machine.specs.declared.message.Message.{Message as AMessage
 ghost use Rattle.ftc_machine.specs.Effects.{StandsAfter};
 ghost use Rattle.ftc_machine.specs.Kept.{StandsStill};
 ghost use Rattle.ftc_machine.specs.Losses.{drop_kept, loses_kept, fate_lost, is_kept_at};
-ghost use Rattle.ftc_machine.specs.Setting.{Setting};
+ghost use Rattle.ftc_protocol.specs.Setting.{Setting};
 ghost use Rattle.ftc_machine.specs.Slots.{slot_at, has_such};
-ghost use Rattle.ftc_machine.specs.State.{ChainState};
+ghost use Rattle.ftc_protocol.specs.State.{ChainState};
 
 use crate::Fate;
 use crate::kept::Kept;

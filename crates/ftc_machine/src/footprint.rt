@@ -74,7 +74,7 @@ impl Touched {
 impl Footprint {
     ghost use Rattle.std.specs.Prelude.{◌≡◌, ℕ, if◌then◌else◌};
     ghost use Rattle.ftc_vector.specs.Vector.{number_at};
-    ghost use Rattle.ftc_machine.specs.Changes.{is_some_list};
+    ghost use Rattle.ftc_protocol.specs.Changes.{is_some_list};
     ghost use Rattle.ftc_machine.specs.Reach.{has_changed, follows, contains, is_had_by};
     ghost use Rattle.ftc_machine.specs.Marking.{marked_at};
     ghost use Rattle.ftc_machine.specs.Making.{IsMade};

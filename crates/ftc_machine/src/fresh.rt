@@ -3,7 +3,7 @@
 ghost use Rattle.std.specs.Prelude.{List};
 ghost use Rattle.ftc_serial.specs.Serial.{Entry};
 ghost use Rattle.ftc_machine.specs.Reach.{Numbers};
-ghost use Rattle.ftc_machine.specs.Next.{fresh_message};
+ghost use Rattle.ftc_protocol.specs.Next.{fresh_message};
 ghost use Rattle.ftc_machine.specs.Kept.{IsMessage};
 ghost use Rattle.std.specs.Prelude.{ℕ};
 

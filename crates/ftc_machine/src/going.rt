@@ -8,7 +8,7 @@ ghost use Rattle.ftc_script.specs.Steps.{at_of};
 ghost use Rattle.ftc_script.specs.declared.line.ScriptLine.{ScriptLine as ALine};
 ghost use Rattle.ftc_machine.specs.declared.message.Message.{Message as AMessage};
 ghost use Rattle.ftc_machine.specs.declared.message.Withheld.{Withheld as AWithheld};
-ghost use Rattle.ftc_machine.specs.Changes.{is_some_list};
+ghost use Rattle.ftc_protocol.specs.Changes.{is_some_list};
 ghost use Rattle.ftc_machine.specs.Slots.{has_such, slot_at};
 ghost use Rattle.ftc_machine.specs.Tests.{lines_left, first_of, may_enter, is_crash, is_recovery, may_crash, may_recover, may_pull, all_below, is_begun, is_stalled, may_propagate};
 

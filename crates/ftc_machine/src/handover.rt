@@ -4,7 +4,7 @@ ghost use Rattle.std.specs.Prelude.{ℕ, ◌≡◌, ◌<◌, length};
 ghost use Rattle.ftc_base.specs.declared.limits.TheConstants.{MOST_SERVERS};
 ghost use Rattle.ftc_ring.specs.Live.{source_between};
 ghost use Rattle.ftc_vector.specs.Commits.{vector_of};
-ghost use Rattle.ftc_machine.specs.RecoveryEffect.{got_vector, tail_group, tail_added, both_known};
+ghost use Rattle.ftc_machine.specs.RecoveryEffect.{got_vector, tail_added, both_known};
 
 use crate::apart::apart;
 use crate::kept::Kept;
@@ -53,27 +53,12 @@ impl Kept {
         list
     }
 
-    /// The group whose tail a server is.
-    fn tail_group(&self, server: ServerId) -> ServerId
-        requires { server < self.now.ring.servers }
-        ensures { result ≡ tail_group self.now.ring server }
-    {
-        let failures = self.ring.failures();
-        let number = server.number();
-        let group = if failures <= number {
-            number - failures
-        } else {
-            number + self.ring.servers() - failures
-        };
-        ServerId::new(group).unwrap()
-    }
-
     /// Adds to what is known the list of the group whose tail a server is.
     fn add_tail(&self, server: ServerId, known: &mut Commits)
         requires { server < self.now.ring.servers }
         ensures { known.new ≡ tail_added self.now server known.old }
     {
-        let group = self.tail_group(server);
+        let group = self.group_ending(server);
         known.raise(group, self.lists[usize::from(server.number())].of(group));
     }
 

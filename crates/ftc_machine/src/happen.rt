@@ -2,9 +2,9 @@
 
 ghost use Rattle.std.specs.Prelude.{◌≡◌, ◌<◌, ℕ, true, false, OnErr, IfOk};
 ghost use Rattle.ftc_serial.specs.Packets.{bytes_of};
-ghost use Rattle.ftc_machine.specs.Setting.{setting_of};
-ghost use Rattle.ftc_machine.specs.State.{ChainState};
-ghost use Rattle.ftc_machine.specs.Legal.{is_release};
+ghost use Rattle.ftc_protocol.specs.Setting.{setting_of};
+ghost use Rattle.ftc_protocol.specs.State.{ChainState};
+ghost use Rattle.ftc_protocol.specs.Legal.{is_release};
 ghost use Rattle.ftc_machine.specs.Kept.{StandsFor, StandsStill};
 ghost use Rattle.ftc_machine.specs.Attempts.{IsTried, NoneDue};
 ghost use Rattle.ftc_machine.specs.Dispatch.{is_on_way};

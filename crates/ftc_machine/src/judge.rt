@@ -4,8 +4,8 @@ ghost use Rattle.std.specs.Prelude.{◌≡◌, ◌↔◌, ◌<◌, ℕ, true, Li
 ghost use Rattle.ftc_script.specs.Script.{ScriptShape};
 ghost use Rattle.ftc_journal.specs.declared.event.Event.TheVariants as event;
 ghost use Rattle.ftc_journal.specs.declared.event.VisitName.{VisitName as AName};
-ghost use Rattle.ftc_machine.specs.Setting.{Setting};
-ghost use Rattle.ftc_machine.specs.State.{ChainState};
+ghost use Rattle.ftc_protocol.specs.Setting.{Setting};
+ghost use Rattle.ftc_protocol.specs.State.{ChainState};
 ghost use Rattle.ftc_machine.specs.Kept.{StandsFor, AreInputs};
 ghost use Rattle.ftc_machine.specs.Judging.{IsRight};
 ghost use Rattle.ftc_machine.specs.Tests.{may_apply, may_carry, may_crash, may_enter, may_lose, may_pass, may_propagate, may_pull, may_recover, may_take, may_visit};

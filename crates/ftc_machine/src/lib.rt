@@ -14,7 +14,6 @@ mod dropped;
 mod due;
 mod ending;
 mod enter;
-mod fate;
 mod footprint;
 mod fresh;
 mod going;
@@ -22,7 +21,6 @@ mod handover;
 mod happen;
 mod judge;
 mod kept;
-mod laws;
 mod legal;
 mod losses;
 mod machine;
@@ -49,15 +47,11 @@ mod visit;
 mod visited;
 mod way;
 
-pub use fate::{Fate, Fates};
-pub use laws::{
-    a_visit_undone, accepted, every_event_goes_on, every_moment, fates, few_propagates,
-    finished_run, law_of_changes, plain_fates, plain_run, quiet_links, released_for_good,
-    serial_of_a_run, trace_of_a_run, what_tests_say,
+pub use ftc_protocol::{
+    Fate, Fates, a_visit_undone, accepted, every_event_goes_on, every_moment, fates,
+    few_propagates, finished_run, law_of_changes, plain_fates, plain_run, quiet_links,
+    released_for_good, serial_of_a_run, trace_of_a_run, what_tests_say,
 };
 pub use machine::{Illegal, Machine};
 pub use replaying::{IllegalEvent, fates_of, replay};
 pub use trace::trace_of;
-
-#[cfg(test)]
-mod tests;

@@ -2,11 +2,11 @@
 
 ghost use Rattle.std.specs.Prelude.{ℕ, ◌≡◌, ◌<◌, ◌≤◌, ◌&&◌, not, length, Some, None, is_some, option_map, slice_set, if◌then◌else◌};
 ghost use Rattle.ftc_serial.specs.Trace.{names};
-ghost use Rattle.ftc_machine.specs.declared.fate.Fate.TheVariants as became;
+ghost use Rattle.ftc_protocol.specs.declared.fate.Fate.TheVariants as became;
 ghost use Rattle.ftc_machine.specs.declared.message.Message.{Message as AMessage};
 ghost use Rattle.ftc_machine.specs.Kept.{fate_in};
 ghost use Rattle.ftc_machine.specs.Losses.{fate_lost, was_filtered};
-ghost use Rattle.ftc_machine.specs.Next.{is_undone_drop};
+ghost use Rattle.ftc_protocol.specs.Next.{is_undone_drop};
 ghost use Rattle.ftc_machine.specs.Slots.{slot_at, has_such};
 
 use crate::Fate;

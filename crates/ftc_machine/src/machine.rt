@@ -3,7 +3,7 @@
 ghost use Rattle.std.specs.Prelude.{◌≡◌, ◌++◌, [], ◌∷◌, true, false, length, IfOk, OnOk, OnErr};
 ghost use Rattle.ftc_base.specs.Refused.{IfBad};
 ghost use Rattle.ftc_serial.specs.Packets.{bytes_of};
-ghost use Rattle.ftc_machine.specs.Legal.{is_release};
+ghost use Rattle.ftc_protocol.specs.Legal.{is_release};
 
 use crate::Fates;
 use crate::copying::copy_event;
@@ -47,7 +47,7 @@ pub struct Machine<'a> {
 
 impl<'a> Model for Machine<'a> {
     ghost use Rattle.ftc_serial.specs.Packets.{bytes_of};
-    ghost use Rattle.ftc_machine.specs.Setting.{setting_of};
+    ghost use Rattle.ftc_protocol.specs.Setting.{setting_of};
     ghost use Rattle.ftc_machine.specs.Played.{Played, IsPlayed};
 
     ghost Value = { Played };
@@ -59,11 +59,11 @@ impl<'a> Model for Machine<'a> {
 
 impl<'a> Machine<'a> {
     ghost use Rattle.ftc_machine.specs.Played.{setting_in, state_of};
-    ghost use Rattle.ftc_machine.specs.Moment.{IsSound};
-    ghost use Rattle.ftc_machine.specs.Run.{IsRun, IsFinished};
-    ghost use Rattle.ftc_machine.specs.Legal.{IsLegal};
-    ghost use Rattle.ftc_machine.specs.Fates.{fates_in};
-    ghost use Rattle.ftc_machine.specs.Setting.{IsSetting};
+    ghost use Rattle.ftc_protocol.specs.Moment.{IsSound};
+    ghost use Rattle.ftc_protocol.specs.Run.{IsRun, IsFinished};
+    ghost use Rattle.ftc_protocol.specs.Legal.{IsLegal};
+    ghost use Rattle.ftc_protocol.specs.Fates.{fates_in};
+    ghost use Rattle.ftc_protocol.specs.Setting.{IsSetting};
 
     /// The run of a chain on these packets, with this script, before its first event. The script was accepted
     /// for the chain's ring and for as many packets.

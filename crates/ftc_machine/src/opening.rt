@@ -4,8 +4,8 @@ ghost use Rattle.std.specs.Prelude.{◌≡◌, ◌≤◌, ℕ, IfOk, length, sli
 ghost use Rattle.std.specs.FinMap.{empty};
 ghost use Rattle.ftc_base.specs.declared.limits.TheConstants.{MOST_PARTITIONS};
 ghost use Rattle.ftc_serial.specs.Contents.{content_at};
-ghost use Rattle.ftc_machine.specs.Setting.{Setting, shape};
-ghost use Rattle.ftc_machine.specs.State.{opening};
+ghost use Rattle.ftc_protocol.specs.Setting.{Setting, shape};
+ghost use Rattle.ftc_protocol.specs.State.{opening};
 ghost use Rattle.ftc_machine.specs.Reach.{reach_in};
 ghost use Rattle.ftc_machine.specs.Kept.{IsKept, reach_of};
 

@@ -2,8 +2,8 @@
 
 ghost use Rattle.std.specs.Prelude.{◌<◌, OnOk, OnErr};
 ghost use Rattle.ftc_journal.specs.declared.event.Event.TheVariants as event;
-ghost use Rattle.ftc_machine.specs.Setting.{Setting};
-ghost use Rattle.ftc_machine.specs.State.{ChainState};
+ghost use Rattle.ftc_protocol.specs.Setting.{Setting};
+ghost use Rattle.ftc_protocol.specs.State.{ChainState};
 ghost use Rattle.ftc_machine.specs.Kept.{StandsStill};
 ghost use Rattle.ftc_machine.specs.Effects.{StandsAfter};
 

@@ -7,8 +7,8 @@ ghost use Rattle.ftc_journal.specs.declared.event.Event.TheVariants as event;
 ghost use Rattle.ftc_machine.specs.Effects.{StandsAfter};
 ghost use Rattle.ftc_machine.specs.Kept.{StandsStill};
 ghost use Rattle.ftc_machine.specs.RecoveryEffect.{is_left, rewritten, gaps_through};
-ghost use Rattle.ftc_machine.specs.Setting.{Setting};
-ghost use Rattle.ftc_machine.specs.State.{ChainState};
+ghost use Rattle.ftc_protocol.specs.Setting.{Setting};
+ghost use Rattle.ftc_protocol.specs.State.{ChainState};
 ghost use Rattle.ftc_machine.specs.Tests.{footprints_of};
 
 use crate::kept::Kept;

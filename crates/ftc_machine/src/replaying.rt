@@ -3,10 +3,10 @@
 ghost use Rattle.std.specs.Prelude.{◌≡◌, length, IfOk};
 ghost use Rattle.ftc_base.specs.Refused.{IfBad};
 ghost use Rattle.ftc_serial.specs.Packets.{bytes_of};
-ghost use Rattle.ftc_machine.specs.Setting.{setting_of};
-ghost use Rattle.ftc_machine.specs.State.{opening};
-ghost use Rattle.ftc_machine.specs.Run.{IsRun, state_after};
-ghost use Rattle.ftc_machine.specs.Fates.{fates_in};
+ghost use Rattle.ftc_protocol.specs.Setting.{setting_of};
+ghost use Rattle.ftc_protocol.specs.State.{opening};
+ghost use Rattle.ftc_protocol.specs.Run.{IsRun, state_after};
+ghost use Rattle.ftc_protocol.specs.Fates.{fates_in};
 ghost use Rattle.ftc_machine.specs.Illegal.{IsFirstIllegal};
 
 use crate::Fates;
@@ -65,7 +65,7 @@ pub fn fates_of(
 ) -> Result<Fates, NoMemory>
     requires ring { script.now.ring ≡ record { servers = length spec.now.rules; failures = spec.now.failures } }
     requires packets { script.now.packets ≡ length packets.now }
-    requires run { IsRun (setting_of spec.now (bytes_of packets.now) script.now) journal.now.items }
+    requires run { ∥ IsRun (setting_of spec.now (bytes_of packets.now) script.now) journal.now.items ∥₁ }
     ensures { IfOk result (λ fates. fates ≡ fates_in (setting_of spec.now (bytes_of packets.now) script.now) (state_after (setting_of spec.now (bytes_of packets.now) script.now) (opening (setting_of spec.now (bytes_of packets.now) script.now)) journal.now.items)) }
 {
     match replay(alloc, spec, packets, script, journal) {

@@ -1,8 +1,8 @@
 //! A server sends a message on.
 
 ghost use Rattle.std.specs.Prelude.{◌≡◌, ◌<◌, true, OnOk, OnErr};
-ghost use Rattle.ftc_machine.specs.Setting.{Setting};
-ghost use Rattle.ftc_machine.specs.State.{ChainState};
+ghost use Rattle.ftc_protocol.specs.Setting.{Setting};
+ghost use Rattle.ftc_protocol.specs.State.{ChainState};
 ghost use Rattle.ftc_machine.specs.Kept.{StandsStill};
 ghost use Rattle.ftc_machine.specs.Tests.{may_leave};
 ghost use Rattle.ftc_machine.specs.Effects.{StandsAfter, sending};

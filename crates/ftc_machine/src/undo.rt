@@ -4,11 +4,11 @@ ghost use Rattle.std.specs.Prelude.{ℕ, ◌≡◌, ◌<◌, ◌≤◌, filter, 
 ghost use Rattle.ftc_vector.specs.Commits.{vector_of};
 ghost use Rattle.ftc_journal.specs.declared.event.VisitName.{VisitName as AName};
 ghost use Rattle.ftc_machine.specs.Kept.{IsKept};
-ghost use Rattle.ftc_machine.specs.Recovery.{is_between, undone_visits};
+ghost use Rattle.ftc_protocol.specs.Recovery.{is_between, undone_visits};
 ghost use Rattle.ftc_machine.specs.RecoveryEffect.{IsOfRun, kept_previous, kept_following, is_lacked, is_undone_alone, is_undone_kept};
-ghost use Rattle.ftc_machine.specs.Setting.{Setting};
+ghost use Rattle.ftc_protocol.specs.Setting.{Setting};
 ghost use Rattle.ftc_machine.specs.Slots.{has_such};
-ghost use Rattle.ftc_machine.specs.State.{ChainState};
+ghost use Rattle.ftc_protocol.specs.State.{ChainState};
 ghost use Rattle.ftc_machine.specs.Tests.{footprints_of, list_of};
 
 use crate::apart::{apart, span};

@@ -4,15 +4,15 @@ ghost use Rattle.std.specs.Prelude.{ℕ, ◌≡◌, ◌<◌, ◌+◌, ◌&&◌, 
 ghost use Rattle.ftc_journal.specs.declared.event.Event.TheVariants as event;
 ghost use Rattle.ftc_serial.specs.Told.{outcome_of};
 ghost use Rattle.ftc_serial.specs.Trace.{names};
-ghost use Rattle.ftc_machine.specs.Changes.{is_touching};
+ghost use Rattle.ftc_protocol.specs.Changes.{is_touching};
 ghost use Rattle.ftc_machine.specs.Effects.{StandsAfter};
 ghost use Rattle.ftc_machine.specs.Kept.{StandsStill};
-ghost use Rattle.ftc_machine.specs.Next.{logs_of, outcome_at};
-ghost use Rattle.ftc_machine.specs.Setting.{Setting, rule_at};
+ghost use Rattle.ftc_protocol.specs.Next.{logs_of, outcome_at};
+ghost use Rattle.ftc_protocol.specs.Setting.{Setting, rule_at};
 ghost use Rattle.ftc_machine.specs.Slots.{slot_at};
-ghost use Rattle.ftc_machine.specs.State.{ChainState};
+ghost use Rattle.ftc_protocol.specs.State.{ChainState};
 ghost use Rattle.ftc_machine.specs.VisitEffect.{bytes_kept, outcome_kept, logs_kept, logs_behind, HasRoom};
-ghost use Rattle.ftc_machine.specs.Visits.{union, just};
+ghost use Rattle.ftc_protocol.specs.Visits.{union, just};
 
 use crate::footprint::Footprint;
 use crate::kept::Kept;

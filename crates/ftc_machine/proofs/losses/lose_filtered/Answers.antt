@@ -1,7 +1,7 @@
 use Rattle.std.proofs.Common.{◌∙◌, length, List, Option, Some, sym, ap}
 use Rattle.std.proofs.Math.ListN.{length-set}
-use Rattle.ftc_machine.specs.declared.fate.Fate.{Fate}
-use Rattle.ftc_machine.specs.declared.fate.Fate.TheVariants.{Lost}
+use Rattle.ftc_protocol.specs.declared.fate.Fate.{Fate}
+use Rattle.ftc_protocol.specs.declared.fate.Fate.TheVariants.{Lost}
 use Rattle.ftc_machine.specs.Kept.{fate_in}
 use Rattle.ftc_machine.specs.Losses.{was_filtered}
 use Rattle.ftc_machine.specs.Slots.{has_such}

@@ -1,8 +1,8 @@
 -- the packets that the visits before this one dropped are lost
 use Rattle.std.proofs.Common.{◌≡◌, ℕ, if◌then◌else◌, length, take}
-use Rattle.ftc_machine.specs.declared.fate.Fate.TheVariants.{Lost}
+use Rattle.ftc_protocol.specs.declared.fate.Fate.TheVariants.{Lost}
 use Rattle.ftc_machine.specs.Kept.{fate_in}
-use Rattle.ftc_machine.specs.Next.{is_undone_drop}
+use Rattle.ftc_protocol.specs.Next.{is_undone_drop}
 use Rattle.ftc_machine.proofs.losses.lose_filtered.Given as goal
 
 abbrev pub invariant-loop-name : goal.invariant-loop-name

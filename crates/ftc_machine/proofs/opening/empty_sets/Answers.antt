@@ -1,6 +1,5 @@
-use Rattle.std.proofs.Common.{arith, subst, sym}
-use Rattle.ftc_machine.proofs.Opened.{IsEmptySet, set_push}
-use Rattle.ftc_machine.specs.Kept.{reach_of}
+use Rattle.std.proofs.Common.{arith}
+use Rattle.ftc_machine.proofs.Opened.{set_push}
 use Rattle.ftc_machine.proofs.opening.empty_sets.Goals as goal
 
 pub loop-preserved : goal.loop-preserved

@@ -1,8 +1,8 @@
-use Rattle.std.proofs.Common.{◌≡◌, ◌++◌, ◌∷◌, [], sym, ap, subst, ◌∙◌, List}
+use Rattle.std.proofs.Common.{◌++◌, ◌∷◌, [], sym, ap, subst, ◌∙◌, List}
 use Rattle.ftc_serial.specs.Packets.{bytes_of}
 use Rattle.ftc_journal.specs.declared.event.Event.{Event}
-use Rattle.ftc_machine.specs.Setting.{Setting, setting_of}
-use Rattle.ftc_machine.specs.Legal.{IsLegal}
+use Rattle.ftc_protocol.specs.Setting.{Setting, setting_of}
+use Rattle.ftc_protocol.specs.Legal.{IsLegal}
 use Rattle.ftc_machine.specs.Played.{Played, setting_in, state_of}
 use Rattle.ftc_machine.proofs.Replayed.{event_there, more_taken, more_run}
 use Rattle.ftc_machine.proofs.replaying.replay.Goals as goal

@@ -1,8 +1,8 @@
 -- the machine has played the events before this place
 use Rattle.std.proofs.Common.{◌≡◌, take}
 use Rattle.ftc_serial.specs.Packets.{bytes_of}
-use Rattle.ftc_machine.specs.Setting.{setting_of}
-use Rattle.ftc_machine.specs.Run.{IsRun}
+use Rattle.ftc_protocol.specs.Setting.{setting_of}
+use Rattle.ftc_protocol.specs.Run.{IsRun}
 use Rattle.ftc_machine.proofs.replaying.replay.Given as goal
 
 abbrev pub invariant-loop-place : goal.invariant-loop-place

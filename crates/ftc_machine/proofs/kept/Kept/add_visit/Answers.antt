@@ -2,7 +2,7 @@ use Rattle.std.proofs.Common.{◌≡◌, ◌<◌, ◌∙◌, ◌+◌, ◌++◌, 
 use Rattle.std.specs.Prelude.{nat_lt, ◌&&◌}
 use Rattle.ftc_serial.specs.Trace.{names}
 use Rattle.ftc_machine.specs.Kept.{fate_in}
-use Rattle.ftc_machine.specs.Next.{logs_of, fate_by}
+use Rattle.ftc_protocol.specs.Next.{logs_of, fate_by}
 use Rattle.std.proofs.lemmas.List.{get_or_read}
 use Rattle.ftc_journal.specs.declared.event.VisitName.{VisitName}
 use Rattle.ftc_serial.specs.Contents.{content_at}
@@ -12,13 +12,13 @@ use Rattle.ftc_store.specs.Store.{written}
 use Rattle.ftc_vector.specs.Vector.{number_at}
 use Rattle.ftc_vector.specs.Commits.{vector_of, group_raised}
 use Rattle.ftc_machine.specs.declared.footprint.Footprint.{Footprint}
-use Rattle.ftc_machine.specs.Changes.{is_touching}
+use Rattle.ftc_protocol.specs.Changes.{is_touching}
 use Rattle.ftc_machine.specs.Kept.{footprints_in, reach_of}
 use Rattle.ftc_machine.specs.Making.{IsMade}
 use Rattle.ftc_machine.specs.Marking.{marked_at}
-use Rattle.ftc_machine.specs.Next.{outcome_at}
+use Rattle.ftc_protocol.specs.Next.{outcome_at}
 use Rattle.ftc_machine.specs.Reach.{IsFootprint, numbers_of}
-use Rattle.ftc_machine.specs.Visits.{union, just}
+use Rattle.ftc_protocol.specs.Visits.{union, just}
 use Rattle.ftc_machine.proofs.Added.{made_here, rises, footprints_after, known_grows, messages_grow, lists_grow, stores_grow, footprint_put, some_length}
 use Rattle.ftc_machine.proofs.Alike.{content_read, content_put}
 use Rattle.ftc_machine.proofs.kept.Kept.add_visit.Goals as goal

@@ -8,7 +8,7 @@ use Rattle.ftc_vector.specs.Commits.{vector_of, group_raised}
 use Rattle.ftc_machine.specs.Kept.{footprints_in, reach_of}
 use Rattle.ftc_machine.specs.Marking.{marked_at}
 use Rattle.ftc_machine.specs.Reach.{numbers_of}
-use Rattle.ftc_machine.specs.Setting.{servers}
+use Rattle.ftc_protocol.specs.Setting.{servers}
 use Rattle.ftc_machine.proofs.Joined.{applied_footprint, lists_join, stores_stay}
 use Rattle.ftc_machine.proofs.Rising.{rising_more}
 use Rattle.ftc_machine.proofs.kept.Kept.apply.Goals as goal

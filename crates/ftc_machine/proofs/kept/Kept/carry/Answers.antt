@@ -6,12 +6,12 @@ use Rattle.ftc_serial.specs.Trace.{names}
 use Rattle.ftc_machine.specs.declared.message.Message.{Message as KeptMessage}
 use Rattle.ftc_machine.specs.Effects.{logs_in}
 use Rattle.ftc_machine.specs.Kept.{IsMessageSlot, footprints_in}
-use Rattle.ftc_machine.specs.Next.{logs_of}
+use Rattle.ftc_protocol.specs.Next.{logs_of}
 use Rattle.ftc_machine.specs.Reach.{numbers_of}
-use Rattle.ftc_machine.specs.Setting.{is_tail}
+use Rattle.ftc_protocol.specs.Setting.{is_tail}
 use Rattle.ftc_machine.specs.Slots.{slot_at}
 use Rattle.ftc_machine.specs.Tails.{group_ending}
-use Rattle.ftc_machine.specs.State.{Message}
+use Rattle.ftc_protocol.specs.State.{Message}
 use Rattle.ftc_machine.proofs.GoingOn.{logs_go_on}
 use Rattle.ftc_machine.proofs.Replaced.{cleared}
 use Rattle.ftc_machine.proofs.Rising.{rising_more}

@@ -5,16 +5,16 @@ use Rattle.ftc_base.specs.Sets.{has}
 use Rattle.ftc_serial.specs.Contents.{content_at}
 use Rattle.ftc_serial.specs.Trace.{names}
 use Rattle.ftc_machine.specs.declared.message.Withheld.{Withheld as KeptWithheld}
-use Rattle.ftc_machine.specs.declared.fate.Fate.{Fate}
-use Rattle.ftc_machine.specs.declared.fate.Fate.TheVariants.{Inside, Lost}
+use Rattle.ftc_protocol.specs.declared.fate.Fate.{Fate}
+use Rattle.ftc_protocol.specs.declared.fate.Fate.TheVariants.{Inside, Lost}
 use Rattle.ftc_machine.specs.declared.message.Message.{Message as KeptMessage}
 use Rattle.ftc_machine.specs.Kept.{IsMessage, IsMessageSlot, IsWithheldSlot, footprints_in}
 use Rattle.ftc_machine.specs.Losses.{loses_kept, fate_lost, is_kept_at}
-use Rattle.ftc_machine.specs.Next.{drop_if, loses_packet, is_at, lines_behind}
+use Rattle.ftc_protocol.specs.Next.{drop_if, loses_packet, is_at, lines_behind}
 use Rattle.ftc_machine.specs.Reach.{numbers_of}
-use Rattle.ftc_machine.specs.Setting.{servers}
+use Rattle.ftc_protocol.specs.Setting.{servers}
 use Rattle.ftc_machine.specs.Slots.{slot_at}
-use Rattle.ftc_machine.specs.State.{Message}
+use Rattle.ftc_protocol.specs.State.{Message}
 use Rattle.ftc_machine.proofs.Downed.{rows_emptied, up_without, stores_without}
 use Rattle.ftc_machine.proofs.Dropping.{lines_left_behind, at_same, drops, loses_same, withheld_same, withheld_emptied, lost_either}
 use Rattle.ftc_machine.proofs.Rising.{rising_more}

@@ -1,5 +1,5 @@
 use Rattle.std.proofs.Common.{◌+◌, ◌∙◌, List, Option, sym, ap, subst, arith}
-use Rattle.ftc_machine.specs.declared.fate.Fate.{Fate}
+use Rattle.ftc_protocol.specs.declared.fate.Fate.{Fate}
 use Rattle.ftc_machine.specs.declared.message.Message.{Message}
 use Rattle.ftc_machine.specs.RecoveryEffect.{is_dropped_kept}
 use Rattle.ftc_machine.specs.Slots.{has_such}

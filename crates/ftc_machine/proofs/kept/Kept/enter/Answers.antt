@@ -1,11 +1,11 @@
 use Rattle.std.proofs.Common.{◌≡◌, ◌+◌, ◌∙◌, not, true, false, if◌then◌else◌, Option, Some, sym, subst, ap, arith}
 use Rattle.std.specs.Option.{option_map_or}
-use Rattle.ftc_machine.specs.declared.fate.Fate.{Fate}
-use Rattle.ftc_machine.specs.declared.fate.Fate.TheVariants.{Inside, Lost}
+use Rattle.ftc_protocol.specs.declared.fate.Fate.{Fate}
+use Rattle.ftc_protocol.specs.declared.fate.Fate.TheVariants.{Inside, Lost}
 use Rattle.ftc_machine.specs.declared.message.Message.{Message as KeptMessage}
-use Rattle.ftc_machine.specs.Setting.{packet_at}
-use Rattle.ftc_machine.specs.State.{Message}
-use Rattle.ftc_machine.specs.Next.{fresh_message}
+use Rattle.ftc_protocol.specs.Setting.{packet_at}
+use Rattle.ftc_protocol.specs.State.{Message}
+use Rattle.ftc_protocol.specs.Next.{fresh_message}
 use Rattle.ftc_machine.specs.Reach.{numbers_of}
 use Rattle.ftc_machine.specs.Kept.{IsMessage, IsMessageSlot, footprints_in}
 use Rattle.ftc_machine.proofs.Rising.{rising_more}

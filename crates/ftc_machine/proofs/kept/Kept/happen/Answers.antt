@@ -1,10 +1,10 @@
-use Rattle.std.proofs.Common.{◌≡◌, ◌∙◌, List, length, refl, sym, ap, subst}
+use Rattle.std.proofs.Common.{◌∙◌, List, length, refl, sym, ap, subst}
 use Rattle.ftc_serial.specs.Packets.{bytes_of}
 use Rattle.ftc_machine.specs.Attempts.{IsTried}
 use Rattle.ftc_journal.specs.declared.event.Event.TheVariants.{Recover}
 use Rattle.ftc_journal.specs.declared.event.VisitName.{VisitName}
-use Rattle.ftc_machine.specs.Legal.{is_release}
-use Rattle.ftc_machine.specs.Setting.{Setting, setting_of}
+use Rattle.ftc_protocol.specs.Legal.{is_release}
+use Rattle.ftc_protocol.specs.Setting.{Setting, setting_of}
 use Rattle.ftc_machine.proofs.Handed.{inputs_of}
 use Rattle.ftc_machine.proofs.Playing.{ok_map, rest_on_way}
 use Rattle.ftc_machine.proofs.kept.Kept.happen.Goals as goal

@@ -1,7 +1,7 @@
-use Rattle.std.proofs.Common.{◌≡◌, length, refl, sym, subst}
+use Rattle.std.proofs.Common.{length, refl, sym, subst}
 use Rattle.ftc_serial.specs.Packets.{bytes_of}
 use Rattle.ftc_machine.specs.Attempts.{IsTried}
-use Rattle.ftc_machine.specs.Setting.{Setting, setting_of}
+use Rattle.ftc_protocol.specs.Setting.{Setting, setting_of}
 use Rattle.ftc_machine.proofs.Handed.{inputs_of}
 use Rattle.ftc_machine.proofs.Playing.{ok_map}
 use Rattle.ftc_machine.proofs.kept.Kept.happen_on_way.Goals as goal

@@ -1,7 +1,7 @@
 use Rattle.std.proofs.Common.{◌+◌, Option, Some, None, subst, ap, arith}
 use Rattle.ftc_machine.specs.declared.message.Message.{Message as KeptMessage}
-use Rattle.ftc_machine.specs.State.{Message}
-use Rattle.ftc_machine.specs.Next.{fresh_message}
+use Rattle.ftc_protocol.specs.State.{Message}
+use Rattle.ftc_protocol.specs.Next.{fresh_message}
 use Rattle.ftc_machine.specs.Reach.{numbers_of}
 use Rattle.ftc_machine.specs.Kept.{IsMessage, IsMessageSlot, footprints_in}
 use Rattle.ftc_machine.proofs.Rising.{rising_more}

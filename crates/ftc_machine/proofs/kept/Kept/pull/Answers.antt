@@ -6,7 +6,7 @@ use Rattle.ftc_vector.specs.Commits.{all_merged}
 use Rattle.ftc_machine.specs.Kept.{footprints_in, reach_of}
 use Rattle.ftc_machine.specs.News.{HasNews}
 use Rattle.ftc_machine.specs.Reach.{numbers_of}
-use Rattle.ftc_machine.specs.Setting.{servers}
+use Rattle.ftc_protocol.specs.Setting.{servers}
 use Rattle.ftc_machine.specs.Tails.{group_ending, is_behind, part_of}
 use Rattle.ftc_machine.proofs.Fetching.{link_below, next_below, lists_pulled, stores_pulled, news_is, gaps_pulled}
 use Rattle.ftc_machine.proofs.Rising.{rising_more}

@@ -1,14 +1,14 @@
 use Rattle.std.proofs.Common.{◌≡◌, ◌+◌, ◌∷◌, Option, Some, None, refl, arith}
 use Rattle.std.specs.Option.{option_map_or}
 use Rattle.ftc_serial.specs.Serial.{Given}
-use Rattle.ftc_machine.specs.declared.fate.Fate.{Fate}
-use Rattle.ftc_machine.specs.declared.fate.Fate.TheVariants.{Inside, Released}
+use Rattle.ftc_protocol.specs.declared.fate.Fate.{Fate}
+use Rattle.ftc_protocol.specs.declared.fate.Fate.TheVariants.{Inside, Released}
 use Rattle.ftc_machine.specs.declared.message.Withheld.{Withheld as KeptWithheld}
 use Rattle.ftc_machine.specs.Kept.{IsWithheldSlot, footprints_in, reach_of}
-use Rattle.ftc_machine.specs.Next.{bytes_withheld}
+use Rattle.ftc_protocol.specs.Next.{bytes_withheld}
 use Rattle.ftc_machine.specs.Reach.{numbers_of}
 use Rattle.ftc_machine.specs.Slots.{slot_at}
-use Rattle.ftc_machine.specs.State.{Withheld}
+use Rattle.ftc_protocol.specs.State.{Withheld}
 use Rattle.ftc_machine.proofs.Moved.{slot_stays}
 use Rattle.ftc_machine.proofs.Reached.{given_reaches}
 use Rattle.ftc_machine.proofs.Replaced.{replaced}

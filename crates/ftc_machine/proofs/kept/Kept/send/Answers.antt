@@ -5,8 +5,8 @@ use Rattle.ftc_serial.specs.Trace.{names}
 use Rattle.ftc_machine.specs.Effects.{sending}
 use Rattle.ftc_machine.specs.Kept.{footprints_in}
 use Rattle.ftc_machine.specs.Reach.{numbers_of}
-use Rattle.ftc_machine.specs.Setting.{servers}
-use Rattle.ftc_machine.specs.State.{Message}
+use Rattle.ftc_protocol.specs.Setting.{servers}
+use Rattle.ftc_protocol.specs.State.{Message}
 use Rattle.ftc_machine.specs.Tails.{group_ending}
 use Rattle.ftc_machine.proofs.Departing.{after_sending, leaves, last_is, queued_is, gap_is, messages_kept, sent_kept, forwarder_kept, buffer_kept, gaps_kept, fates_kept}
 use Rattle.ftc_machine.proofs.Rising.{rising_more}

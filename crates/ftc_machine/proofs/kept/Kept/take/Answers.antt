@@ -5,10 +5,10 @@ use Rattle.ftc_ring.specs.Ring.{RingShape, next_of}
 use Rattle.ftc_vector.specs.Commits.{all_merged}
 use Rattle.ftc_machine.specs.declared.message.Message.{Message as KeptMessage}
 use Rattle.ftc_machine.specs.Kept.{IsMessageSlot, footprints_in, reach_of}
-use Rattle.ftc_machine.specs.Next.{taken_message, known_by}
+use Rattle.ftc_protocol.specs.Next.{taken_message, known_by}
 use Rattle.ftc_machine.specs.Reach.{numbers_of, Reaches}
-use Rattle.ftc_machine.specs.Setting.{servers}
-use Rattle.ftc_machine.specs.State.{Message}
+use Rattle.ftc_protocol.specs.Setting.{servers}
+use Rattle.ftc_protocol.specs.State.{Message}
 use Rattle.ftc_machine.proofs.Following.{visits_within}
 use Rattle.ftc_machine.proofs.Moved.{carried, kept_message, taken_kept, known_merges}
 use Rattle.ftc_machine.proofs.Replaced.{replaced, others_left}

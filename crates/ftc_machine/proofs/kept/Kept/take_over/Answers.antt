@@ -2,15 +2,15 @@ use Rattle.std.proofs.Common.{◌≡◌, ◌<◌, ◌∙◌, ◌==◌, ◌&&◌,
 use Rattle.ftc_base.specs.Sets.{has}
 use Rattle.ftc_ring.specs.Ring.{RingShape, next_of}
 use Rattle.ftc_serial.specs.Contents.{content_at}
-use Rattle.ftc_machine.specs.declared.fate.Fate.{Fate}
-use Rattle.ftc_machine.specs.declared.fate.Fate.TheVariants.{Lost}
+use Rattle.ftc_protocol.specs.declared.fate.Fate.{Fate}
+use Rattle.ftc_protocol.specs.declared.fate.Fate.TheVariants.{Lost}
 use Rattle.ftc_machine.specs.declared.message.Message.{Message as KeptMessage}
 use Rattle.ftc_machine.specs.Kept.{fate_in}
 use Rattle.ftc_machine.specs.Losses.{drop_kept, loses_kept, fate_lost}
-use Rattle.ftc_machine.specs.Next.{lines_behind, is_undone_drop}
-use Rattle.ftc_machine.specs.Recovery.{previous_live, following_live}
+use Rattle.ftc_protocol.specs.Next.{lines_behind, is_undone_drop}
+use Rattle.ftc_protocol.specs.Recovery.{previous_live, following_live}
 use Rattle.ftc_machine.specs.RecoveryEffect.{is_dropped_kept, gaps_through}
-use Rattle.ftc_machine.specs.Setting.{servers}
+use Rattle.ftc_protocol.specs.Setting.{servers}
 use Rattle.ftc_machine.specs.Slots.{slot_at}
 use Rattle.ftc_machine.proofs.Alike.{content_put}
 use Rattle.ftc_machine.proofs.Dropping.{lines_left_behind}

@@ -1,6 +1,6 @@
 use Rattle.std.proofs.Common.{◌≡◌, ◌<◌, ◌∙◌, ap, length, sym, arith}
 use Rattle.ftc_journal.specs.declared.event.Event.TheVariants as event
-use Rattle.ftc_machine.specs.Setting.{servers}
+use Rattle.ftc_protocol.specs.Setting.{servers}
 use Rattle.ftc_machine.proofs.Handed.{rule_is}
 use Rattle.ftc_machine.proofs.JudgedMessages.{visit_below}
 use Rattle.ftc_machine.proofs.Judgement.{reached_by}

@@ -1,11 +1,9 @@
-use Rattle.std.proofs.Common.{◌≡◌, ◌∙◌, ap, refl, sym, subst, map, List}
-use Rattle.std.specs.Result.{IfOk}
+use Rattle.std.proofs.Common.{◌≡◌, ◌∙◌, sym, subst, map}
 use Rattle.std.specs.List.{range_with_len}
 use Rattle.ftc_serial.specs.Packets.{bytes_of}
-use Rattle.ftc_machine.specs.declared.fate.Fate.{Fate}
-use Rattle.ftc_machine.specs.Fates.{fates_in}
+use Rattle.ftc_protocol.specs.Fates.{fates_in}
 use Rattle.ftc_machine.specs.Kept.{fate_in}
-use Rattle.ftc_machine.specs.Setting.{Setting, setting_of}
+use Rattle.ftc_protocol.specs.Setting.{Setting, setting_of}
 use Rattle.ftc_machine.specs.Played.{Played, setting_in, state_of}
 use Rattle.ftc_machine.proofs.Handed.{bytes_count}
 use Rattle.ftc_machine.proofs.Playing.{fates_are, ok_map}

@@ -1,8 +1,8 @@
-use Rattle.std.proofs.Common.{◌≡◌, sym, subst, ◌∙◌}
+use Rattle.std.proofs.Common.{sym, subst, ◌∙◌}
 use Rattle.ftc_serial.specs.Packets.{bytes_of}
-use Rattle.ftc_machine.specs.Setting.{Setting, setting_of}
+use Rattle.ftc_protocol.specs.Setting.{Setting, setting_of}
 use Rattle.ftc_machine.specs.Played.{Played, setting_in, state_of}
-use Rattle.ftc_machine.specs.Run.{IsFinished}
+use Rattle.ftc_protocol.specs.Run.{IsFinished}
 use Rattle.ftc_machine.proofs.Playing.{over, not_over}
 use Rattle.ftc_machine.proofs.Handed.{inputs_of}
 use Rattle.ftc_machine.proofs.machine.Machine.finished.Goals as goal

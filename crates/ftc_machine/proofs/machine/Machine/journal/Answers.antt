@@ -1,8 +1,8 @@
 use Rattle.std.proofs.Common.{subst}
 use Rattle.std.proofs.Math.Logic.{∥∥₁_map}
 use Rattle.ftc_machine.specs.Played.{Played, setting_in}
-use Rattle.ftc_machine.specs.Run.{IsRun}
-use Rattle.ftc_machine.specs.Setting.{IsSetting}
+use Rattle.ftc_protocol.specs.Run.{IsRun}
+use Rattle.ftc_protocol.specs.Setting.{IsSetting}
 use Rattle.ftc_machine.proofs.machine.Machine.journal.Goals as goal
 
 pub returns-clause-run : goal.returns-clause-run

@@ -1,7 +1,7 @@
 use Rattle.std.proofs.Math.Logic.{∥∥₁_map₂}
 use Rattle.ftc_machine.specs.Played.{setting_in}
-use Rattle.ftc_machine.proofs.Sound.{sound}
-use Rattle.ftc_machine.proofs.Supposed.{is_good, opens_fit}
+use Rattle.ftc_protocol.proofs.Sound.{sound}
+use Rattle.ftc_protocol.proofs.Supposed.{is_good, opens_fit}
 use Rattle.ftc_machine.proofs.machine.Machine.moment.Goals as goal
 
 pub returns : goal.returns

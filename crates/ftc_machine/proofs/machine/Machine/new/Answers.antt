@@ -1,12 +1,12 @@
-use Rattle.std.proofs.Common.{◌≡◌, sym, subst, ◌∙◌, List}
+use Rattle.std.proofs.Common.{sym, subst, ◌∙◌, List}
 use Rattle.ftc_journal.specs.declared.event.Event.{Event}
-use Rattle.ftc_machine.specs.Setting.{Setting, setting_of}
-use Rattle.ftc_machine.specs.State.{opening}
-use Rattle.ftc_machine.specs.Run.{IsRun, state_after}
+use Rattle.ftc_protocol.specs.Setting.{Setting, setting_of}
+use Rattle.ftc_protocol.specs.State.{opening}
+use Rattle.ftc_protocol.specs.Run.{IsRun, state_after}
 use Rattle.ftc_machine.specs.Kept.{IsKept}
 use Rattle.ftc_serial.specs.Packets.{bytes_of}
 use Rattle.ftc_machine.proofs.Handed.{bytes_count}
-use Rattle.ftc_machine.proofs.Supposed.{is_setting}
+use Rattle.ftc_protocol.proofs.Supposed.{is_setting}
 use Rattle.ftc_machine.proofs.machine.Machine.new.Goals as goal
 
 pub invariant_of-result : goal.invariant_of-result

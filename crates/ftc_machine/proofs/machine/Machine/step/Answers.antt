@@ -1,9 +1,9 @@
-use Rattle.std.proofs.Common.{◌≡◌, ◌++◌, ◌∷◌, [], Bool, true, false, List, length, sym, ap, subst, ◌∙◌}
+use Rattle.std.proofs.Common.{◌≡◌, ◌++◌, ◌∷◌, [], false, List, sym, ap, subst, ◌∙◌}
 use Rattle.std.proofs.lemmas.Bool.{true≢false}
 use Rattle.ftc_serial.specs.Packets.{bytes_of}
 use Rattle.ftc_journal.specs.declared.event.Event.{Event}
-use Rattle.ftc_machine.specs.Setting.{Setting, setting_of}
-use Rattle.ftc_machine.specs.Legal.{IsLegal, is_release}
+use Rattle.ftc_protocol.specs.Setting.{Setting, setting_of}
+use Rattle.ftc_protocol.specs.Legal.{IsLegal, is_release}
 use Rattle.ftc_machine.specs.Due.{is_any_due}
 use Rattle.ftc_machine.specs.Played.{Played, IsPlayed, setting_in, state_of}
 use Rattle.ftc_machine.proofs.Playing.{still, HasTried, passed_played, passed_illegal, made_legal, made_played, due_illegal}

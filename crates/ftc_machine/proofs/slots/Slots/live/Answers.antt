@@ -1,4 +1,4 @@
-use Rattle.std.proofs.Common.{◌≡◌, ℕ, ◌-◌, ◌≤◌, inl, inr, ◌∙◌, sym, ap, subst, arith, drop, take, length}
+use Rattle.std.proofs.Common.{◌≡◌, ◌-◌, ◌≤◌, inl, inr, ◌∙◌, ap, subst, arith, drop, take, length}
 use Rattle.std.specs.List.{list_any, slice_range}
 use Rattle.std.proofs.lemmas.List.{length-drop, take_all}
 use Rattle.ftc_machine.specs.Slots.{has_such}

@@ -1,0 +1,75 @@
+-- What holds at every moment of a run.
+use Rattle.std.specs.Prelude.{ℕ, ◌≡◌, ◌<◌, ◌≤◌, true, false, List, [], ◌∷◌, ◌++◌, Some, unwrap_or}
+use Rattle.ftc_base.specs.declared.released.Released.{Released}
+use Rattle.ftc_ring.specs.Ring.{apart}
+use Rattle.ftc_ring.specs.Live.{first_live_of, IsFirstLive}
+use Rattle.ftc_serial.specs.declared.step.Step.{Step}
+use Rattle.ftc_serial.specs.Words.{AnyOf}
+use Rattle.ftc_serial.specs.Serial as serial
+use Rattle.ftc_serial.specs.Serial.{State, Entry, Visited, Given, serial_run}
+use Rattle.ftc_serial.specs.Entries.{step_of}
+use Rattle.ftc_serial.specs.Removal.{left_of}
+use Rattle.ftc_protocol.specs.Setting.{Setting, servers, shape, is_member}
+use Rattle.ftc_protocol.specs.Visits.{Visits, In}
+use Rattle.ftc_protocol.specs.Trace.{IsSomeVisit, IsTouching, IsChanging, IsBefore, Has, lacked_by, content_of}
+use Rattle.ftc_protocol.specs.State.{Message, ChainState}
+use Rattle.ftc_protocol.specs.Known.{ServerHas, knows}
+use Rattle.ftc_protocol.specs.Recovery.{is_up_to}
+
+-- the first live member of a group
+abbrev pub first_live : Setting → ChainState → ℕ → ℕ
+first_live c s group = unwrap_or (first_live_of (shape c) s.up group) group
+
+-- A visit has fallen where it, or an earlier visit of its packet, touches something and is lacked by the first live member of its
+-- group. The other visits of the trace stand.
+abbrev pub has_fallen : Setting → ChainState → Visits
+has_fallen c s server packet = is_up_to (λ earlier. lacked_by c.partitions s.trace (s.lists (first_live c s earlier)) earlier packet) server
+
+pub record Stands (c : Setting) (s : ChainState) (server packet : ℕ) : Type 0 where
+  pub there : IsSomeVisit s.trace server packet
+  pub standing : has_fallen c s server packet ≡ false
+
+-- the trace now: without the visits that don't stand
+abbrev pub trace_now : Setting → ChainState → List Entry
+trace_now c s = left_of (has_fallen c s) s.trace
+
+-- the steps of a trace, the first of them first
+abbrev pub steps_in : List Entry → List Step
+steps_in [] = []
+steps_in (entry ∷ older) = steps_in older ++ step_of entry ∷ []
+
+-- the records that were released, in order
+abbrev pub released_in : List Entry → List Released
+released_in [] = []
+released_in (Visited server packet outcome ∷ older) = released_in older
+released_in (Given packet bytes ∷ older) = released_in older ++ record { packet = packet; bytes = bytes } ∷ []
+
+-- a changing visit of the trace, which each live member of its group has
+pub record IsEverywhere (c : Setting) (s : ChainState) (group packet : ℕ) : Type 0 where
+  pub changing : IsChanging c.partitions s.trace group packet
+  pub had : (server : ℕ) → server < servers c → s.up server ≡ true → is_member c group server ≡ true → In (s.lists server) group packet
+
+pub record IsSound (c : Setting) (s : ChainState) : Type 0 where
+  -- the serial run of the trace now exists, and it released what was released
+  pub end : State
+  pub serial : serial_run c.rules (serial.opening c.packets) (steps_in (trace_now c s)) ≡ Some end
+  pub released : end.released ≡ released_in s.trace
+  -- the first live member of each group has that run's content
+  pub first : (group server : ℕ) → group < servers c → IsFirstLive (shape c) s.up group server → content_of s.trace (s.lists server group) group ≡ end.maps group
+  -- a later live member of a group has no visit that an earlier live member lacks
+  pub nested : (group earlier later packet : ℕ) → earlier < servers c → s.up earlier ≡ true →
+      apart (servers c) group earlier ≤ apart (servers c) group later → In (s.lists later) group packet → In (s.lists earlier) group packet
+  -- a list that has a visit has each that is before it
+  pub closed : (server group packet other : ℕ) → In (s.lists server) group other → IsBefore c.partitions s.trace group packet other → In (s.lists server) group packet
+  -- where some live server has a changing visit of a packet, the first live member of each earlier group has the packet's visit there
+  pub earlier : (group later server first packet : ℕ) → group < later → IsTouching s.trace group packet → In (s.lists server) later packet →
+      IsFirstLive (shape c) s.up group first → ServerHas c s first group packet
+  -- what a live server or a message knows to be at its tail is everywhere
+  pub known : (server group packet : ℕ) → In (knows c s server) group packet → IsEverywhere c s group packet
+  pub carried : (origin group packet : ℕ) (message : Message) → s.message origin ≡ Some message → In message.known group packet → IsEverywhere c s group packet
+  pub known_had : (server member group packet : ℕ) → Has c.partitions s.trace (knows c s server) group packet →
+      member < servers c → s.up member ≡ true → is_member c group member ≡ true → ServerHas c s member group packet
+  -- a released packet's visits are all in the trace, and all stand
+  pub whole : (packet server : ℕ) (bytes : List ℕ) → AnyOf (λ entry. entry ≡ Given packet bytes) s.trace → server < servers c → Stands c s server packet
+  -- what a message carries is a touching visit of the trace
+  pub logs : (origin group packet : ℕ) (message : Message) → s.message origin ≡ Some message → In message.logs group packet → IsTouching s.trace group packet

@@ -1,0 +1,12 @@
+-- The whole trace of a run, with the visits that have fallen.
+use Rattle.std.specs.Prelude.{◌≡◌, List, Some}
+use Rattle.ftc_journal.specs.declared.event.Event.{Event}
+use Rattle.ftc_serial.specs.Serial as serial
+use Rattle.ftc_serial.specs.Serial.{State, serial_run}
+use Rattle.ftc_serial.specs.Trace.{trace_of}
+use Rattle.ftc_protocol.specs.Setting.{Setting}
+
+-- the serial run of a journal's trace exists
+pub record HasSerialRun (c : Setting) (journal : List Event) : Type 0 where
+  pub end : State
+  pub exists : serial_run c.rules (serial.opening c.packets) (trace_of journal) ≡ Some end
