@@ -4,3 +4,6 @@ pub mod Letters
 pub mod Spelled
 pub mod Printed
 pub mod ReadBack
+pub mod Within
+pub mod Whole
+pub mod Fitting

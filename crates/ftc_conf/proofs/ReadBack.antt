@@ -17,7 +17,7 @@ use Rattle.ftc_mbox.specs.Bounds.{IsRule}
 use Rattle.ftc_mbox.specs.Chain.{Chain, IsChain}
 use Rattle.ftc_mbox.specs.declared.rule.Rule.{Rule}
 use Rattle.ftc_mbox.specs.declared.rule.Rule.TheVariants as rule
-use Rattle.ftc_conf.specs.declared.limits.TheConstants.{MOST_FAILURES, MOST_WRITTEN_FAILURES}
+use Rattle.ftc_conf.specs.declared.limits.TheConstants.{MOST_FAILURES}
 use Rattle.ftc_conf.specs.declared.fault.ChainCause.{ChainCause}
 use Rattle.ftc_conf.specs.declared.fault.ChainFault.{ChainFault}
 use Rattle.ftc_conf.specs.declared.statement.Form.{Form}
@@ -28,7 +28,7 @@ use Rattle.ftc_conf.specs.declared.draft.Failures.{Failures}
 use Rattle.ftc_conf.specs.declared.draft.Draft.{Draft}
 use Rattle.ftc_conf.specs.Words.{◌>>=◌, is_comment}
 use Rattle.ftc_conf.specs.Draft.{no_lines, last_firewall, with_statement}
-use Rattle.ftc_conf.specs.Grammar.{form_of, room_for, middlebox_room, said_in, middlebox_line, words_in, line_step, finish, placed, chain_from, chain_of}
+use Rattle.ftc_conf.specs.Grammar.{form_of, room_for, middlebox_room, said_in, middlebox_line, words_in, line_step, finish, placed, chain_from, chain_within, chain_of}
 use Rattle.ftc_conf.specs.Plain.{address_text, net_text, ports_text, decision_text, protocol_text, nat_words, fire_line_words, balance_words, rule_lines, chain_lines, text_of_lines, plain_text}
 use Rattle.ftc_conf.proofs.Letters.{IsPlainWord, all-append, are_text, lines_of-line, words_of-join, line_bytes-join}
 use Rattle.ftc_conf.proofs.Spelled.{number_from_to-decimal}
@@ -50,8 +50,8 @@ step_of draft place first words statement all other e =
     rw (are_text (line_of_words (first ∷ words)) (line_bytes-join (first ∷ words) all), words_of-join (first ∷ words) all, other, e) refl
 
 -- and the lines behind it go on from there
-step_on : (draft next : Draft) (place : ℕ) (line : List ℕ) (lines : List (List ℕ)) → line_step draft place line ≡ Ok next → chain_from (Ok draft) place (line ∷ lines) ≡ chain_from (Ok next) (place + 1) lines
-step_on draft next place line lines e = ap (λ (r : Result Draft ChainCause). chain_from (placed place r) (place + 1) lines) e
+step_on : (bound : ℕ) (draft next : Draft) (place : ℕ) (line : List ℕ) (lines : List (List ℕ)) → line_step draft place line ≡ Ok next → chain_from bound (Ok draft) place (line ∷ lines) ≡ chain_from bound (Ok next) (place + 1) lines
+step_on bound draft next place line lines e = ap (λ (r : Result Draft ChainCause). chain_from bound (placed place r) (place + 1) lines) e
 
 middlebox_said : (draft : Draft) (first : List ℕ) (words : List (List ℕ)) (found : Form) (statement : Statement) → form_of draft first ≡ Ok found → room_for draft found ≡ Ok tt → said_in found words ≡ Ok statement → middlebox_line draft first words ≡ Ok statement
 middlebox_said draft first words found statement known room e = rw (known, room, e) refl
@@ -123,73 +123,73 @@ fire_line_step failures partitions rules taken place line few bounds =
     (middlebox_said (standing failures partitions rules (Some (record { lines = taken }))) (decision_text line.allow) (fire_line_tail line) (form.FireLine line.allow) (said.FireLine line) (decision_form failures partitions rules (record { lines = taken }) line.allow) free said_so)
 
 -- equal drafts at equal places go on alike
-alike : (failures : Failures) (partitions : ℕ) (rules : List Rule) (taken other : List FireLine) (place there : ℕ) (lines : List (List ℕ)) → taken ≡ other → place ≡ there
-    → chain_from (Ok (standing failures partitions rules (Some (record { lines = taken })))) place lines ≡ chain_from (Ok (standing failures partitions rules (Some (record { lines = other })))) there lines
-alike failures partitions rules taken other place there lines same at =
-    ap (λ (ls : List FireLine). chain_from (Ok (standing failures partitions rules (Some (record { lines = ls })))) place lines) same
-    ∙ ap (λ (p : ℕ). chain_from (Ok (standing failures partitions rules (Some (record { lines = other })))) p lines) at
+alike : (bound : ℕ) (failures : Failures) (partitions : ℕ) (rules : List Rule) (taken other : List FireLine) (place there : ℕ) (lines : List (List ℕ)) → taken ≡ other → place ≡ there
+    → chain_from bound (Ok (standing failures partitions rules (Some (record { lines = taken })))) place lines ≡ chain_from bound (Ok (standing failures partitions rules (Some (record { lines = other })))) there lines
+alike bound failures partitions rules taken other place there lines same at =
+    ap (λ (ls : List FireLine). chain_from bound (Ok (standing failures partitions rules (Some (record { lines = ls })))) place lines) same
+    ∙ ap (λ (p : ℕ). chain_from bound (Ok (standing failures partitions rules (Some (record { lines = other })))) p lines) at
 
-fire_lines_again : (failures : Failures) (partitions : ℕ) (rules : List Rule) (taken lines : List FireLine) (place : ℕ) (rest : List (List (List ℕ))) → length taken + length lines ≤ MOST_FIREWALL_LINES → AllByRecursion IsFireLine lines
-    → chain_from (Ok (standing failures partitions rules (Some (record { lines = taken })))) place (map line_of_words (map fire_line_words lines ++ rest)) ≡ chain_from (Ok (standing failures partitions rules (Some (record { lines = taken ++ lines })))) (place + length lines) (map line_of_words rest)
-fire_lines_again failures partitions rules taken [] place rest few all =
-    alike failures partitions rules taken (taken ++ []) place (place + 0) (map line_of_words rest) (sym (append-nil taken)) (omega arith)
-fire_lines_again failures partitions rules taken (line ∷ lines) place rest few all =
-    step_on (standing failures partitions rules (Some (record { lines = taken }))) (standing failures partitions rules (Some (record { lines = taken ++ line ∷ [] }))) place (line_of_words (fire_line_words line)) (map line_of_words (map fire_line_words lines ++ rest)) (fire_line_step failures partitions rules taken place line (omega arith) all.0)
-    ∙ fire_lines_again failures partitions rules (taken ++ line ∷ []) lines (place + 1) rest (omega (arith, length-append taken (line ∷ []))) all.1
-    ∙ alike failures partitions rules ((taken ++ line ∷ []) ++ lines) (taken ++ line ∷ lines) (place + 1 + length lines) (place + length (line ∷ lines)) (map line_of_words rest) (append_assoc taken (line ∷ []) lines) (omega arith)
+fire_lines_again : (bound : ℕ) (failures : Failures) (partitions : ℕ) (rules : List Rule) (taken lines : List FireLine) (place : ℕ) (rest : List (List (List ℕ))) → length taken + length lines ≤ MOST_FIREWALL_LINES → AllByRecursion IsFireLine lines
+    → chain_from bound (Ok (standing failures partitions rules (Some (record { lines = taken })))) place (map line_of_words (map fire_line_words lines ++ rest)) ≡ chain_from bound (Ok (standing failures partitions rules (Some (record { lines = taken ++ lines })))) (place + length lines) (map line_of_words rest)
+fire_lines_again bound failures partitions rules taken [] place rest few all =
+    alike bound failures partitions rules taken (taken ++ []) place (place + 0) (map line_of_words rest) (sym (append-nil taken)) (omega arith)
+fire_lines_again bound failures partitions rules taken (line ∷ lines) place rest few all =
+    step_on bound (standing failures partitions rules (Some (record { lines = taken }))) (standing failures partitions rules (Some (record { lines = taken ++ line ∷ [] }))) place (line_of_words (fire_line_words line)) (map line_of_words (map fire_line_words lines ++ rest)) (fire_line_step failures partitions rules taken place line (omega arith) all.0)
+    ∙ fire_lines_again bound failures partitions rules (taken ++ line ∷ []) lines (place + 1) rest (omega (arith, length-append taken (line ∷ []))) all.1
+    ∙ alike bound failures partitions rules ((taken ++ line ∷ []) ++ lines) (taken ++ line ∷ lines) (place + 1 + length lines) (place + length (line ∷ lines)) (map line_of_words rest) (append_assoc taken (line ∷ []) lines) (omega arith)
 
 -- the chain of some rules
 abbrev told : Failures → ℕ → List Rule → Result Chain ChainFault
 told failures partitions rules = Ok (record { failures = failures.number; partitions = partitions; rules = rules })
 
-finish_again : (failures : Failures) (partitions : ℕ) (rules : List Rule) (firewall : Option FirewallRule) (place : ℕ) → failures.number < length (all_rules rules firewall) → failures.number ≤ MOST_FAILURES
-    → finish (standing failures partitions rules firewall) place ≡ told failures partitions (all_rules rules firewall)
-finish_again failures partitions rules firewall place enough most =
+finish_again : (bound : ℕ) (failures : Failures) (partitions : ℕ) (rules : List Rule) (firewall : Option FirewallRule) (place : ℕ) → failures.number < length (all_rules rules firewall) → failures.number ≤ bound
+    → finish bound (standing failures partitions rules firewall) place ≡ told failures partitions (all_rules rules firewall)
+finish_again bound failures partitions rules firewall place enough most =
     let some : nat_le (length (all_rules rules firewall)) 0 ≡ false = grind (arith, nat_tests) in
     let more : nat_le (length (all_rules rules firewall)) failures.number ≡ false = grind (arith, nat_tests) in
-    let few : nat_lt MOST_FAILURES failures.number ≡ false = grind (arith, nat_tests) in
+    let few : nat_lt bound failures.number ≡ false = grind (arith, nat_tests) in
     rw (some, more, few) refl
 
 -- what holds of the rules to come, where the next one takes a line of its own
-one_line : (failures : Failures) (partitions : ℕ) (done rules : List Rule) (firewall : Option FirewallRule) (place : ℕ) (server : Rule) (line : List ℕ) (lines : List (List ℕ))
+one_line : (bound : ℕ) (failures : Failures) (partitions : ℕ) (done rules : List Rule) (firewall : Option FirewallRule) (place : ℕ) (server : Rule) (line : List ℕ) (lines : List (List ℕ))
     → line_step (standing failures partitions done firewall) place line ≡ Ok (standing failures partitions (all_rules done firewall ++ server ∷ []) None)
-    → chain_from (Ok (standing failures partitions (all_rules done firewall ++ server ∷ []) None)) (place + 1) lines ≡ told failures partitions (all_rules (all_rules done firewall ++ server ∷ []) None ++ rules)
-    → chain_from (Ok (standing failures partitions done firewall)) place (line ∷ lines) ≡ told failures partitions (all_rules done firewall ++ server ∷ rules)
-one_line failures partitions done rules firewall place server line lines step later =
+    → chain_from bound (Ok (standing failures partitions (all_rules done firewall ++ server ∷ []) None)) (place + 1) lines ≡ told failures partitions (all_rules (all_rules done firewall ++ server ∷ []) None ++ rules)
+    → chain_from bound (Ok (standing failures partitions done firewall)) place (line ∷ lines) ≡ told failures partitions (all_rules done firewall ++ server ∷ rules)
+one_line bound failures partitions done rules firewall place server line lines step later =
     let joined : all_rules (all_rules done firewall ++ server ∷ []) None ++ rules ≡ all_rules done firewall ++ server ∷ rules =
     rw append-nil (append_assoc (all_rules done firewall) (server ∷ []) rules) in
-    step_on (standing failures partitions done firewall) (standing failures partitions (all_rules done firewall ++ server ∷ []) None) place line lines step ∙ later ∙ ap (told failures partitions) joined
+    step_on bound (standing failures partitions done firewall) (standing failures partitions (all_rules done firewall ++ server ∷ []) None) place line lines step ∙ later ∙ ap (told failures partitions) joined
 
 one_more : (done : List Rule) (server : Rule) → length (all_rules (done ++ server ∷ []) None) ≡ length done + 1
 one_more done server = rw (append-nil, length-append) refl
 
-rules_again : (rules : List Rule) (failures : Failures) (partitions : ℕ) (done : List Rule) (firewall : Option FirewallRule) (place : ℕ) → AllByRecursion IsRule rules
-    → length (all_rules done firewall) + length rules ≤ MOST_SERVERS → failures.number < length (all_rules done firewall) + length rules → failures.number ≤ MOST_FAILURES
-    → chain_from (Ok (standing failures partitions done firewall)) place (map line_of_words (flat_map rule_lines rules)) ≡ told failures partitions (all_rules done firewall ++ rules)
-rules_again [] failures partitions done firewall place all few enough most =
-    finish_again failures partitions done firewall place (omega arith) most ∙ ap (told failures partitions) (sym (append-nil (all_rules done firewall)))
-rules_again (rule.Pass ∷ rules) failures partitions done firewall place all few enough most =
+rules_again : (bound : ℕ) (rules : List Rule) (failures : Failures) (partitions : ℕ) (done : List Rule) (firewall : Option FirewallRule) (place : ℕ) → AllByRecursion IsRule rules
+    → length (all_rules done firewall) + length rules ≤ MOST_SERVERS → failures.number < length (all_rules done firewall) + length rules → failures.number ≤ bound
+    → chain_from bound (Ok (standing failures partitions done firewall)) place (map line_of_words (flat_map rule_lines rules)) ≡ told failures partitions (all_rules done firewall ++ rules)
+rules_again bound [] failures partitions done firewall place all few enough most =
+    finish_again bound failures partitions done firewall place (omega arith) most ∙ ap (told failures partitions) (sym (append-nil (all_rules done firewall)))
+rules_again bound (rule.Pass ∷ rules) failures partitions done firewall place all few enough most =
     let count = one_more (all_rules done firewall) rule.Pass in
-    one_line failures partitions done rules firewall place rule.Pass (line_of_words (codes "pass" ∷ [])) (map line_of_words (flat_map rule_lines rules)) (pass_step failures partitions done firewall place (omega arith))
-    (rules_again rules failures partitions (all_rules done firewall ++ rule.Pass ∷ []) None (place + 1) all.1 (omega arith) (omega arith) most)
-rules_again (rule.Monitor groups ∷ rules) failures partitions done firewall place all few enough most =
+    one_line bound failures partitions done rules firewall place rule.Pass (line_of_words (codes "pass" ∷ [])) (map line_of_words (flat_map rule_lines rules)) (pass_step failures partitions done firewall place (omega arith))
+    (rules_again bound rules failures partitions (all_rules done firewall ++ rule.Pass ∷ []) None (place + 1) all.1 (omega arith) (omega arith) most)
+rules_again bound (rule.Monitor groups ∷ rules) failures partitions done firewall place all few enough most =
     let count = one_more (all_rules done firewall) (rule.Monitor groups) in
-    one_line failures partitions done rules firewall place (rule.Monitor groups) (line_of_words (codes "monitor" ∷ decimal groups ∷ [])) (map line_of_words (flat_map rule_lines rules)) (monitor_step failures partitions done firewall place (omega arith) groups all.0.0 all.0.1)
-    (rules_again rules failures partitions (all_rules done firewall ++ rule.Monitor groups ∷ []) None (place + 1) all.1 (omega arith) (omega arith) most)
-rules_again (rule.Nat nat ∷ rules) failures partitions done firewall place all few enough most =
+    one_line bound failures partitions done rules firewall place (rule.Monitor groups) (line_of_words (codes "monitor" ∷ decimal groups ∷ [])) (map line_of_words (flat_map rule_lines rules)) (monitor_step failures partitions done firewall place (omega arith) groups all.0.0 all.0.1)
+    (rules_again bound rules failures partitions (all_rules done firewall ++ rule.Monitor groups ∷ []) None (place + 1) all.1 (omega arith) (omega arith) most)
+rules_again bound (rule.Nat nat ∷ rules) failures partitions done firewall place all few enough most =
     let count = one_more (all_rules done firewall) (rule.Nat nat) in
-    one_line failures partitions done rules firewall place (rule.Nat nat) (line_of_words (nat_words nat)) (map line_of_words (flat_map rule_lines rules)) (nat_step failures partitions done firewall place (omega arith) nat all.0)
-    (rules_again rules failures partitions (all_rules done firewall ++ rule.Nat nat ∷ []) None (place + 1) all.1 (omega arith) (omega arith) most)
-rules_again (rule.Balance balance ∷ rules) failures partitions done firewall place all few enough most =
+    one_line bound failures partitions done rules firewall place (rule.Nat nat) (line_of_words (nat_words nat)) (map line_of_words (flat_map rule_lines rules)) (nat_step failures partitions done firewall place (omega arith) nat all.0)
+    (rules_again bound rules failures partitions (all_rules done firewall ++ rule.Nat nat ∷ []) None (place + 1) all.1 (omega arith) (omega arith) most)
+rules_again bound (rule.Balance balance ∷ rules) failures partitions done firewall place all few enough most =
     let count = one_more (all_rules done firewall) (rule.Balance balance) in
-    one_line failures partitions done rules firewall place (rule.Balance balance) (line_of_words (balance_words balance)) (map line_of_words (flat_map rule_lines rules)) (balance_step failures partitions done firewall place (omega arith) balance all.0)
-    (rules_again rules failures partitions (all_rules done firewall ++ rule.Balance balance ∷ []) None (place + 1) all.1 (omega arith) (omega arith) most)
-rules_again (rule.Firewall firewall' ∷ rules) failures partitions done firewall place all few enough most =
+    one_line bound failures partitions done rules firewall place (rule.Balance balance) (line_of_words (balance_words balance)) (map line_of_words (flat_map rule_lines rules)) (balance_step failures partitions done firewall place (omega arith) balance all.0)
+    (rules_again bound rules failures partitions (all_rules done firewall ++ rule.Balance balance ∷ []) None (place + 1) all.1 (omega arith) (omega arith) most)
+rules_again bound (rule.Firewall firewall' ∷ rules) failures partitions done firewall place all few enough most =
     let count : length (all_rules (all_rules done firewall) (Some firewall')) ≡ length (all_rules done firewall) + 1 = length-append (all_rules done firewall) (rule.Firewall firewall' ∷ []) in
     let tail = flat_map rule_lines rules in
-    step_on (standing failures partitions done firewall) (standing failures partitions (all_rules done firewall) (Some (record { lines = [] }))) place (line_of_words (codes "firewall" ∷ [])) (map line_of_words (map fire_line_words firewall'.lines ++ tail)) (firewall_step failures partitions done firewall place (omega arith))
-    ∙ fire_lines_again failures partitions (all_rules done firewall) [] firewall'.lines (place + 1) tail (let size = all.0.few in omega arith) all.0.lines
-    ∙ rules_again rules failures partitions (all_rules done firewall) (Some firewall') (place + 1 + length firewall'.lines) all.1 (omega arith) (omega arith) most
+    step_on bound (standing failures partitions done firewall) (standing failures partitions (all_rules done firewall) (Some (record { lines = [] }))) place (line_of_words (codes "firewall" ∷ [])) (map line_of_words (map fire_line_words firewall'.lines ++ tail)) (firewall_step failures partitions done firewall place (omega arith))
+    ∙ fire_lines_again bound failures partitions (all_rules done firewall) [] firewall'.lines (place + 1) tail (let size = all.0.few in omega arith) all.0.lines
+    ∙ rules_again bound rules failures partitions (all_rules done firewall) (Some firewall') (place + 1 + length firewall'.lines) all.1 (omega arith) (omega arith) most
     ∙ ap (told failures partitions) (append_assoc (all_rules done firewall) (rule.Firewall firewall' ∷ []) rules)
 
 -- all words of the printed lines are plain
@@ -216,25 +216,28 @@ plain_chain chain bounds =
     ((plain (codes "f") refl, (plain_number chain.failures (omega arith), tt)), ((plain (codes "partitions") refl, (plain_number chain.partitions (omega arith), tt)), plain_rules chain.rules bounds.rules))
 
 -- the first two lines
-failures_step : (failures : ℕ) → failures ≤ MOST_WRITTEN_FAILURES → line_step no_lines 1 (line_of_words (codes "f" ∷ decimal failures ∷ [])) ≡ Ok (with_statement no_lines 1 (said.Failures failures))
+failures_step : (failures : ℕ) → failures ≤ MOST_FAILURES → line_step no_lines 1 (line_of_words (codes "f" ∷ decimal failures ∷ [])) ≡ Ok (with_statement no_lines 1 (said.Failures failures))
 failures_step failures most =
     step_of no_lines 1 (codes "f") (decimal failures ∷ []) (said.Failures failures) (plain (codes "f") refl, (plain_number failures (omega arith), tt)) refl
-    (rw (number_from_to-decimal 0 MOST_WRITTEN_FAILURES failures (omega arith) most (omega arith)) refl)
+    (rw (number_from_to-decimal 0 MOST_FAILURES failures (omega arith) most (omega arith)) refl)
 
 partitions_step : (failures partitions : ℕ) → 1 ≤ partitions → partitions ≤ MOST_PARTITIONS → line_step (with_statement no_lines 1 (said.Failures failures)) 2 (line_of_words (codes "partitions" ∷ decimal partitions ∷ [])) ≡ Ok (standing (record { number = failures; line = 1 }) partitions [] None)
 partitions_step failures partitions some most =
     step_of (with_statement no_lines 1 (said.Failures failures)) 2 (codes "partitions") (decimal partitions ∷ []) (said.Partitions partitions) (plain (codes "partitions") refl, (plain_number partitions (omega arith), tt)) refl
     (rw (number_from_to-decimal 1 MOST_PARTITIONS partitions some most (omega arith)) refl)
 
-pub reads_back : (chain : Chain) → IsChain chain → chain.failures ≤ MOST_FAILURES → chain_of (plain_text chain) ≡ Ok chain
-reads_back chain bounds most =
+pub reads_back : (bound : ℕ) (chain : Chain) → IsChain chain → chain.failures ≤ bound → chain_within bound (plain_text chain) ≡ Ok chain
+reads_back bound chain bounds most =
     let few = bounds.servers in
     let fewer = bounds.failures in
     let one : Draft = with_statement no_lines 1 (said.Failures chain.failures) in
     let two : Draft = standing (record { number = chain.failures; line = 1 }) chain.partitions [] None in
     let third = map line_of_words (flat_map rule_lines chain.rules) in
     let second = line_of_words (codes "partitions" ∷ decimal chain.partitions ∷ []) in
-    ap (chain_from (Ok no_lines) 1) (lines_of-text (chain_lines chain) (plain_chain chain bounds))
-    ∙ step_on no_lines one 1 (line_of_words (codes "f" ∷ decimal chain.failures ∷ [])) (second ∷ third) (failures_step chain.failures (omega arith))
-    ∙ step_on one two 2 second third (partitions_step chain.failures chain.partitions bounds.some_partition bounds.partitions)
-    ∙ rules_again chain.rules (record { number = chain.failures; line = 1 }) chain.partitions [] None 3 bounds.rules (omega arith) (omega arith) most
+    ap (chain_from bound (Ok no_lines) 1) (lines_of-text (chain_lines chain) (plain_chain chain bounds))
+    ∙ step_on bound no_lines one 1 (line_of_words (codes "f" ∷ decimal chain.failures ∷ [])) (second ∷ third) (failures_step chain.failures (omega arith))
+    ∙ step_on bound one two 2 second third (partitions_step chain.failures chain.partitions bounds.some_partition bounds.partitions)
+    ∙ rules_again bound chain.rules (record { number = chain.failures; line = 1 }) chain.partitions [] None 3 bounds.rules (omega arith) (omega arith) most
+
+pub reads_back_whole : (chain : Chain) → IsChain chain → chain_of (plain_text chain) ≡ Ok chain
+reads_back_whole chain bounds = let few = bounds.servers in let fewer = bounds.failures in reads_back MOST_FAILURES chain bounds (omega arith)

@@ -19,7 +19,7 @@ use Rattle.ftc_base.specs.Refused.{IsReading}
 use Rattle.ftc_conf.specs.Grammar.{server_room, fire_line_room, middlebox_room, room_for, said_in}
 
 -- what holds of every value that may be made holds of the one that was
-made_of : {A B : Type 0} (r : Result A ChainCause) (f : A → B) (P : B → Type 0) (b : B) → ((a : A) → P (f a)) → (r >>= λ a. Ok (f a)) ≡ Ok b → P b
+pub made_of : {A B : Type 0} (r : Result A ChainCause) (f : A → B) (P : B → Type 0) (b : B) → ((a : A) → P (f a)) → (r >>= λ a. Ok (f a)) ≡ Ok b → P b
 made_of (Ok a) f P b all e = let same : f a ≡ b = cc in subst P same (all a)
 made_of (Err cause) f P b all e = absurd cc
 
@@ -45,7 +45,7 @@ has_fire_line_room : (firewall : Option FirewallRule) → fire_line_room firewal
 has_fire_line_room None e = tt
 has_fire_line_room (Some rule) e = let t = passed (nat_lt (length rule.lines) MOST_FIREWALL_LINES) TooManyItems e in search rules
 
-said_room : (draft : Draft) (found : Form) (words : List (List ℕ)) (statement : Statement) → room_for draft found ≡ Ok tt → said_in found words ≡ Ok statement → HasRoom draft statement
+pub said_room : (draft : Draft) (found : Form) (words : List (List ℕ)) (statement : Statement) → room_for draft found ≡ Ok tt → said_in found words ≡ Ok statement → HasRoom draft statement
 said_room draft form.Pass words statement room e = made (no_words words) (said.Middlebox rule.Pass) (HasRoom draft) statement (has_middlebox_room draft room) e
 said_room draft form.Monitor words statement room e = made_of (monitor_of words) (λ groups. said.Middlebox (rule.Monitor groups)) (HasRoom draft) statement (λ groups. has_middlebox_room draft room) e
 said_room draft form.Nat words statement room e = made_of (nat_of words) (λ nat. said.Middlebox (rule.Nat nat)) (HasRoom draft) statement (λ nat. has_middlebox_room draft room) e

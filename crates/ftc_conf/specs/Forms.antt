@@ -6,7 +6,7 @@ use Rattle.ftc_base.specs.declared.limits.TheConstants.{MOST_PARTITIONS, MOST_MO
 use Rattle.ftc_nat.specs.declared.rule.NatRule.{NatRule}
 use Rattle.ftc_firewall.specs.declared.rule.FireLine.{FireLine}
 use Rattle.ftc_balance.specs.declared.rule.BalanceRule.{BalanceRule}
-use Rattle.ftc_conf.specs.declared.limits.TheConstants.{MOST_WRITTEN_FAILURES, MOST_PORT}
+use Rattle.ftc_conf.specs.declared.limits.TheConstants.{MOST_FAILURES, MOST_PORT}
 use Rattle.ftc_conf.specs.declared.fault.ChainCause.{ChainCause}
 use Rattle.ftc_conf.specs.declared.fault.ChainCause.TheVariants.{UnknownWord, WordCount, BadRange, TooManyItems}
 use Rattle.ftc_conf.specs.Words.{◌>>=◌, ◌>>◌, unless, fixed, number_from_to, address_word, net_word, part_before, part_behind, dashed_ports, ports_word}
@@ -20,7 +20,7 @@ no_words (word ∷ words) = Err WordCount
 
 -- `f F`
 abbrev pub failures_of : List (List ℕ) → Result ℕ ChainCause
-failures_of (failures ∷ []) = number_from_to 0 MOST_WRITTEN_FAILURES failures
+failures_of (failures ∷ []) = number_from_to 0 MOST_FAILURES failures
 failures_of words = Err WordCount
 
 -- `partitions P`

@@ -103,21 +103,21 @@ line_step draft place line = statement_of draft line >>= λ statement. Ok (with_
 abbrev pub fault_at : {A : Type 0} → ℕ → ChainCause → Result A ChainFault
 fault_at line cause = Err (record { line = line; cause = cause })
 
--- some server is no spare one, and there are more servers than may be down at once
-abbrev pub complete_chain : Failures → ℕ → Draft → ℕ → Result Chain ChainFault
-complete_chain failures partitions draft place =
+-- some server is no spare one, and fewer servers may be down at once than there are, and at most so many
+abbrev pub complete_chain : ℕ → Failures → ℕ → Draft → ℕ → Result Chain ChainFault
+complete_chain most failures partitions draft place =
     if nat_le (length (servers draft)) draft.spares then fault_at place Empty else
-    if nat_le (length (servers draft)) failures.number || nat_lt MOST_FAILURES failures.number then fault_at failures.line Replicas else
+    if nat_le (length (servers draft)) failures.number || nat_lt most failures.number then fault_at failures.line Replicas else
     Ok (record { failures = failures.number; partitions = partitions; rules = servers draft })
 
 -- the chain where no line is left; the place is behind the last line
-abbrev pub finished : Option Failures → Option ℕ → Draft → ℕ → Result Chain ChainFault
-finished None partitions draft place = fault_at place NoFailures
-finished (Some failures) None draft place = fault_at place NoPartitions
-finished (Some failures) (Some partitions) draft place = complete_chain failures partitions draft place
+abbrev pub finished : ℕ → Option Failures → Option ℕ → Draft → ℕ → Result Chain ChainFault
+finished most None partitions draft place = fault_at place NoFailures
+finished most (Some failures) None draft place = fault_at place NoPartitions
+finished most (Some failures) (Some partitions) draft place = complete_chain most failures partitions draft place
 
-abbrev pub finish : Draft → ℕ → Result Chain ChainFault
-finish draft place = finished draft.failures draft.partitions draft place
+abbrev pub finish : ℕ → Draft → ℕ → Result Chain ChainFault
+finish most draft place = finished most draft.failures draft.partitions draft place
 
 -- a cause becomes a fault at its line
 abbrev pub placed : {A : Type 0} → ℕ → Result A ChainCause → Result A ChainFault
@@ -125,11 +125,15 @@ placed line (Ok value) = Ok value
 placed line (Err cause) = fault_at line cause
 
 -- the chain of the lines that are left, the first of which stands at that place
-abbrev pub chain_from : Result Draft ChainFault → ℕ → List (List ℕ) → Result Chain ChainFault
-chain_from (Err fault) place lines = Err fault
-chain_from (Ok draft) place [] = finish draft place
-chain_from (Ok draft) place (line ∷ lines) = chain_from (placed place (line_step draft place line)) (place + 1) lines
+abbrev pub chain_from : ℕ → Result Draft ChainFault → ℕ → List (List ℕ) → Result Chain ChainFault
+chain_from most (Err fault) place lines = Err fault
+chain_from most (Ok draft) place [] = finish most draft place
+chain_from most (Ok draft) place (line ∷ lines) = chain_from most (placed place (line_step draft place line)) (place + 1) lines
 
--- the chain that a text spells, or its first fault
+-- the chain that a text spells, of whose servers at most so many may be down at once, or its first fault
+abbrev pub chain_within : ℕ → List ℕ → Result Chain ChainFault
+chain_within most text = chain_from most (Ok no_lines) 1 (lines_of text)
+
+-- the chain that a text spells, or its first fault; no line `f F` spells a number above this bound
 abbrev pub chain_of : List ℕ → Result Chain ChainFault
-chain_of text = chain_from (Ok no_lines) 1 (lines_of text)
+chain_of text = chain_within MOST_FAILURES text

@@ -10,7 +10,6 @@ ghost use Rattle.ftc_conf.specs.Grammar.{complete_chain, finish};
 use crate::adding::{close_firewall, count_of_servers};
 use crate::draft::{Draft, Failures};
 use crate::fault::{ChainCause, ChainFault};
-use crate::limits::MOST_FAILURES;
 use ftc_base::Refuse;
 use ftc_mbox::ChainSpec;
 
@@ -21,9 +20,10 @@ pub fn fault_at(line: u64, cause: ChainCause) -> Refuse<ChainFault>
     Refuse::Bad(ChainFault { line, cause })
 }
 
-/// The chain, where some server is no spare one, and more servers stand in the text than may be down
-/// at once.
+/// The chain, where some server is no spare one, and fewer servers may be down at once than stand in
+/// the text, and at most `most`.
 fn complete_chain(
+    most: u8,
     failures: Failures,
     partitions: u8,
     draft: Draft,
@@ -32,13 +32,13 @@ fn complete_chain(
     requires bounds { IsDraft draft }
     requires some_partition { 1 ≤ partitions }
     requires partitions { partitions ≤ MOST_PARTITIONS }
-    ensures { IsReading result (complete_chain failures partitions draft place) }
+    ensures { IsReading result (complete_chain most failures partitions draft place) }
 {
     let servers = count_of_servers(&draft);
     if servers <= usize::from(draft.spares) {
         return Err(fault_at(place, ChainCause::Empty));
     }
-    if servers <= usize::from(failures.number) || failures.number > MOST_FAILURES {
+    if servers <= usize::from(failures.number) || failures.number > most {
         return Err(fault_at(failures.line, ChainCause::Replicas));
     }
     let rules = close_firewall(draft.rules, draft.firewall)?;
@@ -46,9 +46,9 @@ fn complete_chain(
 }
 
 /// The chain where no line is left. The place is behind the last line.
-pub fn finish(draft: Draft, place: u64) -> Result<ChainSpec, Refuse<ChainFault>>
+pub fn finish(most: u8, draft: Draft, place: u64) -> Result<ChainSpec, Refuse<ChainFault>>
     requires { IsDraft draft }
-    ensures { IsReading result (finish draft place) }
+    ensures { IsReading result (finish most draft place) }
 {
     let Some(failures) = draft.failures else {
         return Err(fault_at(place, ChainCause::NoFailures));
@@ -56,5 +56,5 @@ pub fn finish(draft: Draft, place: u64) -> Result<ChainSpec, Refuse<ChainFault>>
     let Some(partitions) = draft.partitions else {
         return Err(fault_at(place, ChainCause::NoPartitions));
     };
-    complete_chain(failures, partitions, draft, place)
+    complete_chain(most, failures, partitions, draft, place)
 }

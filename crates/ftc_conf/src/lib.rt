@@ -8,6 +8,7 @@ mod fault;
 mod finish;
 mod firewall;
 mod forms;
+mod laws;
 pub mod limits;
 mod lines;
 mod nat;
@@ -19,8 +20,9 @@ mod values;
 mod words;
 
 pub use fault::{ChainCause, ChainFault};
+pub use laws::{bounded, fits, unbounded, wider};
 pub use plain::reads_back;
-pub use reader::read_chain;
+pub use reader::{read_chain, read_chain_within};
 
 #[cfg(test)]
 mod tests;

@@ -3,12 +3,8 @@
 /// A number that any word may spell.
 pub const MOST_NUMBER: u32 = 4_294_967_295;
 
-/// The number of the line `f F`.
-pub const MOST_WRITTEN_FAILURES: u32 = 15;
-
-/// How many servers of a chain may be down at once. No replica is kept yet, so a text that asks for
-/// more is refused.
-pub const MOST_FAILURES: u8 = 0;
+/// The number of the line `f F`: how many servers of a chain may be down at once.
+pub const MOST_FAILURES: u8 = 15;
 
 /// A port of TCP or UDP.
 pub const MOST_PORT: u32 = 65_535;

@@ -13,7 +13,7 @@ use crate::draft::Draft;
 use crate::fault::ChainCause;
 use crate::firewall::fire_line;
 use crate::forms::{form_of, room_for};
-use crate::limits::MOST_WRITTEN_FAILURES;
+use crate::limits::MOST_FAILURES;
 use crate::nat::nat;
 use crate::statement::{Form, Statement};
 use crate::values::number_from_to;
@@ -28,7 +28,7 @@ fn failures(line: &[u8]) -> Result<u8, ChainCause>
 {
     let (word, rest) = next_word(line)?;
     no_words(rest)?;
-    let number = number_from_to(0, MOST_WRITTEN_FAILURES, word)?;
+    let number = number_from_to(0, u32::from(MOST_FAILURES), word)?;
     Ok(number as u8)
 }
 

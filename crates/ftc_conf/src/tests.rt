@@ -1,22 +1,34 @@
 //! Chain texts with the answers that they have to get.
 
 mod every_kind;
+mod failures;
 
 use super::*;
 use ftc_base::Refuse;
+use ftc_mbox::ChainSpec;
 use std::alloc::{AllocError, Global};
 use std::test::Fail;
 
 /// A text and what is wrong with it: the line and the number of the cause.
 type Case = (&'static str, Option<(u64, u8)>);
 
-/// What is wrong with a text. Memory that is refused counts as line 0.
-fn fault_of(alloc: Global, text: &[u8]) -> Option<(u64, u8)> {
-    match read_chain(alloc, text) {
-        Ok(_) => None,
-        Err(Refuse::Bad(fault)) => Some((fault.line, fault.cause as u8)),
-        Err(Refuse::NoMemory) => Some((0, 0)),
+/// The failures, the partitions and the count of rules of a chain, or what is wrong with its text.
+/// Memory that is refused counts as line 0.
+fn parts_of(read: Result<ChainSpec, Refuse<ChainFault>>) -> Result<(u8, u8, usize), (u64, u8)> {
+    match read {
+        Ok(chain) => Ok((
+            chain.failures(),
+            chain.partitions(),
+            chain.rules().as_slice().len(),
+        )),
+        Err(Refuse::Bad(fault)) => Err((fault.line, fault.cause as u8)),
+        Err(Refuse::NoMemory) => Err((0, 0)),
     }
+}
+
+/// What is wrong with a text.
+fn fault_of(alloc: Global, text: &[u8]) -> Option<(u64, u8)> {
+    parts_of(read_chain(alloc, text)).err()
 }
 
 /// What is wrong with a text of the lines `f 0` and `partitions 4` and these.
