@@ -2,7 +2,7 @@
 use Rattle.std.proofs.Common.{◌≡◌, ℕ, List, ◌++◌, append_assoc, ap}
 use Rattle.std.specs.Prelude.{codes, decimal, length, count_by}
 use Rattle.hex.specs.Hex.{encode_lower}
-use Rattle.ftc_machine.specs.declared.fate.Fate.{Fate}
+use Rattle.ftc_protocol.specs.declared.fate.Fate.{Fate}
 use Rattle.ftc_report.specs.Text.{is_released, is_filtered, is_lost, head, value_text, key_line}
 
 of_four : (a b c d : List ℕ) → a ++ (b ++ (c ++ d)) ≡ ((a ++ b) ++ c) ++ d

@@ -3,3 +3,4 @@ mod Numbering
 mod Legal
 mod Recorded
 mod Writable
+pub mod Ended

@@ -3,8 +3,8 @@ use Rattle.std.specs.Prelude.{ℕ, Bool, true, false, List, [], ◌∷◌, ◌++
 use Rattle.std.specs.List.{flat_map, enumerate_from}
 use Rattle.std.specs.FinMap.{len, entries}
 use Rattle.hex.specs.Hex.{encode_lower}
-use Rattle.ftc_machine.specs.declared.fate.Fate.{Fate}
-use Rattle.ftc_machine.specs.declared.fate.Fate.TheVariants.{Released, Filtered, Lost, Inside}
+use Rattle.ftc_protocol.specs.declared.fate.Fate.{Fate}
+use Rattle.ftc_protocol.specs.declared.fate.Fate.TheVariants.{Released, Filtered, Lost, Inside}
 use Rattle.ftc_store.specs.Store.{Content}
 
 abbrev pub is_released : Fate → Bool

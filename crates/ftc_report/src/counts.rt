@@ -3,9 +3,8 @@
 ghost use Rattle.std.specs.Prelude.{◌≡◌, ◌++◌, OnOk, IfOk, count_by, string_bytes};
 ghost use Rattle.ftc_report.specs.Text.{is_released, is_filtered, is_lost, head};
 
-use crate::fates::Fates;
 use ftc_base::{Bytes, NoMemory};
-use ftc_machine::Fate;
+use ftc_machine::{Fate, Fates};
 use std::alloc::{AllocError, Global};
 
 fn is_released(fate: &Fate) -> bool

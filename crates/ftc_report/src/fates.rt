@@ -4,12 +4,9 @@ ghost use Rattle.std.specs.Prelude.{◌≡◌, ◌++◌, OnOk, IfOk, string_byte
 ghost use Rattle.std.specs.List.{flat_map, enumerate_from};
 ghost use Rattle.ftc_report.specs.Text.{fate_line};
 
-use ftc_base::{Bytes, Items, NoMemory};
-use ftc_machine::Fate;
+use ftc_base::{Bytes, NoMemory};
+use ftc_machine::{Fate, Fates};
 use std::alloc::{AllocError, Global};
-
-/// What became of each packet, by its number.
-pub type Fates = Items<Fate>;
 
 /// The line of a packet.
 #[tactic(auto, unfolding(crate::specs::Text::fate_line))]

@@ -11,9 +11,8 @@ mod released;
 mod stores;
 mod taps;
 
-pub use fates::Fates;
 pub use laws::released_fit;
-pub use over::{chain_after, report_over};
+pub use over::{chain_after, report};
 pub use printer::print;
 pub use released::out_of;
 

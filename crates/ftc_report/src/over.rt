@@ -1,20 +1,21 @@
 //! The report over a journal.
 
-ghost use Rattle.std.specs.Prelude.{◌≡◌, IfOk, IsSome, Some};
+ghost use Rattle.std.specs.Prelude.{◌≡◌, IfOk, IsSome, Some, length};
 ghost use Rattle.ftc_serial.specs.Serial.{opening, serial_run};
 ghost use Rattle.ftc_serial.specs.Packets.{bytes_of};
 ghost use Rattle.ftc_serial.specs.Held.{rules_of, state_of};
 ghost use Rattle.ftc_serial.specs.Trace.{trace_of};
-ghost use Rattle.ftc_report.specs.Text.{report_text};
-ghost use Rattle.ftc_report.specs.Contents.{contents_after};
+ghost use Rattle.ftc_protocol.specs.Setting.{setting_of};
+ghost use Rattle.ftc_protocol.specs.Run.{IsRun};
+ghost use Rattle.ftc_report.specs.Report.{report_of};
 
-use crate::fates::Fates;
 use crate::printer::print;
 use ftc_base::{Bytes, Lines, NoMemory, Refuse};
 use ftc_journal::Journal;
-use ftc_machine::trace_of;
+use ftc_machine::{fates_of, serial_of_a_run, trace_of};
 use ftc_mbox::ChainSpec;
 use ftc_pcap::Packets;
+use ftc_script::Script;
 use ftc_serial::{Serial, Trace};
 use std::alloc::Global;
 
@@ -36,20 +37,26 @@ pub fn chain_after(
     }
 }
 
-/// The report over these fates, the stores after the serial run of the journal's trace, and the lines
-/// of the taps.
-pub fn report_over(
+/// The report of a run, whose journal is given, with the lines of the taps. The script was accepted for the
+/// chain's ring and for as many packets.
+pub fn report(
     alloc: Global,
     spec: &ChainSpec,
     packets: &Packets,
+    script: &Script,
     journal: &Journal,
-    fates: &Fates,
     taps: &Lines,
 ) -> Result<Bytes, NoMemory>
-    requires { IsSome (serial_run spec.now.rules (opening (bytes_of packets.now)) (trace_of journal.now.items)) }
-    ensures { IfOk result (λ text. text ≡ report_text fates.now (contents_after spec.now.rules (bytes_of packets.now) journal.now.items) taps.now) }
+    requires ring { script.now.ring ≡ record { servers = length spec.now.rules; failures = spec.now.failures } }
+    requires packets { script.now.packets ≡ length packets.now }
+    requires run { ∥ IsRun (setting_of spec.now (bytes_of packets.now) script.now) journal.now.items ∥₁ }
+    ensures { IfOk result (λ text. text ≡ report_of (setting_of spec.now (bytes_of packets.now) script.now) journal.now.items taps.now) }
 {
+    // The script was accepted, so that the laws speak of the run.
+    let _ = script.ring();
+    serial_of_a_run();
+    let fates = fates_of(alloc, spec, packets, script, journal)?;
     let trace = trace_of(alloc, journal)?;
     let serial = chain_after(alloc, spec, packets, &trace)?;
-    print(alloc, fates, &serial, taps)
+    print(alloc, &fates, &serial, taps)
 }

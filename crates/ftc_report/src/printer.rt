@@ -6,10 +6,11 @@ ghost use Rattle.ftc_report.specs.Text.{report_text};
 ghost use Rattle.ftc_report.specs.Contents.{contents};
 
 use crate::counts::append_head;
-use crate::fates::{Fates, append_fates};
+use crate::fates::append_fates;
 use crate::stores::append_stores;
 use crate::taps::append_taps;
 use ftc_base::{Bytes, Lines, NoMemory};
+use ftc_machine::Fates;
 use ftc_serial::Serial;
 use std::alloc::Global;
 
