@@ -12,7 +12,7 @@ use Rattle.ftc_check.specs.Taps.{is_tap_line, IsBetweenLines, IsCut, IsWithoutTa
 use Rattle.ftc_check.proofs.Lines.{IsWhole, IsPiece, whole_before_feed, whole_rest, whole_parts, lines_together, lines_of_piece, piece_is_one}
 
 -- of two ways to part a text, the longer front begins with the shorter
-parted : (xs ys zs ws : List ℕ) → xs ++ ys ≡ zs ++ ws → length xs ≤ length zs → (m : List ℕ) × (zs ≡ xs ++ m) × (ys ≡ m ++ ws)
+pub parted : (xs ys zs ws : List ℕ) → xs ++ ys ≡ zs ++ ws → length xs ≤ length zs → (m : List ℕ) × (zs ≡ xs ++ m) × (ys ≡ m ++ ws)
 parted [] ys zs ws same short = (zs, refl, same)
 parted (x ∷ xs) ys [] ws same short = absurd (omega arith)
 parted (x ∷ xs) ys (z ∷ zs) ws same short =
@@ -25,7 +25,7 @@ none_in_front : (xs ys : List ℕ) → xs ++ ys ≡ [] → xs ≡ []
 none_in_front [] ys none = refl
 none_in_front (x ∷ xs) ys none = absurd (cc)
 
-empty : (xs : List ℕ) → length xs ≡ 0 → xs ≡ []
+pub empty : (xs : List ℕ) → length xs ≡ 0 → xs ≡ []
 empty [] none = refl
 empty (x ∷ xs) none = absurd (omega arith)
 

@@ -1,9 +1,6 @@
 -- A run, and the serial run of its trace.
-use Rattle.std.proofs.Common.{◌≡◌, ◌∙◌, ap, sym, subst, ℕ, List, Option, Some, refl}
-use Rattle.std.proofs.Math.Logic.{∥∥₁_elim}
+use Rattle.std.proofs.Common.{◌≡◌, ◌∙◌, ap, sym, subst, ℕ, List, Some}
 use Rattle.std.specs.Prelude.{IsSome}
-use Rattle.std.specs.Coded.{coded_bool}
-use denote.Struct.Props.{≡_prop}
 use Rattle.ftc_journal.specs.declared.event.Event.{Event}
 use Rattle.ftc_serial.specs.Serial as serial
 use Rattle.ftc_serial.specs.Serial.{State, serial_run}
@@ -11,22 +8,13 @@ use Rattle.ftc_serial.specs.Trace.{trace_of}
 use Rattle.ftc_serial.specs.declared.step.Step.{Step}
 use Rattle.ftc_mbox.specs.Chain.{Chain}
 use Rattle.ftc_check.specs.Verdict.{IsWhole}
-use Rattle.ftc_machine.specs.Setting.{Setting, IsSetting}
-use Rattle.ftc_machine.specs.Run.{IsRun, IsFinished}
+use Rattle.ftc_protocol.specs.Setting.{Setting, IsSetting}
+use Rattle.ftc_protocol.specs.Run.{IsRun, IsFinished}
 use Rattle.ftc_machine.specs.Played.{Played, setting_in, state_of}
-use Rattle.ftc_machine.specs.Whole.{HasSerialRun}
+use Rattle.ftc_protocol.specs.Whole.{HasSerialRun}
+use Rattle.ftc_report.proofs.Ended.{has_end}
 
-some_once : {A : Type 0} (found : Option A) (x y : IsSome found) → x ≡ y
-some_once found = ≡_prop coded_bool _ _
-
--- the trace of a run has a serial run
-has_end : (c : Setting) (journal : List Event) → ((setting : Setting) → IsSetting setting → (journal : List Event) → IsRun setting journal → HasSerialRun setting journal) → ∥ IsSetting c ∥₁ → ∥ IsRun c journal ∥₁ → IsSome (serial_run c.rules (serial.opening c.packets) (trace_of journal))
-has_end c journal law setting run =
-    ∥∥₁_elim setting (some_once _) (λ is. ∥∥₁_elim run (some_once _) (λ legal.
-    let found : HasSerialRun c journal = law c is journal legal in
-    subst (λ (o : Option State). IsSome o) (sym found.exists) refl))
-
--- and so it has for a chain and packets that are those of the run
+-- the trace of a run has a serial run for a chain and packets that are those of the run
 pub has_end_there : (played : Played) (chain : Chain) (packets : List (List ℕ)) (events : List Event) (steps : List Step) → ((setting : Setting) → IsSetting setting → (journal : List Event) → IsRun setting journal → HasSerialRun setting journal) → ∥ IsSetting (setting_in played) ∥₁ → ∥ IsRun (setting_in played) played.journal ∥₁
     → played.chain ≡ chain → played.packets ≡ packets → events ≡ played.journal → steps ≡ trace_of events → IsSome (serial_run chain.rules (serial.opening packets) steps)
 has_end_there played chain packets events steps law setting run chain_is packets_are events_are steps_are =

@@ -2,3 +2,10 @@ mod Lines
 mod Pieces
 mod Cuts
 mod Files
+mod Plain
+mod Own
+mod OwnReport
+mod Illegal
+mod Ones
+mod Verdicts
+mod Whole

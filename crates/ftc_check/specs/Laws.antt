@@ -1,10 +1,40 @@
--- Each of the relations leaves one answer.
-use Rattle.std.specs.Prelude.{ℕ, ◌≡◌, List}
+-- Each of the relations leaves one answer, and what a run wrote is right.
+use Rattle.std.specs.Prelude.{ℕ, ◌≡◌, List, []}
+use Rattle.ftc_journal.specs.declared.event.Event.{Event}
+use Rattle.ftc_pcap.specs.declared.capture.Capture.{Capture}
+use Rattle.ftc_serial.specs.Serial.{State}
+use Rattle.ftc_protocol.specs.Setting.{Setting}
+use Rattle.ftc_report.specs.Output.{out_bytes}
+use Rattle.ftc_report.specs.Report.{report_of}
+use Rattle.ftc_check.specs.declared.verdict.Checked.{Checked}
+use Rattle.ftc_check.specs.declared.verdict.Checked.TheVariants.{Yes}
 use Rattle.ftc_check.specs.Difference.{IsFirstDifference}
 use Rattle.ftc_check.specs.Taps.{IsWithoutTaps}
+use Rattle.ftc_check.specs.Verdict.{IsWhole, IsVerdict}
 
 abbrev pub DifferencesAreOne : Type 0
 DifferencesAreOne = (a b : List ℕ) (place other : ℕ) → IsFirstDifference a b place → IsFirstDifference a b other → place ≡ other
 
 abbrev pub FrontsAreOne : Type 0
 FrontsAreOne = (text front other : List ℕ) → IsWithoutTaps text front → IsWithoutTaps text other → front ≡ other
+
+abbrev pub VerdictsAreOne : Type 0
+VerdictsAreOne =
+    (c : Setting) (capture : Capture) (out : List ℕ) (journal : List Event) (report : List ℕ) (verdict other : Checked)
+    → IsVerdict c capture out journal report verdict → IsVerdict c capture out journal report other → verdict ≡ other
+
+-- a report without taps has no line of a tap at its end
+abbrev pub OwnReportsStay : Type 0
+OwnReportsStay = (c : Setting) (journal : List Event) → IsWithoutTaps (report_of c journal []) (report_of c journal [])
+
+-- the OUT and the report of a finished run are right beside its journal
+abbrev pub WholeRunsAreRight : Type 0
+WholeRunsAreRight =
+    (c : Setting) (capture : Capture) (journal : List Event) (end : State)
+    → IsWhole c journal end → IsVerdict c capture (out_bytes capture end.released) journal (report_of c journal []) Yes
+
+-- and no other verdict says so of them
+abbrev pub WholeRunsAreOnlyRight : Type 0
+WholeRunsAreOnlyRight =
+    (c : Setting) (capture : Capture) (journal : List Event) (end : State) (verdict : Checked)
+    → IsWhole c journal end → IsVerdict c capture (out_bytes capture end.released) journal (report_of c journal []) verdict → verdict ≡ Yes

@@ -5,9 +5,9 @@ use Rattle.ftc_pcap.specs.declared.capture.Capture.{Capture}
 use Rattle.ftc_serial.specs.Serial as serial
 use Rattle.ftc_serial.specs.Serial.{State, serial_run}
 use Rattle.ftc_serial.specs.Trace.{trace_of}
-use Rattle.ftc_machine.specs.Setting.{Setting}
-use Rattle.ftc_machine.specs.State.{opening}
-use Rattle.ftc_machine.specs.Run.{IsRun, IsFinished, state_after}
+use Rattle.ftc_protocol.specs.Setting.{Setting}
+use Rattle.ftc_protocol.specs.State.{opening}
+use Rattle.ftc_protocol.specs.Run.{IsRun, IsFinished, state_after}
 use Rattle.ftc_machine.specs.Illegal.{IsFirstIllegal}
 use Rattle.ftc_report.specs.Output.{out_bytes}
 use Rattle.ftc_report.specs.Report.{report_of}

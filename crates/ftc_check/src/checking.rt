@@ -6,7 +6,7 @@ ghost use Rattle.ftc_serial.specs.Held.{rules_of, state_of};
 ghost use Rattle.ftc_serial.specs.Serial.{opening, serial_run};
 ghost use Rattle.ftc_serial.specs.Trace.{trace_of};
 ghost use Rattle.ftc_machine.specs.Played.{setting_in};
-ghost use Rattle.ftc_machine.specs.Setting.{setting_of};
+ghost use Rattle.ftc_protocol.specs.Setting.{setting_of};
 ghost use Rattle.ftc_report.specs.Output.{AreWritable, out_bytes};
 ghost use Rattle.ftc_check.specs.Difference.{IsFirstDifference};
 ghost use Rattle.ftc_check.specs.Verdict.{IsVerdict, IsReport, IsOtherReport};

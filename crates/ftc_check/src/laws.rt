@@ -1,6 +1,6 @@
 //! What holds of the definitions.
 
-ghost use Rattle.ftc_check.specs.Laws.{DifferencesAreOne, FrontsAreOne};
+ghost use Rattle.ftc_check.specs.Laws.{DifferencesAreOne, FrontsAreOne, VerdictsAreOne, OwnReportsStay, WholeRunsAreRight, WholeRunsAreOnlyRight};
 
 /// Two texts have one first place where they differ.
 pub fn one_difference()
@@ -10,4 +10,20 @@ pub fn one_difference()
 /// A report has one shortest front.
 pub fn one_front()
     ensures { FrontsAreOne }
+{}
+
+/// The files of a run have one verdict.
+pub fn one_verdict()
+    ensures { VerdictsAreOne }
+{}
+
+/// Nothing is left out of a report that was written without taps.
+pub fn own_report()
+    ensures { OwnReportsStay }
+{}
+
+/// What a finished run wrote is right, and has no other verdict.
+pub fn right_files()
+    ensures right { WholeRunsAreRight }
+    ensures only { WholeRunsAreOnlyRight }
 {}

@@ -1,3 +1,4 @@
+mod crash;
 mod files;
 
 use crate::{first_difference, without_taps};

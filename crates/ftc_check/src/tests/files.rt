@@ -1,10 +1,12 @@
+ghost use Rattle.std.specs.Prelude.{◌≡◌, length};
+
 use crate::{Checked, check};
-use ftc_base::{Bytes, Items, NoMemory, Refuse};
+use ftc_base::{Items, NoMemory};
 use ftc_journal::read;
 use ftc_mbox::{ChainSpec, Rule};
-use ftc_pcap::{Capture, read_capture};
+use ftc_pcap::read_capture;
 use ftc_ring::Ring;
-use ftc_script::{Script, accepted, read_script};
+use ftc_script::{accepted, read_script};
 use std::alloc::Global;
 use std::test::Fail;
 
@@ -22,8 +24,42 @@ const JOURNAL: &str = "ftc-journal 2\nenter 0\nvisit 0 0 63\npass 0 0\nrelease 0
 const REPORT: &str =
     "ftc-report 1\npackets 1\nreleased 1\nfiltered 0\nlost 0\nfate 0 released\nstore 0 1\nkey 6d0007 0000000000000001\n";
 
-/// What the check says of these files, for one server that counts packets in eight groups. None where a text
-/// is refused.
+/// The ring of a chain.
+fn ring_of(spec: &ChainSpec) -> Ring
+    ensures { result ≡ record { servers = length spec.now.rules; failures = spec.now.failures } }
+{
+    Ring::new(spec.rules().len() as u8, spec.failures()).unwrap()
+}
+
+/// What the check says of these files. None where a text is refused.
+pub fn judged(
+    alloc: Global,
+    spec: &ChainSpec,
+    capture: &[u8],
+    script: &[u8],
+    out: &[u8],
+    journal: &[u8],
+    report: &[u8],
+) -> Result<Option<Checked>, NoMemory> {
+    let ring = ring_of(spec);
+    let capture = match read_capture(alloc, capture) {
+        Ok(capture) => capture,
+        Err(_) => return Ok(None),
+    };
+    let script = match read_script(alloc, script, &ring, capture.packets.len() as u32) {
+        Ok(script) => script,
+        Err(_) => return Ok(None),
+    };
+    let journal = match read(alloc, journal) {
+        Ok(journal) => journal,
+        Err(_) => return Ok(None),
+    };
+    accepted();
+    let verdict = check(alloc, spec, &capture, &script, out, &journal, report)?;
+    Ok(Some(verdict))
+}
+
+/// What the check says of these files beside the capture, for one server that counts packets in eight groups.
 fn answer(
     alloc: Global,
     out: &[u8],
@@ -33,30 +69,15 @@ fn answer(
     let mut rules = Items::new(alloc);
     rules.push(Rule::Monitor { groups: 8 })?;
     let spec = ChainSpec::new(0, 4, rules);
-    let ring = Ring::new(1, 0).unwrap();
-    let capture = match read_capture(alloc, CAPTURE.as_slice()) {
-        Ok(capture) => capture,
-        Err(_) => return Ok(None),
-    };
-    let script = match read_script(alloc, b"", &ring, capture.packets.len() as u32) {
-        Ok(script) => script,
-        Err(_) => return Ok(None),
-    };
-    let journal = match read(alloc, journal.as_bytes()) {
-        Ok(journal) => journal,
-        Err(_) => return Ok(None),
-    };
-    accepted();
-    let verdict = check(
+    judged(
         alloc,
         &spec,
-        &capture,
-        &script,
+        CAPTURE.as_slice(),
+        b"",
         out,
-        &journal,
+        journal.as_bytes(),
         report.as_bytes(),
-    )?;
-    Ok(Some(verdict))
+    )
 }
 
 /// The same where OUT and the report are right.
