@@ -1,12 +1,13 @@
--- The names of a run are different.
-use Rattle.std.proofs.Common.{◌≡◌, ◌≢◌, ◌∙◌, sym, ap, refl, ℕ, Bool, true, false, not, ◌&&◌, ◌||◌, List, [], ◌∷◌, get_or}
+-- The names of a command are different.
+use Rattle.std.proofs.Common.{◌≡◌, ◌≢◌, ◌∙◌, sym, ap, refl, ℕ, zero, suc, Bool, true, false, not, ◌&&◌, ◌||◌, List, [], ◌∷◌, get_or, Some}
+use Rattle.std.specs.Prelude.{slice_get}
 use Rattle.std.specs.Borrow.{Bor}
 use Rattle.std.specs.List.{list_any}
 use Rattle.std.specs.Str.{bytes_eq}
 use Rattle.std.proofs.lemmas.Slice.Eq.{bytes_eq-Decides}
 use Rattle.ftc.specs.declared.words.Names.{Names}
 use Rattle.ftc.specs.Writing.{AreApart}
-use Rattle.ftc.specs.Words.{Words, is_run, is_distinct, are_names, AreNames}
+use Rattle.ftc.specs.Words.{Words, is_command, is_distinct, are_names, AreNames}
 
 both_left : (a b : Bool) → (a && b) ≡ true → a ≡ true
 both_left true b is = refl
@@ -26,42 +27,79 @@ neither : (a b : Bool) → not (a || b) ≡ true → a ≢ true
 neither true b is e = cc
 neither false b is e = cc
 
-second_neither : (a b c : Bool) → not (a || (b || c)) ≡ true → b ≢ true
-second_neither true b c is e = cc
-second_neither false true c is e = cc
-second_neither false false c is e = cc
+second_neither : (a b : Bool) → not (a || b) ≡ true → not b ≡ true
+second_neither true b is = cc
+second_neither false b is = is
 
--- the first word is not the second, and not the third
-first_differs : (w v : Bor (List ℕ)) (ws : Words) → is_distinct (w ∷ v ∷ ws) ≡ true → w.now ≢ v.now
-first_differs w v ws distinct same =
-    neither (bytes_eq w.now v.now) (list_any (λ u. bytes_eq w.now u.now) ws) (both_left _ (is_distinct (v ∷ ws)) distinct) ((bytes_eq-Decides w.now v.now).1 same)
+-- a word is not one of those behind it
+differs : (w v : Bor (List ℕ)) (ws : Words) (place : ℕ) → not (list_any (λ u. bytes_eq w.now u.now) ws) ≡ true → slice_get ws place ≡ Some v → w.now ≢ v.now
+differs w v [] place none there same = cc
+differs w v (u ∷ us) zero none there same =
+    let here : u ≡ v = cc in
+    neither (bytes_eq w.now u.now) (list_any (λ t. bytes_eq w.now t.now) us) none ((bytes_eq-Decides w.now u.now).1 (rw here same))
+differs w v (u ∷ us) (suc place) none there same =
+    differs w v us place (second_neither (bytes_eq w.now u.now) (list_any (λ t. bytes_eq w.now t.now) us) none) there same
 
-second_differs : (w v u : Bor (List ℕ)) (ws : Words) → is_distinct (w ∷ v ∷ u ∷ ws) ≡ true → w.now ≢ u.now
-second_differs w v u ws distinct same =
-    second_neither (bytes_eq w.now v.now) (bytes_eq w.now u.now) (list_any (λ t. bytes_eq w.now t.now) ws) (both_left _ (is_distinct (v ∷ u ∷ ws)) distinct) ((bytes_eq-Decides w.now u.now).1 same)
+first_differs : (w v : Bor (List ℕ)) (ws : Words) (place : ℕ) → is_distinct (w ∷ ws) ≡ true → slice_get ws place ≡ Some v → w.now ≢ v.now
+first_differs w v ws place distinct there = differs w v ws place (both_left _ (is_distinct ws) distinct) there
 
 rest_distinct : (w : Bor (List ℕ)) (ws : Words) → is_distinct (w ∷ ws) ≡ true → is_distinct ws ≡ true
 rest_distinct w ws distinct = both_right (not (list_any (λ v. bytes_eq w.now v.now) ws)) (is_distinct ws) distinct
 
-names_distinct : (w : Bor (List ℕ)) (ws : Words) → is_run (w ∷ ws) ≡ true → is_distinct ws ≡ true
-names_distinct w ws run = third _ (are_names ws) (is_distinct ws) _ run
+names_distinct : (command : List ℕ) (w : Bor (List ℕ)) (ws : Words) → is_command command (w ∷ ws) ≡ true → is_distinct ws ≡ true
+names_distinct command w ws is = third _ (are_names ws) (is_distinct ws) _ is
 
--- the names that a run writes to are different
-pub names_apart : (words : Words) (names : Names) → is_run words ≡ true → AreNames words names → AreApart names
-names_apart [] names run are = cc
-names_apart (w ∷ []) names run are = cc
-names_apart (w ∷ a ∷ []) names run are = cc
-names_apart (w ∷ a ∷ b ∷ []) names run are = cc
-names_apart (w ∷ a ∷ b ∷ c ∷ []) names run are = cc
-names_apart (w ∷ a ∷ b ∷ c ∷ d ∷ []) names run are = cc
-names_apart (w ∷ a ∷ b ∷ c ∷ d ∷ e ∷ []) names run are = cc
-names_apart (w ∷ a ∷ b ∷ c ∷ d ∷ e ∷ f ∷ ws) names run are =
+-- the name is none of those of the files that a run writes
+pub record IsUnwritten (names : Names) (name : List ℕ) : Type 0 where
+  pub out : name ≢ names.out.now
+  pub journal : name ≢ names.journal.now
+  pub report : name ≢ names.report.now
+
+pub record AreDifferent (names : Names) : Type 0 where
+  pub chain : IsUnwritten names names.chain.now
+  pub script : IsUnwritten names names.script.now
+  pub capture : IsUnwritten names names.capture.now
+  pub written : AreApart names
+
+pub names_differ : (command : List ℕ) (words : Words) (names : Names) → is_command command words ≡ true → AreNames command words names → AreDifferent names
+names_differ command [] names is are = cc
+names_differ command (w ∷ []) names is are = cc
+names_differ command (w ∷ a ∷ []) names is are = cc
+names_differ command (w ∷ a ∷ b ∷ []) names is are = cc
+names_differ command (w ∷ a ∷ b ∷ c ∷ []) names is are = cc
+names_differ command (w ∷ a ∷ b ∷ c ∷ d ∷ []) names is are = cc
+names_differ command (w ∷ a ∷ b ∷ c ∷ d ∷ e ∷ []) names is are = cc
+names_differ command (w ∷ a ∷ b ∷ c ∷ d ∷ e ∷ f ∷ ws) names is are =
+    let chain : a.now ≡ names.chain.now = ap (λ (texts : List (List ℕ)). get_or texts 1 []) are in
+    let script : b.now ≡ names.script.now = ap (λ (texts : List (List ℕ)). get_or texts 2 []) are in
+    let capture : c.now ≡ names.capture.now = ap (λ (texts : List (List ℕ)). get_or texts 3 []) are in
     let out : d.now ≡ names.out.now = ap (λ (texts : List (List ℕ)). get_or texts 4 []) are in
     let journal : e.now ≡ names.journal.now = ap (λ (texts : List (List ℕ)). get_or texts 5 []) are in
     let report : f.now ≡ names.report.now = ap (λ (texts : List (List ℕ)). get_or texts 6 []) are in
-    let files : is_distinct (d ∷ e ∷ f ∷ ws) ≡ true = rest_distinct c (d ∷ e ∷ f ∷ ws) (rest_distinct b (c ∷ d ∷ e ∷ f ∷ ws) (rest_distinct a (b ∷ c ∷ d ∷ e ∷ f ∷ ws) (names_distinct w (a ∷ b ∷ c ∷ d ∷ e ∷ f ∷ ws) run))) in
+    let from_chain = names_distinct command w (a ∷ b ∷ c ∷ d ∷ e ∷ f ∷ ws) is in
+    let from_script = rest_distinct a (b ∷ c ∷ d ∷ e ∷ f ∷ ws) from_chain in
+    let from_capture = rest_distinct b (c ∷ d ∷ e ∷ f ∷ ws) from_script in
+    let from_out = rest_distinct c (d ∷ e ∷ f ∷ ws) from_capture in
+    let from_journal = rest_distinct d (e ∷ f ∷ ws) from_out in
     record {
-      out_journal = λ same. first_differs d e (f ∷ ws) files (out ∙ same ∙ sym journal);
-      out_report = λ same. second_differs d e f ws files (out ∙ same ∙ sym report);
-      journal_report = λ same. first_differs e f ws (rest_distinct d (e ∷ f ∷ ws) files) (journal ∙ same ∙ sym report);
+      chain = record {
+        out = λ same. first_differs a d (b ∷ c ∷ d ∷ e ∷ f ∷ ws) 2 from_chain refl (chain ∙ same ∙ sym out);
+        journal = λ same. first_differs a e (b ∷ c ∷ d ∷ e ∷ f ∷ ws) 3 from_chain refl (chain ∙ same ∙ sym journal);
+        report = λ same. first_differs a f (b ∷ c ∷ d ∷ e ∷ f ∷ ws) 4 from_chain refl (chain ∙ same ∙ sym report);
+      };
+      script = record {
+        out = λ same. first_differs b d (c ∷ d ∷ e ∷ f ∷ ws) 1 from_script refl (script ∙ same ∙ sym out);
+        journal = λ same. first_differs b e (c ∷ d ∷ e ∷ f ∷ ws) 2 from_script refl (script ∙ same ∙ sym journal);
+        report = λ same. first_differs b f (c ∷ d ∷ e ∷ f ∷ ws) 3 from_script refl (script ∙ same ∙ sym report);
+      };
+      capture = record {
+        out = λ same. first_differs c d (d ∷ e ∷ f ∷ ws) 0 from_capture refl (capture ∙ same ∙ sym out);
+        journal = λ same. first_differs c e (d ∷ e ∷ f ∷ ws) 1 from_capture refl (capture ∙ same ∙ sym journal);
+        report = λ same. first_differs c f (d ∷ e ∷ f ∷ ws) 2 from_capture refl (capture ∙ same ∙ sym report);
+      };
+      written = record {
+        out_journal = λ same. first_differs d e (e ∷ f ∷ ws) 0 from_out refl (out ∙ same ∙ sym journal);
+        out_report = λ same. first_differs d f (e ∷ f ∷ ws) 1 from_out refl (out ∙ same ∙ sym report);
+        journal_report = λ same. first_differs e f (f ∷ ws) 0 from_journal refl (journal ∙ same ∙ sym report);
+      };
     }

@@ -8,6 +8,7 @@ pub mod WordLemmas
 pub mod OutLemmas
 pub mod DistinctLemmas
 pub mod EndLemmas
-pub mod Accepted
+pub mod EventBounds
+pub mod Agreeing
 pub mod Plain
 pub mod Reported

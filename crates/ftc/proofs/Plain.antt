@@ -4,10 +4,10 @@ use Rattle.ftc_mbox.specs.Chain.{Chain, IsChain}
 use Rattle.ftc_serial.specs.declared.position.Position.{Position}
 use Rattle.ftc_serial.specs.declared.position.Position.TheVariants as position
 use Rattle.ftc_serial.specs.Drive.{IsSettled}
-use Rattle.ftc_machine.specs.declared.fate.Fate.{Fate}
-use Rattle.ftc_machine.specs.declared.fate.Fate.TheVariants as became
-use Rattle.ftc_machine.specs.Setting.{IsSetting}
-use Rattle.ftc_machine.specs.Quiet.{IsQuiet}
+use Rattle.ftc_protocol.specs.declared.fate.Fate.{Fate}
+use Rattle.ftc_protocol.specs.declared.fate.Fate.TheVariants as became
+use Rattle.ftc_protocol.specs.Setting.{IsSetting}
+use Rattle.ftc_protocol.specs.Quiet.{IsQuiet}
 use Rattle.ftc.specs.Fate.{fate_at}
 use Rattle.ftc.specs.Plain.{plain_setting}
 

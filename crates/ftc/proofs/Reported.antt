@@ -9,7 +9,7 @@ use Rattle.ftc_serial.specs.declared.position.Place.{Place}
 use Rattle.ftc_serial.specs.Place.{place_of}
 use Rattle.ftc_serial.specs.Drive.{IsSettled, IsDriven}
 use Rattle.ftc_serial.specs.Serial.{State}
-use Rattle.ftc_machine.specs.declared.fate.Fate.{Fate}
+use Rattle.ftc_protocol.specs.declared.fate.Fate.{Fate}
 use Rattle.ftc_report.specs.Text.{report_text}
 use Rattle.ftc_report.specs.Contents.{contents}
 use Rattle.ftc_report.specs.Report.{report_of}

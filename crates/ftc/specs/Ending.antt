@@ -1,5 +1,5 @@
 -- How a run ends: its status, and what the files hold then, on a desk that tells its files.
-use Rattle.std.specs.Prelude.{◌≡◌, ◌≢◌, ◌⊎◌, ℕ, List, [], length, Some, Ok, Err}
+use Rattle.std.specs.Prelude.{◌≡◌, ◌≢◌, ◌⊎◌, ℕ, List, [], length, Some, Ok, Err, codes}
 use Rattle.ftc_outside.specs.Desk.{Files, SameFiles}
 use Rattle.ftc_pcap.specs.Grammar.{Spells, IsFault}
 use Rattle.ftc_pcap.specs.declared.capture.Capture.{Capture}
@@ -7,7 +7,7 @@ use Rattle.ftc_pcap.specs.declared.capture.CaptureCause.{CaptureCause}
 use Rattle.ftc_journal.specs.declared.event.Event.{Event}
 use Rattle.ftc_journal.specs.Text.{spelling}
 use Rattle.ftc_mbox.specs.Chain.{Chain}
-use Rattle.ftc_conf.specs.Grammar.{chain_of}
+use Rattle.ftc_conf.specs.Grammar.{chain_within}
 use Rattle.ftc_conf.specs.declared.fault.ChainCause.{ChainCause}
 use Rattle.ftc_serial.specs.Serial.{State}
 use Rattle.ftc_serial.specs.Packets.{bytes_of}
@@ -17,39 +17,41 @@ use Rattle.ftc_report.specs.Report.{report_of}
 use Rattle.ftc.specs.declared.words.Names.{Names}
 use Rattle.ftc.specs.declared.status.Status.{Status}
 use Rattle.ftc.specs.declared.status.Status.TheVariants as status
-use Rattle.ftc.specs.declared.status.ScriptCause.{ScriptCause}
-use Rattle.ftc.specs.declared.status.ScriptCause.TheVariants as script
+use Rattle.ftc_script.specs.declared.fault.ScriptCause.{ScriptCause}
+use Rattle.ftc_script.specs.declared.fault.ScriptCause.TheVariants as script
+use Rattle.ftc.specs.declared.limits.TheConstants.{MOST_RUN_FAILURES}
 use Rattle.ftc.specs.Words.{Words, AreNames}
 use Rattle.ftc.specs.Running.{ReleasedVisited}
 use Rattle.ftc.specs.Plain.{plain_setting, IsWholeRun}
 use Rattle.ftc.specs.Output.{MayHold}
 
--- The files spell this chain, and then this capture; and then the script is empty.
-pub record HasChain (names : Names) (files : Files) (chain : Chain) : Type 0 where
+-- The files spell this chain, of whose servers at most so many may be down at once, and this capture.
+pub record HasChain (most : ℕ) (names : Names) (files : Files) (chain : Chain) : Type 0 where
   pub text : List ℕ
   pub file : files names.chain.now ≡ Some text
-  pub right : chain_of text ≡ Ok chain
+  pub right : chain_within most text ≡ Ok chain
 
 pub record HasCapture (names : Names) (files : Files) (capture : Capture) : Type 0 where
   pub text : List ℕ
   pub file : files names.capture.now ≡ Some text
   pub right : Spells text capture
 
+-- What a run is given: as yet a chain whose servers may not be down, and an empty script.
 pub record AreTexts (names : Names) (files : Files) (chain : Chain) (capture : Capture) : Type 0 where
-  pub chain_right : HasChain names files chain
+  pub chain_right : HasChain MOST_RUN_FAILURES names files chain
   pub capture_right : HasCapture names files capture
   pub script_empty : files names.script.now ≡ Some []
 
 -- The chain's text has this first fault.
-pub record IsChainFault (names : Names) (files : Files) (line : ℕ) (cause : ChainCause) : Type 0 where
+pub record IsChainFault (most : ℕ) (names : Names) (files : Files) (line : ℕ) (cause : ChainCause) : Type 0 where
   pub text : List ℕ
   pub file : files names.chain.now ≡ Some text
-  pub wrong : chain_of text ≡ Err (record { line = line; cause = cause })
+  pub wrong : chain_within most text ≡ Err (record { line = line; cause = cause })
 
 -- The chain is right, and the capture's text has this first fault.
-pub record IsCaptureFault (names : Names) (files : Files) (at : ℕ) (cause : CaptureCause) : Type 0 where
+pub record IsCaptureFault (most : ℕ) (names : Names) (files : Files) (at : ℕ) (cause : CaptureCause) : Type 0 where
   pub chain : Chain
-  pub chain_right : HasChain names files chain
+  pub chain_right : HasChain most names files chain
   pub text : List ℕ
   pub file : files names.capture.now ≡ Some text
   pub wrong : IsFault text (record { at = at; cause = cause })
@@ -57,7 +59,7 @@ pub record IsCaptureFault (names : Names) (files : Files) (at : ℕ) (cause : Ca
 -- The chain and the capture are right, and the script isn't empty. As yet every script that says something is refused.
 pub record IsScriptFault (names : Names) (files : Files) (line : ℕ) (cause : ScriptCause) : Type 0 where
   pub chain : Chain
-  pub chain_right : HasChain names files chain
+  pub chain_right : HasChain MOST_RUN_FAILURES names files chain
   pub capture : Capture
   pub capture_right : HasCapture names files capture
   pub text : List ℕ
@@ -110,12 +112,14 @@ pub record IsCutShort (names : Names) (old new : Files) : Type 0 where
 abbrev pub Ends : Names → Files → Files → Status → Type 0
 Ends names old new status.Done = IsDone names old new
 Ends names old new status.Usage = ⊥
-Ends names old new (status.Chain line cause) = IsChainFault names old line cause × SameFiles old new
-Ends names old new (status.Capture at cause) = IsCaptureFault names old at cause × SameFiles old new
+Ends names old new (status.Chain line cause) = IsChainFault MOST_RUN_FAILURES names old line cause × SameFiles old new
+Ends names old new (status.Capture at cause) = IsCaptureFault MOST_RUN_FAILURES names old at cause × SameFiles old new
 Ends names old new (status.Script line cause) = IsScriptFault names old line cause × SameFiles old new
+Ends names old new (status.Journal line cause) = ⊥
+Ends names old new (status.Check verdict) = ⊥
 Ends names old new status.DeskFault = SameFiles old new ⊎ IsCutShort names old new
 Ends names old new status.NoMemory = SameFiles old new ⊎ IsCutShort names old new
 
 -- How a run with these words ends.
 abbrev pub HasEnded : Words → Files → Files → Status → Type 0
-HasEnded words old new ending = (names : Names) × AreNames words names × Ends names old new ending
+HasEnded words old new ending = (names : Names) × AreNames (codes "run") words names × Ends names old new ending

@@ -5,8 +5,8 @@ use Rattle.ftc_serial.specs.declared.position.Position.{Position}
 use Rattle.ftc_serial.specs.declared.position.Place.{Place}
 use Rattle.ftc_serial.specs.declared.position.Place.TheVariants as place
 use Rattle.ftc_serial.specs.Place.{place_of}
-use Rattle.ftc_machine.specs.declared.fate.Fate.{Fate}
-use Rattle.ftc_machine.specs.declared.fate.Fate.TheVariants as became
+use Rattle.ftc_protocol.specs.declared.fate.Fate.{Fate}
+use Rattle.ftc_protocol.specs.declared.fate.Fate.TheVariants as became
 
 abbrev pub fate_of : Place → Fate
 fate_of (place.Waiting server) = became.Inside

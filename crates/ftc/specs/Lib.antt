@@ -5,5 +5,6 @@ pub mod Output
 pub mod Plain
 pub mod Fate
 pub mod Ending
+pub mod Checking
 pub mod Texts
 pub mod Writing

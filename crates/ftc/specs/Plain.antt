@@ -3,10 +3,10 @@ use Rattle.std.specs.Prelude.{ℕ, List, [], length}
 use Rattle.ftc_journal.specs.declared.event.Event.{Event}
 use Rattle.ftc_mbox.specs.Chain.{Chain}
 use Rattle.ftc_script.specs.Script.{ScriptShape}
-use Rattle.ftc_machine.specs.Setting.{Setting, setting_of}
-use Rattle.ftc_machine.specs.State.{ChainState, opening}
-use Rattle.ftc_machine.specs.Run.{IsRun, IsFinished, state_after}
-use Rattle.ftc_machine.specs.Quiet.{AreDone}
+use Rattle.ftc_protocol.specs.Setting.{Setting, setting_of}
+use Rattle.ftc_protocol.specs.State.{ChainState, opening}
+use Rattle.ftc_protocol.specs.Run.{IsRun, IsFinished, state_after}
+use Rattle.ftc_protocol.specs.Quiet.{AreDone}
 
 -- the empty script, for the servers of a chain and for these packets
 abbrev pub empty_script : Chain → List (List ℕ) → ScriptShape

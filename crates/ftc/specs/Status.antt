@@ -10,8 +10,13 @@ use Rattle.ftc_conf.specs.declared.fault.ChainFault.{ChainFault}
 use Rattle.ftc_pcap.specs.declared.capture.CaptureCause.{CaptureCause}
 use Rattle.ftc_pcap.specs.declared.capture.CaptureCause.TheVariants as capture
 use Rattle.ftc_pcap.specs.declared.capture.CaptureFault.{CaptureFault}
-use Rattle.ftc.specs.declared.status.ScriptCause.{ScriptCause}
-use Rattle.ftc.specs.declared.status.ScriptCause.TheVariants as script
+use Rattle.ftc_script.specs.declared.fault.ScriptFault.{ScriptFault}
+use Rattle.ftc_script.specs.Codes as script
+use Rattle.ftc_journal.specs.declared.fault.JournalCause.{JournalCause}
+use Rattle.ftc_journal.specs.declared.fault.JournalCause.TheVariants as journal
+use Rattle.ftc_journal.specs.declared.fault.JournalFault.{JournalFault}
+use Rattle.ftc_check.specs.declared.verdict.Checked.{Checked}
+use Rattle.ftc_check.specs.declared.verdict.Checked.TheVariants as checked
 use Rattle.ftc.specs.declared.status.Status.{Status}
 use Rattle.ftc.specs.declared.status.Status.TheVariants as status
 
@@ -40,8 +45,11 @@ capture_number capture.Cut = 5
 capture_number capture.TooMany = 6
 capture_number capture.TooBig = 7
 
-abbrev pub script_number : ScriptCause → ℕ
-script_number script.Word = 1
+abbrev pub journal_number : JournalCause → ℕ
+journal_number journal.Header = 1
+journal_number journal.Word = 2
+journal_number journal.Range = 3
+journal_number journal.Cut = 4
 
 -- the exit code
 abbrev pub code_of : Status → ℕ
@@ -50,12 +58,22 @@ code_of status.Usage = 2
 code_of (status.Chain line cause) = 3
 code_of (status.Capture at cause) = 3
 code_of (status.Script line cause) = 3
+code_of (status.Journal line cause) = 3
 code_of status.DeskFault = 4
 code_of status.NoMemory = 5
+code_of (status.Check verdict) = 6
 
 -- the line of a fault at a place of that kind
 abbrev pub fault_line : List ℕ → ℕ → ℕ → List ℕ
 fault_line kind place number = kind ++ codes " " ++ decimal place ++ codes ": cause " ++ decimal number
+
+-- the line of what a check says; Yes has none
+abbrev pub verdict_line : Checked → List ℕ
+verdict_line checked.Yes = []
+verdict_line (checked.NotRun event) = codes "check: event " ++ decimal event
+verdict_line checked.Unfinished = codes "check: unfinished"
+verdict_line (checked.OutDiffers at) = codes "check: out byte " ++ decimal at
+verdict_line (checked.ReportDiffers at) = codes "check: report byte " ++ decimal at
 
 -- the line on standard error, without a line feed
 abbrev pub line_of : Status → List ℕ
@@ -63,11 +81,13 @@ line_of status.Done = []
 line_of status.Usage = codes "usage: ftc run CHAIN SCRIPT CAPTURE OUT JOURNAL REPORT [--workers N | --alone SCHEDULE]"
 line_of (status.Chain line cause) = fault_line (codes "chain: line") line (chain_number cause)
 line_of (status.Capture at cause) = fault_line (codes "capture: byte") at (capture_number cause)
-line_of (status.Script line cause) = fault_line (codes "script: line") line (script_number cause)
+line_of (status.Script line cause) = fault_line (codes "script: line") line (script.code_of cause)
+line_of (status.Journal line cause) = fault_line (codes "journal: line") line (journal_number cause)
+line_of (status.Check verdict) = verdict_line verdict
 line_of status.DeskFault = codes "desk: failed"
 line_of status.NoMemory = codes "memory: refused"
 
--- how a run ends whose desk, chain or capture was refused
+-- how a command ends whose desk or text was refused
 abbrev pub desk_status : DeskError → Status
 desk_status desk.Failed = status.DeskFault
 desk_status desk.NoMemory = status.NoMemory
@@ -79,3 +99,11 @@ chain_status refuse.NoMemory = status.NoMemory
 abbrev pub capture_status : Refuse CaptureFault → Status
 capture_status (refuse.Bad fault) = status.Capture fault.at fault.cause
 capture_status refuse.NoMemory = status.NoMemory
+
+abbrev pub script_status : Refuse ScriptFault → Status
+script_status (refuse.Bad fault) = status.Script fault.line fault.cause
+script_status refuse.NoMemory = status.NoMemory
+
+abbrev pub journal_status : Refuse JournalFault → Status
+journal_status (refuse.Bad fault) = status.Journal fault.line fault.cause
+journal_status refuse.NoMemory = status.NoMemory

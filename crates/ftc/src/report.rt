@@ -13,10 +13,10 @@ ghost use Rattle.ftc.specs.Plain.{plain_setting, IsWholeRun};
 use crate::drive::Driven;
 use crate::protocol::drives_are_runs;
 use ftc_base::{Bytes, Lines, NoMemory, PacketNo};
-use ftc_machine::Fate;
+use ftc_machine::{Fate, Fates};
 use ftc_mbox::ChainSpec;
 use ftc_pcap::Packets;
-use ftc_report::{Fates, print};
+use ftc_report::print;
 use ftc_serial::{Place, Serial};
 use std::alloc::Global;
 

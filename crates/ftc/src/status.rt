@@ -1,23 +1,19 @@
-//! How a run ended.
+//! How a command ended.
 
 ghost use Rattle.std.specs.Prelude.{◌≡◌, IfOk, string_bytes};
 ghost use Rattle.ftc.specs.declared.status.Status.TheVariants as status;
-ghost use Rattle.ftc.specs.Status.{chain_number, capture_number, script_number, code_of, fault_line, line_of, desk_status, chain_status, capture_status};
+ghost use Rattle.ftc.specs.Status.{chain_number, capture_number, journal_number, code_of, fault_line, verdict_line, line_of, desk_status, chain_status, capture_status, script_status, journal_status};
 
 use ftc_base::{Bytes, NoMemory, Refuse};
+use ftc_check::Checked;
 use ftc_conf::{ChainCause, ChainFault};
+use ftc_journal::{JournalCause, JournalFault};
 use ftc_outside::DeskError;
 use ftc_pcap::{CaptureCause, CaptureFault};
+use ftc_script::{ScriptCause, ScriptFault};
 use std::alloc::{AllocError, Global};
 
-/// What is wrong with a script.
-#[derive(Clone, Copy, Debug, PartialEq, Eq)]
-pub enum ScriptCause {
-    /// A word that no script line begins with.
-    Word = 1,
-}
-
-/// How a run ended.
+/// How a command ended.
 #[derive(Clone, Copy, Debug, PartialEq, Eq)]
 pub enum Status {
     Done,
@@ -25,6 +21,9 @@ pub enum Status {
     Chain { line: u64, cause: ChainCause },
     Capture { at: u64, cause: CaptureCause },
     Script { line: u32, cause: ScriptCause },
+    Journal { line: u64, cause: JournalCause },
+    /// What a check says, other than Yes: a check that says Yes is done.
+    Check { verdict: Checked },
     DeskFault,
     NoMemory,
 }
@@ -41,8 +40,8 @@ fn capture_number(cause: CaptureCause) -> u8
     cause as u8
 }
 
-fn script_number(cause: ScriptCause) -> u8
-    ensures { result ≡ script_number cause }
+fn journal_number(cause: JournalCause) -> u8
+    ensures { result ≡ journal_number cause }
 {
     cause as u8
 }
@@ -52,6 +51,19 @@ fn fault_words(alloc: Global, kind: &str, place: u64, cause: u8) -> Result<Strin
     ensures { IfOk result (λ text. string_bytes text ≡ fault_line kind.now place cause) }
 {
     format!(in alloc; "{kind} {place}: cause {cause}")
+}
+
+/// The line of what a check says.
+fn verdict_words(alloc: Global, verdict: Checked) -> Result<String, AllocError>
+    ensures { IfOk result (λ text. string_bytes text ≡ verdict_line verdict) }
+{
+    match verdict {
+        Checked::Yes => Ok(String::new(alloc)),
+        Checked::NotRun { event } => format!(in alloc; "check: event {event}"),
+        Checked::Unfinished => format!(in alloc; "check: unfinished"),
+        Checked::OutDiffers { at } => format!(in alloc; "check: out byte {at}"),
+        Checked::ReportDiffers { at } => format!(in alloc; "check: report byte {at}"),
+    }
 }
 
 /// The line of a status.
@@ -70,8 +82,12 @@ fn words(alloc: Global, status: Status) -> Result<String, AllocError>
             fault_words(alloc, "capture: byte", at, capture_number(cause))
         }
         Status::Script { line, cause } => {
-            fault_words(alloc, "script: line", u64::from(line), script_number(cause))
+            fault_words(alloc, "script: line", u64::from(line), cause.code())
         }
+        Status::Journal { line, cause } => {
+            fault_words(alloc, "journal: line", line, journal_number(cause))
+        }
+        Status::Check { verdict } => verdict_words(alloc, verdict),
         Status::DeskFault => format!(in alloc; "desk: failed"),
         Status::NoMemory => format!(in alloc; "memory: refused"),
     }
@@ -85,14 +101,18 @@ impl Status {
         match self {
             Status::Done => 0,
             Status::Usage => 2,
-            Status::Chain { .. } | Status::Capture { .. } | Status::Script { .. } => 3,
+            Status::Chain { .. }
+            | Status::Capture { .. }
+            | Status::Script { .. }
+            | Status::Journal { .. } => 3,
             Status::DeskFault => 4,
             Status::NoMemory => 5,
+            Status::Check { .. } => 6,
         }
     }
 
     /// The line that the program says on standard error, without a line feed. It is empty where the
-    /// run is done.
+    /// command is done.
     pub fn line(&self, alloc: Global) -> Result<Bytes, NoMemory>
         ensures { IfOk result (λ line. line ≡ line_of self.now) }
     {
@@ -139,6 +159,28 @@ impl From<Refuse<CaptureFault>> for Status {
     fn from(refusal: Refuse<CaptureFault>) -> Status {
         match refusal {
             Refuse::Bad(CaptureFault { at, cause }) => Status::Capture { at, cause },
+            Refuse::NoMemory => Status::NoMemory,
+        }
+    }
+}
+
+impl From<Refuse<ScriptFault>> for Status {
+    ghost from_gives = { λ refusal ending. ending ≡ script_status refusal };
+
+    fn from(refusal: Refuse<ScriptFault>) -> Status {
+        match refusal {
+            Refuse::Bad(ScriptFault { line, cause }) => Status::Script { line, cause },
+            Refuse::NoMemory => Status::NoMemory,
+        }
+    }
+}
+
+impl From<Refuse<JournalFault>> for Status {
+    ghost from_gives = { λ refusal ending. ending ≡ journal_status refusal };
+
+    fn from(refusal: Refuse<JournalFault>) -> Status {
+        match refusal {
+            Refuse::Bad(JournalFault { line, cause }) => Status::Journal { line, cause },
             Refuse::NoMemory => Status::NoMemory,
         }
     }

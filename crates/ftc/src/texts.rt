@@ -2,15 +2,18 @@
 
 ghost use Rattle.std.specs.Prelude.{◌≡◌, ◌≢◌, ◌≤◌, [], Some, Err, IfOk, IfErr, OnOk};
 ghost use Rattle.ftc_outside.specs.Desk.{SameFiles, Rose};
+ghost use Rattle.ftc.specs.declared.limits.TheConstants.{MOST_RUN_FAILURES};
 ghost use Rattle.ftc.specs.Ending.{HasChain, HasCapture, AreTexts};
 ghost use Rattle.ftc.specs.Texts.{IsChainRefused, IsCaptureRefused, IsScriptRefused, AreRefused};
 
-use crate::status::{ScriptCause, Status};
+use crate::limits::MOST_RUN_FAILURES;
+use crate::status::Status;
 use crate::words::Names;
-use ftc_conf::read_chain;
+use ftc_conf::{bounded, read_chain_within};
 use ftc_mbox::ChainSpec;
 use ftc_outside::Desk;
 use ftc_pcap::{Capture, read_capture};
+use ftc_script::ScriptCause;
 use std::alloc::Global;
 
 /// What the texts of a run say.
@@ -20,24 +23,34 @@ pub struct Texts {
     pub capture: Capture,
 }
 
-/// Fetches and reads the chain. As yet every chain that may have servers down is refused.
-fn fetch_chain<D: Desk>(alloc: Global, names: Names<'_>, desk: &mut D) -> Result<ChainSpec, Status>
-    ensures accepted { D.tells desk.old → IfOk result (HasChain names.entry (D.file desk.old)) }
-    ensures plain { IfOk result (λ spec. spec.failures ≡ 0) }
-    ensures refused { D.tells desk.old → IfErr result (IsChainRefused names.entry (D.file desk.old)) }
+/// Fetches and reads the chain. It is refused where more servers than so many may be down at once.
+pub fn fetch_chain<D: Desk>(
+    alloc: Global,
+    names: Names<'_>,
+    most: u8,
+    desk: &mut D,
+) -> Result<ChainSpec, Status>
+    ensures accepted { D.tells desk.old → IfOk result (HasChain most names.entry (D.file desk.old)) }
+    ensures within { IfOk result (λ spec. spec.failures ≤ most) }
+    ensures refused { D.tells desk.old → IfErr result (IsChainRefused most names.entry (D.file desk.old)) }
     ensures known { IfErr result (λ ending. ending ≢ Status.Usage) }
     ensures files { D.tells desk.old → SameFiles (D.file desk.old) (D.file desk.new) }
     ensures tells { D.tells desk.old → D.tells desk.new }
     ensures count { D.faults desk.old ≤ D.faults desk.new }
     ensures cause { result ≡ Err Status.DeskFault → Rose (D.faults desk.old) (D.faults desk.new) }
 {
+    bounded();
     let text = desk.fetch(alloc, names.chain)?;
-    let spec = read_chain(alloc, text.as_slice())?;
+    let spec = read_chain_within(alloc, text.as_slice(), most)?;
     Ok(spec)
 }
 
 /// Fetches and reads the capture.
-fn fetch_capture<D: Desk>(alloc: Global, names: Names<'_>, desk: &mut D) -> Result<Capture, Status>
+pub fn fetch_capture<D: Desk>(
+    alloc: Global,
+    names: Names<'_>,
+    desk: &mut D,
+) -> Result<Capture, Status>
     ensures accepted { D.tells desk.old → IfOk result (HasCapture names.entry (D.file desk.old)) }
     ensures refused { D.tells desk.old → IfErr result (IsCaptureRefused names.entry (D.file desk.old)) }
     ensures known { IfErr result (λ ending. ending ≢ Status.Usage) }
@@ -80,7 +93,7 @@ pub fn read_texts<D: Desk>(alloc: Global, names: Names<'_>, desk: &mut D) -> Res
     ensures count { D.faults desk.old ≤ D.faults desk.new }
     ensures cause { result ≡ Err Status.DeskFault → Rose (D.faults desk.old) (D.faults desk.new) }
 {
-    let spec = fetch_chain(alloc, names, desk)?;
+    let spec = fetch_chain(alloc, names, MOST_RUN_FAILURES, desk)?;
     let capture = fetch_capture(alloc, names, desk)?;
     fetch_script(alloc, names, desk)?;
     Ok(Texts { spec, capture })

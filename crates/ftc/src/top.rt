@@ -1,15 +1,18 @@
-//! A whole run, from words to files.
+//! A command, from its words to the files that it leaves.
 
-ghost use Rattle.std.specs.Prelude.{◌≡◌, ◌≢◌, ◌≤◌, ◌↔◌, false, true, OnOk, OnErr, IsErrOf};
+ghost use Rattle.std.specs.Prelude.{◌≡◌, ◌≢◌, ◌≤◌, ◌↔◌, ◌||◌, false, true, OnOk, OnErr, IsErrOf};
 ghost use Rattle.ftc_journal.specs.Text.{spelling};
 ghost use Rattle.ftc_outside.specs.Desk.{SameFiles, Rose};
 ghost use Rattle.ftc_serial.specs.Held.{state_of};
 ghost use Rattle.ftc_report.specs.Output.{out_bytes, AreWritable};
-ghost use Rattle.ftc.specs.Words.{is_run};
+ghost use Rattle.ftc.specs.Words.{is_run, is_check};
 ghost use Rattle.ftc.specs.Writing.{AreApart, AreWritten, AreCutShort};
 ghost use Rattle.ftc.specs.Ending.{Ends, HasEnded};
+ghost use Rattle.ftc.specs.Checking.{HasJudged, WasLeft, IsYes};
 
+use crate::agreement::runs_are_right;
 use crate::drive::{Driven, drive};
+use crate::judge::judge;
 use crate::output::{write_journal, write_out, write_text};
 use crate::report::report_of;
 use crate::status::Status;
@@ -67,22 +70,31 @@ fn run_names<D: Desk>(alloc: Global, names: Names<'_>, desk: &mut D) -> Status
     }
 }
 
-/// Runs the command of the words: `run CHAIN SCRIPT CAPTURE OUT JOURNAL REPORT`, with six different
-/// names of files.
+/// Runs the command of the words: `run` or `check`, and six different names of files, CHAIN SCRIPT CAPTURE OUT
+/// JOURNAL REPORT. `run` writes the last three. `check` says whether they are those of one run, whoever made
+/// them.
 pub fn run<R: AllocGlobal, D: Desk>(rt: &R, words: &[&str], desk: &mut D) -> Status
     // The words are no command, exactly.
-    ensures usage { result ≡ Status.Usage ↔ (is_run words.now ≡ false) }
-    ensures untouched { result ≡ Status.Usage → D.tells desk.old → SameFiles (D.file desk.old) (D.file desk.new) }
+    ensures usage { result ≡ Status.Usage ↔ ((is_run words.now || is_check words.now) ≡ false) }
+    ensures untouched { is_run words.now ≡ false → D.tells desk.old → SameFiles (D.file desk.old) (D.file desk.new) }
 
-    // What the files hold at each end, where the desk tells them.
+    // What the files hold at each end of a run, where the desk tells them.
     ensures ends { D.tells desk.old → is_run words.now ≡ true → HasEnded words.now (D.file desk.old) (D.file desk.new) result }
+
+    // What a check says of them. To what a run left that was done it says nothing but Yes.
+    ensures judges { D.tells desk.old → is_check words.now ≡ true → HasJudged words.now (D.file desk.old) result }
+    ensures agrees { D.tells desk.old → is_check words.now ≡ true → WasLeft words.now (D.file desk.old) → IsYes result }
 
     // A fault is the desk's.
     ensures count { D.faults desk.old ≤ D.faults desk.new }
     ensures cause { result ≡ Status.DeskFault → Rose (D.faults desk.old) (D.faults desk.new) }
 {
-    match names_of(words) {
-        Some(names) => run_names(rt.alloc(), names, desk),
+    if let Some(names) = names_of("run", words) {
+        return run_names(rt.alloc(), names, desk);
+    }
+    runs_are_right();
+    match names_of("check", words) {
+        Some(names) => judge(rt.alloc(), names, desk),
         None => Status::Usage,
     }
 }

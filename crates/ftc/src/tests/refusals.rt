@@ -1,12 +1,13 @@
 //! Runs that are refused, or whose desk fails.
 
-use crate::status::{ScriptCause, Status};
+use crate::status::Status;
 use crate::tests::frames::DATAGRAM;
 use crate::tests::{HEADER, MONITOR, WORDS, capture_of, desk_of};
 use crate::top::run;
 use ftc_conf::ChainCause;
 use ftc_outside::{FailingDesk, MemoryDesk};
 use ftc_pcap::CaptureCause;
+use ftc_script::ScriptCause;
 use std::process::Abort;
 use std::test::Fail;
 
@@ -66,13 +67,15 @@ fn a_script_that_says_something(rt: HostRuntime) -> Result<(), Fail> {
 }
 
 #[test]
-fn words_that_are_no_run(rt: HostRuntime) -> Result<(), Fail> {
-    let cases: [&[&str]; 6] = [
+fn words_that_are_no_command(rt: HostRuntime) -> Result<(), Fail> {
+    let cases: [&[&str]; 8] = [
         &["run", "a", "b", "c", "d", "e", "e"],
         &["run", "a", "b", "c", "d", "e", "-"],
         &["run", "a", "b", "c", "d", "e", "f", "g"],
         &["run", "a", "b", "c", "d", "e", ""],
         &["Run", "a", "b", "c", "d", "e", "f"],
+        &["check", "a", "b", "c", "d", "e", "e"],
+        &["check", "a", "b", "c", "d", "e"],
         &[],
     ];
     for words in cases {

@@ -1,8 +1,11 @@
 //! What is said of each status.
 
-use crate::status::{ScriptCause, Status};
+use crate::status::Status;
+use ftc_check::Checked;
 use ftc_conf::ChainCause;
+use ftc_journal::JournalCause;
 use ftc_pcap::CaptureCause;
+use ftc_script::ScriptCause;
 use std::test::Fail;
 
 #[test]
@@ -10,7 +13,7 @@ fn codes_and_lines(rt: HostRuntime) -> Result<(), Fail> {
     let chain = ChainCause::SpareOrder;
     let capture = CaptureCause::Cut;
     let script = ScriptCause::Word;
-    let cases: [(Status, u8, &[u8]); 7] = [
+    let cases: [(Status, u8, &[u8]); 12] = [
         (Status::Done, 0, b""),
         (
             Status::Usage,
@@ -41,8 +44,44 @@ fn codes_and_lines(rt: HostRuntime) -> Result<(), Fail> {
             3,
             b"script: line 1: cause 1",
         ),
+        (
+            Status::Journal {
+                line: 3,
+                cause: JournalCause::Range,
+            },
+            3,
+            b"journal: line 3: cause 3",
+        ),
         (Status::DeskFault, 4, b"desk: failed"),
         (Status::NoMemory, 5, b"memory: refused"),
+        (
+            Status::Check {
+                verdict: Checked::NotRun { event: 21 },
+            },
+            6,
+            b"check: event 21",
+        ),
+        (
+            Status::Check {
+                verdict: Checked::Unfinished,
+            },
+            6,
+            b"check: unfinished",
+        ),
+        (
+            Status::Check {
+                verdict: Checked::OutDiffers { at: 81 },
+            },
+            6,
+            b"check: out byte 81",
+        ),
+        (
+            Status::Check {
+                verdict: Checked::ReportDiffers { at: 0 },
+            },
+            6,
+            b"check: report byte 0",
+        ),
     ];
     for (status, code, line) in cases {
         assert_eq!(rt; status.code(), code);

@@ -1,7 +1,7 @@
 use Rattle.std.proofs.Common.{◌≡◌, ◌∙◌, ◌++◌, ℕ, List, [], ◌∷◌, arith, ap, sym}
 use Rattle.std.proofs.lemmas.List.FromFn.{map-range_with_len_more}
 use Rattle.ftc_serial.specs.Held.{state_of}
-use Rattle.ftc_machine.specs.declared.fate.Fate.{Fate}
+use Rattle.ftc_protocol.specs.declared.fate.Fate.{Fate}
 use Rattle.ftc.specs.Fate.{fate_at}
 use Rattle.ftc.proofs.Reported.{fate_told}
 use Rattle.ftc.proofs.report.fates_of.Goals as goal

@@ -1,0 +1,114 @@
+-- What the check of a run's files says.
+use Rattle.std.specs.Prelude.{◌≡◌, ◌≢◌, ℕ, List, length, Some, Ok, Err, codes}
+use Rattle.ftc_outside.specs.Desk.{Files}
+use Rattle.ftc_pcap.specs.declared.capture.Capture.{Capture}
+use Rattle.ftc_ring.specs.Ring.{RingShape}
+use Rattle.ftc_script.specs.Script.{ScriptShape}
+use Rattle.ftc_script.specs.Grammar.{script_of}
+use Rattle.ftc_script.specs.declared.fault.ScriptCause.{ScriptCause}
+use Rattle.ftc_journal.specs.Reading.{journal_of}
+use Rattle.ftc_journal.specs.declared.event.Event.{Event}
+use Rattle.ftc_journal.specs.declared.fault.JournalCause.{JournalCause}
+use Rattle.ftc_mbox.specs.Chain.{Chain}
+use Rattle.ftc_conf.specs.declared.limits.TheConstants.{MOST_FAILURES}
+use Rattle.ftc_serial.specs.Packets.{bytes_of}
+use Rattle.ftc_protocol.specs.Setting.{setting_of}
+use Rattle.ftc_check.specs.Verdict.{IsVerdict}
+use Rattle.ftc_check.specs.declared.verdict.Checked.{Checked}
+use Rattle.ftc_check.specs.declared.verdict.Checked.TheVariants.{Yes}
+use Rattle.ftc.specs.declared.words.Names.{Names}
+use Rattle.ftc.specs.declared.status.Status.{Status}
+use Rattle.ftc.specs.declared.status.Status.TheVariants as status
+use Rattle.ftc.specs.Words.{Words, AreNames}
+use Rattle.ftc.specs.Ending.{HasChain, HasCapture, IsChainFault, IsCaptureFault, IsDone}
+
+-- the ring of a chain
+abbrev pub ring_of : Chain → RingShape
+ring_of chain = record { servers = length chain.rules; failures = chain.failures }
+
+-- The files spell this script for a chain and its packets, and this journal.
+pub record HasScript (names : Names) (files : Files) (chain : Chain) (packets : ℕ) (script : ScriptShape) : Type 0 where
+  pub text : List ℕ
+  pub file : files names.script.now ≡ Some text
+  pub right : script_of (ring_of chain) packets text ≡ Ok script
+
+pub record HasJournal (names : Names) (files : Files) (journal : List Event) : Type 0 where
+  pub text : List ℕ
+  pub file : files names.journal.now ≡ Some text
+  pub right : journal_of text ≡ Ok journal
+
+-- A chain, a capture and a script that are right.
+pub record AreInputs (names : Names) (files : Files) (chain : Chain) (capture : Capture) (script : ScriptShape) : Type 0 where
+  pub chain_right : HasChain MOST_FAILURES names files chain
+  pub capture_right : HasCapture names files capture
+  pub script_right : HasScript names files chain (length capture.packets) script
+
+-- The chain and the capture are right, and the script's text has this first fault.
+pub record IsWrongScript (names : Names) (files : Files) (line : ℕ) (cause : ScriptCause) : Type 0 where
+  pub chain : Chain
+  pub chain_right : HasChain MOST_FAILURES names files chain
+  pub capture : Capture
+  pub capture_right : HasCapture names files capture
+  pub text : List ℕ
+  pub file : files names.script.now ≡ Some text
+  pub wrong : script_of (ring_of chain) (length capture.packets) text ≡ Err (record { line = line; cause = cause })
+
+-- All three are right, OUT is there, and the journal's text has this first fault.
+pub record IsWrongJournal (names : Names) (files : Files) (line : ℕ) (cause : JournalCause) : Type 0 where
+  pub chain : Chain
+  pub capture : Capture
+  pub script : ScriptShape
+  pub inputs : AreInputs names files chain capture script
+  pub out : List ℕ
+  pub out_file : files names.out.now ≡ Some out
+  pub text : List ℕ
+  pub file : files names.journal.now ≡ Some text
+  pub wrong : journal_of text ≡ Err (record { line = line; cause = cause })
+
+-- What is checked: all six files.
+pub record AreChecked (names : Names) (files : Files) (chain : Chain) (capture : Capture) (script : ScriptShape) (out : List ℕ) (journal : List Event) (report : List ℕ) : Type 0 where
+  pub inputs : AreInputs names files chain capture script
+  pub out_file : files names.out.now ≡ Some out
+  pub journal_right : HasJournal names files journal
+  pub report_file : files names.report.now ≡ Some report
+
+-- The files are right in themselves, and this is the first that applies of what can be said of them.
+pub record IsJudged (names : Names) (files : Files) (verdict : Checked) : Type 0 where
+  pub chain : Chain
+  pub capture : Capture
+  pub script : ScriptShape
+  pub out : List ℕ
+  pub journal : List Event
+  pub report : List ℕ
+  pub checked : AreChecked names files chain capture script out journal report
+  pub verdict_right : IsVerdict (setting_of chain (bytes_of capture.packets) script) capture out journal report verdict
+
+-- How a check with these names ends, which changes no file.
+abbrev pub Judges : Names → Files → Status → Type 0
+Judges names files status.Done = IsJudged names files Yes
+Judges names files status.Usage = ⊥
+Judges names files (status.Chain line cause) = IsChainFault MOST_FAILURES names files line cause
+Judges names files (status.Capture at cause) = IsCaptureFault MOST_FAILURES names files at cause
+Judges names files (status.Script line cause) = IsWrongScript names files line cause
+Judges names files (status.Journal line cause) = IsWrongJournal names files line cause
+Judges names files (status.Check verdict) = IsJudged names files verdict × (verdict ≢ Yes)
+Judges names files status.DeskFault = Unit {0}
+Judges names files status.NoMemory = Unit {0}
+
+-- How a check with these words ends.
+abbrev pub HasJudged : Words → Files → Status → Type 0
+HasJudged words files ending = (names : Names) × AreNames (codes "check") words names × Judges names files ending
+
+-- A run of these names left these files, and was done.
+pub record WasLeft (words : Words) (files : Files) : Type 0 where
+  pub names : Names
+  pub named : AreNames (codes "check") words names
+  pub earlier : Files
+  pub done : IsDone names earlier files
+
+-- what a check may still say of such files: Yes, or that the desk failed, or that memory was refused
+abbrev pub IsYes : Status → Type 0
+IsYes status.Done = Unit {0}
+IsYes status.DeskFault = Unit {0}
+IsYes status.NoMemory = Unit {0}
+IsYes other = ⊥

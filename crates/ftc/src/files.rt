@@ -1,0 +1,114 @@
+//! Fetching and reading the files of a run that somebody made.
+
+ghost use Rattle.std.specs.Prelude.{◌≡◌, ◌≢◌, ◌≤◌, length, Err, IfOk, IfErr};
+ghost use Rattle.ftc_outside.specs.Desk.{SameFiles, Rose};
+ghost use Rattle.ftc_ring.specs.Ring.{IsRing};
+ghost use Rattle.ftc.specs.Checking.{ring_of, HasScript, HasJournal, AreChecked};
+ghost use Rattle.ftc.specs.Texts.{IsWholeScriptRefused, IsJournalRefused, AreWrong};
+
+use crate::status::Status;
+use crate::texts::{fetch_capture, fetch_chain};
+use crate::words::Names;
+use ftc_base::Bytes;
+use ftc_conf::limits::MOST_FAILURES;
+use ftc_journal::{Journal, read};
+use ftc_mbox::ChainSpec;
+use ftc_outside::Desk;
+use ftc_pcap::Capture;
+use ftc_ring::Ring;
+use ftc_script::{Script, accepted, read_script};
+use std::alloc::Global;
+
+/// What the files of a run say.
+#[derive(Drop)]
+pub struct RunFiles {
+    pub spec: ChainSpec,
+    pub capture: Capture,
+    pub script: Script,
+    pub out: Bytes,
+    pub journal: Journal,
+    pub report: Bytes,
+}
+
+/// The ring of a chain.
+fn ring_of(spec: &ChainSpec) -> Ring
+    ensures same { result ≡ ring_of spec.now }
+    ensures right { IsRing result }
+{
+    match Ring::new(spec.rules().len() as u8, spec.failures()) {
+        Some(ring) => ring,
+        None => unreachable!(),
+    }
+}
+
+/// Fetches and reads the script of a run of this chain on so many packets.
+fn fetch_script<D: Desk>(
+    alloc: Global,
+    names: Names<'_>,
+    spec: &ChainSpec,
+    packets: u32,
+    desk: &mut D,
+) -> Result<Script, Status>
+    ensures accepted { D.tells desk.old → IfOk result (HasScript names.entry (D.file desk.old) spec.now packets) }
+    ensures ring { IfOk result (λ script. script.ring ≡ ring_of spec.now) }
+    ensures packets { IfOk result (λ script. script.packets ≡ packets) }
+    ensures refused { D.tells desk.old → IfErr result (IsWholeScriptRefused names.entry (D.file desk.old) spec.now packets) }
+    ensures known { IfErr result (λ ending. ending ≢ Status.Usage) }
+    ensures files { D.tells desk.old → SameFiles (D.file desk.old) (D.file desk.new) }
+    ensures tells { D.tells desk.old → D.tells desk.new }
+    ensures count { D.faults desk.old ≤ D.faults desk.new }
+    ensures cause { result ≡ Err Status.DeskFault → Rose (D.faults desk.old) (D.faults desk.new) }
+{
+    accepted();
+    let text = desk.fetch(alloc, names.script)?;
+    let script = read_script(alloc, text.as_slice(), &ring_of(spec), packets)?;
+    Ok(script)
+}
+
+/// Fetches and reads the journal.
+fn fetch_journal<D: Desk>(alloc: Global, names: Names<'_>, desk: &mut D) -> Result<Journal, Status>
+    ensures accepted { D.tells desk.old → IfOk result (λ journal. HasJournal names.entry (D.file desk.old) journal.items) }
+    ensures refused { D.tells desk.old → IfErr result (IsJournalRefused names.entry (D.file desk.old)) }
+    ensures known { IfErr result (λ ending. ending ≢ Status.Usage) }
+    ensures files { D.tells desk.old → SameFiles (D.file desk.old) (D.file desk.new) }
+    ensures tells { D.tells desk.old → D.tells desk.new }
+    ensures count { D.faults desk.old ≤ D.faults desk.new }
+    ensures cause { result ≡ Err Status.DeskFault → Rose (D.faults desk.old) (D.faults desk.new) }
+{
+    let text = desk.fetch(alloc, names.journal)?;
+    let journal = read(alloc, text.as_slice())?;
+    Ok(journal)
+}
+
+/// Fetches the chain, the capture, the script, OUT, the journal and the report in this order, and reads each
+/// before the next.
+pub fn read_files<D: Desk>(
+    alloc: Global,
+    names: Names<'_>,
+    desk: &mut D,
+) -> Result<RunFiles, Status>
+    ensures accepted { D.tells desk.old → IfOk result (λ files. AreChecked names.entry (D.file desk.old) files.spec files.capture files.script files.out files.journal.items files.report) }
+    ensures ring { IfOk result (λ files. files.script.ring ≡ ring_of files.spec) }
+    ensures packets { IfOk result (λ files. files.script.packets ≡ length files.capture.packets) }
+    ensures refused { D.tells desk.old → IfErr result (AreWrong names.entry (D.file desk.old)) }
+    ensures known { IfErr result (λ ending. ending ≢ Status.Usage) }
+    ensures files { D.tells desk.old → SameFiles (D.file desk.old) (D.file desk.new) }
+    ensures count { D.faults desk.old ≤ D.faults desk.new }
+    ensures cause { result ≡ Err Status.DeskFault → Rose (D.faults desk.old) (D.faults desk.new) }
+{
+    let spec = fetch_chain(alloc, names, MOST_FAILURES, desk)?;
+    let capture = fetch_capture(alloc, names, desk)?;
+    let packets = capture.packets.len() as u32;
+    let script = fetch_script(alloc, names, &spec, packets, desk)?;
+    let out = desk.fetch(alloc, names.out)?;
+    let journal = fetch_journal(alloc, names, desk)?;
+    let report = desk.fetch(alloc, names.report)?;
+    Ok(RunFiles {
+        spec,
+        capture,
+        script,
+        out,
+        journal,
+        report,
+    })
+}
