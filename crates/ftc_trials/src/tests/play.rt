@@ -1,0 +1,150 @@
+//! A run that is played from its texts.
+
+ghost use Rattle.std.specs.Prelude.{◌≡◌, IfOk, IfSome, length};
+
+use crate::tests::trial::{Change, Trial};
+use ftc_base::{Bytes, Lines, Refuse, split_line};
+use ftc_conf::read_chain;
+use ftc_machine::{Machine, replay, trace_of};
+use ftc_mbox::ChainSpec;
+use ftc_pcap::{Packet, Packets};
+use ftc_report::print;
+use ftc_ring::Ring;
+use ftc_script::{Script, accepted, read_script};
+use ftc_serial::Serial;
+use std::alloc::Global;
+use std::process::Abort;
+use std::test::Fail;
+
+/// The packets with these bytes.
+fn packets_of(rt: &impl Abort, alloc: Global, all: &[&[u8]]) -> Result<Packets, Fail> {
+    let mut packets = Packets::new(alloc);
+    for held in all {
+        let mut bytes = Bytes::new(alloc);
+        bytes.append(held)?;
+        assert!(rt; bytes.len() < 100);
+        assert!(rt; packets.len() < 10);
+        packets.push(Packet {
+            seconds: 1,
+            fraction: 0,
+            original: 42,
+            bytes,
+        })?;
+    }
+    Ok(packets)
+}
+
+/// What came of the events: the report of the run, unless something is still to be done in it.
+fn end_of(
+    alloc: Global,
+    spec: &ChainSpec,
+    packets: &Packets,
+    machine: &Machine<'_>,
+) -> Result<String, Fail> {
+    if !machine.finished() {
+        return Ok(String::from_str(alloc, "unfinished")?);
+    }
+    let trace = trace_of(alloc, machine.journal())?;
+    let Ok(serial) = Serial::run(alloc, spec, packets, &trace) else {
+        return Err(Fail::new("the trace is no serial run"));
+    };
+    let report = print(alloc, &machine.fates()?, &serial, &Lines::new(alloc))?;
+    Ok(String::from_utf8(report.into_vec())?)
+}
+
+/// Why a trial was not played: one of its texts is refused.
+fn refusal(trial: &Trial, text: &str) -> Fail {
+    Fail::new(format_args!("{}: the {text} is refused", trial.name))
+}
+
+/// The ring of a chain.
+fn ring_of(spec: &ChainSpec) -> Option<Ring>
+    ensures { IfSome result (λ ring. ring ≡ record { servers = length spec.now.rules; failures = spec.now.failures }) }
+{
+    let servers = spec.rules().len() as u8;
+    Ring::new(servers, spec.failures())
+}
+
+/// The script of a trial, for its ring and for so many packets.
+fn script_of(alloc: Global, trial: &Trial, ring: &Ring, packets: u32) -> Result<Script, Fail>
+    ensures ring { IfOk result (λ script. script.ring ≡ ring.now) }
+    ensures packets { IfOk result (λ script. script.packets ≡ packets) }
+{
+    let _servers = ring.servers();
+    accepted();
+    match read_script(alloc, trial.script.as_bytes(), ring, packets) {
+        Ok(script) => Ok(script),
+        Err(_) => Err(refusal(trial, "script")),
+    }
+}
+
+/// Plays a journal over the chain, the script and the packets of a trial. Of a journal with an event that is
+/// refused the answer is that event.
+pub fn play(rt: &impl Abort, alloc: Global, trial: &Trial, journal: &[u8]) -> Result<String, Fail> {
+    let Ok(spec) = read_chain(alloc, trial.chain.as_bytes()) else {
+        return Err(refusal(trial, "chain"));
+    };
+    let packets = packets_of(rt, alloc, trial.packets)?;
+    let ring = ring_of(&spec).expect(rt, "a ring");
+    let script = script_of(alloc, trial, &ring, packets.len() as u32)?;
+    let Ok(journal) = ftc_journal::read(alloc, journal) else {
+        return Err(refusal(trial, "journal"));
+    };
+    match replay(alloc, &spec, &packets, &script, &journal) {
+        Ok(machine) => end_of(alloc, &spec, &packets, &machine),
+        Err(Refuse::Bad(fault)) => Ok(format!(in alloc; "event {}", fault.event)?),
+        Err(Refuse::NoMemory) => Err(Fail::new("memory is refused")),
+    }
+}
+
+/// The lines of a text.
+fn lines_of(alloc: Global, text: &str) -> Result<Vec<&[u8]>, Fail> {
+    let mut lines = Vec::new(alloc);
+    let mut rest = text.as_bytes();
+    while let Some((line, behind)) = split_line(rest) {
+        lines.push(line)?;
+        rest = behind;
+    }
+    Ok(lines)
+}
+
+/// The text of these lines.
+fn text_of(alloc: Global, lines: &[&[u8]]) -> Result<Bytes, Fail> {
+    let mut text = Bytes::new(alloc);
+    for line in lines {
+        text.append(line)?;
+        text.append(b"\n")?;
+    }
+    Ok(text)
+}
+
+/// The text of a journal after a change. An event stands one line behind its number, since the header is a line
+/// too.
+pub fn changed(
+    rt: &impl Abort,
+    alloc: Global,
+    journal: &str,
+    change: &Change,
+) -> Result<Bytes, Fail> {
+    let mut lines = lines_of(alloc, journal)?;
+    match change {
+        Change::Moved { event, to } => {
+            let (from, to) = (event.saturating_add(1), to.saturating_add(1));
+            assert!(rt; from < lines.len());
+            assert!(rt; to < lines.len());
+            let line = lines.remove(from);
+            lines.insert(to, line)?;
+        }
+        Change::LeftOut { event } => {
+            let place = event.saturating_add(1);
+            assert!(rt; place < lines.len());
+            lines.remove(place);
+        }
+        Change::Instead { event, line } => {
+            let place = event.saturating_add(1);
+            assert!(rt; place < lines.len());
+            lines[place] = line.as_bytes();
+        }
+    }
+    text_of(alloc, lines.as_slice())
+}
