@@ -9,3 +9,5 @@ mod Illegal
 mod Ones
 mod Verdicts
 mod Whole
+pub mod Members
+mod Standing

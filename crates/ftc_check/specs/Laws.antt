@@ -1,9 +1,12 @@
--- Each of the relations leaves one answer, and what a run wrote is right.
-use Rattle.std.specs.Prelude.{ℕ, ◌≡◌, List, []}
+-- Each of the relations leaves one answer, what a run wrote is right, and what is right is such a run.
+use Rattle.std.specs.Prelude.{ℕ, ◌≡◌, ◌≢◌, ◌<◌, List, []}
 use Rattle.ftc_journal.specs.declared.event.Event.{Event}
 use Rattle.ftc_pcap.specs.declared.capture.Capture.{Capture}
 use Rattle.ftc_serial.specs.Serial.{State}
-use Rattle.ftc_protocol.specs.Setting.{Setting}
+use Rattle.ftc_protocol.specs.declared.fate.Fate.TheVariants as became
+use Rattle.ftc_protocol.specs.Setting.{Setting, IsSetting, servers, count}
+use Rattle.ftc_protocol.specs.State.{opening}
+use Rattle.ftc_protocol.specs.Run.{state_after}
 use Rattle.ftc_report.specs.Output.{out_bytes}
 use Rattle.ftc_report.specs.Report.{report_of}
 use Rattle.ftc_check.specs.declared.verdict.Checked.{Checked}
@@ -11,6 +14,7 @@ use Rattle.ftc_check.specs.declared.verdict.Checked.TheVariants.{Yes}
 use Rattle.ftc_check.specs.Difference.{IsFirstDifference}
 use Rattle.ftc_check.specs.Taps.{IsWithoutTaps}
 use Rattle.ftc_check.specs.Verdict.{IsWhole, IsVerdict}
+use Rattle.ftc_check.specs.Visited.{ReleasedVisited}
 
 abbrev pub DifferencesAreOne : Type 0
 DifferencesAreOne = (a b : List ℕ) (place other : ℕ) → IsFirstDifference a b place → IsFirstDifference a b other → place ≡ other
@@ -38,3 +42,15 @@ abbrev pub WholeRunsAreOnlyRight : Type 0
 WholeRunsAreOnlyRight =
     (c : Setting) (capture : Capture) (journal : List Event) (end : State) (verdict : Checked)
     → IsWhole c journal end → IsVerdict c capture (out_bytes capture end.released) journal (report_of c journal []) verdict → verdict ≡ Yes
+
+-- in a run whose files are right each released packet has visited all middleboxes, and none of these visits was undone
+abbrev pub RightRunsAreVisited : Type 0
+RightRunsAreVisited =
+    (c : Setting) → IsSetting c → (capture : Capture) (out : List ℕ) (journal : List Event) (report : List ℕ)
+    → IsVerdict c capture out journal report Yes → ∥ ReleasedVisited (servers c) journal ∥₁
+
+-- and each packet was released, filtered or lost
+abbrev pub RightRunsAreSettled : Type 0
+RightRunsAreSettled =
+    (c : Setting) → IsSetting c → (capture : Capture) (out : List ℕ) (journal : List Event) (report : List ℕ)
+    → IsVerdict c capture out journal report Yes → (packet : ℕ) → packet < count c → (state_after c (opening c) journal).fate packet ≢ became.Inside

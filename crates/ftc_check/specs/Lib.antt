@@ -1,4 +1,5 @@
 pub mod Difference
 pub mod Taps
-pub mod Laws
+pub mod Visited
 pub mod Verdict
+pub mod Laws

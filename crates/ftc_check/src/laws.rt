@@ -1,6 +1,8 @@
 //! What holds of the definitions.
 
-ghost use Rattle.ftc_check.specs.Laws.{DifferencesAreOne, FrontsAreOne, VerdictsAreOne, OwnReportsStay, WholeRunsAreRight, WholeRunsAreOnlyRight};
+ghost use Rattle.ftc_check.specs.Laws.{DifferencesAreOne, FrontsAreOne, VerdictsAreOne, OwnReportsStay, WholeRunsAreRight, WholeRunsAreOnlyRight, RightRunsAreVisited, RightRunsAreSettled};
+
+use ftc_machine::{every_moment, finished_run, trace_of_a_run};
 
 /// Two texts have one first place where they differ.
 pub fn one_difference()
@@ -27,3 +29,14 @@ pub fn right_files()
     ensures right { WholeRunsAreRight }
     ensures only { WholeRunsAreOnlyRight }
 {}
+
+/// What more is so of files that are right: each released packet has visited all middleboxes, and none of these
+/// visits was undone; and each packet was released, filtered or lost.
+pub fn right_runs()
+    ensures visited { RightRunsAreVisited }
+    ensures settled { RightRunsAreSettled }
+{
+    every_moment();
+    finished_run();
+    trace_of_a_run();
+}
