@@ -1,5 +1,5 @@
 -- What the check of a run's files says.
-use Rattle.std.specs.Prelude.{◌≡◌, ◌≢◌, ℕ, List, length, Some, Ok, Err, codes}
+use Rattle.std.specs.Prelude.{◌≡◌, ◌≢◌, ◌<◌, ℕ, List, length, Some, Ok, Err, codes}
 use Rattle.ftc_outside.specs.Desk.{Files}
 use Rattle.ftc_pcap.specs.declared.capture.Capture.{Capture}
 use Rattle.ftc_ring.specs.Ring.{RingShape}
@@ -12,8 +12,12 @@ use Rattle.ftc_journal.specs.declared.fault.JournalCause.{JournalCause}
 use Rattle.ftc_mbox.specs.Chain.{Chain}
 use Rattle.ftc_conf.specs.declared.limits.TheConstants.{MOST_FAILURES}
 use Rattle.ftc_serial.specs.Packets.{bytes_of}
+use Rattle.ftc_protocol.specs.declared.fate.Fate.TheVariants as became
 use Rattle.ftc_protocol.specs.Setting.{setting_of}
+use Rattle.ftc_protocol.specs.State.{ChainState, opening}
+use Rattle.ftc_protocol.specs.Run.{state_after}
 use Rattle.ftc_check.specs.Verdict.{IsVerdict}
+use Rattle.ftc_check.specs.Visited.{ReleasedVisited}
 use Rattle.ftc_check.specs.declared.verdict.Checked.{Checked}
 use Rattle.ftc_check.specs.declared.verdict.Checked.TheVariants.{Yes}
 use Rattle.ftc.specs.declared.words.Names.{Names}
@@ -72,6 +76,11 @@ pub record AreChecked (names : Names) (files : Files) (chain : Chain) (capture :
   pub journal_right : HasJournal names files journal
   pub report_file : files names.report.now ≡ Some report
 
+-- the state of the protocol after a journal
+abbrev pub state_of : Chain → Capture → ScriptShape → List Event → ChainState
+state_of chain capture script journal =
+    state_after (setting_of chain (bytes_of capture.packets) script) (opening (setting_of chain (bytes_of capture.packets) script)) journal
+
 -- The files are right in themselves, and this is the first that applies of what can be said of them.
 pub record IsJudged (names : Names) (files : Files) (verdict : Checked) : Type 0 where
   pub chain : Chain
@@ -83,9 +92,16 @@ pub record IsJudged (names : Names) (files : Files) (verdict : Checked) : Type 0
   pub checked : AreChecked names files chain capture script out journal report
   pub verdict_right : IsVerdict (setting_of chain (bytes_of capture.packets) script) capture out journal report verdict
 
+-- The files are those of one run. Each released packet has visited all middleboxes, and none of these visits was undone; and
+-- each packet was released, filtered or lost.
+pub record IsRightRun (names : Names) (files : Files) : Type 0 where
+  pub judged : IsJudged names files Yes
+  pub visited : ∥ ReleasedVisited (length judged.chain.rules) judged.journal ∥₁
+  pub settled : (packet : ℕ) → packet < length judged.capture.packets → (state_of judged.chain judged.capture judged.script judged.journal).fate packet ≢ became.Inside
+
 -- How a check with these names ends, which changes no file.
 abbrev pub Judges : Names → Files → Status → Type 0
-Judges names files status.Done = IsJudged names files Yes
+Judges names files status.Done = IsRightRun names files
 Judges names files status.Usage = ⊥
 Judges names files (status.Chain line cause) = IsChainFault MOST_FAILURES names files line cause
 Judges names files (status.Capture at cause) = IsCaptureFault MOST_FAILURES names files at cause

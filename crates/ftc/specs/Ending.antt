@@ -21,7 +21,7 @@ use Rattle.ftc_script.specs.declared.fault.ScriptCause.{ScriptCause}
 use Rattle.ftc_script.specs.declared.fault.ScriptCause.TheVariants as script
 use Rattle.ftc.specs.declared.limits.TheConstants.{MOST_RUN_FAILURES}
 use Rattle.ftc.specs.Words.{Words, AreNames}
-use Rattle.ftc.specs.Running.{ReleasedVisited}
+use Rattle.ftc_check.specs.Visited.{ReleasedVisited}
 use Rattle.ftc.specs.Plain.{plain_setting, IsWholeRun}
 use Rattle.ftc.specs.Output.{MayHold}
 

@@ -1,5 +1,5 @@
 -- A journal so far, and the state of the serial chain that it leads to.
-use Rattle.std.specs.Prelude.{ℕ, ◌≡◌, ◌≢◌, ◌<◌, List, [], ◌∷◌, Option, Some, None, Contains}
+use Rattle.std.specs.Prelude.{ℕ, ◌≡◌, ◌≢◌, ◌<◌, List, [], ◌∷◌, Option, Some, None}
 use Rattle.std.specs.List.{flat_map}
 use Rattle.ftc_journal.specs.declared.event.Event.{Event}
 use Rattle.ftc_journal.specs.declared.event.Event.TheVariants as event
@@ -8,8 +8,7 @@ use Rattle.ftc_serial.specs.declared.position.Position.{Position}
 use Rattle.ftc_serial.specs.declared.position.Position.TheVariants as position
 use Rattle.ftc_serial.specs.Words.{each_below}
 use Rattle.ftc_serial.specs.Serial.{State, serial_run}
-use Rattle.ftc_serial.specs.declared.step.Step.TheVariants.{Visit}
-use Rattle.ftc_serial.specs.Trace.{undone_by, steps_of, trace_of}
+use Rattle.ftc_serial.specs.Trace.{undone_by, steps_of}
 use Rattle.ftc_serial.specs.Drive.{server_events, filtered_at, is_visited}
 
 -- the journal undoes nothing, and its steps lead from one state to another
@@ -46,8 +45,3 @@ pub record IsQuiet (event : Event) : Type 0 where
 -- the servers before this one were visited as before
 abbrev pub SameBefore : ℕ → Option Position → Option Position → Type 0
 SameBefore server old new = (earlier : ℕ) → earlier < server → is_visited (filtered_at new) earlier ≡ is_visited (filtered_at old) earlier
-
--- each released packet has visited all middleboxes, so many, and none of its visits was undone
-abbrev pub ReleasedVisited : ℕ → List Event → Type 0
-ReleasedVisited servers journal =
-    (packet server : ℕ) → Contains journal (event.Release packet) → server < servers → Contains (trace_of journal) (Visit server packet)

@@ -8,7 +8,8 @@ ghost use Rattle.ftc_serial.specs.Words.{each_below};
 ghost use Rattle.ftc_serial.specs.Drive.{IsDriven, IsSettled, visit_events, server_events, release_events, packet_events, filtered_at};
 ghost use Rattle.ftc_mbox.specs.declared.rule.Rule.{Rule};
 ghost use Rattle.ftc_report.specs.Output.{AreWritable};
-ghost use Rattle.ftc.specs.Running.{GoesOn, OthersStay, HasCome, SameBefore, IsQuiet, ReleasedVisited};
+ghost use Rattle.ftc.specs.Running.{GoesOn, OthersStay, HasCome, SameBefore, IsQuiet};
+ghost use Rattle.ftc_check.specs.Visited.{ReleasedVisited};
 
 use ftc_base::limits::FINISHING_SLOT;
 use ftc_base::{NoMemory, PacketNo, Refuse, ServerId, WorkerId};

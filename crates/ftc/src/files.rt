@@ -3,6 +3,7 @@
 ghost use Rattle.std.specs.Prelude.{◌≡◌, ◌≢◌, ◌≤◌, length, Err, IfOk, IfErr};
 ghost use Rattle.ftc_outside.specs.Desk.{SameFiles, Rose};
 ghost use Rattle.ftc_ring.specs.Ring.{IsRing};
+ghost use Rattle.ftc_script.specs.Script.{IsScript};
 ghost use Rattle.ftc.specs.Checking.{ring_of, HasScript, HasJournal, AreChecked};
 ghost use Rattle.ftc.specs.Texts.{IsWholeScriptRefused, IsJournalRefused, AreWrong};
 
@@ -52,6 +53,7 @@ fn fetch_script<D: Desk>(
     ensures accepted { D.tells desk.old → IfOk result (HasScript names.entry (D.file desk.old) spec.now packets) }
     ensures ring { IfOk result (λ script. script.ring ≡ ring_of spec.now) }
     ensures packets { IfOk result (λ script. script.packets ≡ packets) }
+    ensures right { IfOk result IsScript }
     ensures refused { D.tells desk.old → IfErr result (IsWholeScriptRefused names.entry (D.file desk.old) spec.now packets) }
     ensures known { IfErr result (λ ending. ending ≢ Status.Usage) }
     ensures files { D.tells desk.old → SameFiles (D.file desk.old) (D.file desk.new) }
@@ -90,6 +92,7 @@ pub fn read_files<D: Desk>(
     ensures accepted { D.tells desk.old → IfOk result (λ files. AreChecked names.entry (D.file desk.old) files.spec files.capture files.script files.out files.journal.items files.report) }
     ensures ring { IfOk result (λ files. files.script.ring ≡ ring_of files.spec) }
     ensures packets { IfOk result (λ files. files.script.packets ≡ length files.capture.packets) }
+    ensures right { IfOk result (λ files. IsScript files.script) }
     ensures refused { D.tells desk.old → IfErr result (AreWrong names.entry (D.file desk.old)) }
     ensures known { IfErr result (λ ending. ending ≢ Status.Usage) }
     ensures files { D.tells desk.old → SameFiles (D.file desk.old) (D.file desk.new) }

@@ -8,7 +8,8 @@ use crate::files::{RunFiles, read_files};
 use crate::status::Status;
 use crate::words::Names;
 use ftc_base::NoMemory;
-use ftc_check::{Checked, check};
+use ftc_check::{Checked, check, right_runs};
+use ftc_machine::accepted;
 use ftc_outside::Desk;
 use std::alloc::Global;
 
@@ -24,6 +25,8 @@ pub fn judge<D: Desk>(alloc: Global, names: Names<'_>, desk: &mut D) -> Status
         Ok(files) => files,
         Err(status) => return status,
     };
+    accepted();
+    right_runs();
     let (out, report) = (files.out.as_slice(), files.report.as_slice());
     let (spec, capture) = (&files.spec, &files.capture);
     match check(
