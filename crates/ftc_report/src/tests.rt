@@ -1,12 +1,9 @@
 use crate::stores::value_text;
-use crate::{out_of, print, report};
+use crate::{out_of, print};
 use ftc_base::{Bytes, Items, Lines, Released, ReleasedList, ServerId, Value};
-use ftc_journal::read;
-use ftc_machine::{Fate, Fates, replay};
+use ftc_machine::{Fate, Fates};
 use ftc_mbox::{ChainSpec, Rule};
 use ftc_pcap::{Capture, Packet, Packets};
-use ftc_ring::Ring;
-use ftc_script::read_script;
 use ftc_serial::Serial;
 use std::alloc::Global;
 use std::process::Abort;
@@ -47,11 +44,11 @@ fn packets_of(alloc: Global, rt: &impl Abort) -> Result<Packets, Fail> {
 }
 
 /// A monitor of eight groups, and a middlebox that passes everything.
-fn chain_of(alloc: Global, failures: u8) -> Result<ChainSpec, Fail> {
+fn chain_of(alloc: Global) -> Result<ChainSpec, Fail> {
     let mut rules = Items::new(alloc);
     rules.push(Rule::Monitor { groups: 8 })?;
     rules.push(Rule::Pass)?;
-    Ok(ChainSpec::new(failures, 4, rules))
+    Ok(ChainSpec::new(0, 4, rules))
 }
 
 fn server(rt: &impl Abort, number: u8) -> ServerId {
@@ -77,7 +74,7 @@ fn taps_of(alloc: Global, texts: &[&str]) -> Result<Lines, Fail> {
 #[test]
 fn each_line_is_in_its_place(rt: HostRuntime) -> Result<(), Fail> {
     let alloc = rt.alloc();
-    let mut serial = Serial::new(alloc, &chain_of(alloc, 0)?, &packets_of(alloc, &rt)?)?;
+    let mut serial = Serial::new(alloc, &chain_of(alloc)?, &packets_of(alloc, &rt)?)?;
     let (first, second) = (server(&rt, 0), server(&rt, 1));
     assert!(rt; serial.visit(first, 0).is_ok());
     assert!(rt; serial.visit(first, 1).is_ok());
@@ -105,50 +102,6 @@ fn an_empty_value_is_a_dash(rt: HostRuntime) -> Result<(), Fail> {
     assert_eq!(rt; value_text(alloc, &Value::empty())?.as_str(), "-");
     let value = Value::new(&[0x0a, 0xff, 0]).expect(&rt, "three bytes");
     assert_eq!(rt; value_text(alloc, &value)?.as_str(), "0aff00");
-    Ok(())
-}
-
-/// Server 0 crashes behind its visit of packet 0 and comes back without it. Packet 1 goes through.
-const CRASH: &[u8] = b"ftc-journal 2
-enter 0
-visit 0 0 63
-crash 0
-recover 0 0:0
-pull 0
-pull 1
-enter 1
-visit 0 1 63
-pass 0 1
-take 0 1
-apply 1 1 0 1
-visit 1 1 63
-pass 1 1
-release 1
-take 1 1
-carry 1
-";
-
-#[test]
-fn an_undone_visit_is_not_reported(rt: HostRuntime) -> Result<(), Fail> {
-    let alloc = rt.alloc();
-    let spec = chain_of(alloc, 1)?;
-    let packets = packets_of(alloc, &rt)?;
-    let ring = Ring::new(2, 1).expect(&rt, "a ring");
-    let Ok(script) = read_script(alloc, b"at 1 crash 0\nat 1 recover 0\n", &ring, 2) else {
-        return Err(Fail::new("the script is right"));
-    };
-    let Ok(journal) = read(alloc, CRASH) else {
-        return Err(Fail::new("the journal is right"));
-    };
-    let taps = taps_of(alloc, [].as_slice())?;
-    let Ok(machine) = replay(alloc, &spec, &packets, &script, &journal) else {
-        return Err(Fail::new("the journal is a run"));
-    };
-    let text = report(alloc, &spec, &packets, &script, machine.journal(), &taps)?;
-    // 10 + 0 + 0 + 6 is 0 modulo 8.
-    let expected =
-        b"ftc-report 1\npackets 2\nreleased 1\nfiltered 0\nlost 1\nfate 0 lost 2\nfate 1 released\nstore 0 1\nkey 6d0000 0000000000000001\nstore 1 0\n".as_slice();
-    assert_eq!(rt; text.as_slice(), expected);
     Ok(())
 }
 
