@@ -9,9 +9,7 @@ mod verdict;
 
 pub use checking::check;
 pub use difference::first_difference;
-pub use laws::{
-    one_difference, one_front, one_verdict, own_report, right_files, right_runs,
-};
+pub use laws::{one_difference, one_front, one_verdict, own_report, right_files, right_runs};
 pub use report::without_taps;
 pub use verdict::Checked;
 
