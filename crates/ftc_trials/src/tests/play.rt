@@ -5,12 +5,13 @@ ghost use Rattle.std.specs.Prelude.{◌≡◌, IfOk, IfSome, length};
 use crate::tests::trial::{Change, Trial};
 use ftc_base::{Bytes, Lines, Refuse, split_line};
 use ftc_conf::read_chain;
-use ftc_machine::replay;
+use ftc_machine::{Machine, replay, trace_of};
 use ftc_mbox::ChainSpec;
 use ftc_pcap::{Packet, Packets};
-use ftc_report::report;
+use ftc_report::print;
 use ftc_ring::Ring;
 use ftc_script::{Script, accepted, read_script};
+use ftc_serial::Serial;
 use std::alloc::Global;
 use std::process::Abort;
 use std::test::Fail;
@@ -31,6 +32,24 @@ fn packets_of(rt: &impl Abort, alloc: Global, all: &[&[u8]]) -> Result<Packets, 
         })?;
     }
     Ok(packets)
+}
+
+/// What came of the events: the report of the run, unless something is still to be done in it.
+fn end_of(
+    alloc: Global,
+    spec: &ChainSpec,
+    packets: &Packets,
+    machine: &Machine<'_>,
+) -> Result<String, Fail> {
+    if !machine.finished() {
+        return Ok(String::from_str(alloc, "unfinished")?);
+    }
+    let trace = trace_of(alloc, machine.journal())?;
+    let Ok(serial) = Serial::run(alloc, spec, packets, &trace) else {
+        return Err(Fail::new("the trace is no serial run"));
+    };
+    let report = print(alloc, &machine.fates()?, &serial, &Lines::new(alloc))?;
+    Ok(String::from_utf8(report.into_vec())?)
 }
 
 /// Why a trial was not played: one of its texts is refused.
@@ -59,8 +78,8 @@ fn script_of(alloc: Global, trial: &Trial, ring: &Ring, packets: u32) -> Result<
     }
 }
 
-/// Plays a journal over the chain, the script and the packets of a trial. The answer is the report of the run,
-/// `unfinished` where something is still to be done in it, and the first event that is refused, where one is.
+/// Plays a journal over the chain, the script and the packets of a trial. Of a journal with an event that is
+/// refused the answer is that event.
 pub fn play(rt: &impl Abort, alloc: Global, trial: &Trial, journal: &[u8]) -> Result<String, Fail> {
     let Ok(spec) = read_chain(alloc, trial.chain.as_bytes()) else {
         return Err(refusal(trial, "chain"));
@@ -72,14 +91,7 @@ pub fn play(rt: &impl Abort, alloc: Global, trial: &Trial, journal: &[u8]) -> Re
         return Err(refusal(trial, "journal"));
     };
     match replay(alloc, &spec, &packets, &script, &journal) {
-        Ok(machine) => {
-            if !machine.finished() {
-                return Ok(String::from_str(alloc, "unfinished")?);
-            }
-            let taps = Lines::new(alloc);
-            let text = report(alloc, &spec, &packets, &script, machine.journal(), &taps)?;
-            Ok(String::from_utf8(text.into_vec())?)
-        }
+        Ok(machine) => end_of(alloc, &spec, &packets, &machine),
         Err(Refuse::Bad(fault)) => Ok(format!(in alloc; "event {}", fault.event)?),
         Err(Refuse::NoMemory) => Err(Fail::new("memory is refused")),
     }
