@@ -1,9 +1,14 @@
+ghost use Rattle.std.specs.Prelude.{◌≡◌, IfOk, IfSome, length};
+
 use crate::stores::value_text;
-use crate::{out_of, print};
+use crate::{out_of, print, report};
 use ftc_base::{Bytes, Items, Lines, Released, ReleasedList, ServerId, Value};
-use ftc_machine::{Fate, Fates};
+use ftc_journal::{Journal, read};
+use ftc_machine::{Fate, Fates, replay};
 use ftc_mbox::{ChainSpec, Rule};
 use ftc_pcap::{Capture, Packet, Packets};
+use ftc_ring::Ring;
+use ftc_script::{Script, accepted, read_script};
 use ftc_serial::Serial;
 use std::alloc::Global;
 use std::process::Abort;
@@ -43,12 +48,16 @@ fn packets_of(alloc: Global, rt: &impl Abort) -> Result<Packets, Fail> {
     Ok(packets)
 }
 
-/// A monitor of eight groups, and a middlebox that passes everything.
-fn chain_of(alloc: Global) -> Result<ChainSpec, Fail> {
+/// A monitor of eight groups, and a middlebox that passes everything, each with a replica or none.
+fn chain_of(alloc: Global, is_replicated: bool) -> Result<ChainSpec, Fail> {
     let mut rules = Items::new(alloc);
     rules.push(Rule::Monitor { groups: 8 })?;
     rules.push(Rule::Pass)?;
-    Ok(ChainSpec::new(0, 4, rules))
+    if is_replicated {
+        Ok(ChainSpec::new(1, 4, rules))
+    } else {
+        Ok(ChainSpec::new(0, 4, rules))
+    }
 }
 
 fn server(rt: &impl Abort, number: u8) -> ServerId {
@@ -74,7 +83,7 @@ fn taps_of(alloc: Global, texts: &[&str]) -> Result<Lines, Fail> {
 #[test]
 fn each_line_is_in_its_place(rt: HostRuntime) -> Result<(), Fail> {
     let alloc = rt.alloc();
-    let mut serial = Serial::new(alloc, &chain_of(alloc)?, &packets_of(alloc, &rt)?)?;
+    let mut serial = Serial::new(alloc, &chain_of(alloc, false)?, &packets_of(alloc, &rt)?)?;
     let (first, second) = (server(&rt, 0), server(&rt, 1));
     assert!(rt; serial.visit(first, 0).is_ok());
     assert!(rt; serial.visit(first, 1).is_ok());
@@ -102,6 +111,86 @@ fn an_empty_value_is_a_dash(rt: HostRuntime) -> Result<(), Fail> {
     assert_eq!(rt; value_text(alloc, &Value::empty())?.as_str(), "-");
     let value = Value::new(&[0x0a, 0xff, 0]).expect(&rt, "three bytes");
     assert_eq!(rt; value_text(alloc, &value)?.as_str(), "0aff00");
+    Ok(())
+}
+
+/// Server 0 crashes behind its visit of packet 0 and comes back without it. Packet 1 goes through.
+const CRASH: &[u8] = b"ftc-journal 2
+enter 0
+visit 0 0 63
+crash 0
+recover 0 0:0
+pull 0
+pull 1
+enter 1
+visit 0 1 63
+pass 0 1
+take 0 1
+apply 1 1 0 1
+visit 1 1 63
+pass 1 1
+release 1
+take 1 1
+carry 1
+";
+
+/// The ring of a chain.
+fn ring_of(spec: &ChainSpec) -> Option<Ring>
+    ensures { IfSome result (λ ring. ring ≡ record { servers = length spec.now.rules; failures = spec.now.failures }) }
+{
+    let servers = spec.rules().len() as u8;
+    Ring::new(servers, spec.failures())
+}
+
+/// The script of a text, for that ring and so many packets.
+fn script_of(alloc: Global, text: &str, ring: &Ring, packets: u32) -> Result<Script, Fail>
+    ensures ring { IfOk result (λ script. script.ring ≡ ring.now) }
+    ensures packets { IfOk result (λ script. script.packets ≡ packets) }
+{
+    let _servers = ring.servers();
+    accepted();
+    match read_script(alloc, text.as_bytes(), ring, packets) {
+        Ok(script) => Ok(script),
+        Err(_) => Err(Fail::new("the script is right")),
+    }
+}
+
+/// The report of the run with that journal, without taps.
+fn reported(
+    alloc: Global,
+    spec: &ChainSpec,
+    packets: &Packets,
+    script: &Script,
+    journal: &Journal,
+) -> Result<Bytes, Fail>
+    requires ring { script.now.ring ≡ record { servers = length spec.now.rules; failures = spec.now.failures } }
+    requires packets { script.now.packets ≡ length packets.now }
+{
+    match replay(alloc, spec, packets, script, journal) {
+        Ok(machine) => {
+            let taps = Lines::new(alloc);
+            Ok(report(alloc, spec, packets, script, machine.journal(), &taps)?)
+        }
+        Err(_) => Err(Fail::new("the journal is a run")),
+    }
+}
+
+#[test]
+fn an_undone_visit_is_not_reported(rt: HostRuntime) -> Result<(), Fail> {
+    let alloc = rt.alloc();
+    let spec = chain_of(alloc, true)?;
+    let packets = packets_of(alloc, &rt)?;
+    let ring = ring_of(&spec).expect(&rt, "a ring");
+    let lines = "at 1 crash 0\nat 1 recover 0\n";
+    let script = script_of(alloc, lines, &ring, packets.len() as u32)?;
+    let Ok(journal) = read(alloc, CRASH) else {
+        return Err(Fail::new("the journal is right"));
+    };
+    let text = reported(alloc, &spec, &packets, &script, &journal)?;
+    // 10 + 0 + 0 + 6 is 0 modulo 8.
+    let expected =
+        b"ftc-report 1\npackets 2\nreleased 1\nfiltered 0\nlost 1\nfate 0 lost 2\nfate 1 released\nstore 0 1\nkey 6d0000 0000000000000001\nstore 1 0\n".as_slice();
+    assert_eq!(rt; text.as_slice(), expected);
     Ok(())
 }
 
