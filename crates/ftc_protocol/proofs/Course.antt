@@ -17,6 +17,7 @@ use Rattle.ftc_protocol.proofs.Places.{Waits, Passed, serial_of}
 use Rattle.ftc_protocol.proofs.Inv.{expected}
 use Rattle.ftc_protocol.proofs.Droppable.{stays_dropped, waits_visited, dropped_skips, passed_unfiltered}
 use Rattle.ftc_protocol.proofs.Driven.{steps_with, IsAhead, Leads, Drives, ahead_of, none_more, one_more, both_drive, each_drives}
+use Rattle.ftc_protocol.proofs.LoneFirst.{visit_first, pass_first, take_first, enter_first}
 use Rattle.ftc_protocol.proofs.Lone.{IsIdle, IsAt, IsBuffered, IsGone, IsThrough, server_below}
 use Rattle.ftc_protocol.proofs.Entering.{enter_legal, entered_at}
 use Rattle.ftc_protocol.proofs.LoneVisit.{visit_legal, visited_here}
@@ -48,13 +49,13 @@ module _ (c : Setting) (good : IsGood c) (quiet : IsQuiet c) (alone : c.failures
             let more : k + 1 ≢ servers c = λ same. absurd (omega (arith, same)) in
             let sent = sent_on_link c good quiet alone s p k visited at done more in
             let there : HasCome c p (suc k) (next c passed (Take k p)) = inl (omega arith, taken_there c good quiet passed p k more sent) in
-            one_more c end (HasCome c p (suc k)) s (Pass k p) (Take k p ∷ []) rest legal
-            (one_more c end (HasCome c p (suc k)) passed (Take k p) [] rest (take_legal c good quiet passed p k more sent) (none_more c end (HasCome c p (suc k)) (next c passed (Take k p)) rest there on))
+            one_more c end (HasCome c p (suc k)) s (Pass k p) (Take k p ∷ []) rest (pass_first c good quiet alone s p k visited at done legal)
+            (one_more c end (HasCome c p (suc k)) passed (Take k p) [] rest (take_first c passed p k sent (take_legal c good quiet passed p k more sent)) (none_more c end (HasCome c p (suc k)) (next c passed (Take k p)) rest there on))
         | false ↦ λ isnt.
             let least : servers c ≤ k + 1 = ltb-false (k + 1) (servers c) isnt in
             let last : k + 1 ≡ servers c = omega arith in
             let there : HasCome c p (suc k) passed = inr (omega arith, passed_through c good quiet alone s p k visited at done last) in
-            one_more c end (HasCome c p (suc k)) s (Pass k p) [] rest legal (none_more c end (HasCome c p (suc k)) passed rest there on)
+            one_more c end (HasCome c p (suc k)) s (Pass k p) [] rest (pass_first c good quiet alone s p k visited at done legal) (none_more c end (HasCome c p (suc k)) passed rest there on)
       ] refl
 
   -- what one server does: a packet that is there visits it, and one that was dropped doesn't
@@ -76,7 +77,7 @@ module _ (c : Setting) (good : IsGood c) (quiet : IsQuiet c) (alone : c.failures
       let on = ahead_of c end (serial_of c s.trace) (Visited k p (outcome_at c s k p)) entry (steps_with (take_events (servers c) k p) ++ rest)
       (subst (λ (events : List Event). IsAhead c end s (steps_with (events ++ Pass k p ∷ take_events (servers c) k p) ++ rest)) visit ahead) in
       subst (λ (events : List Event). Leads c end s (events ++ Pass k p ∷ take_events (servers c) k p) (HasCome c p (suc k)) rest) (sym visit)
-      (one_more c end (HasCome c p (suc k)) s (Visit k p FINISHING_SLOT) (Pass k p ∷ take_events (servers c) k p) rest (visit_legal c good quiet alone s p k at bytes packet FINISHING_SLOT)
+      (one_more c end (HasCome c p (suc k)) s (Visit k p FINISHING_SLOT) (Pass k p ∷ take_events (servers c) k p) rest (visit_first c good quiet alone s p k false at refl bytes packet (visit_legal c good quiet alone s p k at bytes packet FINISHING_SLOT))
       (leaves (next c s (Visit k p FINISHING_SLOT)) k true then_there (inl refl) rest on))
 
   serves : (k : ℕ) → k < servers c → Drives c end (HasCome c p k) (server_events (servers c) p (filtered_at (end.place p)) k) (HasCome c p (suc k))
@@ -100,7 +101,7 @@ module _ (c : Setting) (good : IsGood c) (quiet : IsQuiet c) (alone : c.failures
       let on = ahead_of c end (serial_of c s.trace) (Given p (bytes_withheld (s.withheld p))) entry rest
       (subst (λ (dropped : Option ℕ). IsAhead c end s (steps_with (release_events p dropped) ++ rest)) unfiltered ahead) in
       subst (λ (dropped : Option ℕ). Leads c end s (release_events p dropped) (IsIdle c (suc p)) rest) (sym unfiltered)
-      (one_more c end (IsIdle c (suc p)) s (Release p) [] rest (release_legal c good quiet s p through.plain through.messages buffered) (none_more c end (IsIdle c (suc p)) (next c s (Release p)) rest idle on))
+      (one_more c end (IsIdle c (suc p)) s (Release p) [] rest (inl (refl, release_legal c good quiet s p through.plain through.messages buffered)) (none_more c end (IsIdle c (suc p)) (next c s (Release p)) rest idle on))
   ends s through rest ahead (inr gone) =
       let filtered : filtered_at (end.place p) ≡ Some gone.server = ap filtered_at (stays_dropped c (steps_with (release_events p (filtered_at (end.place p))) ++ rest) (serial_of c s.trace) end ahead p gone.server gone.dropped) in
       let idle : IsIdle c (suc p) s = record { plain = through.plain; messages = through.messages; withheld = gone.withheld } in
@@ -118,6 +119,6 @@ module _ (c : Setting) (good : IsGood c) (quiet : IsQuiet c) (alone : c.failures
   drives_packet below s idle rest ahead =
       let servers_do = each_below (server_events (servers c) p (filtered_at (end.place p))) (servers c) in
       let release = release_events p (filtered_at (end.place p)) in
-      one_more c end (IsIdle c (suc p)) s (Enter p) (servers_do ++ release) rest (enter_legal c good quiet s p idle below)
+      one_more c end (IsIdle c (suc p)) s (Enter p) (servers_do ++ release) rest (enter_first c s p idle (enter_legal c good quiet s p idle below))
       (both_drive c end (HasCome c p 0) (HasCome c p (servers c)) (IsIdle c (suc p)) servers_do release passes_all releases
       (next c s (Enter p)) (inl (good.some, entered_at c good quiet s p idle below)) rest ahead)

@@ -11,10 +11,12 @@ use Rattle.ftc_serial.specs.Entries.{step_of}
 use Rattle.ftc_serial.specs.Trace.{steps_of}
 use Rattle.ftc_protocol.specs.Setting.{Setting, servers}
 use Rattle.ftc_protocol.specs.State.{ChainState}
-use Rattle.ftc_protocol.specs.Legal.{IsLegal}
 use Rattle.ftc_protocol.specs.Next.{next}
 use Rattle.ftc_protocol.specs.Run.{AreLegal, state_after}
 use Rattle.ftc_protocol.proofs.Places.{IsEntry, legal_entry, serial_of}
+use Rattle.ftc_protocol.specs.Drive.{IsNextEvent}
+use Rattle.ftc_protocol.proofs.OneWay.{next_legal}
+use Rattle.ftc_protocol.proofs.LoneFirst.{AreNext, next_both}
 use Rattle.ftc_protocol.proofs.Prefixes.{state_on}
 
 -- the steps of events of which none undoes anything
@@ -28,6 +30,7 @@ IsAhead c end s steps = serial_run c.rules (serial_of c s.trace) steps ≡ Some 
 -- the events are legal one after another and lead to such a state, and these steps are left
 pub record Leads (c : Setting) (end : State) (s : ChainState) (events : List Event) (Q : ChainState → Type 0) (rest : List Step) : Type 0 where
   pub legal : AreLegal c s events
+  pub first : AreNext c s events
   pub comes : Q (state_after c s events)
   pub ahead : IsAhead c end (state_after c s events) rest
 
@@ -42,10 +45,10 @@ ahead_of c end s entry is steps run =
 
 module _ (c : Setting) (end : State) where
   pub none_more : (Q : ChainState → Type 0) (s : ChainState) (rest : List Step) → Q s → IsAhead c end s rest → Leads c end s [] Q rest
-  none_more Q s rest there ahead = record { legal = tt; comes = there; ahead = ahead }
+  none_more Q s rest there ahead = record { legal = tt; first = tt; comes = there; ahead = ahead }
 
-  pub one_more : (Q : ChainState → Type 0) (s : ChainState) (event : Event) (events : List Event) (rest : List Step) → IsLegal c s event → Leads c end (next c s event) events Q rest → Leads c end s (event ∷ events) Q rest
-  one_more Q s event events rest legal on = record { legal = (legal, on.legal); comes = on.comes; ahead = on.ahead }
+  pub one_more : (Q : ChainState → Type 0) (s : ChainState) (event : Event) (events : List Event) (rest : List Step) → IsNextEvent c s event → Leads c end (next c s event) events Q rest → Leads c end s (event ∷ events) Q rest
+  one_more Q s event events rest first on = record { legal = (next_legal c s event first, on.legal); first = (first, on.first); comes = on.comes; ahead = on.ahead }
 
   both_legal : (xs ys : List Event) (s : ChainState) → AreLegal c s xs → AreLegal c (state_after c s xs) ys → AreLegal c s (xs ++ ys)
   both_legal [] ys s first second = second
@@ -58,6 +61,7 @@ module _ (c : Setting) (end : State) where
       let same : state_after c (state_after c s xs) ys ≡ state_after c s (xs ++ ys) = sym (state_on c xs ys s) in
       record {
         legal = both_legal xs ys s first.legal on.legal;
+        first = next_both c xs ys s first.first on.first;
         comes = subst R same on.comes;
         ahead = subst (λ t. IsAhead c end t rest) same on.ahead;
       }

@@ -14,6 +14,8 @@ use Rattle.ftc_protocol.proofs.Complete.{opens_reached}
 use Rattle.ftc_protocol.proofs.Calm.{opens_calm}
 use Rattle.ftc_protocol.proofs.Stopped.{nothing_left}
 use Rattle.ftc_protocol.proofs.Driven.{steps_with, IsAhead, Leads, each_drives}
+use Rattle.ftc_protocol.specs.Drive.{IsFinish}
+use Rattle.ftc_protocol.proofs.LoneFirst.{next_finish}
 use Rattle.ftc_protocol.proofs.DriveTrace.{drive_trace}
 use Rattle.ftc_protocol.proofs.Lone.{IsIdle}
 use Rattle.ftc_protocol.proofs.Course.{drives_packet}
@@ -49,3 +51,7 @@ module _ (c : Setting) (is : IsSetting c) (quiet : IsQuiet c) (alone : c.failure
       let idle = all.comes in
       nothing_left c (state_after c (opening c) journal) idle.plain.calm.lines idle.plain.entered idle.messages idle.plain.forwarder
       (λ link less. idle.plain.calm.gap link) idle.withheld (λ server up. idle.plain.reached.live.inv.world.inside server up)
+
+  -- it is the finish of the opening state
+  pub plain_drives : IsFinish c [] journal
+  plain_drives = record { rest = journal; parts = refl; finish = next_finish c journal (opening c) (let all = journal_leads in all.first) plain_finishes }

@@ -103,7 +103,7 @@ module _ (c : Setting) where
 
 module _ (c : Setting) (good : IsGood c) (ring : IsRing (shape c)) (s : ChainState) (h : Inv c s) where
   -- the test says which visits have fallen
-  fallen_exact : IsFallen c s (has_fallen c s)
+  pub fallen_exact : IsFallen c s (has_fallen c s)
   fallen_exact j p there = (
     λ fell standing.
         let found = up_to_says (λ i. lacked_by c.partitions s.trace (s.lists (first_live c s i)) i p) j fell in

@@ -16,3 +16,6 @@ pub mod Counts
 pub mod Measure
 pub mod Example
 pub mod Whole
+pub mod Orderly
+pub mod Jobs
+pub mod Drive

@@ -1,6 +1,6 @@
 -- How much a run has still to do: seven numbers, of which every event lowers one and leaves those before it as they are. So every
 -- run ends.
-use Rattle.std.specs.Prelude.{ℕ, zero, suc, ◌≡◌, ◌+◌, ◌-◌, ◌*◌, ◌<◌, ◌⊎◌, ◌&&◌, not, Bool, true, false, List, [], ◌∷◌, length, Option, Some, None, is_some, if◌then◌else◌}
+use Rattle.std.specs.Prelude.{ℕ, zero, suc, ◌≡◌, ◌+◌, ◌-◌, ◌*◌, ◌<◌, ◌≤◌, ◌⊎◌, ◌&&◌, not, Bool, true, false, List, [], ◌∷◌, length, Option, Some, None, is_some, if◌then◌else◌}
 use Rattle.ftc_serial.specs.Serial.{Entry, Visited, Given}
 use Rattle.ftc_protocol.specs.Setting.{Setting, servers, count, is_member}
 use Rattle.ftc_protocol.specs.Changes.{is_changing}
@@ -56,3 +56,30 @@ abbrev pub IsBelow : List ℕ → List ℕ → Type 0
 IsBelow [] ys = ⊥
 IsBelow (x ∷ xs) [] = ⊥
 IsBelow (x ∷ xs) (y ∷ ys) = (x < y) ⊎ ((x ≡ y) × IsBelow xs ys)
+
+-- None of the seven numbers is above these,
+abbrev pub most_of : Setting → List ℕ
+most_of c =
+    length c.lines
+    ∷ count c
+    ∷ (count c + length c.lines + 1)
+    ∷ most_messages c * (3 * servers c + 2)
+    ∷ (servers c * count c) * servers c
+    ∷ servers c
+    ∷ count c
+    ∷ []
+
+abbrev pub AreAtMost : List ℕ → List ℕ → Type 0
+AreAtMost [] [] = Unit {0}
+AreAtMost [] (x ∷ xs) = ⊥
+AreAtMost (most ∷ mosts) [] = ⊥
+AreAtMost (most ∷ mosts) (x ∷ xs) = (x ≤ most) × AreAtMost mosts xs
+
+-- so they are the digits of one number, which every event lowers.
+abbrev pub number_of : ℕ → List ℕ → List ℕ → ℕ
+number_of high [] xs = high
+number_of high (most ∷ mosts) [] = high
+number_of high (most ∷ mosts) (x ∷ xs) = number_of (high * (most + 1) + x) mosts xs
+
+abbrev pub work_left : Setting → ChainState → ℕ
+work_left c s = number_of 0 (most_of c) (measure c s)

@@ -1,7 +1,7 @@
 //! What is so of every run, whatever its chain, packets and script: the laws on which the promises of the
 //! chain of servers rest. A law is the contract of a function that does nothing.
 
-ghost use Rattle.std.specs.Prelude.{◌≡◌, ◌↔◌, true, ◌⊎◌, ◌++◌, ℕ, List, [], ◌∷◌, length, Some};
+ghost use Rattle.std.specs.Prelude.{◌≡◌, ◌<◌, ◌≤◌, ◌+◌, ◌↔◌, true, ◌⊎◌, ◌++◌, ℕ, List, [], ◌∷◌, length, Some};
 ghost use Rattle.std.specs.List.{AllByRecursion};
 ghost use Rattle.ftc_base.specs.Partition.{partition_of};
 ghost use Rattle.ftc_base.specs.declared.ask.Write.{Write as AWrite};
@@ -11,11 +11,15 @@ ghost use Rattle.ftc_mbox.specs.declared.rule.Rule.{Rule as ARule};
 ghost use Rattle.ftc_script.specs.Script.{ScriptShape, IsScript};
 ghost use Rattle.ftc_serial.specs.declared.position.Position.TheVariants as position;
 ghost use Rattle.ftc_serial.specs.Drive.{IsDriven};
-ghost use Rattle.ftc_serial.specs.Serial.{State as SerialState, Given};
+ghost use Rattle.ftc_serial.specs.Serial.{State as SerialState, Given, serial_run};
+ghost use Rattle.ftc_serial.specs.Serial as serial;
 ghost use Rattle.ftc_serial.specs.Take.{Outcome, taken};
 ghost use Rattle.ftc_serial.specs.Entries.{Touches};
 ghost use Rattle.ftc_serial.specs.Words.{AnyOf};
-ghost use Rattle.ftc_serial.specs.Trace.{trace_of};
+ghost use Rattle.ftc_serial.specs.Trace.{trace_of, names};
+ghost use Rattle.ftc_journal.specs.declared.event.Event.TheVariants as event;
+ghost use Rattle.ftc_journal.specs.declared.event.VisitName.{VisitName as AVisitName};
+ghost use Rattle.ftc_protocol.specs.Legal.{MayHappen};
 ghost use Rattle.ftc_store.specs.Store.{Content};
 ghost use Rattle.ftc_protocol.specs.Setting.{Setting, setting_of, IsSetting};
 ghost use Rattle.ftc_protocol.specs.Changes.{Changes};
@@ -28,10 +32,11 @@ ghost use Rattle.ftc_protocol.specs.Fates.{AreFates, MayLose};
 ghost use Rattle.ftc_protocol.specs.Finish.{IsComplete};
 ghost use Rattle.ftc_protocol.specs.Counts.{AreFew};
 ghost use Rattle.ftc_protocol.specs.Example.{two_monitors, undoing};
-ghost use Rattle.ftc_protocol.specs.Measure.{measure, IsBelow};
+ghost use Rattle.ftc_protocol.specs.Measure.{measure, IsBelow, work_left};
 ghost use Rattle.ftc_protocol.specs.Quiet.{IsQuiet, IsQuietEvent, AreDone};
 ghost use Rattle.ftc_protocol.specs.Run.{IsRun, IsFinished, state_after};
-ghost use Rattle.ftc_protocol.specs.Moment.{IsSound, steps_in};
+ghost use Rattle.ftc_protocol.specs.Moment.{IsSound, Stands, steps_in, released_in};
+ghost use Rattle.ftc_protocol.specs.Orderly.{IsLostAt, IsUndone, IsStanding, IsOrderly, IsNeeding, IsRiding, lines_done};
 ghost use Rattle.ftc_protocol.specs.Whole.{HasSerialRun};
 
 /// An accepted script for a chain and for its packets makes a setting of which the other laws speak.
@@ -176,4 +181,44 @@ pub fn what_tests_say()
         In (lacked_by setting.partitions (state_after setting (opening setting) journal).trace visits) group packet
         ↔ (IsTouching (state_after setting (opening setting) journal).trace group packet
         × ¬ Has setting.partitions (state_after setting (opening setting) journal).trace visits group packet) }
+{}
+
+/// What else holds after each front of a run.
+pub fn each_front()
+    ensures orderly { (setting : Setting) → IsSetting setting → (journal : List AnEvent) → IsRun setting journal →
+        IsOrderly setting (state_after setting (opening setting) journal) }
+    ensures lost { (setting : Setting) → IsSetting setting → (before after : List AnEvent) →
+        IsRun setting (before ++ after) → (packet number : ℕ) →
+        (state_after setting (opening setting) before).fate packet ≡ became.Lost number →
+        (state_after setting (opening setting) (before ++ after)).fate packet ≡ became.Lost number }
+    ensures counted { (setting : Setting) (journal : List AnEvent) →
+        (state_after setting (opening setting) journal).events ≡ length journal }
+    ensures licence { (setting : Setting) (journal : List AnEvent) → IsRun setting journal →
+        setting.lines ≡ lines_done 0 journal ++ (state_after setting (opening setting) journal).lines }
+    ensures released { (setting : Setting) → IsSetting setting → (journal : List AnEvent) → IsRun setting journal →
+        (end : SerialState) → serial_run setting.rules (serial.opening setting.packets) (trace_of journal) ≡ Some end →
+        end.released ≡ released_in (state_after setting (opening setting) journal).trace }
+    ensures filtered { (setting : Setting) → IsSetting setting → (journal : List AnEvent) → IsRun setting journal →
+        (end : SerialState) → serial_run setting.rules (serial.opening setting.packets) (trace_of journal) ≡ Some end →
+        (server packet : ℕ) → end.place packet ≡ Some (position.Filtered server) →
+        (state_after setting (opening setting) journal).fate packet ≡ became.Filtered server }
+    ensures work { (setting : Setting) → IsSetting setting → (before : List AnEvent) (event : AnEvent) →
+        IsRun setting (before ++ event ∷ []) →
+        work_left setting (state_after setting (opening setting) (before ++ event ∷ []))
+        < work_left setting (state_after setting (opening setting) before) }
+    ensures riding { (setting : Setting) → IsSetting setting → (journal : List AnEvent) → IsRun setting journal →
+        IsRiding (state_after setting (opening setting) journal) }
+    ensures needing { (setting : Setting) → IsSetting setting → (journal : List AnEvent) → IsRun setting journal →
+        IsNeeding (state_after setting (opening setting) journal) }
+    ensures lost_at { (setting : Setting) (journal : List AnEvent) (packet number : ℕ) →
+        (state_after setting (opening setting) journal).fate packet ≡ became.Lost number → IsLostAt setting journal number }
+    ensures undone { (setting : Setting) → IsSetting setting → (journal : List AnEvent) → IsRun setting journal →
+        (server : ℕ) (visits : List AVisitName) →
+        MayHappen setting (state_after setting (opening setting) journal) (event.Recover server visits) →
+        (group packet : ℕ) → In (names visits) group packet ↔ IsUndone setting (state_after setting (opening setting) journal) server group packet }
+    ensures stands { (setting : Setting) → IsSetting setting → (journal : List AnEvent) → IsRun setting journal →
+        (server packet : ℕ) → Stands setting (state_after setting (opening setting) journal) server packet
+        ↔ IsStanding setting (state_after setting (opening setting) journal) server packet }
+    ensures bounded { (setting : Setting) → IsSetting setting → (journal : List AnEvent) → IsRun setting journal →
+        length journal + work_left setting (state_after setting (opening setting) journal) ≤ work_left setting (opening setting) }
 {}
