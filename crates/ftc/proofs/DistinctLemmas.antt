@@ -5,9 +5,8 @@ use Rattle.std.specs.Borrow.{Bor}
 use Rattle.std.specs.List.{list_any}
 use Rattle.std.specs.Str.{bytes_eq}
 use Rattle.std.proofs.lemmas.Slice.Eq.{bytes_eq-Decides}
-use Rattle.ftc.specs.declared.words.Names.{Names}
-use Rattle.ftc.specs.Writing.{AreApart}
-use Rattle.ftc.specs.Words.{Words, is_command, is_distinct, are_names, AreNames}
+use Rattle.ftc.specs.Writing.{AreDifferent}
+use Rattle.ftc.specs.Words.{Named, Words, is_command, is_distinct, are_names, AreNames}
 
 both_left : (a b : Bool) → (a && b) ≡ true → a ≡ true
 both_left true b is = refl
@@ -49,19 +48,7 @@ rest_distinct w ws distinct = both_right (not (list_any (λ v. bytes_eq w.now v.
 names_distinct : (command : List ℕ) (w : Bor (List ℕ)) (ws : Words) → is_command command (w ∷ ws) ≡ true → is_distinct ws ≡ true
 names_distinct command w ws is = third _ (are_names ws) (is_distinct ws) _ is
 
--- the name is none of those of the files that a run writes
-pub record IsUnwritten (names : Names) (name : List ℕ) : Type 0 where
-  pub out : name ≢ names.out.now
-  pub journal : name ≢ names.journal.now
-  pub report : name ≢ names.report.now
-
-pub record AreDifferent (names : Names) : Type 0 where
-  pub chain : IsUnwritten names names.chain.now
-  pub script : IsUnwritten names names.script.now
-  pub capture : IsUnwritten names names.capture.now
-  pub written : AreApart names
-
-pub names_differ : (command : List ℕ) (words : Words) (names : Names) → is_command command words ≡ true → AreNames command words names → AreDifferent names
+pub names_differ : (command : List ℕ) (words : Words) (names : Named) → is_command command words ≡ true → AreNames command words names → AreDifferent names
 names_differ command [] names is are = cc
 names_differ command (w ∷ []) names is are = cc
 names_differ command (w ∷ a ∷ []) names is are = cc
@@ -70,12 +57,12 @@ names_differ command (w ∷ a ∷ b ∷ c ∷ []) names is are = cc
 names_differ command (w ∷ a ∷ b ∷ c ∷ d ∷ []) names is are = cc
 names_differ command (w ∷ a ∷ b ∷ c ∷ d ∷ e ∷ []) names is are = cc
 names_differ command (w ∷ a ∷ b ∷ c ∷ d ∷ e ∷ f ∷ ws) names is are =
-    let chain : a.now ≡ names.chain.now = ap (λ (texts : List (List ℕ)). get_or texts 1 []) are in
-    let script : b.now ≡ names.script.now = ap (λ (texts : List (List ℕ)). get_or texts 2 []) are in
-    let capture : c.now ≡ names.capture.now = ap (λ (texts : List (List ℕ)). get_or texts 3 []) are in
-    let out : d.now ≡ names.out.now = ap (λ (texts : List (List ℕ)). get_or texts 4 []) are in
-    let journal : e.now ≡ names.journal.now = ap (λ (texts : List (List ℕ)). get_or texts 5 []) are in
-    let report : f.now ≡ names.report.now = ap (λ (texts : List (List ℕ)). get_or texts 6 []) are in
+    let chain : a.now ≡ names.chain = ap (λ (texts : List (List ℕ)). get_or texts 1 []) are in
+    let script : b.now ≡ names.script = ap (λ (texts : List (List ℕ)). get_or texts 2 []) are in
+    let capture : c.now ≡ names.capture = ap (λ (texts : List (List ℕ)). get_or texts 3 []) are in
+    let out : d.now ≡ names.out = ap (λ (texts : List (List ℕ)). get_or texts 4 []) are in
+    let journal : e.now ≡ names.journal = ap (λ (texts : List (List ℕ)). get_or texts 5 []) are in
+    let report : f.now ≡ names.report = ap (λ (texts : List (List ℕ)). get_or texts 6 []) are in
     let from_chain = names_distinct command w (a ∷ b ∷ c ∷ d ∷ e ∷ f ∷ ws) is in
     let from_script = rest_distinct a (b ∷ c ∷ d ∷ e ∷ f ∷ ws) from_chain in
     let from_capture = rest_distinct b (c ∷ d ∷ e ∷ f ∷ ws) from_script in

@@ -1,50 +1,199 @@
 -- What the steps of a run leave is what it leaves at its end.
-use Rattle.std.proofs.Common.{◌≡◌, ◌∙◌, ℕ, List, ap, inr, subst}
-use Rattle.std.specs.Prelude.{Some}
+use Rattle.std.proofs.Common.{◌≡◌, ◌≢◌, ◌∙◌, sym, refl, ℕ, ◌<◌, ◌≤◌, Bool, true, false, if◌then◌else◌, List, [], length, Option, Some, inl, inr, ◌⊎◌, ap, subst, arith}
+use Rattle.std.specs.Prelude.{Ok}
+use Rattle.std.specs.Str.{bytes_eq}
+use Rattle.std.specs.List.{AllByRecursion}
+use Rattle.std.proofs.lemmas.Slice.Eq.{bytes_eq-Decides}
+use Rattle.ftc_base.specs.declared.limits.TheConstants.{MOST_SERVERS, MOST_RECORDS}
 use Rattle.ftc_outside.specs.Desk.{Files, SameFiles}
 use Rattle.ftc_outside.specs.declared.desk.DeskError.{DeskError}
 use Rattle.ftc_outside.specs.declared.desk.DeskError.TheVariants as desk
 use Rattle.ftc_pcap.specs.declared.capture.Capture.{Capture}
 use Rattle.ftc_journal.specs.declared.event.Event.{Event}
+use Rattle.ftc_journal.specs.declared.form.Version.TheVariants as version
 use Rattle.ftc_journal.specs.Text.{spelling}
+use Rattle.ftc_journal.specs.Reading.{journal_of}
+use Rattle.ftc_journal.specs.Spelling.{IsEvent}
 use Rattle.ftc_mbox.specs.Chain.{Chain}
+use Rattle.ftc_conf.specs.declared.limits.TheConstants.{MOST_FAILURES}
+use Rattle.ftc_conf.specs.Grammar.{chain_within}
+use Rattle.ftc_script.specs.Script.{ScriptShape}
+use Rattle.ftc_script.specs.Grammar.{script_of}
 use Rattle.ftc_serial.specs.Serial.{State}
+use Rattle.ftc_serial.specs.Packets.{bytes_of}
+use Rattle.ftc_serial.specs.Drive.{IsDriven}
+use Rattle.ftc_machine.proofs.Handed.{bytes_count}
+use Rattle.ftc_protocol.specs.declared.fate.Fate.{Fate}
+use Rattle.ftc_protocol.specs.declared.fate.Fate.TheVariants as became
 use Rattle.ftc_report.specs.Output.{out_bytes}
-use Rattle.ftc.specs.declared.words.Names.{Names}
+use Rattle.ftc_check.specs.Laws.{WholeRunsAreRight}
+use Rattle.ftc_check.specs.Verdict.{IsWhole}
+use Rattle.ftc_check.specs.Visited.{ReleasedVisited}
+use Rattle.ftc.specs.declared.limits.TheConstants.{MOST_RUN_FAILURES}
+use Rattle.ftc.specs.Words.{Named}
 use Rattle.ftc.specs.Output.{MayHold}
+use Rattle.ftc.specs.Plain.{plain_setting, IsWholeRun}
 use Rattle.ftc.specs.Status.{desk_status}
-use Rattle.ftc.specs.Writing.{AreWritten, AreCutShort}
-use Rattle.ftc.specs.Ending.{IsRun, IsDone, IsCutShort, Ends, report_bytes}
+use Rattle.ftc.specs.Writing.{IsUnwritten, AreDifferent, AreWritten, AreCutShort}
+use Rattle.ftc.specs.Ending.{AreTexts}
+use Rattle.ftc.specs.Checking.{ring_of, IsRightRun}
+use Rattle.ftc.specs.Done.{IsDone, IsCutShort, Ends, report_bytes}
+use Rattle.ftc.proofs.EventBounds.{driven_fit}
 
-module _ (names : Names) (old mid new : Files) (chain : Chain) (capture : Capture) (journal : List Event) (end : State) (report : List ℕ) (run : IsRun names old chain capture journal end) (told : report ≡ report_bytes chain capture journal) (same : SameFiles old mid) where
+-- ---- the files with one more
+
+abbrev put : List ℕ → List ℕ → Files → Files
+put at bytes files name = if bytes_eq name at then Some bytes else files name
+
+put_at : (at bytes : List ℕ) (files : Files) → put at bytes files at ≡ Some bytes
+put_at at bytes files = rw ((bytes_eq-Decides at at).1 refl) refl
+
+otherwise : {X : Type 0} (same : Bool) (one other : X) → (same ≡ true → ⊥) → (if same then one else other) ≡ other
+otherwise true one other not = absurd (not refl)
+otherwise false one other not = refl
+
+put_other : (at bytes : List ℕ) (files : Files) (name : List ℕ) → name ≢ at → put at bytes files name ≡ files name
+put_other at bytes files name not = otherwise (bytes_eq name at) (Some bytes) (files name) (λ same. not ((bytes_eq-Decides name at).0 same))
+
+not_inside : (fate : Fate) → (fate ≡ became.Released) ⊎ ((server : ℕ) × (fate ≡ became.Filtered server)) → fate ≢ became.Inside
+not_inside fate (inl is) inside = cc
+not_inside fate (inr (server, is)) inside = cc
+
+-- the laws of the crates below
+pub record EndLaws : Type 0 where
+  pub wider : (most more : ℕ) (text : List ℕ) (chain : Chain) → most ≤ more → chain_within most text ≡ Ok chain → chain_within more text ≡ Ok chain
+  pub few : (most : ℕ) (text : List ℕ) (chain : Chain) → chain_within most text ≡ Ok chain → (length chain.rules ≤ MOST_SERVERS) × (chain.failures < length chain.rules)
+  pub no_lines : (chain : Chain) (packets : ℕ) → length chain.rules ≤ MOST_SERVERS → chain.failures < length chain.rules → packets ≤ MOST_RECORDS
+      → script_of (ring_of chain) packets [] ≡ Ok (record { ring = ring_of chain; packets = packets; steps = []; loses = [] })
+  pub printed : (events : List Event) → AllByRecursion (IsEvent version.Second) events → journal_of (spelling events) ≡ Ok events
+  pub right : WholeRunsAreRight
+
+-- the run of these texts on one thread
+pub record IsPlainRun (names : Named) (files : Files) (chain : Chain) (capture : Capture) (journal : List Event) (end : State) : Type 0 where
+  pub texts : AreTexts names files chain capture
+  pub driven : IsDriven chain.rules (bytes_of capture.packets) journal end
+  pub visited : ReleasedVisited (length chain.rules) journal
+  pub whole : IsWholeRun chain (bytes_of capture.packets) journal
+
+module _ (laws : EndLaws) (names : Named) (old : Files) (apart : AreDifferent names) (chain : Chain) (capture : Capture) (journal : List Event) (end : State) (run : IsPlainRun names old chain capture journal end) where
+  abbrev script : ScriptShape
+  script = record { ring = ring_of chain; packets = length capture.packets; steps = []; loses = [] }
+
+  abbrev out : List ℕ
+  out = out_bytes capture end.released
+
+  abbrev report : List ℕ
+  report = report_bytes chain capture script journal
+
+  chain_right : chain_within MOST_FAILURES run.texts.chain_right.text ≡ Ok chain
+  chain_right = laws.wider MOST_RUN_FAILURES MOST_FAILURES run.texts.chain_right.text chain (omega arith) run.texts.chain_right.right
+
+  few : (length chain.rules ≤ MOST_SERVERS) × (chain.failures < length chain.rules)
+  few = laws.few MOST_FAILURES run.texts.chain_right.text chain chain_right
+
+  packets_few : length capture.packets ≤ MOST_RECORDS
+  packets_few = run.texts.capture_right.right.right.few
+
+  printed : journal_of (spelling journal) ≡ Ok journal
+  printed = laws.printed journal
+      (subst (AllByRecursion (IsEvent version.Second)) (sym run.driven.events)
+      (driven_fit (length chain.rules) (length (bytes_of capture.packets)) end.place few.0 (rw (bytes_count capture.packets) (omega (arith, packets_few)))))
+
+  whole : IsWhole (plain_setting chain (bytes_of capture.packets)) journal end
+  whole = record { run = ∣ run.whole.legal ∣₁; finished = ∣ run.whole.finished ∣₁; serial = run.driven.run }
+
+  module _ (new : Files) (written : AreWritten names out (spelling journal) report old new) where
+    -- a file that a run only read is as it was
+    still : (name : List ℕ) → IsUnwritten names name → new name ≡ old name
+    still name not = written.others name not.out not.journal not.report
+
+    right : IsRightRun names new
+    right = record {
+      judged = record {
+        chain = chain;
+        capture = capture;
+        script = script;
+        out = out;
+        journal = journal;
+        report = report;
+        checked = record {
+          inputs = record {
+            chain_right = record { text = run.texts.chain_right.text; file = still names.chain apart.chain ∙ run.texts.chain_right.file; right = chain_right };
+            capture_right = record { text = run.texts.capture_right.text; file = still names.capture apart.capture ∙ run.texts.capture_right.file; right = run.texts.capture_right.right };
+            script_right = record { text = []; file = still names.script apart.script ∙ run.texts.script_empty; right = laws.no_lines chain (length capture.packets) few.0 few.1 packets_few };
+          };
+          out_file = written.out_file;
+          journal_right = record { text = spelling journal; file = written.journal_file; right = printed };
+          report_file = written.report_file;
+        };
+        verdict_right = laws.right (plain_setting chain (bytes_of capture.packets)) capture journal end whole;
+      };
+      visited = ∣ run.visited ∣₁;
+      settled = λ packet below. not_inside _ (run.whole.done packet (rw (bytes_count capture.packets) below));
+    }
+
+    done : IsDone names old new
+    unfolding right
+    done = record {
+      right = right;
+      chosen = (end, run.driven);
+      journal_file = written.journal_file;
+      report_file = written.report_file;
+      others = written.others;
+    }
+
   -- all was written
-  pub ended_done : AreWritten names (out_bytes capture end.released) (spelling journal) report mid new → IsDone names old new
-  ended_done written = record {
-    chain = chain;
-    capture = capture;
-    journal = journal;
-    end = end;
-    run = run;
+  pub ended_done : (text : List ℕ) → text ≡ report → (mid new : Files) → SameFiles old mid → AreWritten names out (spelling journal) text mid new → IsDone names old new
+  ended_done text told mid new same written = done new (record {
     out_file = written.out_file;
     journal_file = written.journal_file;
     report_file = written.report_file ∙ ap Some told;
     others = λ name no-out no-journal no-report. written.others name no-out no-journal no-report ∙ same name;
+  })
+
+  -- all that would have been written
+  abbrev all : Files
+  all = put names.report report (put names.journal (spelling journal) (put names.out out old))
+
+  all_out : all names.out ≡ Some out
+  all_out = put_other names.report report (put names.journal (spelling journal) (put names.out out old)) names.out apart.written.out_report ∙ (put_other names.journal (spelling journal) (put names.out out old) names.out apart.written.out_journal ∙ put_at names.out out old)
+
+  all_journal : all names.journal ≡ Some (spelling journal)
+  all_journal = put_other names.report report (put names.journal (spelling journal) (put names.out out old)) names.journal apart.written.journal_report ∙ put_at names.journal (spelling journal) (put names.out out old)
+
+  all_written : AreWritten names out (spelling journal) report old all
+  all_written = record {
+    out_file = all_out;
+    journal_file = all_journal;
+    report_file = put_at names.report report (put names.journal (spelling journal) (put names.out out old));
+    others = λ name no-out no-journal no-report. put_other names.report report (put names.journal (spelling journal) (put names.out out old)) name no-report ∙ (put_other names.journal (spelling journal) (put names.out out old) name no-journal ∙ put_other names.out out old name no-out);
   }
 
-  cut_short : AreCutShort names (out_bytes capture end.released) (spelling journal) report mid new → IsCutShort names old new
-  cut_short cut = record {
-    chain = chain;
-    capture = capture;
-    journal = journal;
-    end = end;
-    run = run;
-    out_file = rw (← same names.out.now) cut.out_file;
-    journal_file = rw (← same names.journal.now) cut.journal_file;
-    report_file = subst (λ (whole : List ℕ). MayHold (old names.report.now) (new names.report.now) whole) told (rw (← same names.report.now) cut.report_file);
+  cut_short : (new : Files) → AreCutShort names out (spelling journal) report old new → IsCutShort names old new
+  cut_short new cut = record {
+    whole = all;
+    done = done all all_written;
+    out_file = (out, all_written.out_file, cut.out_file);
+    journal_file = (spelling journal, all_written.journal_file, cut.journal_file);
+    report_file = (report, all_written.report_file, cut.report_file);
+    journal_order = subst (λ (held : Option (List ℕ)). (new names.journal ≡ old names.journal) ⊎ (new names.out ≡ held)) (sym all_written.out_file) cut.journal_order;
+    report_order = subst (λ (held : Option (List ℕ)). (new names.report ≡ old names.report) ⊎ ((new names.out ≡ all names.out) × (new names.journal ≡ held))) (sym all_written.journal_file)
+        (subst (λ (held : Option (List ℕ)). (new names.report ≡ old names.report) ⊎ ((new names.out ≡ held) × (new names.journal ≡ Some (spelling journal)))) (sym all_written.out_file) cut.report_order);
+    others = cut.others;
+  }
+
+  moved : (text : List ℕ) → text ≡ report → (mid new : Files) → SameFiles old mid → AreCutShort names out (spelling journal) text mid new → AreCutShort names out (spelling journal) report old new
+  moved text told mid new same cut = record {
+    out_file = rw (← same names.out) cut.out_file;
+    journal_file = rw (← same names.journal) cut.journal_file;
+    report_file = subst (λ (bytes : List ℕ). MayHold (old names.report) (new names.report) bytes) told (rw (← same names.report) cut.report_file);
     others = λ name no-out no-journal no-report. cut.others name no-out no-journal no-report ∙ same name;
+    journal_order = rw (← same names.journal) cut.journal_order;
+    report_order = rw (← same names.report) cut.report_order;
   }
 
   -- the writing was cut short
-  pub ended_cut : (error : DeskError) → AreCutShort names (out_bytes capture end.released) (spelling journal) report mid new → Ends names old new (desk_status error)
-  ended_cut desk.Failed cut = inr (cut_short cut)
-  ended_cut desk.NoMemory cut = inr (cut_short cut)
+  pub ended_cut : (text : List ℕ) → text ≡ report → (mid new : Files) → SameFiles old mid → (sound : Type 0) (error : DeskError) → (sound → error ≡ desk.Failed → ⊥)
+      → AreCutShort names out (spelling journal) text mid new → Ends sound names old new (desk_status error)
+  ended_cut text told mid new same sound desk.Failed safe cut = inr (cut_short new (moved text told mid new same cut), λ s. safe s refl)
+  ended_cut text told mid new same sound desk.NoMemory safe cut = inr (cut_short new (moved text told mid new same cut))

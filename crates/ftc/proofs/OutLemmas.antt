@@ -60,3 +60,38 @@ piece_at big (p ∷ ps) (suc place) own bytes known written = piece_at big ps pl
 
 pub record_piece : (capture : Capture) (released : Released) (bytes : List ℕ) → released.packet < length capture.packets → IfSome (slice_get capture.packets released.packet) (λ packet. bytes ≡ record_bytes capture.big (rewritten packet released.bytes)) → bytes ≡ released_record capture released
 record_piece capture released bytes known written = piece_at capture.big capture.packets released.packet released.bytes bytes known written
+
+-- ---- pieces that are gathered before they are written
+
+rest_parted : {A : Type 0} (f : A → List ℕ) (xs : List A) (place : ℕ) → flat_map f xs ≡ flat_map f (take place xs) ++ flat_map f (drop place xs)
+rest_parted f [] zero = refl
+rest_parted f [] (suc place) = refl
+rest_parted f (y ∷ ys) zero = refl
+rest_parted f (y ∷ ys) (suc place) = ap (λ (bytes : List ℕ). f y ++ bytes) (rest_parted f ys place) ∙ sym (append_assoc (f y) (flat_map f (take place ys)) (flat_map f (drop place ys)))
+
+-- the whole is what the file has, the piece, and the items from that place on
+pub whole_is : {A : Type 0} (f : A → List ℕ) (xs : List A) (place : ℕ) (front before piece : List ℕ) → before ++ piece ≡ front ++ flat_map f (take place xs)
+    → front ++ flat_map f xs ≡ before ++ (piece ++ flat_map f (drop place xs))
+whole_is f xs place front before piece sofar =
+    ap (λ (bytes : List ℕ). front ++ bytes) (rest_parted f xs place)
+    ∙ (sym (append_assoc front (flat_map f (take place xs)) (flat_map f (drop place xs)))
+    ∙ (ap (λ (bytes : List ℕ). bytes ++ flat_map f (drop place xs)) (sym sofar)
+    ∙ append_assoc before piece (flat_map f (drop place xs))))
+
+-- and with one item more in the piece
+pub next_is : {A : Type 0} (f : A → List ℕ) (xs : List A) (place : ℕ) (x : A) (front before piece : List ℕ) → slice_get xs place ≡ Some x → before ++ piece ≡ front ++ flat_map f (take place xs)
+    → before ++ (piece ++ f x) ≡ front ++ flat_map f (take (place + 1) xs)
+next_is f xs place x front before piece is sofar =
+    let more : before ++ (piece ++ f x) ≡ front ++ flat_map f (take (suc place) xs) =
+        sym (append_assoc before piece (f x))
+        ∙ (ap (λ (bytes : List ℕ). bytes ++ f x) sofar
+        ∙ (append_assoc front (flat_map f (take place xs)) (f x)
+        ∙ ap (λ (bytes : List ℕ). front ++ bytes) (sym (one_more f xs place x is)))) in
+    rw add-one more
+
+-- a file that has a front of the whole
+pub has_front : (was now : Option (List ℕ)) (before more whole : List ℕ) → now ≡ Some before → whole ≡ before ++ more → MayHold was now whole
+has_front was now before more whole is whole-is = inr (before, is, (more, whole-is))
+
+pub moved_on : (old new : Option (List ℕ)) (piece before : List ℕ) → new ≡ Some (unwrap_or old [] ++ piece) → old ≡ Some before → (after : List ℕ) × (new ≡ Some after) × (after ++ [] ≡ before ++ piece)
+moved_on old new piece before grown is = (before ++ piece, grown ∙ ap (λ (o : Option (List ℕ)). Some (unwrap_or o [] ++ piece)) is, append-nil (before ++ piece))

@@ -8,3 +8,5 @@ pub mod Ending
 pub mod Checking
 pub mod Texts
 pub mod Writing
+pub mod Done
+pub mod Answers

@@ -4,6 +4,8 @@ ghost use Rattle.std.specs.Prelude.{◌≡◌, ◌≢◌, ◌≤◌, length, Err
 ghost use Rattle.ftc_outside.specs.Desk.{SameFiles, Rose};
 ghost use Rattle.ftc_ring.specs.Ring.{IsRing};
 ghost use Rattle.ftc_script.specs.Script.{IsScript};
+ghost use Rattle.ftc.specs.Answers.{IsCheckAnswer};
+ghost use Rattle.ftc.specs.Words.{shown};
 ghost use Rattle.ftc.specs.Checking.{ring_of, HasScript, HasJournal, AreChecked};
 ghost use Rattle.ftc.specs.Texts.{IsWholeScriptRefused, IsJournalRefused, AreWrong};
 
@@ -50,16 +52,19 @@ fn fetch_script<D: Desk>(
     packets: u32,
     desk: &mut D,
 ) -> Result<Script, Status>
-    ensures accepted { D.tells desk.old → IfOk result (HasScript names.entry (D.file desk.old) spec.now packets) }
+    ensures accepted { D.tells desk.old → IfOk result (HasScript (shown names.entry) (D.file desk.old) spec.now packets) }
     ensures ring { IfOk result (λ script. script.ring ≡ ring_of spec.now) }
     ensures packets { IfOk result (λ script. script.packets ≡ packets) }
     ensures right { IfOk result IsScript }
-    ensures refused { D.tells desk.old → IfErr result (IsWholeScriptRefused names.entry (D.file desk.old) spec.now packets) }
+    ensures refused { D.tells desk.old → IfErr result (IsWholeScriptRefused (D.sound desk.old) (shown names.entry) (D.file desk.old) spec.now packets) }
     ensures known { IfErr result (λ ending. ending ≢ Status.Usage) }
+    ensures answer { IfErr result IsCheckAnswer }
     ensures files { D.tells desk.old → SameFiles (D.file desk.old) (D.file desk.new) }
     ensures tells { D.tells desk.old → D.tells desk.new }
+    ensures sound { D.sound desk.old → D.sound desk.new }
     ensures count { D.faults desk.old ≤ D.faults desk.new }
     ensures cause { result ≡ Err Status.DeskFault → Rose (D.faults desk.old) (D.faults desk.new) }
+    ensures still { result ≢ Err Status.DeskFault → D.faults desk.new ≡ D.faults desk.old }
 {
     accepted();
     let text = desk.fetch(alloc, names.script)?;
@@ -69,13 +74,16 @@ fn fetch_script<D: Desk>(
 
 /// Fetches and reads the journal.
 fn fetch_journal<D: Desk>(alloc: Global, names: Names<'_>, desk: &mut D) -> Result<Journal, Status>
-    ensures accepted { D.tells desk.old → IfOk result (λ journal. HasJournal names.entry (D.file desk.old) journal.items) }
-    ensures refused { D.tells desk.old → IfErr result (IsJournalRefused names.entry (D.file desk.old)) }
+    ensures accepted { D.tells desk.old → IfOk result (λ journal. HasJournal (shown names.entry) (D.file desk.old) journal.items) }
+    ensures refused { D.tells desk.old → IfErr result (IsJournalRefused (D.sound desk.old) (shown names.entry) (D.file desk.old)) }
     ensures known { IfErr result (λ ending. ending ≢ Status.Usage) }
+    ensures answer { IfErr result IsCheckAnswer }
     ensures files { D.tells desk.old → SameFiles (D.file desk.old) (D.file desk.new) }
     ensures tells { D.tells desk.old → D.tells desk.new }
+    ensures sound { D.sound desk.old → D.sound desk.new }
     ensures count { D.faults desk.old ≤ D.faults desk.new }
     ensures cause { result ≡ Err Status.DeskFault → Rose (D.faults desk.old) (D.faults desk.new) }
+    ensures still { result ≢ Err Status.DeskFault → D.faults desk.new ≡ D.faults desk.old }
 {
     let text = desk.fetch(alloc, names.journal)?;
     let journal = read(alloc, text.as_slice())?;
@@ -89,15 +97,19 @@ pub fn read_files<D: Desk>(
     names: Names<'_>,
     desk: &mut D,
 ) -> Result<RunFiles, Status>
-    ensures accepted { D.tells desk.old → IfOk result (λ files. AreChecked names.entry (D.file desk.old) files.spec files.capture files.script files.out files.journal.items files.report) }
+    ensures accepted { D.tells desk.old → IfOk result (λ files. AreChecked (shown names.entry) (D.file desk.old) files.spec files.capture files.script files.out files.journal.items files.report) }
     ensures ring { IfOk result (λ files. files.script.ring ≡ ring_of files.spec) }
     ensures packets { IfOk result (λ files. files.script.packets ≡ length files.capture.packets) }
     ensures right { IfOk result (λ files. IsScript files.script) }
-    ensures refused { D.tells desk.old → IfErr result (AreWrong names.entry (D.file desk.old)) }
+    ensures refused { D.tells desk.old → IfErr result (AreWrong (D.sound desk.old) (shown names.entry) (D.file desk.old)) }
     ensures known { IfErr result (λ ending. ending ≢ Status.Usage) }
+    ensures answer { IfErr result IsCheckAnswer }
     ensures files { D.tells desk.old → SameFiles (D.file desk.old) (D.file desk.new) }
+    ensures tells { D.tells desk.old → D.tells desk.new }
+    ensures sound { D.sound desk.old → D.sound desk.new }
     ensures count { D.faults desk.old ≤ D.faults desk.new }
     ensures cause { result ≡ Err Status.DeskFault → Rose (D.faults desk.old) (D.faults desk.new) }
+    ensures still { result ≢ Err Status.DeskFault → D.faults desk.new ≡ D.faults desk.old }
 {
     let spec = fetch_chain(alloc, names, MOST_FAILURES, desk)?;
     let capture = fetch_capture(alloc, names, desk)?;

@@ -2,6 +2,8 @@
 
 ghost use Rattle.std.specs.Prelude.{◌≡◌, ◌≢◌, ◌≤◌};
 ghost use Rattle.ftc_outside.specs.Desk.{SameFiles, Rose};
+ghost use Rattle.ftc.specs.Answers.{IsCheckAnswer};
+ghost use Rattle.ftc.specs.Words.{shown};
 ghost use Rattle.ftc.specs.Checking.{Judges};
 
 use crate::files::{RunFiles, read_files};
@@ -15,11 +17,15 @@ use std::alloc::Global;
 
 /// Says whether the files of these names are those of one run. It changes no file.
 pub fn judge<D: Desk>(alloc: Global, names: Names<'_>, desk: &mut D) -> Status
-    ensures judges { D.tells desk.old → Judges names.entry (D.file desk.old) result }
+    ensures judges { D.tells desk.old → Judges (D.sound desk.old) (shown names.entry) (D.file desk.old) result }
     ensures files { D.tells desk.old → SameFiles (D.file desk.old) (D.file desk.new) }
     ensures known { result ≢ Status.Usage }
+    ensures answer { IsCheckAnswer result }
+    ensures tells { D.tells desk.old → D.tells desk.new }
+    ensures sound { D.sound desk.old → D.sound desk.new }
     ensures count { D.faults desk.old ≤ D.faults desk.new }
     ensures cause { result ≡ Status.DeskFault → Rose (D.faults desk.old) (D.faults desk.new) }
+    ensures still { result ≢ Status.DeskFault → D.faults desk.new ≡ D.faults desk.old }
 {
     let files = match read_files(alloc, names, desk) {
         Ok(files) => files,

@@ -1,7 +1,6 @@
 //! Runs a chain of middleboxes over a capture, and checks the files of such a run.
 #![tactic(auto)]
 
-mod agreement;
 mod drive;
 mod files;
 mod judge;

@@ -1,41 +1,64 @@
 //! Writing the files of a run.
 
-ghost use Rattle.std.specs.Prelude.{◌≡◌, ◌≤◌, OnOk, OnErr, IsErrOf, Some};
+ghost use Rattle.std.specs.Prelude.{◌≡◌, ◌≤◌, ◌++◌, OnOk, OnErr, IsErrOf, Some, None};
 ghost use Rattle.ftc_outside.specs.Desk.{SameButAt, GrewAt, MayHaveGrownAt, Rose};
 ghost use Rattle.ftc_journal.specs.Text.{spelling};
 ghost use Rattle.ftc_report.specs.Output.{released_record, out_bytes, IsWritable, AreWritable};
-ghost use Rattle.ftc.specs.Output.{MayHold};
+ghost use Rattle.ftc.specs.Output.{MayHold, IsMovedOn};
 
-use ftc_base::{Bytes, Released, ReleasedList};
+use ftc_base::{Bytes, NoMemory, Released, ReleasedList};
 use ftc_journal::{Journal, print};
 use ftc_outside::{Desk, DeskError};
 use ftc_pcap::{Capture, write_header, write_packet};
 use std::alloc::Global;
 
-/// Adds the record of a released packet to the file.
-fn append_record<D: Desk>(
+/// How long a piece gets before it is written.
+const PIECE: usize = 65_536;
+
+/// Adds the record of a released packet to the piece.
+fn add_record(
     alloc: Global,
-    desk: &mut D,
-    name: &str,
     capture: &Capture,
     released: &Released,
-) -> Result<(), DeskError>
+    piece: &mut Bytes,
+) -> Result<(), NoMemory>
     requires { IsWritable capture.now.packets released.now }
-    ensures written { D.tells desk.old → OnOk result (GrewAt name.now (released_record capture.now released.now) (D.file desk.old) (D.file desk.new)) }
-    ensures refused { D.tells desk.old → OnErr result (MayHaveGrownAt name.now (released_record capture.now released.now) (D.file desk.old) (D.file desk.new)) }
-    ensures others { D.tells desk.old → SameButAt name.now (D.file desk.old) (D.file desk.new) }
-    ensures tells { D.tells desk.old → D.tells desk.new }
-    ensures count { D.faults desk.old ≤ D.faults desk.new }
-    ensures cause { IsErrOf result DeskError.Failed → Rose (D.faults desk.old) (D.faults desk.new) }
+    ensures ok { OnOk result (piece.new ≡ piece.old ++ released_record capture.now released.now) }
+    ensures err { OnErr result (piece.new ≡ piece.old) }
 {
     let bytes = released.bytes.as_slice();
     let mut record = Bytes::new(alloc);
     write_packet(alloc, capture, released.packet, bytes, &mut record)?;
-    desk.append(alloc, name, record.as_slice())
+    piece.append(record.as_slice())
+}
+
+/// Adds a long piece to the file, and goes on with an empty one.
+fn flush_long<D: Desk>(
+    alloc: Global,
+    desk: &mut D,
+    name: &str,
+    piece: &mut Bytes,
+) -> Result<(), DeskError>
+    ensures moved { D.tells desk.old → OnOk result (IsMovedOn (D.file desk.old name.now) piece.old (D.file desk.new name.now) piece.new) }
+    ensures refused { D.tells desk.old → OnErr result (MayHaveGrownAt name.now piece.old (D.file desk.old) (D.file desk.new)) }
+    ensures others { D.tells desk.old → SameButAt name.now (D.file desk.old) (D.file desk.new) }
+    ensures tells { D.tells desk.old → D.tells desk.new }
+    ensures sound { D.sound desk.old → D.sound desk.new }
+    ensures count { D.faults desk.old ≤ D.faults desk.new }
+    ensures cause { IsErrOf result DeskError.Failed → Rose (D.faults desk.old) (D.faults desk.new) }
+    ensures still { (IsErrOf result DeskError.Failed → ⊥) → D.faults desk.new ≡ D.faults desk.old }
+    ensures absent { D.sound desk.old → IsErrOf result DeskError.Failed → D.file desk.old name.now ≡ None }
+{
+    if piece.len() < PIECE {
+        return Ok(());
+    }
+    desk.append(alloc, name, piece.as_slice())?;
+    *piece = Bytes::new(alloc);
+    Ok(())
 }
 
 /// Writes the capture's header, and the records of the released packets in this order, to a new file
-/// of that name.
+/// of that name. The file grows by large pieces.
 pub fn write_out<D: Desk>(
     alloc: Global,
     desk: &mut D,
@@ -48,17 +71,20 @@ pub fn write_out<D: Desk>(
     ensures refused { D.tells desk.old → OnErr result (MayHold (D.file desk.old name.now) (D.file desk.new name.now) (out_bytes capture.now released.now)) }
     ensures others { D.tells desk.old → SameButAt name.now (D.file desk.old) (D.file desk.new) }
     ensures tells { D.tells desk.old → D.tells desk.new }
+    ensures sound { D.sound desk.old → D.sound desk.new }
     ensures count { D.faults desk.old ≤ D.faults desk.new }
     ensures cause { IsErrOf result DeskError.Failed → Rose (D.faults desk.old) (D.faults desk.new) }
+    ensures still { (IsErrOf result DeskError.Failed → ⊥) → D.faults desk.new ≡ D.faults desk.old }
+    ensures safe { D.tells desk.old → D.sound desk.old → IsErrOf result DeskError.Failed → ⊥ }
 {
     desk.make(alloc, name)?;
-    let mut header = Bytes::new(alloc);
-    write_header(capture, &mut header)?;
-    desk.append(alloc, name, header.as_slice())?;
+    let mut piece = Bytes::new(alloc);
+    write_header(capture, &mut piece)?;
     for packet in released.as_slice() {
-        append_record(alloc, desk, name, capture, packet)?;
+        flush_long(alloc, desk, name, &mut piece)?;
+        add_record(alloc, capture, packet, &mut piece)?;
     }
-    Ok(())
+    desk.append(alloc, name, piece.as_slice())
 }
 
 /// Writes a text to a new file of that name.
@@ -72,8 +98,11 @@ pub fn write_text<D: Desk>(
     ensures refused { D.tells desk.old → OnErr result (MayHold (D.file desk.old name.now) (D.file desk.new name.now) text.now) }
     ensures others { D.tells desk.old → SameButAt name.now (D.file desk.old) (D.file desk.new) }
     ensures tells { D.tells desk.old → D.tells desk.new }
+    ensures sound { D.sound desk.old → D.sound desk.new }
     ensures count { D.faults desk.old ≤ D.faults desk.new }
     ensures cause { IsErrOf result DeskError.Failed → Rose (D.faults desk.old) (D.faults desk.new) }
+    ensures still { (IsErrOf result DeskError.Failed → ⊥) → D.faults desk.new ≡ D.faults desk.old }
+    ensures safe { D.tells desk.old → D.sound desk.old → IsErrOf result DeskError.Failed → ⊥ }
 {
     desk.make(alloc, name)?;
     desk.append(alloc, name, text.as_slice())
@@ -90,8 +119,11 @@ pub fn write_journal<D: Desk>(
     ensures refused { D.tells desk.old → OnErr result (MayHold (D.file desk.old name.now) (D.file desk.new name.now) (spelling journal.now.items)) }
     ensures others { D.tells desk.old → SameButAt name.now (D.file desk.old) (D.file desk.new) }
     ensures tells { D.tells desk.old → D.tells desk.new }
+    ensures sound { D.sound desk.old → D.sound desk.new }
     ensures count { D.faults desk.old ≤ D.faults desk.new }
     ensures cause { IsErrOf result DeskError.Failed → Rose (D.faults desk.old) (D.faults desk.new) }
+    ensures still { (IsErrOf result DeskError.Failed → ⊥) → D.faults desk.new ≡ D.faults desk.old }
+    ensures safe { D.tells desk.old → D.sound desk.old → IsErrOf result DeskError.Failed → ⊥ }
 {
     let text = print(alloc, journal)?;
     write_text(alloc, desk, name, &text)

@@ -2,6 +2,8 @@
 
 ghost use Rattle.std.specs.Prelude.{◌≡◌, ◌≢◌, ◌≤◌, [], Some, Err, IfOk, IfErr, OnOk};
 ghost use Rattle.ftc_outside.specs.Desk.{SameFiles, Rose};
+ghost use Rattle.ftc.specs.Answers.{IsRunAnswer};
+ghost use Rattle.ftc.specs.Words.{shown};
 ghost use Rattle.ftc.specs.declared.limits.TheConstants.{MOST_RUN_FAILURES};
 ghost use Rattle.ftc.specs.Ending.{HasChain, HasCapture, AreTexts};
 ghost use Rattle.ftc.specs.Texts.{IsChainRefused, IsCaptureRefused, IsScriptRefused, AreRefused};
@@ -30,14 +32,17 @@ pub fn fetch_chain<D: Desk>(
     most: u8,
     desk: &mut D,
 ) -> Result<ChainSpec, Status>
-    ensures accepted { D.tells desk.old → IfOk result (HasChain most names.entry (D.file desk.old)) }
+    ensures accepted { D.tells desk.old → IfOk result (HasChain most (shown names.entry) (D.file desk.old)) }
     ensures within { IfOk result (λ spec. spec.failures ≤ most) }
-    ensures refused { D.tells desk.old → IfErr result (IsChainRefused most names.entry (D.file desk.old)) }
+    ensures refused { D.tells desk.old → IfErr result (IsChainRefused (D.sound desk.old) most (shown names.entry) (D.file desk.old)) }
     ensures known { IfErr result (λ ending. ending ≢ Status.Usage) }
+    ensures answer { IfErr result IsRunAnswer }
     ensures files { D.tells desk.old → SameFiles (D.file desk.old) (D.file desk.new) }
     ensures tells { D.tells desk.old → D.tells desk.new }
+    ensures sound { D.sound desk.old → D.sound desk.new }
     ensures count { D.faults desk.old ≤ D.faults desk.new }
     ensures cause { result ≡ Err Status.DeskFault → Rose (D.faults desk.old) (D.faults desk.new) }
+    ensures still { result ≢ Err Status.DeskFault → D.faults desk.new ≡ D.faults desk.old }
 {
     bounded();
     let text = desk.fetch(alloc, names.chain)?;
@@ -51,13 +56,16 @@ pub fn fetch_capture<D: Desk>(
     names: Names<'_>,
     desk: &mut D,
 ) -> Result<Capture, Status>
-    ensures accepted { D.tells desk.old → IfOk result (HasCapture names.entry (D.file desk.old)) }
-    ensures refused { D.tells desk.old → IfErr result (IsCaptureRefused names.entry (D.file desk.old)) }
+    ensures accepted { D.tells desk.old → IfOk result (HasCapture (shown names.entry) (D.file desk.old)) }
+    ensures refused { D.tells desk.old → IfErr result (IsCaptureRefused (D.sound desk.old) (shown names.entry) (D.file desk.old)) }
     ensures known { IfErr result (λ ending. ending ≢ Status.Usage) }
+    ensures answer { IfErr result IsRunAnswer }
     ensures files { D.tells desk.old → SameFiles (D.file desk.old) (D.file desk.new) }
     ensures tells { D.tells desk.old → D.tells desk.new }
+    ensures sound { D.sound desk.old → D.sound desk.new }
     ensures count { D.faults desk.old ≤ D.faults desk.new }
     ensures cause { result ≡ Err Status.DeskFault → Rose (D.faults desk.old) (D.faults desk.new) }
+    ensures still { result ≢ Err Status.DeskFault → D.faults desk.new ≡ D.faults desk.old }
 {
     let text = desk.fetch(alloc, names.capture)?;
     let capture = read_capture(alloc, text.as_slice())?;
@@ -67,12 +75,15 @@ pub fn fetch_capture<D: Desk>(
 /// Fetches the script. As yet every script that says something is refused.
 fn fetch_script<D: Desk>(alloc: Global, names: Names<'_>, desk: &mut D) -> Result<(), Status>
     ensures accepted { D.tells desk.old → OnOk result (D.file desk.old names.entry.script.now ≡ Some []) }
-    ensures refused { D.tells desk.old → IfErr result (IsScriptRefused names.entry (D.file desk.old)) }
+    ensures refused { D.tells desk.old → IfErr result (IsScriptRefused (D.sound desk.old) (shown names.entry) (D.file desk.old)) }
     ensures known { IfErr result (λ ending. ending ≢ Status.Usage) }
+    ensures answer { IfErr result IsRunAnswer }
     ensures files { D.tells desk.old → SameFiles (D.file desk.old) (D.file desk.new) }
     ensures tells { D.tells desk.old → D.tells desk.new }
+    ensures sound { D.sound desk.old → D.sound desk.new }
     ensures count { D.faults desk.old ≤ D.faults desk.new }
     ensures cause { result ≡ Err Status.DeskFault → Rose (D.faults desk.old) (D.faults desk.new) }
+    ensures still { result ≢ Err Status.DeskFault → D.faults desk.new ≡ D.faults desk.old }
 {
     let text = desk.fetch(alloc, names.script)?;
     if text.is_empty() {
@@ -84,14 +95,17 @@ fn fetch_script<D: Desk>(alloc: Global, names: Names<'_>, desk: &mut D) -> Resul
 
 /// Fetches and reads chain, capture and script in this order, each before the next.
 pub fn read_texts<D: Desk>(alloc: Global, names: Names<'_>, desk: &mut D) -> Result<Texts, Status>
-    ensures accepted { D.tells desk.old → IfOk result (λ texts. AreTexts names.entry (D.file desk.old) texts.spec texts.capture) }
+    ensures accepted { D.tells desk.old → IfOk result (λ texts. AreTexts (shown names.entry) (D.file desk.old) texts.spec texts.capture) }
     ensures plain { IfOk result (λ texts. texts.spec.failures ≡ 0) }
-    ensures refused { D.tells desk.old → IfErr result (AreRefused names.entry (D.file desk.old)) }
+    ensures refused { D.tells desk.old → IfErr result (AreRefused (D.sound desk.old) (shown names.entry) (D.file desk.old)) }
     ensures known { IfErr result (λ ending. ending ≢ Status.Usage) }
+    ensures answer { IfErr result IsRunAnswer }
     ensures files { D.tells desk.old → SameFiles (D.file desk.old) (D.file desk.new) }
     ensures tells { D.tells desk.old → D.tells desk.new }
+    ensures sound { D.sound desk.old → D.sound desk.new }
     ensures count { D.faults desk.old ≤ D.faults desk.new }
     ensures cause { result ≡ Err Status.DeskFault → Rose (D.faults desk.old) (D.faults desk.new) }
+    ensures still { result ≢ Err Status.DeskFault → D.faults desk.new ≡ D.faults desk.old }
 {
     let spec = fetch_chain(alloc, names, MOST_RUN_FAILURES, desk)?;
     let capture = fetch_capture(alloc, names, desk)?;

@@ -1,5 +1,5 @@
 -- What a failing desk shows: the desk below it, the numbers of the calls that are to fail, how many calls were made, how many failed.
-use Rattle.std.specs.Prelude.{ℕ, List, Option}
+use Rattle.std.specs.Prelude.{ℕ, ◌≤◌, List, Option, Contains}
 use Rattle.ftc_outside.specs.Memory.{file_of}
 use Rattle.ftc_outside.specs.declared.memory.MemoryDesk.{MemoryDesk}
 use Rattle.ftc_outside.specs.declared.failing.FailingDesk.{FailingDesk}
@@ -18,3 +18,7 @@ faults_of desk = desk.faults
 
 abbrev pub shown_of : FailingDesk → List ℕ → Option (List ℕ)
 shown_of desk name = file_of desk.inner name
+
+-- no listed call is left
+abbrev pub IsSound : FailingDesk → Type 0
+IsSound desk = (call : ℕ) → desk.calls ≤ call → Contains desk.listed.items call → ⊥

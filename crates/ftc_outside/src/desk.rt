@@ -1,6 +1,6 @@
 //! Files by name, and a count of faults.
 
-ghost use Rattle.std.specs.Prelude.{◌≡◌, ◌≤◌, ◌++◌, [], List, ℕ, Option, Some, IfOk, OnOk, OnErr, IsErrOf};
+ghost use Rattle.std.specs.Prelude.{◌≡◌, ◌≢◌, ◌≤◌, ◌++◌, [], List, ℕ, Option, Some, None, IfOk, OnOk, OnErr, IsErrOf, codes};
 ghost use Rattle.ftc_outside.specs.declared.desk.DeskError.TheVariants as error;
 ghost use Rattle.ftc_outside.specs.Desk.{SameFiles, SameButAt, EmptiedAt, GrewAt, MayHaveEmptiedAt, MayHaveGrownAt, Rose};
 
@@ -56,13 +56,19 @@ pub trait Desk {
     /// How often a call has failed. The count never falls.
     ghost faults: { Self → ℕ };
 
+    /// Whether a call fails only where there is no such file.
+    ghost sound: { Self → Type 0 };
+
     /// The bytes of the file.
     fn fetch(&mut self, alloc: Global, name: &str) -> Result<Bytes, DeskError>
         ensures bytes { tells self.old → IfOk result (λ bytes. file self.old name.now ≡ Some bytes) }
         ensures files { tells self.old → SameFiles (file self.old) (file self.new) }
         ensures tells { tells self.old → tells self.new }
         ensures count { faults self.old ≤ faults self.new }
-        ensures cause { IsErrOf result DeskError.Failed → Rose (faults self.old) (faults self.new) };
+        ensures cause { IsErrOf result DeskError.Failed → Rose (faults self.old) (faults self.new) }
+        ensures still { (IsErrOf result DeskError.Failed → ⊥) → faults self.new ≡ faults self.old }
+        ensures sound { sound self.old → sound self.new }
+        ensures absent { sound self.old → IsErrOf result DeskError.Failed → file self.old name.now ≡ None };
 
     /// Leaves an empty file of that name.
     fn make(&mut self, alloc: Global, name: &str) -> Result<(), DeskError>
@@ -71,7 +77,10 @@ pub trait Desk {
         ensures others { tells self.old → SameButAt name.now (file self.old) (file self.new) }
         ensures tells { tells self.old → tells self.new }
         ensures count { faults self.old ≤ faults self.new }
-        ensures cause { IsErrOf result DeskError.Failed → Rose (faults self.old) (faults self.new) };
+        ensures cause { IsErrOf result DeskError.Failed → Rose (faults self.old) (faults self.new) }
+        ensures still { (IsErrOf result DeskError.Failed → ⊥) → faults self.new ≡ faults self.old }
+        ensures sound { sound self.old → sound self.new }
+        ensures absent { sound self.old → IsErrOf result DeskError.Failed → ⊥ };
 
     /// Adds the bytes at the file's end.
     fn append(&mut self, alloc: Global, name: &str, bytes: &[u8]) -> Result<(), DeskError>
@@ -80,5 +89,8 @@ pub trait Desk {
         ensures others { tells self.old → SameButAt name.now (file self.old) (file self.new) }
         ensures tells { tells self.old → tells self.new }
         ensures count { faults self.old ≤ faults self.new }
-        ensures cause { IsErrOf result DeskError.Failed → Rose (faults self.old) (faults self.new) };
+        ensures cause { IsErrOf result DeskError.Failed → Rose (faults self.old) (faults self.new) }
+        ensures still { (IsErrOf result DeskError.Failed → ⊥) → faults self.new ≡ faults self.old }
+        ensures sound { sound self.old → sound self.new }
+        ensures absent { sound self.old → IsErrOf result DeskError.Failed → (file self.old name.now ≡ None) × (name.now ≢ codes "-") };
 }

@@ -49,8 +49,10 @@ impl FailingDesk {
         ensures inner { inner_of self.new ≡ inner_of self.old }
         ensures list { listed_of self.new ≡ listed_of self.old }
         ensures calls { calls_of self.new ≡ counted (calls_of self.old) }
+        ensures rises { calls_of self.old ≤ calls_of self.new }
         ensures count { faults_of self.old ≤ faults_of self.new }
         ensures rose { IsTrue result → Rose (faults_of self.old) (faults_of self.new) }
+        ensures still { (IsTrue result → ⊥) → faults_of self.new ≡ faults_of self.old }
     {
         let fails = self.listed.contains(&self.calls);
         self.calls = self.calls.saturating_add(1);
@@ -68,6 +70,7 @@ impl FailingDesk {
         ensures calls { calls_of self.new ≡ calls_of self.old }
         ensures count { faults_of self.old ≤ faults_of self.new }
         ensures rose { IsErrOf result DeskError.Failed → Rose (faults_of self.old) (faults_of self.new) }
+        ensures still { (IsErrOf result DeskError.Failed → ⊥) → faults_of self.new ≡ faults_of self.old }
     {
         if let Err(DeskError::Failed) = answer {
             self.faults = self.faults.saturating_add(1);
@@ -78,7 +81,7 @@ impl FailingDesk {
 
 impl Desk for FailingDesk {
     ghost use Rattle.ftc_outside.specs.Memory.{file_of};
-    ghost use Rattle.ftc_outside.specs.Failing.{inner_of, listed_of, calls_of, faults_of, shown_of};
+    ghost use Rattle.ftc_outside.specs.Failing.{inner_of, listed_of, calls_of, faults_of, shown_of, IsSound};
 
     ghost tells = { λ _. ⊤ };
 
@@ -86,12 +89,17 @@ impl Desk for FailingDesk {
 
     ghost faults = { faults_of };
 
+    ghost sound = { IsSound };
+
     fn fetch(&mut self, alloc: Global, name: &str) -> Result<Bytes, DeskError>
         ensures bytes { ⊤ → IfOk result (λ bytes. shown_of self.old name.now ≡ Some bytes) }
         ensures files { ⊤ → SameFiles (shown_of self.old) (shown_of self.new) }
         ensures tells { ⊤ → ⊤ }
         ensures count { faults_of self.old ≤ faults_of self.new }
         ensures cause { IsErrOf result DeskError.Failed → Rose (faults_of self.old) (faults_of self.new) }
+        ensures still { (IsErrOf result DeskError.Failed → ⊥) → faults_of self.new ≡ faults_of self.old }
+        ensures sound { IsSound self.old → IsSound self.new }
+        ensures absent { IsSound self.old → IsErrOf result DeskError.Failed → shown_of self.old name.now ≡ None }
 
         // It fails exactly in a listed call and where there is no such file.
         ensures failed { IsErrOf result DeskError.Failed ↔ (Contains (listed_of self.old) (calls_of self.old) ⊎ (shown_of self.old name.now ≡ None)) }
@@ -113,6 +121,9 @@ impl Desk for FailingDesk {
         ensures tells { ⊤ → ⊤ }
         ensures count { faults_of self.old ≤ faults_of self.new }
         ensures cause { IsErrOf result DeskError.Failed → Rose (faults_of self.old) (faults_of self.new) }
+        ensures still { (IsErrOf result DeskError.Failed → ⊥) → faults_of self.new ≡ faults_of self.old }
+        ensures sound { IsSound self.old → IsSound self.new }
+        ensures absent { IsSound self.old → IsErrOf result DeskError.Failed → ⊥ }
 
         // It fails exactly in a listed call, which changes nothing.
         ensures failed { IsErrOf result DeskError.Failed ↔ Contains (listed_of self.old) (calls_of self.old) }
@@ -135,6 +146,9 @@ impl Desk for FailingDesk {
         ensures tells { ⊤ → ⊤ }
         ensures count { faults_of self.old ≤ faults_of self.new }
         ensures cause { IsErrOf result DeskError.Failed → Rose (faults_of self.old) (faults_of self.new) }
+        ensures still { (IsErrOf result DeskError.Failed → ⊥) → faults_of self.new ≡ faults_of self.old }
+        ensures sound { IsSound self.old → IsSound self.new }
+        ensures absent { IsSound self.old → IsErrOf result DeskError.Failed → (shown_of self.old name.now ≡ None) × (name.now ≢ codes "-") }
 
         // It fails exactly in a listed call and where there is neither such a file nor the name of
         // standard output, and then changes nothing.

@@ -95,6 +95,8 @@ impl<R: Files + Print + Drop> Desk for FileDesk<R> {
 
     ghost faults = { λ desk. desk.faults };
 
+    ghost sound = { λ _. ⊥ };
+
     fn fetch(&mut self, alloc: Global, name: &str) -> Result<Bytes, DeskError> {
         let Ok(mut file) = OpenOptions::new().read(true).open(&self.rt, name) else {
             return Err(self.fail());

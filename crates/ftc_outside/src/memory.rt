@@ -65,15 +65,20 @@ impl Desk for MemoryDesk {
 
     ghost faults = { faults_of };
 
+    ghost sound = { λ _. ⊤ };
+
     fn fetch(&mut self, _alloc: Global, name: &str) -> Result<Bytes, DeskError>
         ensures bytes { ⊤ → IfOk result (λ bytes. file_of self.old name.now ≡ Some bytes) }
         ensures files { ⊤ → SameFiles (file_of self.old) (file_of self.new) }
         ensures tells { ⊤ → ⊤ }
         ensures count { faults_of self.old ≤ faults_of self.new }
         ensures cause { IsErrOf result DeskError.Failed → Rose (faults_of self.old) (faults_of self.new) }
+        ensures still { (IsErrOf result DeskError.Failed → ⊥) → faults_of self.new ≡ faults_of self.old }
+        ensures sound { ⊤ → ⊤ }
+        ensures absent { ⊤ → IsErrOf result DeskError.Failed → file_of self.old name.now ≡ None }
 
         // It fails exactly where there is no such file.
-        ensures absent { IsErrOf result DeskError.Failed ↔ (file_of self.old name.now ≡ None) }
+        ensures failed { IsErrOf result DeskError.Failed ↔ (file_of self.old name.now ≡ None) }
     {
         match self.files.get(name) {
             Some(held) => Ok(held.copy()?),
@@ -91,6 +96,9 @@ impl Desk for MemoryDesk {
         ensures tells { ⊤ → ⊤ }
         ensures count { faults_of self.old ≤ faults_of self.new }
         ensures cause { IsErrOf result DeskError.Failed → Rose (faults_of self.old) (faults_of self.new) }
+        ensures still { (IsErrOf result DeskError.Failed → ⊥) → faults_of self.new ≡ faults_of self.old }
+        ensures sound { ⊤ → ⊤ }
+        ensures absent { ⊤ → IsErrOf result DeskError.Failed → ⊥ }
 
         // It never fails, and without memory it changes nothing.
         ensures memory { IsOkUnless result DeskError.NoMemory }
@@ -107,10 +115,13 @@ impl Desk for MemoryDesk {
         ensures tells { ⊤ → ⊤ }
         ensures count { faults_of self.old ≤ faults_of self.new }
         ensures cause { IsErrOf result DeskError.Failed → Rose (faults_of self.old) (faults_of self.new) }
+        ensures still { (IsErrOf result DeskError.Failed → ⊥) → faults_of self.new ≡ faults_of self.old }
+        ensures sound { ⊤ → ⊤ }
+        ensures absent { ⊤ → IsErrOf result DeskError.Failed → (file_of self.old name.now ≡ None) × (name.now ≢ codes "-") }
 
         // It fails exactly where there is neither such a file nor the name of standard output, and then
         // changes nothing.
-        ensures absent { IsErrOf result DeskError.Failed ↔ ((file_of self.old name.now ≡ None) × (name.now ≢ codes "-")) }
+        ensures failed { IsErrOf result DeskError.Failed ↔ ((file_of self.old name.now ≡ None) × (name.now ≢ codes "-")) }
         ensures unchanged { OnErr result (SameFiles (file_of self.old) (file_of self.new)) }
     {
         if let Some(held) = self.files.get_mut(name) {

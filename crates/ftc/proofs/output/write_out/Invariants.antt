@@ -1,5 +1,5 @@
--- the file has the header and the records so far
-use Rattle.std.proofs.Common.{◌≡◌, ◌≤◌, ◌++◌, take, Some}
+-- the file and the piece have the header and the records so far
+use Rattle.std.proofs.Common.{◌≡◌, ◌≤◌, ◌++◌, take, Some, List, ℕ}
 use Rattle.std.specs.List.{flat_map}
 use Rattle.ftc_outside.specs.Desk.{SameButAt}
 use Rattle.ftc_report.specs.Output.{released_record}
@@ -7,8 +7,10 @@ use Rattle.ftc.proofs.output.write_out.Given as goal
 
 abbrev pub invariant-loop-packet : goal.invariant-loop-packet
 invariant-loop-packet g l = record {
-  written : g.D.Desk.tells l.fn.desk → g.D.Desk.file l.desk l.name ≡ Some (l.capture.header ++ flat_map (released_record l.capture) (take l.packet-index l.packet-items));
+  written : g.D.Desk.tells l.fn.desk → (before : List ℕ) × (g.D.Desk.file l.desk l.name ≡ Some before) × (before ++ l.piece ≡ l.capture.header ++ flat_map (released_record l.capture) (take l.packet-index l.packet-items));
   others : g.D.Desk.tells l.fn.desk → SameButAt l.name (g.D.Desk.file l.fn.desk) (g.D.Desk.file l.desk);
   tells : g.D.Desk.tells l.fn.desk → g.D.Desk.tells l.desk;
   count : g.D.Desk.faults l.fn.desk ≤ g.D.Desk.faults l.desk;
+  still : g.D.Desk.faults l.desk ≡ g.D.Desk.faults l.fn.desk;
+  sound : g.D.Desk.sound l.fn.desk → g.D.Desk.sound l.desk;
 }
