@@ -1,5 +1,5 @@
 -- The two laws of what a visit changes.
-use Rattle.std.proofs.Common.{◌≡◌, ℕ, List, [], ◌∷◌, inl, inr, map, refl, ap}
+use Rattle.std.proofs.Common.{◌≡◌, ◌↔◌, ℕ, List, [], ◌∷◌, inl, inr, map, refl, ap}
 use Rattle.ftc_base.specs.Partition.{partition_of}
 use Rattle.ftc_base.specs.declared.ask.Write.{Write}
 use Rattle.std.specs.List.{AllByRecursion}
@@ -11,6 +11,18 @@ use Rattle.ftc_protocol.specs.Changes.{changes, Changes}
 pub any_mapped : {A B : Type 0} (P : B → Type 0) (f : A → B) (xs : List A) → AnyOf (λ (x : A). P (f x)) xs → AnyOf P (map f xs)
 any_mapped P f [] any = any
 any_mapped P f (x ∷ xs) any = elim any [ inl here ↦ inl here | inr there ↦ inr (any_mapped P f xs there) ]
+
+any_of_mapped : {A B : Type 0} (P : B → Type 0) (f : A → B) (xs : List A) → AnyOf P (map f xs) → AnyOf (λ x. P (f x)) xs
+any_of_mapped P f [] any = absurd any
+any_of_mapped P f (x ∷ xs) any = elim any [ inl here ↦ inl here | inr there ↦ inr (any_of_mapped P f xs there) ]
+
+-- the partitions that a visit changes are those of the written keys
+pub changed_written : (partitions : ℕ) (outcome : Outcome) (i : ℕ) → Changes partitions outcome i ↔ WritesIn partitions outcome i
+unfolding changes
+changed_written partitions outcome i = (
+  any_of_mapped (λ (changed : ℕ). changed ≡ i) (λ (write : Write). partition_of partitions write.key) outcome.writes,
+  any_mapped (λ (changed : ℕ). changed ≡ i) (λ (write : Write). partition_of partitions write.key) outcome.writes,
+)
 
 -- a partition of a written key is changed
 pub written_changed : (partitions : ℕ) (outcome : Outcome) (i : ℕ) → WritesIn partitions outcome i → Changes partitions outcome i

@@ -23,7 +23,7 @@ use Rattle.ftc_protocol.proofs.Premises.{IsGood}
 use Rattle.ftc_protocol.proofs.Supposed.{is_good, opens_fit}
 use Rattle.ftc_protocol.proofs.Places.{serial_of}
 use Rattle.ftc_protocol.proofs.Stores.{store_all}
-use Rattle.ftc_protocol.proofs.Sound.{serial_runs}
+use Rattle.ftc_protocol.proofs.Sound.{serial_runs, records_are}
 use Rattle.ftc_protocol.proofs.Finished.{IsLive, keeps_live, live_opens, stuck, no_messages, quiet_gaps}
 use Rattle.ftc_protocol.proofs.Full.{full}
 use Rattle.ftc_protocol.proofs.Lined.{IsLined, AreInOrder, all_later, keeps_lines, opens_lined}
@@ -141,6 +141,7 @@ module _ (c : Setting) (good : IsGood c) (s : ChainState) (r : IsReached c s) (f
     lists = same_lists;
     end = serial_of c s.trace;
     serial = serial_runs c s.trace r.live.inv.world.serial;
+    released = records_are c s.trace;
     stores = λ group server below member group_below.
         store_all c good.sound s.trace r.live.inv.world.serial group (s.lists server group) (λ packet changing. (same_lists group server packet below member group_below).1 changing);
     fates = no_inside;

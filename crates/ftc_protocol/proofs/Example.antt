@@ -64,6 +64,8 @@ only_two P first second k below = elim (cases_eq k 0) [
 pub a_setting : IsSetting two_monitors
 a_setting = record {
   ring = record { some = omega arith; servers = omega arith; failures = omega arith };
+  some_partition = omega arith;
+  few_partitions = omega arith;
   lines = (
     (
       record { within = omega arith; ordered = omega arith; entered = omega arith },

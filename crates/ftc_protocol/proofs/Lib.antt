@@ -75,6 +75,14 @@ pub mod Orderly
 pub mod Radix
 pub mod Riding
 pub mod Needing
+pub mod Fronts
+pub mod Ahead
+pub mod Stated
+pub mod Settled
+pub mod Undoings
+pub mod Repeated
+pub mod Members
+pub mod Released
 pub mod Meant
 pub mod Ordered
 pub mod Dated

@@ -13,7 +13,8 @@ use Rattle.ftc_protocol.specs.Visits.{In}
 use Rattle.ftc_protocol.specs.State.{ChainState, opening}
 use Rattle.ftc_protocol.specs.Next.{next}
 use Rattle.ftc_protocol.specs.Recovery.{previous_live, following_live}
-use Rattle.ftc_protocol.specs.Run.{IsRun, state_after}
+use Rattle.ftc_protocol.specs.Run.{IsRun, IsRunState, state_after}
+use Rattle.ftc_protocol.specs.Trace.{IsBefore}
 use Rattle.ftc_protocol.specs.Legal.{MayHappen}
 use Rattle.ftc_protocol.specs.Fates.{MayLose}
 use Rattle.ftc_protocol.specs.Orderly.{IsLostAt, IsUndone, IsStanding}
@@ -21,7 +22,11 @@ use Rattle.ftc_script.specs.declared.line.ScriptLine.TheVariants as line
 use Rattle.ftc_protocol.proofs.Supposed.{is_good, opens_fit}
 use Rattle.ftc_protocol.proofs.Every.{always}
 use Rattle.ftc_protocol.proofs.SmallEvents.{fit_next, fit_now}
-use Rattle.ftc_protocol.proofs.Ring.{last_live}
+use Rattle.ftc_protocol.proofs.Ring.{IsLastLive, IsNextLive, last_live, next_live}
+use Rattle.ftc_protocol.proofs.Premises.{IsGood}
+use Rattle.ftc_protocol.proofs.Inv.{Inv}
+use Rattle.ftc_protocol.proofs.Stated.{reached_of}
+use Rattle.ftc_protocol.proofs.Undoing.{undone_before}
 use Rattle.ftc_protocol.proofs.Stores.{stands_below}
 use Rattle.ftc_protocol.specs.Moment.{Stands, has_fallen}
 use Rattle.ftc_protocol.proofs.First.{IsFirst, first_by}
@@ -68,40 +73,61 @@ to_between n r t i some far il rl = elim (r == t) as (λ b. r == t ≡ b → apa
 ] refl)
 
 from_between : (n r t i : ℕ) → IsBetween n r t i → (0 < apart n r i) × ((r ≡ t) ⊎ (apart n r i < apart n r t))
-from_between n r t i is = (is.behind, elim (r == t) as (λ b. r == t ≡ b → apart n r i < (if b then n else apart n r t) → (r ≡ t) ⊎ (apart n r i < apart n r t)) [
-  | true ↦ λ e less. inl (eqb-true r t e)
-  | false ↦ λ e less. inr less
-] refl is.ahead)
+from_between n r t i is = (
+  is.behind,
+  elim (r == t) as (λ b. r == t ≡ b → apart n r i < (if b then n else apart n r t) → (r ≡ t) ⊎ (apart n r i < apart n r t)) [
+    | true ↦ λ e less. inl (eqb-true r t e)
+    | false ↦ λ e less. inr less
+  ] refl is.ahead,
+)
 
-pub undone_means : (c : Setting) → IsSetting c → (journal : List Event) → IsRun c journal → (k : ℕ) (undone : List VisitName)
-    → MayHappen c (state_after c (opening c) journal) (Recover k undone) → (j p : ℕ) → In (names undone) j p ↔ IsUndone c (state_after c (opening c) journal) k j p
-undone_means c setting journal run k undone legal j p =
-    let s : ChainState = state_after c (opening c) journal in
-    let good = is_good c setting in
-    let h = always c good (opens_fit c setting) journal run in
-    let n = servers c in
-    let fit = fit_next c s.up s.lines (line.Recover s.entered k) legal.0 h.fit in
-    let down = fit.1 refl in
-    let z = fit_now c s.up s.lines h.fit k fit.0 in
-    let other : z.0 ≢ k = λ e. true≢false (sym z.2 ∙ subst (λ v. s.up v ≡ false) (sym e) down) in
-    let before = last_live n s.up k fit.0 z.0 z.1 z.2 other in
-    let exact = undoes c setting journal run k undone legal j p in
-    (
-      λ is.
-          let u = exact.0 is in
-          let il : u.0 < n = stands_below c good.some (λ o. Rattle.ftc_protocol.specs.Changes.is_touching o ≡ true) s.trace h.world.serial u.0 p u.2.0 in
-          record {
-            there = u.3;
-            earlier = u.0;
-            before = u.1;
-            touching = u.2.0;
-            between = to_between n (previous_live c s k) (following_live c s k) u.0 u.2.1 u.2.2 il before.below;
-            lacked = u.2.3;
-          },
-      λ u.
-          let far = from_between n (previous_live c s k) (following_live c s k) u.earlier u.between in
-          exact.1 (u.earlier, u.before, (u.touching, far.0, far.1, u.lacked), u.there),
-    )
+module _ (c : Setting) (s : ChainState) (run : IsRunState c s) (k : ℕ) (undone : List VisitName) (legal : MayHappen c s (Recover k undone)) where
+  good : IsGood c
+  good = is_good c run.setting
+
+  h : Inv c s
+  h = let r = reached_of c s run in let live = r.live in live.inv
+
+  fit : (k < servers c) × (false ≡ false → s.up k ≡ false)
+  fit = let f = fit_next c s.up s.lines (line.Recover s.entered k) legal.0 h.fit in (f.0, λ e. f.1 refl)
+
+  found : (z : ℕ) × (z < servers c) × (s.up z ≡ true) × (z ≢ k)
+  found =
+      let z = fit_now c s.up s.lines h.fit k fit.0 in
+      (z.0, z.1, z.2, λ e. true≢false (sym z.2 ∙ subst (λ v. s.up v ≡ false) (sym e) (fit.1 refl)))
+
+  before : IsLastLive (servers c) s.up k (previous_live c s k)
+  before = last_live (servers c) s.up k fit.0 found.0 found.1 found.2 found.3
+
+  after : IsNextLive (servers c) s.up k (following_live c s k)
+  after = next_live (servers c) s.up k fit.0 found.0 found.1 found.2 found.3
+
+  pub undone_means : (j p : ℕ) → In (names undone) j p ↔ IsUndone c s k j p
+  undone_means j p =
+      let n = servers c in
+      let exact = undoes c good s h k undone legal j p in (
+        λ is.
+            let u = exact.0 is in
+            let il : u.0 < n = stands_below c good.some (λ o. Rattle.ftc_protocol.specs.Changes.is_touching o ≡ true) s.trace h.world.serial u.0 p u.2.0 in
+            record {
+              there = u.3;
+              earlier = u.0;
+              before = u.1;
+              touching = u.2.0;
+              between = to_between n (previous_live c s k) (following_live c s k) u.0 u.2.1 u.2.2 il before.below;
+              lacked = u.2.3;
+            },
+        λ u.
+            let far = from_between n (previous_live c s k) (following_live c s k) u.earlier u.between in
+            exact.1 (u.earlier, u.before, (u.touching, far.0, far.1, u.lacked), u.there),
+      )
+
+  -- with a visit each is undone that it is before
+  pub undone_closed : (j p q : ℕ) → In (names undone) j p → IsBefore c.partitions s.trace j p q → In (names undone) j q
+  undone_closed j p q is earlier =
+      let w = h.world in
+      (undoes c good s h k undone legal j q).1 (undone_before c s good.some good.sound w.lists w.nest w.serial w.passed w.earlier w.released (fit_now c s.up s.lines h.fit) k (previous_live c s k) (following_live c s k)
+      fit.0 (fit.1 refl) before after j p q ((undoes c good s h k undone legal j p).0 is) earlier)
 
 first_live_of_first : (c : Setting) (s : ChainState) (j k : ℕ) → IsFirst c s j k → IsFirstLive (shape c) s.up j k
 first_live_of_first c s j k is = record {
@@ -120,8 +146,7 @@ stands_means c setting journal run j p =
     let s : ChainState = state_after c (opening c) journal in
     let good = is_good c setting in
     let h = always c good (opens_fit c setting) journal run in
-    let exact = fallen_exact c good setting.ring s h in
-    (
+    let exact = fallen_exact c good setting.ring s h in (
       λ is. record {
         there = is.there;
         had = λ i k le touching first. has_stable c.partitions s.trace (s.lists k) i p (λ lacks.

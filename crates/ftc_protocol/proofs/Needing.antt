@@ -79,10 +79,13 @@ module _ (c : Setting) (good : IsGood c) (s : ChainState) (h : Inv c s) (is : Is
       by : (packet : Option (List ℕ)) → (outcome_at c s k p).packet ≡ packet → (i : ℕ) → (is_some packet && (m0.needs i || ((i == k) && is_touching (outcome_at c s k p)))) ≡ true
           → IsTouching (Visited k p (outcome_at c s k p) ∷ s.trace) i p × ((bytes : List ℕ) × ((outcome_at c s k p).packet ≡ Some bytes))
       by None is_none i need = absurd (true≢false (sym need))
-      by (Some bytes) some i need = (elim (or_cases (m0.needs i) ((i == k) && is_touching (outcome_at c s k p)) (and_parts true _ need).1) [
-        | inl old ↦ inr (olds p m0 at i old).0
-        | inr here ↦ let parts = and_parts (i == k) (is_touching (outcome_at c s k p)) here in inl (sym (eqb-true i k parts.0), refl, parts.1)
-      ], (bytes, some))
+      by (Some bytes) some i need = (
+        elim (or_cases (m0.needs i) ((i == k) && is_touching (outcome_at c s k p)) (and_parts true _ need).1) [
+          | inl old ↦ inr (olds p m0 at i old).0
+          | inr here ↦ let parts = and_parts (i == k) (is_touching (outcome_at c s k p)) here in inl (sym (eqb-true i k parts.0), refl, parts.1)
+        ],
+        (bytes, some),
+      )
 
   leaving : (k p : ℕ) (b last : Bool) (o : Option Message) → s.message p ≡ o → (m : Message) → k + 1 == servers c ≡ last → (if b then sent_message c s k o else None) ≡ Some m → Needs s.trace p m
   leaving k p false last o at m is_last e = absurd (none-some m e)
@@ -126,7 +129,7 @@ module _ (c : Setting) (good : IsGood c) (s : ChainState) (h : Inv c s) (is : Is
             let old = is.carried p i m was need in
             let bytes = old.1.0 in
             let there = still_visited c good.some s.trace (left_of (names undone) s.trace) h.world.serial new.world.serial p i (expected (servers c) m.place bytes) (moving (servers c) m.place bytes)
-                ((h.messages p m was).under_way bytes old.1.1).place ((new.messages p m e).under_way bytes old.1.1).place (some_stands _ s.trace i p old.0) in
+            ((h.messages p m was).under_way bytes old.1.1).place ((new.messages p m e).under_way bytes old.1.1).place (some_stands _ s.trace i p old.0) in
             (stays undone i p old.0 there, old.1);
         withheld = λ p i w e need.
             let old = is.withheld p i w e need in

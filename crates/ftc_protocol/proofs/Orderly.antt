@@ -30,10 +30,11 @@ use Rattle.ftc_protocol.specs.Recovery.{previous_live, following_live, is_droppe
 use Rattle.ftc_protocol.specs.Moment.{released_in}
 use Rattle.ftc_protocol.proofs.Every.{always}
 use Rattle.ftc_protocol.proofs.Supposed.{opens_fit}
-use Rattle.ftc_protocol.proofs.Places.{serial_of}
+use Rattle.ftc_protocol.proofs.Places.{IsSerial, serial_of}
 use Rattle.ftc_protocol.proofs.Sound.{serial_runs, records_are}
 use Rattle.ftc_protocol.proofs.Traced.{trace_is}
-use Rattle.ftc_protocol.proofs.PlacedFates.{filtered_dropped}
+use Rattle.ftc_protocol.proofs.PlacedFates.{filtered_dropped, released_given}
+use Rattle.ftc_protocol.proofs.Settled.{given_released, dropped_filtered}
 use Rattle.ftc_protocol.proofs.SmallEvents.{fit_next}
 use Rattle.ftc_protocol.proofs.Ring.{last_live, next_live}
 use Rattle.ftc_protocol.proofs.Listed.{undone_listed}
@@ -43,7 +44,7 @@ use Rattle.ftc_protocol.proofs.Supposed.{is_good}
 use Rattle.ftc_protocol.proofs.SmallEvents.{fit_now}
 use Rattle.ftc_protocol.proofs.Places.{history_of}
 use Rattle.ftc_protocol.proofs.Awake.{IsUp}
-use Rattle.ftc_protocol.proofs.Inv.{target}
+use Rattle.ftc_protocol.proofs.Inv.{Inv, target}
 use Rattle.ftc_protocol.proofs.Inside.{AreFated}
 use Rattle.ftc_protocol.proofs.Complete.{IsReached, reached, keeps_reached}
 use Rattle.ftc_protocol.proofs.Prefixes.{first_legal, rest_legal, state_on}
@@ -51,7 +52,7 @@ use Rattle.ftc_protocol.proofs.Prefixes.{first_legal, rest_legal, state_on}
 ring_admissible : (c : Setting) (up : ℕ → Bool) → IsAdmissible c up → live.IsAdmissible (shape c) up
 ring_admissible c up is = record { each = λ group below. let found = is group below in record { server = found.0; within = found.1; member = found.3; up = found.2 } }
 
-aim_is : (n : ℕ) (place : Where) → aim n place ≡ target n place
+pub aim_is : (n : ℕ) (place : Where) → aim n place ≡ target n place
 aim_is n (Held server visited by_ring) = refl
 aim_is n (Queued link) = refl
 
@@ -78,6 +79,7 @@ orderly c is journal run =
       clock = r.live.timed.clock;
       numbered = r.live.numbered;
       entered = r.live.timed.bounded;
+      gaps = h.gaps;
     }
 
 -- ---- a lost packet stays lost, at the same event
@@ -194,22 +196,42 @@ pub whole_released : (c : Setting) → IsSetting c → (journal : List Event) �
     → serial_run c.rules (serial.opening c.packets) (trace_of journal) ≡ Some end → end.released ≡ released_in (state_after c (opening c) journal).trace
 whole_released c setting journal run end is = ap (λ (x : State). x.released) (whole_run c setting journal run end is) ∙ records_are c (state_after c (opening c) journal).trace
 
+-- a packet is at its place in it exactly where it is there in the trace's
+module _ (c : Setting) (setting : IsSetting c) (journal : List Event) (run : IsRun c journal) (end : State) (is : serial_run c.rules (serial.opening c.packets) (trace_of journal) ≡ Some end) (p : ℕ) where
+  abbrev pub s : ChainState
+  s = state_after c (opening c) journal
+
+  fated : AreFated c s
+  fated = let r = reached c setting journal run in r.fated
+
+  serially : IsSerial c s.trace
+  serially = let inv = always c (is_good c setting) (opens_fit c setting) journal run in inv.world.serial
+
+  place_is : end.place p ≡ (serial_of c s.trace).place p
+  place_is = ap (λ (x : State). x.place p) (whole_run c setting journal run end is)
+
+  pub whole_given : (s.fate p ≡ Released) ↔ (end.place p ≡ Some position.Released)
+  whole_given = (
+    λ of. place_is ∙ given_released c s.trace serially p ((fated.fates p).released of),
+    λ at. (fated.fates p).given (released_given c s.trace p (sym place_is ∙ at)),
+  )
+
+  filtered_at : (k : ℕ) → (s.fate p ≡ Filtered k) ↔ (end.place p ≡ Some (position.Filtered k))
+  filtered_at k = (
+    λ of. place_is ∙ dropped_filtered c s.trace serially k p ((fated.fates p).filtered k of),
+    λ at. (fated.fates p).dropped k (filtered_dropped c s.trace k p (sym place_is ∙ at)),
+  )
+
 pub whole_filtered : (c : Setting) → IsSetting c → (journal : List Event) → IsRun c journal → (end : State)
     → serial_run c.rules (serial.opening c.packets) (trace_of journal) ≡ Some end → (server packet : ℕ)
-    → end.place packet ≡ Some (position.Filtered server) → (state_after c (opening c) journal).fate packet ≡ Filtered server
-whole_filtered c setting journal run end is server packet at =
-    let s : ChainState = state_after c (opening c) journal in
-    ((reached c setting journal run).fated.fates packet).dropped server (filtered_dropped c s.trace server packet (subst (λ (x : State). x.place packet ≡ Some (position.Filtered server)) (whole_run c setting journal run end is) at))
+    → ((state_after c (opening c) journal).fate packet ≡ Filtered server) ↔ (end.place packet ≡ Some (position.Filtered server))
+whole_filtered c setting journal run end is server packet = filtered_at c setting journal run end is packet server
 
 -- ---- what a recovery undoes
 
-pub undoes : (c : Setting) → IsSetting c → (journal : List Event) → IsRun c journal → (k : ℕ) (undone : List VisitName)
-    → MayHappen c (state_after c (opening c) journal) (Recover k undone) → (j p : ℕ)
-    → In (names undone) j p ↔ IsUndone c (state_after c (opening c) journal) (previous_live c (state_after c (opening c) journal) k) (following_live c (state_after c (opening c) journal) k) j p
-undoes c setting journal run k undone legal j p =
-    let s : ChainState = state_after c (opening c) journal in
-    let good = is_good c setting in
-    let h = always c good (opens_fit c setting) journal run in
+pub undoes : (c : Setting) → IsGood c → (s : ChainState) → Inv c s → (k : ℕ) (undone : List VisitName) → MayHappen c s (Recover k undone) → (j p : ℕ)
+    → In (names undone) j p ↔ IsUndone c s (previous_live c s k) (following_live c s k) j p
+undoes c good s h k undone legal j p =
     let n = servers c in
     let fit = fit_next c s.up s.lines (line.Recover s.entered k) legal.0 h.fit in
     let down = fit.1 refl in

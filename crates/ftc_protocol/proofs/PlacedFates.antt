@@ -12,7 +12,7 @@ opening_unreleased : (packet : Option (List ℕ)) → option_map (position.Waiti
 opening_unreleased None is = absurd (cc)
 opening_unreleased (Some bytes) is = absurd (cc)
 
-opening_unfiltered : (packet : Option (List ℕ)) (k : ℕ) → option_map (position.Waiting 0) packet ≡ Filtered k → ⊥
+pub opening_unfiltered : (packet : Option (List ℕ)) (k : ℕ) → option_map (position.Waiting 0) packet ≡ Filtered k → ⊥
 opening_unfiltered None k is = absurd (cc)
 opening_unfiltered (Some bytes) k is = absurd (cc)
 
@@ -21,7 +21,7 @@ module _ (c : Setting) where
   visit_unreleased k None = λ is. absurd (cc)
   visit_unreleased k (Some bytes) = elim (k + 1 == servers c) as (λ b. placed b k bytes ≡ Released → ⊥) [ true ↦ λ is. absurd (cc) | false ↦ λ is. absurd (cc) ]
 
-  visit_filtered : (j k : ℕ) (packet : Option (List ℕ)) → place_after (servers c) j packet ≡ Filtered k → (j ≡ k) × (packet ≡ None)
+  pub visit_filtered : (j k : ℕ) (packet : Option (List ℕ)) → place_after (servers c) j packet ≡ Filtered k → (j ≡ k) × (packet ≡ None)
   visit_filtered j k None = λ is. (cc, refl)
   visit_filtered j k (Some bytes) = elim (j + 1 == servers c) as (λ b. placed b j bytes ≡ Filtered k → (j ≡ k) × (Some bytes ≡ None)) [ true ↦ λ is. absurd (cc) | false ↦ λ is. absurd (cc) ]
 

@@ -29,6 +29,10 @@ pub rest_legal : (c : Setting) (before after : List Event) (s : ChainState) → 
 rest_legal c [] after s legal = legal
 rest_legal c (event ∷ before) after s legal = rest_legal c before after (next c s event) legal.1
 
+pub joined_legal : (c : Setting) (before after : List Event) (s : ChainState) → AreLegal c s before → AreLegal c (state_after c s before) after → AreLegal c s (before ++ after)
+joined_legal c [] after s legal more = more
+joined_legal c (event ∷ before) after s legal more = (legal.0, joined_legal c before after (next c s event) legal.1 more)
+
 pub state_on : (c : Setting) (before after : List Event) (s : ChainState) → state_after c s (before ++ after) ≡ state_after c (state_after c s before) after
 state_on c [] after s = refl
 state_on c (event ∷ before) after s = state_on c before after (next c s event)

@@ -163,9 +163,9 @@ visits_are c (Visited k q o ∷ older) is few =
     let rest = visits_are c older is.1 (λ j p there. few j p (inr there)) in
     let below : q < count c = few k q (inl (refl, refl, tt)) in
     let more = sum_one_more (count c) (λ p. progress (servers c) ((serial_of c older).place p)) (λ p. progress (servers c) ((serial_of c (Visited k q o ∷ older)).place p)) q below
-        (with_at_cases (λ v. progress (servers c) v ≡ progress (servers c) ((serial_of c older).place q) + 1) (serial_of c older).place q (place_after (servers c) k o.packet) q
-        (λ e. behind (servers c) k o.packet ∙ ap (λ v. v + 1) (sym (ap (progress (servers c)) is.0.1))) (λ ne. absurd (ne refl)))
-        (λ p ne. with_at_cases (λ v. progress (servers c) v ≡ progress (servers c) ((serial_of c older).place p)) (serial_of c older).place q (place_after (servers c) k o.packet) p (λ e. absurd (ne e)) (λ _. refl)) in
+    (with_at_cases (λ v. progress (servers c) v ≡ progress (servers c) ((serial_of c older).place q) + 1) (serial_of c older).place q (place_after (servers c) k o.packet) q
+    (λ e. behind (servers c) k o.packet ∙ ap (λ v. v + 1) (sym (ap (progress (servers c)) is.0.1))) (λ ne. absurd (ne refl)))
+    (λ p ne. with_at_cases (λ v. progress (servers c) v ≡ progress (servers c) ((serial_of c older).place p)) (serial_of c older).place q (place_after (servers c) k o.packet) p (λ e. absurd (ne e)) (λ _. refl)) in
     omega arith
 
 visits_most : (c : Setting) (trace : List Entry) → IsSerial c trace → ((k p : ℕ) → IsSomeVisit trace k p → p < count c) → visits_of trace ≤ servers c * count c

@@ -5,7 +5,7 @@ use Rattle.ftc_base.specs.Partition.{partition_of}
 use Rattle.ftc_base.specs.declared.ask.Answer.{Answer}
 use Rattle.ftc_base.specs.declared.ask.Write.{Write}
 use Rattle.ftc_mbox.specs.declared.rule.Rule.{Rule}
-use Rattle.ftc_mbox.specs.Chain.{Chain}
+use Rattle.ftc_mbox.specs.Chain.{Chain, IsChain}
 use Rattle.ftc_store.specs.Store.{Content}
 use Rattle.ftc_ring.specs.Ring.{RingShape, IsRing}
 use Rattle.ftc_ring.specs.Live as ring
@@ -96,10 +96,12 @@ lost_below r packets link origin (line ∷ loses) all lost =
     ] refl lost
 
 -- an accepted chain and an accepted script for it and for the packets give such a setting
-pub is_setting : (chain : Chain) (packets : List (List ℕ)) (script : ScriptShape) → IsScript script
+pub is_setting : (chain : Chain) (packets : List (List ℕ)) (script : ScriptShape) → IsChain chain → IsScript script
     → script.ring ≡ record { servers = length chain.rules; failures = chain.failures } → script.packets ≡ length packets → IsSetting (setting_of chain packets script)
-is_setting chain packets script is ring_is packets_are = record {
+is_setting chain packets script bounds is ring_is packets_are = record {
   ring = subst IsRing ring_is is.ring;
+  some_partition = omega (arith, bounds.some_partition);
+  few_partitions = bounds.partitions;
   lines = subst (λ (r : RingShape). AreSteps r (length packets) 0 all_live script.steps) ring_is (subst (λ n. AreSteps script.ring n 0 all_live script.steps) packets_are is.steps);
   ends = λ server below. is.all_live server (subst (λ (r : RingShape). server < r.servers) (sym ring_is) below);
   loses = λ link origin lost. subst (λ n. origin < n) packets_are (lost_below script.ring script.packets link origin script.loses is.loses lost);

@@ -37,7 +37,7 @@ use Rattle.ftc_protocol.proofs.Few.{IsCounted, keeps_counts, opens_counted}
 
 -- ---- lists of steps
 
-filter_joined : {A : Type 0} (test : A → Bool) (xs ys : List A) → filter test (xs ++ ys) ≡ filter test xs ++ filter test ys
+pub filter_joined : {A : Type 0} (test : A → Bool) (xs ys : List A) → filter test (xs ++ ys) ≡ filter test xs ++ filter test ys
 filter_joined test [] ys = refl
 filter_joined test (x ∷ xs) ys = elim (test x) as (λ b. cond b (x ∷ filter test (xs ++ ys)) (filter test (xs ++ ys)) ≡ cond b (x ∷ filter test xs) (filter test xs) ++ filter test ys) [
   | true ↦ ap (λ l. x ∷ l) (filter_joined test xs ys)
@@ -108,7 +108,7 @@ outside : (b : Bool) (e : ℕ) (f : Fate) → (if b then Lost e else f) ≡ Insi
 outside true e f is = absurd (cc)
 outside false e f is = is
 
-inside_before : (c : Setting) (s : ChainState) (e : Event) → MayHappen c s e → (p : ℕ) → p < s.entered → (next c s e).fate p ≡ Inside → s.fate p ≡ Inside
+pub inside_before : (c : Setting) (s : ChainState) (e : Event) → MayHappen c s e → (p : ℕ) → p < s.entered → (next c s e).fate p ≡ Inside → s.fate p ≡ Inside
 inside_before c s (Enter q) legal p less is =
     with_at_cases (λ v. v ≡ Inside → s.fate p ≡ Inside) s.fate q _ p (λ same x. let at : q ≡ s.entered = legal.0 in absurd (omega arith)) (λ other x. x) is
 inside_before c s (Take k q) legal p less is = is
@@ -174,7 +174,7 @@ module _ (c : Setting) (good : IsGood c) (s : ChainState) (h : Inv c s) (k : ℕ
 abbrev AreGone : ChainState → List VisitName → Type 0
 AreGone s undone = (j p : ℕ) → In (names undone) j p → (p < s.entered) × (s.fate p ≡ Inside → ⊥)
 
-entered_more : (c : Setting) (s : ChainState) (e : Event) (p : ℕ) → p < s.entered → p < (next c s e).entered
+pub entered_more : (c : Setting) (s : ChainState) (e : Event) (p : ℕ) → p < s.entered → p < (next c s e).entered
 entered_more c s (Enter q) p less = omega arith
 entered_more c s (Take k q) p less = less
 entered_more c s (Apply k q a b) p less = less

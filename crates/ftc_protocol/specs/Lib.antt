@@ -17,5 +17,6 @@ pub mod Measure
 pub mod Example
 pub mod Whole
 pub mod Orderly
+pub mod Front
 pub mod Jobs
 pub mod Drive

@@ -1,5 +1,5 @@
 -- What else holds of every state of a run: who may have what, and where messages are.
-use Rattle.std.specs.Prelude.{ℕ, ◌≡◌, ◌<◌, ◌≤◌, ◌+◌, ◌-◌, ◌⊎◌, true, Some, List, [], ◌∷◌, ◌++◌, length}
+use Rattle.std.specs.Prelude.{ℕ, ◌≡◌, ◌≢◌, ◌<◌, ◌≤◌, ◌+◌, ◌-◌, ◌⊎◌, true, false, Some, List, [], ◌∷◌, ◌++◌, length}
 use Rattle.ftc_journal.specs.declared.event.Event.{Event}
 use Rattle.ftc_journal.specs.declared.event.Event.TheVariants as event
 use Rattle.ftc_script.specs.declared.line.ScriptLine.{ScriptLine}
@@ -41,6 +41,7 @@ pub record IsOrderly (c : Setting) (s : ChainState) : Type 0 where
   pub numbered : (origin : ℕ) (message : Message) → s.message origin ≡ Some message →
       (origin < s.entered) ⊎ ((count c ≤ origin) × (origin < count c + s.propagates))
   pub entered : s.entered ≤ count c
+  pub gaps : (link : ℕ) → s.gap link ≡ true → servers c ≢ 1
 
 -- the crashes and recoveries of a journal, each with the count of packets that had entered
 abbrev pub lines_done : ℕ → List Event → List ScriptLine
@@ -69,6 +70,18 @@ pub record IsNeeding (s : ChainState) : Type 0 where
   pub carried : (origin group : ℕ) (message : Message) → s.message origin ≡ Some message → message.needs group ≡ true →
       IsTouching s.trace group origin × ((bytes : List ℕ) × (message.packet ≡ Some bytes))
   pub withheld : (packet group : ℕ) (withheld : Withheld) → s.withheld packet ≡ Some withheld → withheld.needs group ≡ true → IsTouching s.trace group packet
+
+-- the message is still to be visited at the server at which it is, or to which it is queued
+abbrev pub IsUnvisited : Where → Type 0
+IsUnvisited (Held server visited by_ring) = visited ≡ false
+IsUnvisited (Queued link) = Unit {0}
+
+-- Such a message has no log and no need of that server's own middlebox: its logs are of other groups, its needs of middleboxes before.
+pub record AreAhead (c : Setting) (s : ChainState) : Type 0 where
+  pub logs : (origin group packet : ℕ) (message : Message) → s.message origin ≡ Some message → IsUnvisited message.place →
+      In message.logs group packet → group ≢ aim (servers c) message.place
+  pub needs : (origin group : ℕ) (message : Message) → s.message origin ≡ Some message → IsUnvisited message.place →
+      message.needs group ≡ true → group < aim (servers c) message.place
 
 -- the event of that number in the journal lost something of the packet
 pub record IsLostAt (c : Setting) (journal : List Event) (number : ℕ) : Type 0 where

@@ -47,6 +47,12 @@ in_order visits (Visited server packet outcome ∷ older) =
     if visits server packet then in_order visits older ++ record { server = server; packet = packet } ∷ [] else in_order visits older
 in_order visits (Given packet bytes ∷ older) = in_order visits older
 
+-- the visits of a trace, the first of them first
+abbrev pub visits_in : List Entry → List VisitName
+visits_in [] = []
+visits_in (Visited server packet outcome ∷ older) = visits_in older ++ record { server = server; packet = packet } ∷ []
+visits_in (Given packet bytes ∷ older) = visits_in older
+
 -- the visits that the recovery of a server undoes, each once, in trace order
 abbrev pub undone_visits : Setting → ChainState → ℕ → List VisitName
 undone_visits c s server = in_order (is_undone c s (previous_live c s server) (following_live c s server)) s.trace

@@ -1,7 +1,7 @@
 -- Runs of the protocol.
-use Rattle.std.specs.Prelude.{List, [], ◌∷◌}
+use Rattle.std.specs.Prelude.{◌≡◌, List, [], ◌∷◌}
 use Rattle.ftc_journal.specs.declared.event.Event.{Event}
-use Rattle.ftc_protocol.specs.Setting.{Setting}
+use Rattle.ftc_protocol.specs.Setting.{Setting, IsSetting}
 use Rattle.ftc_protocol.specs.State.{ChainState, opening}
 use Rattle.ftc_protocol.specs.Legal.{IsLegal}
 use Rattle.ftc_protocol.specs.Next.{next}
@@ -23,3 +23,10 @@ IsRun c journal = AreLegal c (opening c) journal
 -- and finished where no event is legal after it
 abbrev pub IsFinished : Setting → ChainState → Type 0
 IsFinished c s = (event : Event) → IsLegal c s event → ⊥
+
+-- a run of such a chain, packets and script leads to the state
+pub record IsRunState (c : Setting) (s : ChainState) : Type 0 where
+  pub setting : IsSetting c
+  pub journal : List Event
+  pub run : IsRun c journal
+  pub state : state_after c (opening c) journal ≡ s

@@ -1,6 +1,7 @@
 -- What a run is given: the chain, the packets and the script.
-use Rattle.std.specs.Prelude.{ℕ, ◌≡◌, ◌<◌, Bool, true, List, [], length, slice_index_or, nat_le, ◌==◌}
+use Rattle.std.specs.Prelude.{ℕ, ◌≡◌, ◌<◌, ◌≤◌, Bool, true, List, [], length, slice_index_or, nat_le, ◌==◌}
 use Rattle.std.specs.Option.{is_some}
+use Rattle.ftc_base.specs.declared.limits.TheConstants.{MOST_PARTITIONS}
 use Rattle.ftc_mbox.specs.declared.rule.Rule.{Rule}
 use Rattle.ftc_mbox.specs.declared.rule.Rule.TheVariants.{Pass}
 use Rattle.ftc_mbox.specs.Chain.{Chain}
@@ -57,10 +58,12 @@ is_member c group server = nat_le (apart (servers c) group server) c.failures
 abbrev pub is_tail : Setting → ℕ → ℕ → Bool
 is_tail c group server = apart (servers c) group server == c.failures
 
--- What a run may be given: a ring of servers, lines each of which may be done where those before it were, and which leave all
--- servers up, and losses of packets' messages.
+-- What a run may be given: a ring of servers, partitions as a chain may have, lines each of which may be done where those before it
+-- were, and which leave all servers up, and losses of packets' messages.
 pub record IsSetting (c : Setting) : Type 0 where
   pub ring : IsRing (shape c)
+  pub some_partition : 0 < c.partitions
+  pub few_partitions : c.partitions ≤ MOST_PARTITIONS
   pub lines : AreSteps (shape c) (count c) 0 all_live c.lines
   pub ends : (server : ℕ) → server < servers c → IsLive (live_after_all all_live c.lines) server
   pub loses : (link origin : ℕ) → c.loses link origin ≡ true → origin < count c

@@ -12,8 +12,8 @@ pub data Where : Type 0 where
   Held : (server : ℕ) → (visited : Bool) → (by_ring : Bool) → Where
   Queued : (link : ℕ) → Where
 
--- A message: where it is, and since how many events; its packet; the visits whose logs it carries; the middleboxes at which its
--- packet has needs; and the visits that its sender knew to be at their tails.
+-- A message: where it is, and the number of the event by which it came there; its packet; the visits whose logs it carries; the
+-- middleboxes at which its packet has needs; and the visits that its sender knew to be at their tails.
 pub record Message : Type 0 where
   pub place : Where
   pub since : ℕ
@@ -22,7 +22,7 @@ pub record Message : Type 0 where
   pub needs : ℕ → Bool
   pub known : Visits
 
--- A packet in the buffer: since how many events, its bytes, and the middleboxes at which it has needs.
+-- A packet in the buffer: the number of the event by which it came there, its bytes, and the middleboxes at which it has needs.
 pub record Withheld : Type 0 where
   pub since : ℕ
   pub bytes : List ℕ

@@ -1,6 +1,8 @@
 -- The whole trace of a run, with the visits that have fallen.
-use Rattle.std.specs.Prelude.{◌≡◌, List, Some}
+use Rattle.std.specs.Prelude.{ℕ, ◌≡◌, ◌<◌, List, Some, Contains}
 use Rattle.ftc_journal.specs.declared.event.Event.{Event}
+use Rattle.ftc_journal.specs.declared.event.Event.TheVariants as event
+use Rattle.ftc_serial.specs.declared.step.Step.TheVariants.{Visit}
 use Rattle.ftc_serial.specs.Serial as serial
 use Rattle.ftc_serial.specs.Serial.{State, serial_run}
 use Rattle.ftc_serial.specs.Trace.{trace_of}
@@ -10,3 +12,8 @@ use Rattle.ftc_protocol.specs.Setting.{Setting}
 pub record HasSerialRun (c : Setting) (journal : List Event) : Type 0 where
   pub end : State
   pub exists : serial_run c.rules (serial.opening c.packets) (trace_of journal) ≡ Some end
+
+-- each released packet has visited all middleboxes, so many, and none of its visits was undone
+abbrev pub ReleasedVisited : ℕ → List Event → Type 0
+ReleasedVisited servers journal =
+    (packet server : ℕ) → Contains journal (event.Release packet) → server < servers → Contains (trace_of journal) (Visit server packet)

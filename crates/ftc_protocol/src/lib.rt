@@ -4,15 +4,28 @@
 #![tactic(auto)]
 
 mod driving;
+mod endings;
+mod examples;
 mod fate;
-mod laws;
+mod journals;
+mod outcomes;
+mod packets;
+mod settings;
+mod states;
 
 pub use driving::{
     drive, finish, first_job, jobs_of_events, plain_drive, play, releases, times_apart, work,
 };
+pub use endings::{every_event_goes_on, every_run_ends, finished_run, plain_run, quiet_links};
+pub use examples::a_visit_undone;
 pub use fate::{Fate, Fates};
-pub use laws::{
-    a_visit_undone, accepted, each_front, every_event_goes_on, every_moment, fates, few_propagates,
-    finished_run, law_of_changes, plain_fates, plain_run, quiet_links, released_for_good,
-    serial_of_a_run, trace_of_a_run, what_tests_say,
+pub use journals::{few_propagates, licence, runs, serial_of_a_run, trace_of_a_run};
+pub use outcomes::{law_of_changes, what_tests_say};
+pub use packets::{
+    each_visit_once, fates, losses, plain_fates, released_for_good, what_a_run_released,
+};
+pub use settings::accepted;
+pub use states::{
+    every_moment, fronts_of_a_state, logs_ride_once, messages_ahead, needs_of_packets,
+    order_of_a_state, what_is_undone, what_stands,
 };

@@ -1,0 +1,5 @@
+use Rattle.ftc_protocol.proofs.Few.{are_few}
+use Rattle.ftc_protocol.proofs.journals.few_propagates.Goals as goal
+
+pub returns : goal.returns
+returns c = are_few

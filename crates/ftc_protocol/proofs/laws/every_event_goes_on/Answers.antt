@@ -1,5 +1,0 @@
-use Rattle.ftc_protocol.proofs.Falling.{falls_on}
-use Rattle.ftc_protocol.proofs.laws.every_event_goes_on.Goals as goal
-
-pub returns : goal.returns
-returns c = falls_on

@@ -1,9 +1,0 @@
-use Rattle.ftc_protocol.proofs.Changing.{all_changed}
-use Rattle.ftc_protocol.proofs.Supposed.{changed_touched}
-use Rattle.ftc_protocol.proofs.laws.law_of_changes.Goals as goal
-
-pub returns-clause-written : goal.returns-clause-written
-returns-clause-written c = all_changed
-
-pub returns-clause-touched : goal.returns-clause-touched
-returns-clause-touched c = changed_touched

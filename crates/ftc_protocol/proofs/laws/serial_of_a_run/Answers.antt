@@ -1,5 +1,0 @@
-use Rattle.ftc_protocol.proofs.Whole.{whole_serial}
-use Rattle.ftc_protocol.proofs.laws.serial_of_a_run.Goals as goal
-
-pub returns : goal.returns
-returns c = whole_serial

@@ -1,5 +1,0 @@
-use Rattle.ftc_protocol.proofs.Traced.{trace_is}
-use Rattle.ftc_protocol.proofs.laws.trace_of_a_run.Goals as goal
-
-pub returns : goal.returns
-returns c = trace_is

@@ -1,0 +1,5 @@
+use Rattle.ftc_protocol.proofs.Repeated.{made_once}
+use Rattle.ftc_protocol.proofs.packets.each_visit_once.Goals as goal
+
+pub returns : goal.returns
+returns c = made_once

@@ -1,0 +1,7 @@
+use Rattle.ftc_protocol.proofs.Stated.{of_state}
+use Rattle.ftc_protocol.proofs.Riding.{riding}
+use Rattle.ftc_protocol.specs.Orderly.{IsRiding}
+use Rattle.ftc_protocol.proofs.states.logs_ride_once.Goals as goal
+
+pub returns : goal.returns
+returns c = of_state (λ setting state. IsRiding state) riding

@@ -1,0 +1,7 @@
+use Rattle.ftc_protocol.proofs.Stated.{of_state}
+use Rattle.ftc_protocol.proofs.Ahead.{ahead}
+use Rattle.ftc_protocol.specs.Orderly.{AreAhead}
+use Rattle.ftc_protocol.proofs.states.messages_ahead.Goals as goal
+
+pub returns : goal.returns
+returns c = of_state AreAhead ahead

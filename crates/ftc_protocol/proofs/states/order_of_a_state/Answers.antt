@@ -1,0 +1,7 @@
+use Rattle.ftc_protocol.proofs.Stated.{of_state}
+use Rattle.ftc_protocol.proofs.Orderly.{orderly}
+use Rattle.ftc_protocol.specs.Orderly.{IsOrderly}
+use Rattle.ftc_protocol.proofs.states.order_of_a_state.Goals as goal
+
+pub returns : goal.returns
+returns c = of_state IsOrderly orderly
