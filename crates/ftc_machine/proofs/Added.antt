@@ -34,14 +34,15 @@ use Rattle.ftc_protocol.proofs.Awake.{IsUp}
 use Rattle.ftc_machine.proofs.Following.{reached_before, visits_within, changes_within}
 use Rattle.ftc_machine.proofs.Growing.{rising_grows, footprints_grow, others_grow, head_grows}
 use Rattle.ftc_protocol.proofs.Inv.{Inv, expected}
-use Rattle.ftc_protocol.proofs.Listing.{in_one}
+use Rattle.ftc_protocol.proofs.Sets.{in_one}
 use Rattle.ftc_machine.proofs.Makes.{footprint_of}
 use Rattle.ftc_protocol.proofs.Places.{Waits, serial_of}
 use Rattle.ftc_machine.proofs.Raised.{raised_reaches, or_false}
 use Rattle.ftc_machine.proofs.Reached.{AreWithin}
 use Rattle.ftc_machine.proofs.Reaching.{same_reach, head_last}
 use Rattle.ftc_machine.proofs.Replaced.{row_replaced}
-use Rattle.ftc_protocol.proofs.Standing.{stands_map, visited_earlier}
+use Rattle.ftc_protocol.proofs.TraceLemmas.{stands_map}
+use Rattle.ftc_protocol.proofs.Earlier.{visited_earlier}
 use Rattle.ftc_protocol.proofs.Supposed.{changed_touched}
 
 pub some_length : {A : Type 0} (xs : List A) → is_some_list xs ≡ not (length xs == 0)

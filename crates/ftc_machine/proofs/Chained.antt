@@ -7,7 +7,7 @@ use Rattle.ftc_serial.proofs.Functions.{with_at_cases}
 use Rattle.ftc_protocol.specs.Setting.{Setting, servers}
 use Rattle.ftc_protocol.specs.Trace.{IsSomeVisit}
 use Rattle.ftc_protocol.proofs.Places.{IsSerial, Waits, Released, place_after, serial_of, opening_waits}
-use Rattle.ftc_protocol.proofs.Standing.{waits_past}
+use Rattle.ftc_protocol.proofs.Earlier.{waits_past}
 
 -- one that waits for a middlebox has visited all before it
 waited : (c : Setting) (trace : List Entry) (k p : ℕ) (bytes : List ℕ) → IsSerial c trace → (serial_of c trace).place p ≡ Waits k bytes → (i : ℕ) → i < k → IsSomeVisit trace i p

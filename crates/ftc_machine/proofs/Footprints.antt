@@ -19,7 +19,7 @@ use Rattle.ftc_protocol.specs.Changes.{Changes, Meets, changes, is_touching, is_
 use Rattle.ftc_protocol.specs.Trace.{IsInTrace, IsSomeVisit, IsTouching, IsChanging, IsBefore, Has}
 use Rattle.ftc_machine.specs.Reach.{Numbers, Footprints, AreRising, AreFootprints, IsChangingIn, IsReach, IsLast, IsFootprint, numbers_of, has_changed, follows, contains, is_had_by}
 use Rattle.ftc_protocol.proofs.Changing.{any_mapped}
-use Rattle.ftc_protocol.proofs.Standing.{any_map, stands_map}
+use Rattle.ftc_protocol.proofs.TraceLemmas.{any_map, stands_map}
 use Rattle.ftc_protocol.proofs.Stores.{some_changes}
 use Rattle.ftc_machine.proofs.Placed.{IsPlaced, place_of, stands, stood}
 

@@ -11,7 +11,7 @@ use Rattle.ftc_protocol.specs.Changes.{Changes, is_changing}
 use Rattle.ftc_protocol.specs.Trace.{IsInTrace, IsSomeVisit, IsChanging}
 use Rattle.ftc_machine.specs.Reach.{Numbers, Footprints, AreRising, AreFootprints, IsChangingIn, IsReach, IsLast, IsFootprint, numbers_of}
 use Rattle.ftc_machine.specs.Marking.{marked_at}
-use Rattle.ftc_protocol.proofs.Standing.{stands_map, changes_some}
+use Rattle.ftc_protocol.proofs.TraceLemmas.{stands_map, changes_some}
 use Rattle.ftc_machine.proofs.Rising.{in_bounds, rising_more}
 use Rattle.ftc_machine.proofs.Placed.{number_is}
 use Rattle.ftc_machine.proofs.Marked.{marked_cases}

@@ -24,11 +24,11 @@ use Rattle.ftc_protocol.specs.Visits.{Visits, just, union}
 use Rattle.ftc_protocol.proofs.Awake.{IsUp}
 use Rattle.ftc_machine.proofs.Following.{reached_before, visits_within}
 use Rattle.ftc_machine.proofs.Joining.{apply_reach}
-use Rattle.ftc_protocol.proofs.Listing.{in_one}
+use Rattle.ftc_protocol.proofs.Sets.{in_one}
 use Rattle.ftc_machine.proofs.Raised.{raised_reaches, or_false}
 use Rattle.ftc_machine.proofs.Reaching.{same_reach}
 use Rattle.ftc_machine.proofs.Replaced.{row_replaced}
-use Rattle.ftc_protocol.proofs.Standing.{stands_map}
+use Rattle.ftc_protocol.proofs.TraceLemmas.{stands_map}
 use Rattle.ftc_protocol.proofs.Stores.{stands_below}
 
 -- a visit of the trace has a footprint

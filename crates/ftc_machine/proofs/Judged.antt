@@ -16,7 +16,7 @@ use Rattle.ftc_machine.specs.Slots.{slot_at}
 use Rattle.ftc_machine.specs.Reach.{Numbers, Footprints, numbers_of, AreFootprints, Reaches, is_had_by}
 use Rattle.ftc_machine.specs.Kept.{IsKept, IsMessage, IsMessageSlot}
 use Rattle.ftc_machine.specs.Tests.{footprints_of, list_of, has_named, is_ready}
-use Rattle.ftc_protocol.proofs.Standing.{stands_map}
+use Rattle.ftc_protocol.proofs.TraceLemmas.{stands_map}
 use Rattle.ftc_machine.proofs.Footprints.{had_has}
 use Rattle.ftc_machine.proofs.Told.{name_of, each_name, all_names}
 

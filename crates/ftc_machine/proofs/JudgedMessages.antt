@@ -24,7 +24,7 @@ use Rattle.ftc_machine.specs.Tests.{footprints_of, list_of, has_named, is_held, 
 use Rattle.ftc_protocol.proofs.Complete.{IsReached}
 use Rattle.ftc_protocol.proofs.Awake.{IsUp}
 use Rattle.ftc_protocol.proofs.Waiting.{IsRinged}
-use Rattle.ftc_protocol.proofs.Standing.{stands_map}
+use Rattle.ftc_protocol.proofs.TraceLemmas.{stands_map}
 use Rattle.ftc_machine.proofs.Footprints.{changed_changing, contains_in, follows_all}
 use Rattle.ftc_machine.proofs.Told.{such_item, item_such, any_item, item_any, name_of, each_name, all_names, untrue, not_so}
 use Rattle.ftc_machine.proofs.Judged.{kept_message, said_message, footprint_there, named_has, ready_tests}

@@ -26,7 +26,8 @@ use Rattle.ftc_protocol.proofs.Inv.{Inv, each_message, expected}
 use Rattle.ftc_protocol.proofs.Places.{IsSerial, serial_of, Waits, Passed, placed}
 use Rattle.ftc_protocol.proofs.Awake.{kept_drop}
 use Rattle.ftc_protocol.proofs.Sound.{visited_before, visited_all}
-use Rattle.ftc_protocol.proofs.Standing.{visited_earlier, visit_stood, visit_left, stands_map}
+use Rattle.ftc_protocol.proofs.Earlier.{visited_earlier}
+use Rattle.ftc_protocol.proofs.TraceLemmas.{visit_stood, visit_left, stands_map}
 use Rattle.ftc_protocol.proofs.Stores.{stands_below}
 use Rattle.ftc_protocol.proofs.Complete.{IsReached, keeps_reached, opens_reached}
 

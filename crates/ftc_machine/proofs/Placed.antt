@@ -7,7 +7,7 @@ use Rattle.ftc_machine.specs.declared.footprint.Footprint.{Footprint}
 use Rattle.ftc_protocol.specs.Changes.{Meets}
 use Rattle.ftc_protocol.specs.Trace.{IsInTrace, IsBefore}
 use Rattle.ftc_machine.specs.Reach.{Numbers, AreRising, IsChangingIn, Footprints, numbers_of, IsFootprint, AreFootprints}
-use Rattle.ftc_protocol.proofs.Standing.{stands_map, before_last}
+use Rattle.ftc_protocol.proofs.TraceLemmas.{stands_map, before_last}
 use Rattle.ftc_machine.proofs.Rising.{once, both_in}
 
 pub record IsPlaced (partitions : ℕ) (trace : List Entry) (numbers : Numbers) (server packet : ℕ) (footprint : Footprint) : Type 0 where

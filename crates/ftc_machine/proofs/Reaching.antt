@@ -9,7 +9,7 @@ use Rattle.ftc_serial.specs.Serial.{Entry}
 use Rattle.ftc_protocol.specs.Changes.{Changes, is_changing}
 use Rattle.ftc_protocol.specs.Trace.{IsChanging}
 use Rattle.ftc_machine.specs.Reach.{Numbers, AreRising, IsReach, IsLast}
-use Rattle.ftc_protocol.proofs.Standing.{stands_map, changes_some}
+use Rattle.ftc_protocol.proofs.TraceLemmas.{stands_map, changes_some}
 use Rattle.ftc_machine.proofs.Rising.{in_bounds}
 
 -- ---- vectors, at each partition

@@ -50,7 +50,7 @@ use Rattle.ftc_machine.proofs.Replaced.{row_replaced}
 use Rattle.ftc_protocol.proofs.Ring.{IsLastLive, IsNextLive, last_live, next_live}
 use Rattle.ftc_machine.proofs.Rising.{rising_more}
 use Rattle.ftc_protocol.proofs.SmallEvents.{fit_next, fit_now}
-use Rattle.ftc_protocol.proofs.Standing.{visit_stood}
+use Rattle.ftc_protocol.proofs.TraceLemmas.{visit_stood}
 use Rattle.ftc_protocol.proofs.Supposed.{is_good}
 use Rattle.ftc_machine.proofs.Thinning.{rising_left, reach_left, footprints_left}
 use Rattle.ftc_protocol.proofs.Undone.{IsUndone}

@@ -6,7 +6,7 @@ use Rattle.ftc_serial.specs.Serial.{Entry, Visited, Given}
 use Rattle.ftc_protocol.specs.Changes.{Changes, Meets}
 use Rattle.ftc_protocol.specs.Trace.{IsInTrace, IsBefore}
 use Rattle.ftc_machine.specs.Reach.{Numbers, AreRising, IsChangingIn}
-use Rattle.ftc_protocol.proofs.Standing.{stands_map}
+use Rattle.ftc_protocol.proofs.TraceLemmas.{stands_map}
 
 module _ (numbers : Numbers) where
   same_number : (server other packet another : ℕ) → server ≡ other → packet ≡ another → numbers server packet ≡ numbers other another

@@ -9,7 +9,7 @@ use Rattle.ftc_machine.specs.declared.footprint.Touched.{Touched}
 use Rattle.ftc_protocol.specs.Changes.{Changes, Meets}
 use Rattle.ftc_protocol.specs.Trace.{IsBefore}
 use Rattle.ftc_machine.specs.Reach.{Numbers, Footprints, AreRising, AreFootprints, IsReach, IsLast, numbers_of}
-use Rattle.ftc_protocol.proofs.Standing.{stands_map, visit_left, visit_stood}
+use Rattle.ftc_protocol.proofs.TraceLemmas.{stands_map, visit_left, visit_stood}
 use Rattle.ftc_machine.proofs.Rising.{rising_more}
 use Rattle.ftc_machine.proofs.Footprints.{all_within, touches_of}
 

@@ -23,7 +23,8 @@ use Rattle.ftc_protocol.proofs.Inv.{Inv, each_message, expected, target}
 use Rattle.ftc_protocol.proofs.Every.{keeps, opens, runs}
 use Rattle.ftc_protocol.proofs.Supposed.{is_good, opens_fit}
 use Rattle.ftc_protocol.proofs.Ring.{apart_cases}
-use Rattle.ftc_protocol.proofs.Standing.{stands_map, visited_earlier}
+use Rattle.ftc_protocol.proofs.TraceLemmas.{stands_map}
+use Rattle.ftc_protocol.proofs.Earlier.{visited_earlier}
 use Rattle.ftc_protocol.proofs.Places.{Waits, serial_of}
 use Rattle.ftc_protocol.proofs.Orderly.{aim_is}
 use Rattle.ftc_protocol.proofs.Needing.{needing}

@@ -13,7 +13,7 @@ use Rattle.ftc_ring.specs.Ring.{apart}
 use Rattle.ftc_protocol.specs.Changes.{is_touching}
 use Rattle.ftc_serial.specs.Removal.{left_of}
 use Rattle.ftc_protocol.specs.Recovery.{list_got}
-use Rattle.ftc_protocol.proofs.Standing.{visit_left, visit_stood}
+use Rattle.ftc_protocol.proofs.TraceLemmas.{visit_left, visit_stood}
 use Rattle.ftc_serial.specs.Words.{with_at}
 use Rattle.ftc_serial.proofs.Functions.{with_at_cases}
 

@@ -8,7 +8,7 @@ use Rattle.ftc_serial.specs.Take.{Outcome}
 use Rattle.ftc_protocol.specs.Setting.{Setting, is_tail, servers}
 use Rattle.ftc_ring.specs.Ring.{apart, next_of}
 use Rattle.ftc_protocol.proofs.Ring.{apart_after, apart_cases}
-use Rattle.ftc_protocol.proofs.Standing.{before_last, before_left, stands_map, visit_left, visit_stood}
+use Rattle.ftc_protocol.proofs.TraceLemmas.{before_last, before_left, stands_map, visit_left, visit_stood}
 use Rattle.ftc_protocol.specs.Changes.{is_changing}
 use Rattle.ftc_serial.specs.Removal.{left_of}
 

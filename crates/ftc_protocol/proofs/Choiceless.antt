@@ -21,7 +21,7 @@ use Rattle.ftc_protocol.proofs.OneWay.{play_on, play_is_one, IsDoing, does, any_
 use Rattle.ftc_protocol.proofs.Legally.{release_or_none}
 use Rattle.ftc_protocol.proofs.Dated.{opens_dated, dated_on_all}
 use Rattle.ftc_protocol.proofs.Firstly.{play_of, legal_on, counted_at, first_or_finished, none_finished, releases_legal, played_legal}
-use Rattle.ftc_protocol.proofs.Prefixes.{state_on}
+use Rattle.ftc_protocol.proofs.RunLists.{state_on}
 use Rattle.ftc_protocol.proofs.InTurn.{turn_is_first, first_is_turn}
 use Rattle.ftc_protocol.proofs.PlainRun.{plain_drives}
 

@@ -17,7 +17,7 @@ use Rattle.ftc_protocol.proofs.Places.{IsEntry, legal_entry, serial_of}
 use Rattle.ftc_protocol.specs.Drive.{IsNextEvent}
 use Rattle.ftc_protocol.proofs.OneWay.{next_legal}
 use Rattle.ftc_protocol.proofs.LoneFirst.{AreNext, next_both}
-use Rattle.ftc_protocol.proofs.Prefixes.{state_on}
+use Rattle.ftc_protocol.proofs.RunLists.{state_on}
 
 -- the steps of events of which none undoes anything
 abbrev pub steps_with : List Event → List Step

@@ -25,7 +25,7 @@ use Rattle.ftc_protocol.proofs.Supposed.{is_good}
 use Rattle.ftc_protocol.proofs.Pending.{same_message}
 use Rattle.ftc_protocol.proofs.Finished.{IsLive}
 use Rattle.ftc_protocol.proofs.Few.{IsCounted, keeps_counts, opens_counted, counted_on, most}
-use Rattle.ftc_protocol.proofs.Prefixes.{first_legal, rest_legal, state_on}
+use Rattle.ftc_protocol.proofs.RunLists.{first_legal, rest_legal, state_on}
 
 sum_less : (n : ℕ) (f g : ℕ → ℕ) → ((k : ℕ) → k < n → f k ≤ g k) → sum_below n f ≤ sum_below n g
 sum_less zero f g less = omega arith

@@ -23,7 +23,7 @@ use Rattle.ftc_protocol.proofs.SmallEvents.{fit_next, fit_now}
 use Rattle.ftc_protocol.specs.Recovery.{following_live, previous_live}
 use Rattle.ftc_protocol.specs.Next.{fresh_message, is_away, next, pulled_list, sent_message, sent_on, taken_message}
 use Rattle.ftc_protocol.proofs.Every.{keeps, opens}
-use Rattle.ftc_protocol.proofs.Listing.{kept}
+use Rattle.ftc_protocol.proofs.Sets.{kept}
 use Rattle.ftc_protocol.proofs.Awake.{kept_some}
 use Rattle.ftc_serial.specs.Trace.{names}
 use Rattle.ftc_ring.specs.Ring.{next_of}

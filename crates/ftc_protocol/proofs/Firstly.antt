@@ -29,7 +29,7 @@ use Rattle.ftc_protocol.proofs.SmallEvents.{fit_next}
 use Rattle.ftc_protocol.proofs.Stores.{stands_below}
 use Rattle.ftc_protocol.proofs.Awake.{IsUp}
 use Rattle.ftc_protocol.proofs.Few.{IsCounted, most, keeps_counts, opens_counted, counted_on}
-use Rattle.ftc_protocol.proofs.Prefixes.{state_on}
+use Rattle.ftc_protocol.proofs.RunLists.{state_on}
 use Rattle.ftc_protocol.proofs.Radix.{work_falls}
 
 -- ---- all jobs with numbers below a bound

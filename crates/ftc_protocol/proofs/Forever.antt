@@ -22,7 +22,7 @@ use Rattle.ftc_protocol.proofs.Between.{member_after}
 use Rattle.ftc_serial.specs.Trace.{names}
 use Rattle.ftc_protocol.specs.Next.{next}
 use Rattle.ftc_protocol.proofs.Stores.{stands_below}
-use Rattle.ftc_protocol.proofs.Standing.{visit_left}
+use Rattle.ftc_protocol.proofs.TraceLemmas.{visit_left}
 use Rattle.ftc_protocol.specs.Recovery.{previous_live, following_live}
 use Rattle.ftc_protocol.proofs.Listed.{undone_listed}
 

@@ -23,7 +23,8 @@ use Rattle.ftc_protocol.specs.Recovery.{previous_live, following_live}
 use Rattle.ftc_protocol.specs.Run.{IsRun, AreLegal, state_after}
 use Rattle.ftc_protocol.proofs.Premises.{IsGood}
 use Rattle.ftc_protocol.proofs.Places.{IsSerial, serial_of}
-use Rattle.ftc_protocol.proofs.Standing.{stands_map, visited_earlier, before_left}
+use Rattle.ftc_protocol.proofs.TraceLemmas.{stands_map, before_left}
+use Rattle.ftc_protocol.proofs.Earlier.{visited_earlier}
 use Rattle.ftc_protocol.proofs.Inv.{Inv, each_message}
 use Rattle.ftc_protocol.proofs.Every.{keeps, opens, always}
 use Rattle.ftc_protocol.proofs.Supposed.{is_good, opens_fit}

@@ -12,7 +12,7 @@ use Rattle.ftc_protocol.proofs.Nesting.{IsNested}
 use Rattle.ftc_protocol.proofs.Undone.{IsUndone}
 use Rattle.ftc_protocol.specs.Setting.{Setting, is_member, servers}
 use Rattle.ftc_ring.specs.Ring.{apart}
-use Rattle.ftc_protocol.proofs.Standing.{before_first, stands_map, visit_stood}
+use Rattle.ftc_protocol.proofs.TraceLemmas.{before_first, stands_map, visit_stood}
 use Rattle.ftc_protocol.proofs.Carrying.{has_more}
 use Rattle.ftc_protocol.specs.Changes.{is_touching}
 use Rattle.ftc_serial.specs.Removal.{left_of}

@@ -11,7 +11,7 @@ use Rattle.ftc_serial.specs.Serial.{Entry, Given, Visited}
 use Rattle.ftc_serial.specs.Words.{AnyOf}
 use Rattle.ftc_serial.specs.Trace.{names}
 use Rattle.ftc_serial.specs.Removal.{is_taken, left_of}
-use Rattle.ftc_protocol.proofs.Standing.{left_stood, stands_left, visit_left, visit_stood}
+use Rattle.ftc_protocol.proofs.TraceLemmas.{left_stood, stands_left, visit_left, visit_stood}
 use Rattle.ftc_protocol.specs.Fates.{IsDropped, IsGiven, IsRelease, AreFates}
 use Rattle.ftc_serial.specs.Take.{Outcome}
 use Rattle.ftc_serial.proofs.Functions.{with_at_cases}

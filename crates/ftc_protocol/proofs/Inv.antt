@@ -20,7 +20,7 @@ use Rattle.ftc_protocol.specs.Next.{fresh_message, next}
 use Rattle.ftc_protocol.proofs.Having.{in_has}
 use Rattle.ftc_protocol.specs.Known.{knows}
 use Rattle.ftc_protocol.proofs.Passed.{some_stands}
-use Rattle.ftc_protocol.proofs.Standing.{visited_earlier}
+use Rattle.ftc_protocol.proofs.Earlier.{visited_earlier}
 use Rattle.ftc_serial.specs.Words.{with_at}
 use Rattle.ftc_serial.proofs.Functions.{with_at_cases}
 

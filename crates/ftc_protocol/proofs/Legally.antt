@@ -25,9 +25,9 @@ use Rattle.ftc_protocol.specs.Jobs.{event_of, IsLegalJob}
 use Rattle.ftc_protocol.specs.Drive.{IsNoneDue}
 use Rattle.ftc_protocol.proofs.Ready.{each_had, meets_true, meets_says}
 use Rattle.ftc_protocol.proofs.HasEach.{each_has}
-use Rattle.ftc_protocol.proofs.Listing.{in_one, one_in}
+use Rattle.ftc_protocol.proofs.Sets.{in_one, one_in}
 use Rattle.ftc_protocol.proofs.Places.{IsSerial}
-use Rattle.ftc_protocol.proofs.Standing.{before_first}
+use Rattle.ftc_protocol.proofs.TraceLemmas.{before_first}
 use Rattle.ftc_protocol.proofs.Passed.{some_stands}
 use Rattle.ftc_protocol.proofs.Few.{IsCounted, most}
 use Rattle.ftc_protocol.proofs.Deciding.{Decided, both, three, five, either, leads, same_as, equal, less, at_most, is_true, is_false, is_none, there_with, there_has, some_below, all_below, any_of, all_of}

@@ -2,7 +2,10 @@ pub mod Places
 pub mod Removed
 pub mod Undone
 pub mod Ring
-pub mod Standing
+pub mod TraceLemmas
+pub mod Sets
+pub mod RunLists
+pub mod Earlier
 pub mod Awake
 pub mod Listing
 pub mod Nesting

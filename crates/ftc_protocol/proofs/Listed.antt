@@ -18,8 +18,9 @@ use Rattle.ftc_protocol.specs.Recovery.{is_between, is_undone_itself, is_up_to, 
 use Rattle.ftc_protocol.proofs.Places.{IsSerial}
 use Rattle.ftc_protocol.proofs.Undone.{IsUndone}
 use Rattle.ftc_protocol.proofs.Ring.{apart_cases}
-use Rattle.ftc_protocol.proofs.Standing.{any_map, stands_map, visited_earlier}
-use Rattle.ftc_protocol.proofs.Listing.{in_one}
+use Rattle.ftc_protocol.proofs.TraceLemmas.{any_map, stands_map}
+use Rattle.ftc_protocol.proofs.Earlier.{visited_earlier}
+use Rattle.ftc_protocol.proofs.Sets.{in_one}
 use Rattle.ftc_protocol.proofs.Ready.{had_by}
 use Rattle.ftc_protocol.proofs.Stores.{stands_below}
 
@@ -112,7 +113,7 @@ here_had partitions set older j p o alone =
       | true ↦ λ changes is. record { changing = λ _. is; other = λ not_changing. absurd (not_changing (inl (refl, refl, changes))) }
       | false ↦ λ changes is. record {
         changing = λ there. elim there [ inl here ↦ absurd (true≢false (sym here.2 ∙ changes)) | inr below ↦ absurd (alone (stands_map _ (λ u. Unit {0}) (λ u t. tt) older j p below)) ];
-        other = λ _ x before. elim before [ inl here ↦ had_by partitions set j x o older is here.1.1 | inr below ↦ absurd (alone (Rattle.ftc_protocol.proofs.Standing.before_last partitions older j x p below)) ];
+        other = λ _ x before. elim before [ inl here ↦ had_by partitions set j x o older is here.1.1 | inr below ↦ absurd (alone (Rattle.ftc_protocol.proofs.TraceLemmas.before_last partitions older j x p below)) ];
       }
     ] refl
 

@@ -16,7 +16,7 @@ use Rattle.ftc_protocol.proofs.Premises.{IsGood}
 use Rattle.ftc_protocol.proofs.Places.{place_after, serial_of}
 use Rattle.ftc_protocol.proofs.Ring.{apart_cases}
 use Rattle.ftc_protocol.proofs.Pending.{same_message, other_message}
-use Rattle.ftc_protocol.proofs.Listing.{kept}
+use Rattle.ftc_protocol.proofs.Sets.{kept}
 use Rattle.ftc_protocol.proofs.Carrying.{has_more, has_grown}
 use Rattle.ftc_protocol.proofs.Having.{head_has}
 use Rattle.ftc_protocol.proofs.Complete.{IsReached, keeps_reached}

@@ -21,7 +21,8 @@ use Rattle.ftc_protocol.specs.Setting.{Setting, servers, shape}
 use Rattle.ftc_protocol.proofs.Passed.{Somehow, some_stands}
 use Rattle.ftc_serial.specs.Removal.{Takes, left_of}
 use Rattle.ftc_protocol.proofs.Undoing.{all_of, among, before_touching}
-use Rattle.ftc_protocol.proofs.Standing.{any_map, before_first, visit_stood, visited_earlier}
+use Rattle.ftc_protocol.proofs.TraceLemmas.{any_map, before_first, visit_stood}
+use Rattle.ftc_protocol.proofs.Earlier.{visited_earlier}
 use Rattle.ftc_ring.specs.Ring.{apart}
 use Rattle.ftc_protocol.proofs.Ring.{apart_cases}
 use Rattle.ftc_protocol.proofs.SmallEvents.{fit_now}

@@ -24,7 +24,8 @@ use Rattle.ftc_protocol.proofs.Premises.{IsGood, ticked}
 use Rattle.ftc_protocol.proofs.Supposed.{is_good}
 use Rattle.ftc_protocol.proofs.Awake.{kept_drop}
 use Rattle.ftc_protocol.proofs.Places.{Place, Waits, Passed, IsSerial, serial_of, placed}
-use Rattle.ftc_protocol.proofs.Standing.{visited_earlier, visit_left, visit_stood}
+use Rattle.ftc_protocol.proofs.Earlier.{visited_earlier}
+use Rattle.ftc_protocol.proofs.TraceLemmas.{visit_left, visit_stood}
 use Rattle.ftc_protocol.proofs.Passed.{Somehow, some_stands}
 use Rattle.ftc_protocol.proofs.Stores.{stands_below}
 use Rattle.ftc_protocol.proofs.Inv.{Inv, expected, each_message}

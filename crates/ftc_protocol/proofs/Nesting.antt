@@ -7,7 +7,7 @@ use Rattle.ftc_protocol.proofs.Ring.{IsLastLive, IsNextLive, apart_after, apart_
 use Rattle.ftc_protocol.specs.Setting.{Setting, is_member, servers}
 use Rattle.ftc_serial.specs.Serial.{after}
 use Rattle.ftc_ring.specs.Ring.{apart, next_of}
-use Rattle.ftc_protocol.proofs.Listing.{in_both, in_left, in_one}
+use Rattle.ftc_protocol.proofs.Sets.{in_both, in_left, in_one}
 use Rattle.ftc_protocol.specs.Recovery.{list_got}
 use Rattle.ftc_protocol.specs.Next.{pulled_list}
 use Rattle.ftc_serial.specs.Words.{with_at}

@@ -17,7 +17,7 @@ use Rattle.ftc_protocol.specs.Jobs.{event_of, slot_of, IsLegalJob, IsFirstJob}
 use Rattle.ftc_protocol.specs.Drive.{IsNoneDue, AreReleases, IsNextEvent, AreFinish, IsFinish, IsPassedOver, IsPlay, IsDrive}
 use Rattle.ftc_protocol.proofs.Ordered.{one_first}
 use Rattle.ftc_protocol.proofs.Dated.{IsDated, keeps_dated, opens_dated, dated_on_all}
-use Rattle.ftc_protocol.proofs.Prefixes.{state_on}
+use Rattle.ftc_protocol.proofs.RunLists.{state_on}
 
 -- ---- events and jobs
 

@@ -47,7 +47,7 @@ use Rattle.ftc_protocol.proofs.Awake.{IsUp}
 use Rattle.ftc_protocol.proofs.Inv.{Inv, target}
 use Rattle.ftc_protocol.proofs.Inside.{AreFated}
 use Rattle.ftc_protocol.proofs.Complete.{IsReached, reached, keeps_reached}
-use Rattle.ftc_protocol.proofs.Prefixes.{first_legal, rest_legal, state_on}
+use Rattle.ftc_protocol.proofs.RunLists.{first_legal, rest_legal, state_on}
 
 ring_admissible : (c : Setting) (up : ℕ → Bool) → IsAdmissible c up → live.IsAdmissible (shape c) up
 ring_admissible c up is = record { each = λ group below. let found = is group below in record { server = found.0; within = found.1; member = found.3; up = found.2 } }

@@ -1,7 +1,8 @@
 -- Where a packet has been, the live members have its visits; and who has a later visit of a packet has the earlier ones.
 use Rattle.std.proofs.Common.{◌≡◌, ◌≢◌, ℕ, ◌+◌, ◌-◌, ◌<◌, ◌≤◌, ◌==◌, ◌&&◌, if◌then◌else◌, Bool, true, false, not, List, ◌∷◌, ◌⊎◌, inl, inr, refl, sym, subst, ◌∙◌, arith, nat_le}
 use Rattle.std.proofs.lemmas.Bool.{true≢false, eqb-false, cases_eq, cases_lt, and_parts, and_from, not-true, le-leb, leb-true, leb-false, not_from_false, ne_eqb}
-use Rattle.ftc_protocol.proofs.Listing.{AreLists, gained, kept}
+use Rattle.ftc_protocol.proofs.Listing.{AreLists}
+use Rattle.ftc_protocol.proofs.Sets.{gained, kept}
 use Rattle.ftc_protocol.specs.State.{ChainState}
 use Rattle.ftc_serial.specs.Serial.{Entry, Given, Visited, after}
 use Rattle.ftc_protocol.specs.Trace.{Has, IsChanging, IsInTrace, IsTouching}
@@ -19,7 +20,7 @@ use Rattle.ftc_protocol.specs.Changes.{is_changing, is_touching}
 use Rattle.ftc_serial.specs.Removal.{left_of}
 use Rattle.ftc_protocol.specs.Recovery.{list_got}
 use Rattle.ftc_protocol.specs.Next.{pulled_list}
-use Rattle.ftc_protocol.proofs.Standing.{stands_map, visit_stood}
+use Rattle.ftc_protocol.proofs.TraceLemmas.{stands_map, visit_stood}
 use Rattle.ftc_serial.specs.Words.{with_at}
 use Rattle.ftc_serial.proofs.Functions.{with_at_cases}
 

@@ -23,13 +23,13 @@ use Rattle.ftc_ring.specs.Ring.{apart, next_of, previous_of}
 use Rattle.ftc_protocol.proofs.Ring.{apart_after, apart_before, apart_cases}
 use Rattle.ftc_protocol.specs.Next.{crashed, drop_if, fresh_message, is_at, is_away, is_news, logs_of, logs_sent, next, outcome_at, pulled_list, recovered, sent_message, sent_on, taken_message, visited_at, visited_message}
 use Rattle.ftc_protocol.specs.Recovery.{following_live, gaps_at, is_dropped, is_dropped_at, list_got, previous_live}
-use Rattle.ftc_protocol.proofs.Listing.{gained, kept}
+use Rattle.ftc_protocol.proofs.Sets.{gained, kept}
 use Rattle.ftc_protocol.specs.Changes.{is_changing, is_touching}
 use Rattle.ftc_protocol.proofs.Every.{keeps, opens}
 use Rattle.ftc_protocol.specs.Known.{knows}
 use Rattle.ftc_protocol.proofs.Passed.{some_stands}
 use Rattle.ftc_protocol.proofs.Stores.{stands_below, touching_changing}
-use Rattle.ftc_protocol.proofs.Standing.{visited_earlier}
+use Rattle.ftc_protocol.proofs.Earlier.{visited_earlier}
 use Rattle.ftc_protocol.proofs.Visiting.{visits}
 use Rattle.ftc_serial.specs.Words.{with_at}
 use Rattle.ftc_serial.proofs.Functions.{with_at_cases}

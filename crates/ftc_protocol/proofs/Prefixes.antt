@@ -14,28 +14,12 @@ use Rattle.ftc_protocol.specs.Run.{AreLegal, IsRun, state_after}
 use Rattle.ftc_protocol.specs.Moment.{IsSound}
 use Rattle.ftc_protocol.proofs.Premises.{IsGood}
 use Rattle.ftc_protocol.proofs.Supposed.{is_good, opens_fit}
-use Rattle.ftc_protocol.proofs.Standing.{stands_left}
+use Rattle.ftc_protocol.proofs.RunLists.{first_legal, rest_legal, state_on}
+use Rattle.ftc_protocol.proofs.TraceLemmas.{stands_left}
 use Rattle.ftc_protocol.proofs.Inv.{Inv}
 use Rattle.ftc_protocol.proofs.Every.{keeps, always}
 use Rattle.ftc_protocol.proofs.Forever.{kept_forever}
 use Rattle.ftc_protocol.proofs.Sound.{sound}
-
--- a part of a run up to some event is a run, and the rest goes on from there
-pub first_legal : (c : Setting) (before after : List Event) (s : ChainState) → AreLegal c s (before ++ after) → AreLegal c s before
-first_legal c [] after s legal = tt
-first_legal c (event ∷ before) after s legal = (legal.0, first_legal c before after (next c s event) legal.1)
-
-pub rest_legal : (c : Setting) (before after : List Event) (s : ChainState) → AreLegal c s (before ++ after) → AreLegal c (state_after c s before) after
-rest_legal c [] after s legal = legal
-rest_legal c (event ∷ before) after s legal = rest_legal c before after (next c s event) legal.1
-
-pub joined_legal : (c : Setting) (before after : List Event) (s : ChainState) → AreLegal c s before → AreLegal c (state_after c s before) after → AreLegal c s (before ++ after)
-joined_legal c [] after s legal more = more
-joined_legal c (event ∷ before) after s legal more = (legal.0, joined_legal c before after (next c s event) legal.1 more)
-
-pub state_on : (c : Setting) (before after : List Event) (s : ChainState) → state_after c s (before ++ after) ≡ state_after c (state_after c s before) after
-state_on c [] after s = refl
-state_on c (event ∷ before) after s = state_on c before after (next c s event)
 
 pub sound_before : (c : Setting) → IsSetting c → (before after : List Event) → IsRun c (before ++ after) → IsSound c (state_after c (opening c) before)
 sound_before c is before after run = sound c (is_good c is) is.ring (opens_fit c is) before (first_legal c before after (opening c) run)

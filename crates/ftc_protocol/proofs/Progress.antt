@@ -26,7 +26,8 @@ use Rattle.ftc_protocol.specs.Setting.{Setting, count, servers}
 use Rattle.ftc_protocol.proofs.Passed.{Somehow, some_stands}
 use Rattle.ftc_ring.specs.Ring.{apart, next_of, previous_of}
 use Rattle.ftc_protocol.proofs.Ring.{apart_after, apart_before, apart_cases}
-use Rattle.ftc_protocol.proofs.Standing.{before_first, meets_changing, visited_earlier}
+use Rattle.ftc_protocol.proofs.TraceLemmas.{before_first, meets_changing}
+use Rattle.ftc_protocol.proofs.Earlier.{visited_earlier}
 use Rattle.ftc_protocol.proofs.Having.{head_has}
 use Rattle.ftc_protocol.specs.Changes.{is_changing}
 

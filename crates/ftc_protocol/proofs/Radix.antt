@@ -21,7 +21,7 @@ use Rattle.ftc_protocol.proofs.Orderly.{licensed}
 use Rattle.ftc_protocol.specs.Orderly.{lines_done}
 use Rattle.ftc_script.specs.declared.line.ScriptLine.{ScriptLine}
 use Rattle.ftc_protocol.proofs.Falling.{falls_on}
-use Rattle.ftc_protocol.proofs.Prefixes.{first_legal, state_on}
+use Rattle.ftc_protocol.proofs.RunLists.{first_legal, state_on}
 
 -- ---- digits
 

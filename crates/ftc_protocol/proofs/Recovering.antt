@@ -34,7 +34,8 @@ use Rattle.ftc_serial.specs.Trace.{names}
 use Rattle.ftc_protocol.proofs.Places.{placed, serial_of}
 use Rattle.ftc_protocol.proofs.Stores.{stands_below, touching_changing}
 use Rattle.ftc_protocol.proofs.Listed.{undone_listed}
-use Rattle.ftc_protocol.proofs.Standing.{visit_left, visit_stood, visited_earlier}
+use Rattle.ftc_protocol.proofs.TraceLemmas.{visit_left, visit_stood}
+use Rattle.ftc_protocol.proofs.Earlier.{visited_earlier}
 use Rattle.ftc_serial.specs.Words.{with_at}
 use Rattle.ftc_serial.proofs.Functions.{with_at_cases}
 

@@ -14,12 +14,13 @@ use Rattle.ftc_protocol.specs.Run.{AreLegal, IsRun, state_after}
 use Rattle.ftc_protocol.proofs.Premises.{IsGood}
 use Rattle.ftc_protocol.proofs.Supposed.{is_good}
 use Rattle.ftc_protocol.proofs.Places.{Waits, serial_of}
-use Rattle.ftc_protocol.proofs.Standing.{visit_left, visited_earlier}
+use Rattle.ftc_protocol.proofs.TraceLemmas.{visit_left}
+use Rattle.ftc_protocol.proofs.Earlier.{visited_earlier}
 use Rattle.ftc_protocol.proofs.Inv.{expected}
 use Rattle.ftc_protocol.proofs.Inside.{are_fates}
 use Rattle.ftc_protocol.proofs.Complete.{IsReached, reached, keeps_reached, reached_on}
 use Rattle.ftc_protocol.proofs.Traced.{inside_before, entered_more, undone_outside}
-use Rattle.ftc_protocol.proofs.Prefixes.{first_legal, rest_legal}
+use Rattle.ftc_protocol.proofs.RunLists.{first_legal, rest_legal}
 
 -- the visit was made: it stands in the trace, or its packet isn't inside any more
 record IsMade (s : ChainState) (j p : ℕ) : Type 0 where

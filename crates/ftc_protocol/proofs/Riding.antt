@@ -17,10 +17,10 @@ use Rattle.ftc_protocol.specs.Changes.{is_touching}
 use Rattle.ftc_protocol.specs.Orderly.{IsRiding}
 use Rattle.ftc_protocol.proofs.Premises.{IsGood, ticked}
 use Rattle.ftc_protocol.proofs.Supposed.{is_good}
-use Rattle.ftc_protocol.proofs.Listing.{in_one}
+use Rattle.ftc_protocol.proofs.Sets.{in_one}
 use Rattle.ftc_protocol.proofs.Awake.{kept_drop}
 use Rattle.ftc_protocol.proofs.Places.{Waits, serial_of}
-use Rattle.ftc_protocol.proofs.Standing.{visited_earlier}
+use Rattle.ftc_protocol.proofs.Earlier.{visited_earlier}
 use Rattle.ftc_protocol.proofs.Passed.{some_stands}
 use Rattle.ftc_protocol.proofs.Inv.{Inv, expected}
 use Rattle.ftc_protocol.proofs.Complete.{IsReached, reached, keeps_reached, opens_reached}

@@ -10,7 +10,7 @@ use Rattle.ftc_protocol.specs.Trace.{IsSomeVisit}
 use Rattle.ftc_protocol.specs.Fates.{IsDropped, IsGiven}
 use Rattle.ftc_protocol.proofs.Places.{Filtered, Released, Waits, Passed, IsSerial, place_after, serial_of}
 use Rattle.ftc_protocol.proofs.PlacedFates.{opening_unfiltered, visit_filtered}
-use Rattle.ftc_protocol.proofs.Standing.{visited_earlier}
+use Rattle.ftc_protocol.proofs.Earlier.{visited_earlier}
 
 -- a release of the trace, with its bytes
 pub bytes_given : (trace : List Entry) (p : ℕ) → IsGiven trace p → (bytes : List ℕ) × AnyOf (λ entry. entry ≡ Given p bytes) trace

@@ -19,8 +19,8 @@ use Rattle.ftc_protocol.proofs.Premises.{IsGood, ticked}
 use Rattle.ftc_protocol.proofs.Inv.{Inv, each_message, target}
 use Rattle.ftc_protocol.proofs.Ring.{apart_cases}
 use Rattle.ftc_protocol.proofs.Awake.{kept_some, kept_drop}
-use Rattle.ftc_protocol.proofs.Standing.{visit_stood}
-use Rattle.ftc_protocol.proofs.Listing.{in_one}
+use Rattle.ftc_protocol.proofs.TraceLemmas.{visit_stood}
+use Rattle.ftc_protocol.proofs.Sets.{in_one}
 use Rattle.ftc_protocol.proofs.Waiting.{IsTimed}
 use Rattle.ftc_protocol.proofs.Inside.{AreFated, IsPast}
 

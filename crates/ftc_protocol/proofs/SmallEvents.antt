@@ -18,7 +18,7 @@ use Rattle.ftc_protocol.specs.Setting.{Setting, is_tail, servers}
 use Rattle.ftc_ring.specs.Ring.{apart, next_of}
 use Rattle.ftc_protocol.proofs.Ring.{apart_cases}
 use Rattle.ftc_protocol.specs.Next.{fresh_message, known_by, lines_behind, logs_of, next, pulled_list, taken_message}
-use Rattle.ftc_protocol.proofs.Listing.{kept}
+use Rattle.ftc_protocol.proofs.Sets.{kept}
 use Rattle.ftc_protocol.proofs.Stores.{stands_below}
 use Rattle.ftc_serial.specs.Words.{with_at}
 use Rattle.ftc_serial.proofs.Functions.{with_at_cases}

@@ -22,7 +22,7 @@ use Rattle.ftc_protocol.proofs.Ring.{apart_cases}
 use Rattle.ftc_protocol.proofs.Premises.{AreFit, IsGood}
 use Rattle.ftc_protocol.proofs.First.{IsFirst, first_by, first_there}
 use Rattle.ftc_protocol.proofs.Fallen.{IsFallen}
-use Rattle.ftc_protocol.proofs.Standing.{waits_past}
+use Rattle.ftc_protocol.proofs.Earlier.{waits_past}
 use Rattle.ftc_protocol.proofs.Listed.{up_to_says, up_to_has, lacked_says, lacked_has}
 use Rattle.ftc_protocol.proofs.Having.{has_stable}
 use Rattle.ftc_protocol.proofs.Inv.{Inv, IsSafe, knows_safe}

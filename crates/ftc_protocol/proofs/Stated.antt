@@ -1,14 +1,11 @@
 -- What is so after each run is so of each state to which a run leads.
-use Rattle.std.proofs.Common.{◌≡◌, List, [], ◌∷◌, ◌++◌, subst, sym, ap, ◌∙◌}
+use Rattle.std.proofs.Common.{List, subst}
 use Rattle.ftc_journal.specs.declared.event.Event.{Event}
 use Rattle.ftc_protocol.specs.Setting.{Setting, IsSetting}
 use Rattle.ftc_protocol.specs.State.{ChainState, opening}
-use Rattle.ftc_protocol.specs.Legal.{IsLegal}
-use Rattle.ftc_protocol.specs.Next.{next}
 use Rattle.ftc_protocol.specs.Run.{IsRun, IsRunState, state_after}
 use Rattle.ftc_protocol.proofs.Complete.{IsReached, reached}
 use Rattle.ftc_protocol.proofs.Few.{IsCounted, opens_counted, counted_on}
-use Rattle.ftc_protocol.proofs.Prefixes.{state_on, joined_legal}
 
 pub of_state : (P : Setting → ChainState → Type 0) → ((c : Setting) → IsSetting c → (journal : List Event) → IsRun c journal → P c (state_after c (opening c) journal))
     → (c : Setting) (s : ChainState) → IsRunState c s → P c s
@@ -19,14 +16,3 @@ reached_of = of_state IsReached reached
 
 pub counted_of : (c : Setting) (s : ChainState) → IsRunState c s → IsCounted c s
 counted_of = of_state IsCounted (λ c is journal run. counted_on c is journal (opening c) (opens_counted c is) run)
-
--- a run goes on by a legal event
-pub run_next : (c : Setting) (s : ChainState) (e : Event) → IsRunState c s → IsLegal c s e → IsRunState c (next c s e)
-run_next c s e r legal =
-    let on : state_after c (opening c) (r.journal ++ e ∷ []) ≡ next c (state_after c (opening c) r.journal) e = state_on c r.journal (e ∷ []) (opening c) in
-    record {
-      setting = r.setting;
-      journal = r.journal ++ e ∷ [];
-      run = joined_legal c r.journal (e ∷ []) (opening c) r.run (subst (λ (x : ChainState). IsLegal c x e) (sym r.state) legal, tt);
-      state = on ∙ ap (λ (x : ChainState). next c x e) r.state;
-    }

@@ -12,7 +12,7 @@ use Rattle.ftc_serial.specs.Take.{Outcome}
 use Rattle.ftc_protocol.specs.Setting.{Setting, rule_at, servers}
 use Rattle.ftc_serial.specs.Entries.{Touches, WritesIn}
 use Rattle.ftc_base.specs.declared.ask.Write.{Write}
-use Rattle.ftc_protocol.proofs.Standing.{changes_some}
+use Rattle.ftc_protocol.proofs.TraceLemmas.{changes_some}
 use Rattle.ftc_base.specs.Partition.{partition_of}
 use Rattle.ftc_serial.proofs.Functions.{with_at_cases}
 use Rattle.ftc_protocol.proofs.Changing.{written_changed}

@@ -19,7 +19,7 @@ use Rattle.ftc_protocol.proofs.Premises.{IsGood, ticked}
 use Rattle.ftc_protocol.proofs.Inv.{Inv, each_message}
 use Rattle.ftc_protocol.proofs.Ring.{apart_cases}
 use Rattle.ftc_protocol.proofs.Pending.{same_message}
-use Rattle.ftc_protocol.proofs.Standing.{before_first}
+use Rattle.ftc_protocol.proofs.TraceLemmas.{before_first}
 use Rattle.ftc_protocol.proofs.Stores.{stands_below}
 
 -- the visits of each group whose tail stands no farther than that server

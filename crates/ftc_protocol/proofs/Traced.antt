@@ -26,7 +26,8 @@ use Rattle.ftc_protocol.specs.Moment.{steps_in}
 use Rattle.ftc_protocol.proofs.Premises.{IsGood}
 use Rattle.ftc_protocol.proofs.Supposed.{is_good}
 use Rattle.ftc_protocol.proofs.Places.{Waits, Passed, serial_of, placed}
-use Rattle.ftc_protocol.proofs.Standing.{visit_stood, visited_earlier}
+use Rattle.ftc_protocol.proofs.TraceLemmas.{visit_stood}
+use Rattle.ftc_protocol.proofs.Earlier.{visited_earlier}
 use Rattle.ftc_protocol.proofs.Stores.{stands_below}
 use Rattle.ftc_protocol.proofs.Listed.{any_name, in_order_says}
 use Rattle.ftc_protocol.proofs.Sound.{visited_before, visited_all}

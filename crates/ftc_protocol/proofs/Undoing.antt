@@ -21,7 +21,8 @@ use Rattle.ftc_protocol.specs.Changes.{Meets, is_touching}
 use Rattle.ftc_serial.specs.Take.{Outcome}
 use Rattle.ftc_protocol.specs.Setting.{Setting, servers}
 use Rattle.ftc_serial.specs.Removal.{Takes}
-use Rattle.ftc_protocol.proofs.Standing.{any_map, before_first, visited_earlier}
+use Rattle.ftc_protocol.proofs.TraceLemmas.{any_map, before_first}
+use Rattle.ftc_protocol.proofs.Earlier.{visited_earlier}
 use Rattle.ftc_ring.specs.Ring.{apart}
 use Rattle.ftc_protocol.proofs.Having.{has_before, in_has}
 use Rattle.ftc_protocol.proofs.Stores.{some_any, stands_below}

@@ -21,7 +21,7 @@ use Rattle.ftc_protocol.specs.Next.{next}
 use Rattle.ftc_protocol.specs.Run.{IsRunState}
 use Rattle.ftc_protocol.proofs.Stated.{counted_of, reached_of}
 use Rattle.ftc_protocol.proofs.Supposed.{is_good}
-use Rattle.ftc_protocol.proofs.Standing.{stands_map, visit_stood}
+use Rattle.ftc_protocol.proofs.TraceLemmas.{stands_map, visit_stood}
 use Rattle.ftc_protocol.proofs.Stores.{stands_below}
 use Rattle.ftc_protocol.proofs.Listed.{in_order_says, in_order_has}
 use Rattle.ftc_protocol.proofs.Sound.{given_all}

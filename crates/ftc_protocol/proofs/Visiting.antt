@@ -23,9 +23,9 @@ use Rattle.ftc_protocol.proofs.Ring.{apart_cases}
 use Rattle.ftc_protocol.specs.Next.{bytes_in, bytes_of, next, outcome_at, visited_at, visited_message}
 use Rattle.ftc_protocol.proofs.SmallEvents.{held_target}
 use Rattle.ftc_protocol.specs.Changes.{is_changing, is_touching}
-use Rattle.ftc_protocol.proofs.Listing.{kept}
+use Rattle.ftc_protocol.proofs.Sets.{kept}
 use Rattle.ftc_protocol.proofs.Stores.{store_all}
-use Rattle.ftc_protocol.proofs.Standing.{visited_earlier}
+use Rattle.ftc_protocol.proofs.Earlier.{visited_earlier}
 use Rattle.ftc_serial.specs.Words.{with_at}
 use Rattle.ftc_serial.proofs.Functions.{with_at_cases}
 use Rattle.ftc_protocol.proofs.Carrying as carrying

@@ -20,12 +20,13 @@ use Rattle.ftc_serial.specs.Take.{Outcome}
 use Rattle.ftc_protocol.specs.Setting.{Setting, count, is_tail, packet_at, servers}
 use Rattle.ftc_protocol.proofs.Passed.{Somehow, some_stands}
 use Rattle.ftc_ring.specs.Ring.{apart, next_of}
-use Rattle.ftc_protocol.proofs.Standing.{before_first, before_last, before_left, visit_left, visit_stood, visited_earlier}
+use Rattle.ftc_protocol.proofs.TraceLemmas.{before_first, before_last, before_left, visit_left, visit_stood}
+use Rattle.ftc_protocol.proofs.Earlier.{visited_earlier}
 use Rattle.ftc_protocol.specs.Next.{crashed, fresh_message, is_at, is_away, logs_sent, next, outcome_at, sent_message, taken_message, visited_at, visited_message}
 use Rattle.ftc_protocol.specs.Recovery.{following_live, is_dropped, list_got}
 use Rattle.ftc_protocol.proofs.Having.{has_given}
 use Rattle.ftc_protocol.proofs.Carrying.{has_left}
-use Rattle.ftc_protocol.proofs.Listing.{in_both, in_one, kept}
+use Rattle.ftc_protocol.proofs.Sets.{in_both, in_one, kept}
 use Rattle.ftc_protocol.specs.Changes.{is_changing, is_touching}
 use Rattle.ftc_serial.specs.Removal.{left_of}
 use Rattle.ftc_protocol.proofs.World.{nobody_has}

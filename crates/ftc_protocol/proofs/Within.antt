@@ -12,7 +12,7 @@ use Rattle.ftc_serial.specs.Take.{Outcome}
 use Rattle.ftc_protocol.specs.Setting.{Setting, servers}
 use Rattle.ftc_ring.specs.Ring.{apart, next_of}
 use Rattle.ftc_protocol.proofs.Having.{between_by, has_given, left_had, pull_has, recover_has}
-use Rattle.ftc_protocol.proofs.Listing.{in_both, in_one}
+use Rattle.ftc_protocol.proofs.Sets.{in_both, in_one}
 use Rattle.ftc_serial.specs.Removal.{left_of}
 use Rattle.ftc_protocol.specs.Recovery.{list_got}
 use Rattle.ftc_protocol.specs.Next.{pulled_list}

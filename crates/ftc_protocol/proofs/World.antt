@@ -4,7 +4,8 @@ use Rattle.std.proofs.lemmas.Bool.{true≢false, eqb-false}
 use Rattle.std.proofs.lemmas.Bool.{and_parts, and_from, not-true}
 use Rattle.std.specs.Prelude.{slice_get}
 use Rattle.ftc_serial.specs.Words.{AnyOf, with_at}
-use Rattle.ftc_protocol.proofs.Listing.{AreLists, applies, copies, gives, goes_down, kept, visits}
+use Rattle.ftc_protocol.proofs.Listing.{AreLists, applies, copies, gives, goes_down, visits}
+use Rattle.ftc_protocol.proofs.Sets.{kept}
 use Rattle.ftc_protocol.specs.State.{ChainState}
 use Rattle.ftc_serial.specs.Serial.{Entry, Given, Visited}
 use Rattle.ftc_protocol.specs.Trace.{Has, IsBefore, IsChanging, IsInTrace, IsTouching}
@@ -20,7 +21,8 @@ use Rattle.ftc_protocol.proofs.Undone.{IsUndone}
 use Rattle.ftc_protocol.proofs.Within.{IsWithin, within_down, within_given, within_grown, within_more, within_pulls, within_recovers}
 use Rattle.ftc_serial.specs.Take.{Outcome}
 use Rattle.ftc_protocol.specs.Setting.{Setting, is_member, servers}
-use Rattle.ftc_protocol.proofs.Standing.{any_map, left_stood, visit_stood, visited_earlier}
+use Rattle.ftc_protocol.proofs.TraceLemmas.{any_map, left_stood, visit_stood}
+use Rattle.ftc_protocol.proofs.Earlier.{visited_earlier}
 use Rattle.ftc_ring.specs.Ring.{apart, next_of}
 use Rattle.ftc_protocol.proofs.Having.{between_by, has_stable}
 use Rattle.ftc_protocol.proofs.Undoing.{closed_now, head_between, lacks}

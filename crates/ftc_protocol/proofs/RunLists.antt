@@ -1,0 +1,36 @@
+-- Runs as lists: their parts, and runs that go on.
+use Rattle.std.proofs.Common.{◌≡◌, List, [], ◌∷◌, ◌++◌, refl, subst, sym, ap, ◌∙◌}
+use Rattle.ftc_journal.specs.declared.event.Event.{Event}
+use Rattle.ftc_protocol.specs.Setting.{Setting}
+use Rattle.ftc_protocol.specs.State.{ChainState, opening}
+use Rattle.ftc_protocol.specs.Legal.{IsLegal}
+use Rattle.ftc_protocol.specs.Next.{next}
+use Rattle.ftc_protocol.specs.Run.{AreLegal, IsRunState, state_after}
+
+-- a part of a run up to some event is a run, and the rest goes on from there
+pub first_legal : (c : Setting) (before after : List Event) (s : ChainState) → AreLegal c s (before ++ after) → AreLegal c s before
+first_legal c [] after s legal = tt
+first_legal c (event ∷ before) after s legal = (legal.0, first_legal c before after (next c s event) legal.1)
+
+pub rest_legal : (c : Setting) (before after : List Event) (s : ChainState) → AreLegal c s (before ++ after) → AreLegal c (state_after c s before) after
+rest_legal c [] after s legal = legal
+rest_legal c (event ∷ before) after s legal = rest_legal c before after (next c s event) legal.1
+
+pub joined_legal : (c : Setting) (before after : List Event) (s : ChainState) → AreLegal c s before → AreLegal c (state_after c s before) after → AreLegal c s (before ++ after)
+joined_legal c [] after s legal more = more
+joined_legal c (event ∷ before) after s legal more = (legal.0, joined_legal c before after (next c s event) legal.1 more)
+
+pub state_on : (c : Setting) (before after : List Event) (s : ChainState) → state_after c s (before ++ after) ≡ state_after c (state_after c s before) after
+state_on c [] after s = refl
+state_on c (event ∷ before) after s = state_on c before after (next c s event)
+
+-- a run goes on by a legal event
+pub run_next : (c : Setting) (s : ChainState) (e : Event) → IsRunState c s → IsLegal c s e → IsRunState c (next c s e)
+run_next c s e r legal =
+    let on : state_after c (opening c) (r.journal ++ e ∷ []) ≡ next c (state_after c (opening c) r.journal) e = state_on c r.journal (e ∷ []) (opening c) in
+    record {
+      setting = r.setting;
+      journal = r.journal ++ e ∷ [];
+      run = joined_legal c r.journal (e ∷ []) (opening c) r.run (subst (λ (x : ChainState). IsLegal c x e) (sym r.state) legal, tt);
+      state = on ∙ ap (λ (x : ChainState). next c x e) r.state;
+    }
