@@ -22,6 +22,8 @@ use Rattle.ftc.specs.Plain.{plain_setting}
 pub is_setting : (chain : Chain) (packets : List (List ℕ)) → IsChain chain → IsSetting (plain_setting chain packets)
 is_setting chain packets bounds = record {
   ring = record { some = omega (arith, bounds.failures); servers = bounds.servers; failures = bounds.failures };
+  some_partition = omega (arith, bounds.some_partition);
+  few_partitions = bounds.partitions;
   lines = tt;
   ends = λ server within. refl;
   loses = λ link origin lost. absurd (cc);

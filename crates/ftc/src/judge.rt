@@ -32,6 +32,7 @@ pub fn judge<D: Desk>(alloc: Global, names: Names<'_>, desk: &mut D) -> Status
         Err(status) => return status,
     };
     accepted();
+    let _ = files.spec.rules();
     right_runs();
     let (out, report) = (files.out.as_slice(), files.report.as_slice());
     let (spec, capture) = (&files.spec, &files.capture);

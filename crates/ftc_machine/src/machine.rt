@@ -12,6 +12,7 @@ use ftc_base::{NoMemory, Refuse};
 use ftc_journal::{Event, Journal};
 use ftc_mbox::ChainSpec;
 use ftc_pcap::Packets;
+use ftc_protocol::accepted;
 use ftc_script::Script;
 use std::alloc::Global;
 use std::marker::Model;
@@ -77,6 +78,8 @@ impl<'a> Machine<'a> {
         requires packets { script.now.packets ≡ length packets.now }
         ensures { IfOk result (λ machine. machine ≡ record { chain = spec.now; packets = bytes_of packets.now; script = script.now; journal = [] }) }
     {
+        accepted();
+        let _ = spec.rules();
         let kept = Kept::new(alloc, *script.ring(), spec.partitions())?;
         Ok(Machine {
             spec,

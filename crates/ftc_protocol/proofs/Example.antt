@@ -54,7 +54,7 @@ pub nothing_left : (state_after two_monitors (opening two_monitors) undoing).tra
 unfolding asked asked_from ask flow_found flow_in is_flow word_at transport_start changes
 nothing_left = refl
 
-only_two : (P : ℕ → Type 0) → P 0 → P 1 → (k : ℕ) → k < 2 → P k
+pub only_two : (P : ℕ → Type 0) → P 0 → P 1 → (k : ℕ) → k < 2 → P k
 only_two P first second k below = elim (cases_eq k 0) [
   | inl zero_ ↦ subst P (sym zero_) first
   | inr other ↦ let one_ : k ≡ 1 = omega arith in subst P (sym one_) second

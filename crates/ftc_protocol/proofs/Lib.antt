@@ -86,6 +86,7 @@ pub mod Undoings
 pub mod Repeated
 pub mod Members
 pub mod Released
+pub mod Saving
 pub mod Meant
 pub mod Ordered
 pub mod Dated

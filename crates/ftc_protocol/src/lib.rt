@@ -17,7 +17,7 @@ pub use driving::{
     drive, finish, first_job, jobs_of_events, plain_drive, play, releases, times_apart, work,
 };
 pub use endings::{every_event_goes_on, every_run_ends, finished_run, plain_run, quiet_links};
-pub use examples::a_visit_undone;
+pub use examples::{a_release_after_a_crash, a_visit_undone};
 pub use fate::{Fate, Fates};
 pub use journals::{few_propagates, licence, runs, serial_of_a_run, trace_of_a_run};
 pub use outcomes::{law_of_changes, what_tests_say};

@@ -12,7 +12,7 @@ ghost use Rattle.ftc_report.specs.Report.{report_of};
 use crate::printer::print;
 use ftc_base::{Bytes, Lines, NoMemory, Refuse};
 use ftc_journal::Journal;
-use ftc_machine::{fates_of, serial_of_a_run, trace_of};
+use ftc_machine::{accepted, fates_of, serial_of_a_run, trace_of};
 use ftc_mbox::ChainSpec;
 use ftc_pcap::Packets;
 use ftc_script::Script;
@@ -52,8 +52,10 @@ pub fn report(
     requires run { ∥ IsRun (setting_of spec.now (bytes_of packets.now) script.now) journal.now.items ∥₁ }
     ensures { IfOk result (λ text. text ≡ report_of (setting_of spec.now (bytes_of packets.now) script.now) journal.now.items taps.now) }
 {
-    // The script was accepted, so that the laws speak of the run.
+    // The chain is in its bounds and the script was accepted, so that the laws speak of the run.
+    accepted();
     let _ = script.ring();
+    let _ = spec.rules();
     serial_of_a_run();
     let fates = fates_of(alloc, spec, packets, script, journal)?;
     let trace = trace_of(alloc, journal)?;

@@ -6,14 +6,13 @@ use Rattle.ftc_protocol.specs.Run.{IsRun, state_after}
 use Rattle.ftc_machine.specs.Kept.{IsKept}
 use Rattle.ftc_serial.specs.Packets.{bytes_of}
 use Rattle.ftc_machine.proofs.Handed.{bytes_count}
-use Rattle.ftc_protocol.proofs.Supposed.{is_setting}
 use Rattle.ftc_machine.proofs.machine.Machine.new.Goals as goal
 
 pub invariant_of-result : goal.invariant_of-result
 invariant_of-result c =
     let setting : Setting = setting_of c.args.spec.now (bytes_of c.args.packets.now) c.args.script.now in
     ∣ record {
-      right = is_setting c.args.spec.now (bytes_of c.args.packets.now) c.args.script.now c.ring.ensures.accepted c.requires.ring (c.requires.packets ∙ sym (bytes_count c.args.packets.now));
+      right = c.accepted.ensures c.args.spec.now (bytes_of c.args.packets.now) c.args.script.now c.rules.ensures.bounds c.ring.ensures.accepted c.requires.ring (c.requires.packets ∙ sym (bytes_count c.args.packets.now));
       run = subst (λ (events : List Event). IsRun setting events) (sym c.new-2.ensures) tt;
       kept_for = subst (λ (events : List Event). IsKept setting (state_after setting (opening setting) events) c.in_ok-kept.kept) (sym c.new-2.ensures)
           (c.in_ok-kept.ensures setting (sym (c.ring.ensures.same ∙ c.requires.ring)) (sym c.partitions.ensures.same));
