@@ -1,7 +1,7 @@
 -- A text that is accepted spells a script.
-use Rattle.std.proofs.Common.{◌≡◌, ◌<◌, ◌≤◌, ℕ, zero, suc, cond, inl, inr, ◌+◌, Bool, true, false, List, [], ◌∷◌, ◌++◌, length, Option, Some, None, Result, Ok, Err, refl, sym, ap, subst, ◌∙◌, arith}
+use Rattle.std.proofs.Common.{◌≡◌, ◌<◌, ◌≤◌, ℕ, zero, suc, cond, inl, inr, ◌+◌, ◌==◌, Bool, true, false, List, [], ◌∷◌, ◌++◌, length, Option, Some, None, Result, Ok, Err, refl, sym, ap, subst, ◌∙◌, arith}
 use Rattle.std.specs.Prelude.{nat_le, nat_lt, not, if◌then◌else◌}
-use Rattle.std.specs.List.{AllByRecursion, find, range_with_len}
+use Rattle.std.specs.List.{AllByRecursion, find, range_with_len, onto_first}
 use Rattle.std.proofs.Math.Nat.{eq-or-lt_of_le}
 use Rattle.std.proofs.lemmas.Bool.Decides.{nat_tests}
 use Rattle.ftc_base.specs.Text.{lines_of, words_of}
@@ -135,18 +135,19 @@ finished_accepts ring packets draft place None script e = (refl, cc)
 finished_accepts ring packets draft place (Some server) script e = absurd cc
 
 -- the script of a draft behind which all servers are live
-pub whole : (ring : RingShape) (packets : ℕ) (draft : ScriptDraft) → IsRing ring → IsDraft ring packets draft → down_of ring.servers (live_in draft) ≡ None → IsScript (record { ring = ring; packets = packets; steps = draft.steps; loses = draft.loses })
-whole ring packets draft shape is none = record {
+pub whole : (ring : RingShape) (packets : ℕ) (draft : ScriptDraft) → IsRing ring → IsDraft ring packets draft → length draft.steps ≤ MOST_SCRIPT_BYTES → down_of ring.servers (live_in draft) ≡ None → IsScript (record { ring = ring; packets = packets; steps = draft.steps; loses = draft.loses })
+whole ring packets draft shape is few none = record {
   ring = shape;
+  few = few;
   steps = is.steps;
   all_live = λ k lk. none_left (live_in draft) 0 ring.servers k none (omega arith) (omega arith);
   loses = is.loses;
 }
 
-pub finish_accepts : (ring : RingShape) (packets : ℕ) (draft : ScriptDraft) (place : ℕ) (script : ScriptShape) → IsRing ring → IsDraft ring packets draft → finish ring packets draft place ≡ Ok script → IsScript script × (script.ring ≡ ring) × (script.packets ≡ packets)
-finish_accepts ring packets draft place script shape is e =
+pub finish_accepts : (ring : RingShape) (packets : ℕ) (draft : ScriptDraft) (place : ℕ) (script : ScriptShape) → IsRing ring → IsDraft ring packets draft → length draft.steps ≤ MOST_SCRIPT_BYTES → finish ring packets draft place ≡ Ok script → IsScript script × (script.ring ≡ ring) × (script.packets ≡ packets)
+finish_accepts ring packets draft place script shape is few e =
     let told = finished_accepts ring packets draft place (down_of ring.servers (live_in draft)) script e in
-    subst (λ s. IsScript s × (s.ring ≡ ring) × (s.packets ≡ packets)) told.1 (whole ring packets draft shape is told.0, refl, refl)
+    subst (λ s. IsScript s × (s.ring ≡ ring) × (s.packets ≡ packets)) told.1 (whole ring packets draft shape is few told.0, refl, refl)
 
 placed_ok : {A : Type 0} (place : ℕ) (r : Result A ScriptCause) (a : A) → placed place r ≡ Ok a → r ≡ Ok a
 placed_ok place (Ok x) a e = let same : x ≡ a = cc in ap Ok same
@@ -157,17 +158,70 @@ placed_keeps ring packets draft place line d shape is e =
     let one = both (statement_of (words_of line)) (λ statement. add ring packets draft place statement) d (placed_ok place (line_step ring packets draft place line) d e) in
     add_keeps ring packets draft place one.0 d shape is one.2
 
-pub from_accepts : (ring : RingShape) (packets : ℕ) (draft : Result ScriptDraft ScriptFault) (place : ℕ) (lines : List (List ℕ)) (script : ScriptShape) → IsRing ring → ((d : ScriptDraft) → draft ≡ Ok d → IsDraft ring packets d) → script_from ring packets draft place lines ≡ Ok script → IsScript script × (script.ring ≡ ring) × (script.packets ≡ packets)
-from_accepts ring packets (Err fault) place lines script shape is e = absurd cc
-from_accepts ring packets (Ok draft) place [] script shape is e = finish_accepts ring packets draft place script shape (is draft refl) e
-from_accepts ring packets (Ok draft) place (line ∷ lines) script shape is e =
-    from_accepts ring packets (placed place (line_step ring packets draft place line)) (place + 1) lines script shape (λ d told. placed_keeps ring packets draft place line d shape (is draft refl) told) e
+-- a line adds one step at most
+one_more : {A : Type 0} (xs : List A) (x : A) → length (xs ++ x ∷ []) ≡ length xs + 1
+one_more [] x = refl
+one_more (y ∷ xs) x = let more = one_more xs x in omega (arith, more)
+
+add_few : (ring : RingShape) (packets : ℕ) (draft : ScriptDraft) (place : ℕ) (statement : Statement) (next : ScriptDraft) → add ring packets draft place statement ≡ Ok next → length next.steps ≤ length draft.steps + 1
+add_few ring packets draft place said.Nothing next e = let same : draft ≡ next = cc in subst (λ (d : ScriptDraft). length d.steps ≤ length draft.steps + 1) same (omega arith)
+add_few ring packets draft place (said.Crash at number) next e =
+    let one = both (in_turn ring packets (last_of 0 draft.steps) at number) (λ server. may_crash ring (live_in draft) server >> Ok (with_step draft (Crash at server))) next e in
+    let two = both_of (may_crash ring (live_in draft) one.0) (Ok (with_step draft (Crash at one.0))) next one.2 in
+    let same : with_step draft (Crash at one.0) ≡ next = cc two.2 in
+    let more = one_more draft.steps (Crash at one.0) in
+    subst (λ (d : ScriptDraft). length d.steps ≤ length draft.steps + 1) same (omega (arith, more))
+add_few ring packets draft place (said.Recover at number) next e =
+    let one = both (in_turn ring packets (last_of 0 draft.steps) at number) (λ server. may_recover (live_in draft) server >> Ok (with_step draft (Recover at server))) next e in
+    let two = both_of (may_recover (live_in draft) one.0) (Ok (with_step draft (Recover at one.0))) next one.2 in
+    let same : with_step draft (Recover at one.0) ≡ next = cc two.2 in
+    let more = one_more draft.steps (Recover at one.0) in
+    subst (λ (d : ScriptDraft). length d.steps ≤ length draft.steps + 1) same (omega (arith, more))
+add_few ring packets draft place (said.Lose link origin) next e =
+    let one = both (lose_line ring packets place link origin) (λ line. Ok (with_lose draft line)) next e in
+    let same : with_lose draft one.0 ≡ next = cc one.2 in
+    subst (λ (d : ScriptDraft). length d.steps ≤ length draft.steps + 1) same (omega arith)
+
+placed_few : (ring : RingShape) (packets : ℕ) (draft : ScriptDraft) (place : ℕ) (line : List ℕ) (d : ScriptDraft) → placed place (line_step ring packets draft place line) ≡ Ok d → length d.steps ≤ length draft.steps + 1
+placed_few ring packets draft place line d e =
+    let one = both (statement_of (words_of line)) (λ statement. add ring packets draft place statement) d (placed_ok place (line_step ring packets draft place line) d e) in
+    add_few ring packets draft place one.0 d one.2
+
+-- and a text has no more lines than bytes
+onto_few : (b : ℕ) (lines : List (List ℕ)) → length (onto_first b lines) ≤ length lines + 1
+onto_few b [] = omega arith
+onto_few b (line ∷ lines) = omega arith
+
+lines_few : (text : List ℕ) → length (lines_of text) ≤ length text
+lines_few [] = omega arith
+lines_few (b ∷ bs) = let few = lines_few bs in elim (b == 10) as (λ t. length (if t then [] ∷ lines_of bs else onto_first b (lines_of bs)) ≤ length (b ∷ bs)) [
+  | true ↦ omega (arith, few)
+  | false ↦ let more = onto_few b (lines_of bs) in omega (arith, few, more)
+]
+
+pub from_accepts : (ring : RingShape) (packets : ℕ) (draft : Result ScriptDraft ScriptFault) (place : ℕ) (lines : List (List ℕ)) (script : ScriptShape) → IsRing ring
+    → ((d : ScriptDraft) → draft ≡ Ok d → IsDraft ring packets d) → ((d : ScriptDraft) → draft ≡ Ok d → length d.steps + length lines ≤ MOST_SCRIPT_BYTES)
+    → script_from ring packets draft place lines ≡ Ok script → IsScript script × (script.ring ≡ ring) × (script.packets ≡ packets)
+from_accepts ring packets (Err fault) place lines script shape is few e = absurd cc
+from_accepts ring packets (Ok draft) place [] script shape is few e = let own = few draft refl in finish_accepts ring packets draft place script shape (is draft refl) (omega (arith, own)) e
+from_accepts ring packets (Ok draft) place (line ∷ lines) script shape is few e =
+    from_accepts ring packets (placed place (line_step ring packets draft place line)) (place + 1) lines script shape
+    (λ d told. placed_keeps ring packets draft place line d shape (is draft refl) told)
+    (λ d told. let own = few draft refl in let more = placed_few ring packets draft place line d told in omega (arith, own, more)) e
 
 nothing_is_draft : (ring : RingShape) (packets : ℕ) (r : Result ScriptDraft ScriptFault) (d : ScriptDraft) → r ≡ Ok no_lines → r ≡ Ok d → IsDraft ring packets d
 nothing_is_draft ring packets r d none some = let same : no_lines ≡ d = cc in subst (IsDraft ring packets) same (record { steps = tt; loses = tt })
 
+nothing_few : (most : ℕ) (r : Result ScriptDraft ScriptFault) (d : ScriptDraft) (lines : ℕ) → lines ≤ most → r ≡ Ok no_lines → r ≡ Ok d → length d.steps + lines ≤ most
+nothing_few most r d lines within none some = let same : no_lines ≡ d = cc in subst (λ (x : ScriptDraft). length x.steps + lines ≤ most) same (omega (arith, within))
+
 pub text_accepts : (ring : RingShape) (packets : ℕ) (text : List ℕ) (script : ScriptShape) → IsRing ring → script_of ring packets text ≡ Ok script → IsScript script × (script.ring ≡ ring) × (script.packets ≡ packets)
-text_accepts ring packets text script shape e = elim (nat_lt MOST_SCRIPT_BYTES (length text)) as (λ t. (if t then fault_at 1 TooLong else script_from ring packets (Ok no_lines) 1 (lines_of text)) ≡ Ok script → IsScript script × (script.ring ≡ ring) × (script.packets ≡ packets)) [
-  | true ↦ λ long. absurd cc
-  | false ↦ λ told. from_accepts ring packets (Ok no_lines) 1 (lines_of text) script shape (λ d. nothing_is_draft ring packets (Ok no_lines) d refl) told
-] e
+text_accepts ring packets text script shape e =
+    elim (nat_lt MOST_SCRIPT_BYTES (length text)) as (λ t. nat_lt MOST_SCRIPT_BYTES (length text) ≡ t → (if t then fault_at 1 TooLong else script_from ring packets (Ok no_lines) 1 (lines_of text)) ≡ Ok script → IsScript script × (script.ring ≡ ring) × (script.packets ≡ packets)) [
+      | true ↦ λ is long. absurd cc
+      | false ↦ λ short told.
+          let lines = lines_few text in
+          let within : length text ≤ MOST_SCRIPT_BYTES = grind (arith, nat_tests) in
+          from_accepts ring packets (Ok no_lines) 1 (lines_of text) script shape (λ d. nothing_is_draft ring packets (Ok no_lines) d refl)
+          (λ d. nothing_few MOST_SCRIPT_BYTES (Ok no_lines) d (length (lines_of text)) (omega (arith, lines, within)) refl) told
+    ] refl e

@@ -1,7 +1,8 @@
 -- A script that is accepted for a ring and a count of packets.
-use Rattle.std.specs.Prelude.{ℕ, ◌<◌, ◌==◌, ◌&&◌, Bool, List, Option}
+use Rattle.std.specs.Prelude.{ℕ, ◌<◌, ◌≤◌, ◌==◌, ◌&&◌, Bool, List, length, Option}
 use Rattle.std.specs.Option.{option_map}
 use Rattle.std.specs.List.{AllByRecursion, find}
+use Rattle.ftc_base.specs.declared.limits.TheConstants.{MOST_SCRIPT_BYTES}
 use Rattle.ftc_ring.specs.Ring.{RingShape, IsRing}
 use Rattle.ftc_ring.specs.Live.{IsLive}
 use Rattle.ftc_script.specs.declared.line.ScriptLine.{ScriptLine}
@@ -19,9 +20,10 @@ pub record IsLose (ring : RingShape) (packets : ℕ) (line : LoseLine) : Type 0 
   pub link : line.link < ring.servers
   pub origin : line.origin < packets
 
--- each step may be made in its turn, and behind the last one all servers are live
+-- each step may be made in its turn, and behind the last one all servers are live; there are no more steps than a text has bytes
 pub record IsScript (script : ScriptShape) : Type 0 where
   pub ring : IsRing script.ring
+  pub few : length script.steps ≤ MOST_SCRIPT_BYTES
   pub steps : AreSteps script.ring script.packets 0 all_live script.steps
   pub all_live : (server : ℕ) → server < script.ring.servers → IsLive (live_after_all all_live script.steps) server
   pub loses : AllByRecursion (IsLose script.ring script.packets) script.loses

@@ -3,6 +3,8 @@
 ghost use Rattle.std.specs.Prelude.{◌≡◌, IfOk};
 ghost use Rattle.ftc_base.specs.declared.refusal.Refuse.TheVariants as refuse;
 ghost use Rattle.ftc_base.specs.Refused.{IsReading};
+ghost use Rattle.ftc_ring.specs.Ring.{IsRing};
+ghost use Rattle.ftc_script.specs.Script.{ScriptShape, IsScript};
 ghost use Rattle.ftc_script.specs.Grammar.{line_step, placed, finish, script_of, IsDraft};
 
 use crate::adding::add;
@@ -45,14 +47,14 @@ fn step(
     }
 }
 
-/// The script where no line is left. The place is behind the last line.
+/// The script where no line is left, if it is one. The place is behind the last line.
 fn finish(
     ring: &Ring,
     packets: u32,
     draft: Draft,
     place: u32,
 ) -> Result<Script, Refuse<ScriptFault>>
-    requires { IsDraft ring.now packets draft }
+    requires { (script : ScriptShape) → IsRing ring.now → finish ring.now packets draft place ≡ Ok script → IsScript script }
     ensures { IsReading result (finish ring.now packets draft place) }
 {
     match draft.first_down(ring.servers()) {
