@@ -47,5 +47,5 @@ pub no_lines : ((ring : RingShape) (packets : ℕ) (lines : List Statement) → 
     → script_of (ring_of chain) packets [] ≡ Ok (record { ring = ring_of chain; packets = packets; steps = []; loses = [] })
 no_lines reads_back chain packets servers failures few =
     reads_back (ring_of chain) packets []
-    (record { ring = record { some = omega (arith, failures); servers = servers; failures = failures }; steps = tt; all_live = λ server within. refl; loses = tt })
+    (record { ring = record { some = omega (arith, failures); servers = servers; failures = failures }; few = omega arith; steps = tt; all_live = λ server within. refl; loses = tt })
     (omega (arith, few)) (omega arith)

@@ -1,6 +1,8 @@
 -- An accepted chain and script give what the proofs suppose of a setting.
-use Rattle.std.proofs.Common.{◌≡◌, ℕ, ◌<◌, ◌==◌, if◌then◌else◌, Some, Bool, true, false, List, [], ◌∷◌, inl, inr, refl, sym, ap, subst, ◌∙◌, arith, length, eqb-true, lt-ltb}
+use Rattle.std.proofs.Common.{◌≡◌, ℕ, ◌<◌, ◌≤◌, ◌^◌, ◌==◌, if◌then◌else◌, Some, Bool, true, false, List, [], ◌∷◌, inl, inr, refl, sym, ap, subst, ◌∙◌, arith, length, eqb-true, lt-ltb}
 use Rattle.std.specs.List.{AllByRecursion}
+use Rattle.ftc_base.specs.declared.limits.TheConstants.{MOST_RECORDS, MOST_SCRIPT_BYTES}
+use Rattle.ftc_protocol.specs.Measure.{most_messages}
 use Rattle.ftc_base.specs.Partition.{partition_of}
 use Rattle.ftc_base.specs.declared.ask.Answer.{Answer}
 use Rattle.ftc_base.specs.declared.ask.Write.{Write}
@@ -106,3 +108,7 @@ is_setting chain packets script bounds is ring_is packets_are = record {
   ends = λ server below. is.all_live server (subst (λ (r : RingShape). server < r.servers) (sym ring_is) below);
   loses = λ link origin lost. subst (λ n. origin < n) packets_are (lost_below script.ring script.packets link origin script.loses is.loses lost);
 }
+
+-- and its messages' numbers fit 32 bits
+pub few_messages : (chain : Chain) (packets : List (List ℕ)) (script : ScriptShape) → IsScript script → length packets ≤ MOST_RECORDS → most_messages (setting_of chain packets script) < 2 ^ 32
+few_messages chain packets script is few = omega (arith, few, is.few)

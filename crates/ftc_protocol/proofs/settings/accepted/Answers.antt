@@ -1,5 +1,8 @@
-use Rattle.ftc_protocol.proofs.Supposed.{is_setting}
+use Rattle.ftc_protocol.proofs.Supposed.{is_setting, few_messages}
 use Rattle.ftc_protocol.proofs.settings.accepted.Goals as goal
 
-pub returns : goal.returns
-returns c = is_setting
+pub returns-clause-setting : goal.returns-clause-setting
+returns-clause-setting c = is_setting
+
+pub returns-clause-few : goal.returns-clause-few
+returns-clause-few c = few_messages
