@@ -15,7 +15,7 @@ use Rattle.ftc_serial.specs.Words.{each_below}
 use Rattle.ftc_serial.specs.Serial.{State, opening, serial_run}
 use Rattle.ftc_serial.specs.Trace.{steps_of, trace_of}
 use Rattle.ftc_serial.specs.Drive.{filtered_at, is_visited, server_events, take_events, packet_events, release_events, drive, IsSettled, IsDriven}
-use Rattle.ftc_check.specs.Visited.{ReleasedVisited}
+use Rattle.ftc_protocol.specs.Whole.{ReleasedVisited}
 use Rattle.ftc_check.proofs.Members.{in_head, in_left, in_tail, in_cons, in_either, in_flat_map}
 use Rattle.ftc.specs.Running.{HasCome, LeadsTo, GoesOn, OthersStay}
 use Rattle.ftc.proofs.Through.{each_below_same}

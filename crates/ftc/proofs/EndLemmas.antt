@@ -28,7 +28,7 @@ use Rattle.ftc_protocol.specs.declared.fate.Fate.TheVariants as became
 use Rattle.ftc_report.specs.Output.{out_bytes}
 use Rattle.ftc_check.specs.Laws.{WholeRunsAreRight}
 use Rattle.ftc_check.specs.Verdict.{IsWhole}
-use Rattle.ftc_check.specs.Visited.{ReleasedVisited}
+use Rattle.ftc_protocol.specs.Whole.{ReleasedVisited}
 use Rattle.ftc.specs.declared.limits.TheConstants.{MOST_RUN_FAILURES}
 use Rattle.ftc.specs.Words.{Named}
 use Rattle.ftc.specs.Output.{MayHold}

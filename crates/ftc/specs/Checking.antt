@@ -17,7 +17,7 @@ use Rattle.ftc_protocol.specs.Setting.{setting_of}
 use Rattle.ftc_protocol.specs.State.{ChainState, opening}
 use Rattle.ftc_protocol.specs.Run.{state_after}
 use Rattle.ftc_check.specs.Verdict.{IsVerdict}
-use Rattle.ftc_check.specs.Visited.{ReleasedVisited}
+use Rattle.ftc_protocol.specs.Whole.{ReleasedVisited}
 use Rattle.ftc_check.specs.declared.verdict.Checked.{Checked}
 use Rattle.ftc_check.specs.declared.verdict.Checked.TheVariants.{Yes}
 use Rattle.ftc.specs.declared.status.Status.{Status}

@@ -9,7 +9,7 @@ ghost use Rattle.ftc_serial.specs.Drive.{IsDriven, IsSettled, visit_events, serv
 ghost use Rattle.ftc_mbox.specs.declared.rule.Rule.{Rule};
 ghost use Rattle.ftc_report.specs.Output.{AreWritable};
 ghost use Rattle.ftc.specs.Running.{GoesOn, OthersStay, HasCome, SameBefore, IsQuiet};
-ghost use Rattle.ftc_check.specs.Visited.{ReleasedVisited};
+ghost use Rattle.ftc_protocol.specs.Whole.{ReleasedVisited};
 
 use ftc_base::limits::FINISHING_SLOT;
 use ftc_base::{NoMemory, PacketNo, Refuse, ServerId, WorkerId};

@@ -14,7 +14,7 @@ use Rattle.ftc_check.specs.declared.verdict.Checked.TheVariants.{Yes}
 use Rattle.ftc_check.specs.Difference.{IsFirstDifference}
 use Rattle.ftc_check.specs.Taps.{IsWithoutTaps}
 use Rattle.ftc_check.specs.Verdict.{IsWhole, IsVerdict}
-use Rattle.ftc_check.specs.Visited.{ReleasedVisited}
+use Rattle.ftc_protocol.specs.Whole.{ReleasedVisited}
 
 abbrev pub DifferencesAreOne : Type 0
 DifferencesAreOne = (a b : List ℕ) (place other : ℕ) → IsFirstDifference a b place → IsFirstDifference a b other → place ≡ other

@@ -2,7 +2,7 @@
 
 ghost use Rattle.ftc_check.specs.Laws.{DifferencesAreOne, FrontsAreOne, VerdictsAreOne, OwnReportsStay, WholeRunsAreRight, WholeRunsAreOnlyRight, RightRunsAreVisited, RightRunsAreSettled};
 
-use ftc_machine::{every_moment, finished_run, trace_of_a_run};
+use ftc_machine::{finished_run, released_for_good};
 
 /// Two texts have one first place where they differ.
 pub fn one_difference()
@@ -36,7 +36,6 @@ pub fn right_runs()
     ensures visited { RightRunsAreVisited }
     ensures settled { RightRunsAreSettled }
 {
-    every_moment();
     finished_run();
-    trace_of_a_run();
+    released_for_good();
 }
