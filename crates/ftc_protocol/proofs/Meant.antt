@@ -83,7 +83,7 @@ from_between n r t i is = (
 
 module _ (c : Setting) (s : ChainState) (run : IsRunState c s) (k : ℕ) (undone : List VisitName) (legal : MayHappen c s (Recover k undone)) where
   good : IsGood c
-  good = is_good c run.setting
+  good = is_good c run.right
 
   h : Inv c s
   h = let r = reached_of c s run in let live = r.live in live.inv

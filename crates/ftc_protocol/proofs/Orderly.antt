@@ -23,7 +23,7 @@ use Rattle.ftc_serial.specs.declared.position.Position.TheVariants as position
 use Rattle.ftc_serial.specs.Serial as serial
 use Rattle.ftc_serial.specs.Serial.{State, serial_run}
 use Rattle.ftc_serial.specs.Trace.{trace_of, names}
-use Rattle.ftc_protocol.specs.Visits.{In}
+use Rattle.ftc_protocol.specs.Visits.{In, Visits}
 use Rattle.ftc_protocol.specs.Legal.{IsNextLine}
 use Rattle.ftc_protocol.specs.Next.{lines_behind}
 use Rattle.ftc_protocol.specs.Recovery.{previous_live, following_live, is_dropped}
@@ -44,6 +44,7 @@ use Rattle.ftc_protocol.proofs.Supposed.{is_good}
 use Rattle.ftc_protocol.proofs.SmallEvents.{fit_now}
 use Rattle.ftc_protocol.proofs.Places.{history_of}
 use Rattle.ftc_protocol.proofs.Awake.{IsUp}
+use Rattle.ftc_protocol.proofs.Waiting.{IsRinged}
 use Rattle.ftc_protocol.proofs.Inv.{Inv, target}
 use Rattle.ftc_protocol.proofs.Inside.{AreFated}
 use Rattle.ftc_protocol.proofs.Complete.{IsReached, reached, keeps_reached}
@@ -59,6 +60,9 @@ aim_is n (Queued link) = refl
 up_at : (n : ℕ) (up : ℕ → Bool) (place : Where) → IsUp n up place → up (aim n place) ≡ true
 up_at n up (Held server visited by_ring) is = is
 up_at n up (Queued link) is = is
+
+ringed_link : (n l : ℕ) (place : Where) (logs : Visits) → place ≡ Queued l → IsRinged n place logs → l < n
+ringed_link n l place logs at is = subst (λ (w : Where). IsRinged n w logs) at is
 
 pub orderly : (c : Setting) → IsSetting c → (journal : List Event) → IsRun c journal → IsOrderly c (state_after c (opening c) journal)
 orderly c is journal run =
@@ -79,7 +83,10 @@ orderly c is journal run =
       clock = r.live.timed.clock;
       numbered = r.live.numbered;
       entered = r.live.timed.bounded;
+      links = λ p l m e at. ringed_link (servers c) l m.place m.logs at (r.live.timed.ringed p m e);
       gaps = h.gaps;
+      crashes = λ a k next. let fit = fit_next c s.up s.lines (line.Crash a k) next h.fit in fit.0;
+      recoveries = λ a k next. let fit = fit_next c s.up s.lines (line.Recover a k) next h.fit in (fit.0, fit.1 refl);
     }
 
 -- ---- a lost packet stays lost, at the same event

@@ -29,8 +29,8 @@ pub run_next : (c : Setting) (s : ChainState) (e : Event) → IsRunState c s →
 run_next c s e r legal =
     let on : state_after c (opening c) (r.journal ++ e ∷ []) ≡ next c (state_after c (opening c) r.journal) e = state_on c r.journal (e ∷ []) (opening c) in
     record {
-      setting = r.setting;
+      right = r.right;
       journal = r.journal ++ e ∷ [];
-      run = joined_legal c r.journal (e ∷ []) (opening c) r.run (subst (λ (x : ChainState). IsLegal c x e) (sym r.state) legal, tt);
-      state = on ∙ ap (λ (x : ChainState). next c x e) r.state;
+      run = joined_legal c r.journal (e ∷ []) (opening c) r.run (subst (λ (x : ChainState). IsLegal c x e) (sym r.reaches) legal, tt);
+      reaches = on ∙ ap (λ (x : ChainState). next c x e) r.reaches;
     }

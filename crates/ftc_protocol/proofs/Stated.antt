@@ -9,7 +9,7 @@ use Rattle.ftc_protocol.proofs.Few.{IsCounted, opens_counted, counted_on}
 
 pub of_state : (P : Setting → ChainState → Type 0) → ((c : Setting) → IsSetting c → (journal : List Event) → IsRun c journal → P c (state_after c (opening c) journal))
     → (c : Setting) (s : ChainState) → IsRunState c s → P c s
-of_state P law c s r = subst (P c) r.state (law c r.setting r.journal r.run)
+of_state P law c s r = subst (P c) r.reaches (law c r.right r.journal r.run)
 
 pub reached_of : (c : Setting) (s : ChainState) → IsRunState c s → IsReached c s
 reached_of = of_state IsReached reached

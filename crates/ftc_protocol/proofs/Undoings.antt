@@ -120,7 +120,7 @@ listed_once partitions visits (Visited k p o ∷ older) is =
 pub undone_once : (c : Setting) (s : ChainState) (k : ℕ) → IsRunState c s → EachLater (λ (one other : VisitName). one ≢ other) (undone_visits c s k)
 undone_once c s k run =
     let r : IsReached c s = reached_of c s run in
-    listed_once c.partitions (is_undone c s (previous_live c s k) (following_live c s k)) s.trace (are_apart c (is_good c run.setting) s.trace r.live.inv.world.serial)
+    listed_once c.partitions (is_undone c s (previous_live c s k) (following_live c s k)) s.trace (are_apart c (is_good c run.right) s.trace r.live.inv.world.serial)
 
 -- ---- lost
 
@@ -129,7 +129,7 @@ module _ (c : Setting) (s : ChainState) (run : IsRunState c s) (k : ℕ) (undone
   now = reached_of c s run
 
   new : IsReached c (next c s (Recover k undone))
-  new = keeps_reached c (is_good c run.setting) s now (Recover k undone) legal
+  new = keeps_reached c (is_good c run.right) s now (Recover k undone) legal
 
   left : List Entry
   left = left_of (names undone) s.trace
@@ -139,7 +139,7 @@ module _ (c : Setting) (s : ChainState) (run : IsRunState c s) (k : ℕ) (undone
 
   pub undone_lost : (number : ℕ) × ((next c s (Recover k undone)).fate p ≡ Lost number)
   undone_lost =
-      let good = is_good c run.setting in
+      let good = is_good c run.right in
       let h = now.live.inv in
       let h' = new.live.inv in
       let f = new.fated.fates p in
@@ -160,4 +160,4 @@ module _ (c : Setting) (s : ChainState) (run : IsRunState c s) (k : ℕ) (undone
       ] refl
     where
       entered : p < s.entered
-      entered = let n = counted_of c s run in n.shaped.visited j p ((undoes c (is_good c run.setting) s now.live.inv k undone legal j p).0 is).3
+      entered = let n = counted_of c s run in n.shaped.visited j p ((undoes c (is_good c run.right) s now.live.inv k undone legal j p).0 is).3

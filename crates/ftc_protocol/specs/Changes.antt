@@ -16,9 +16,9 @@ changes partitions outcome = map (λ (write : Write). partition_of partitions wr
 abbrev pub Changes : ℕ → Outcome → ℕ → Type 0
 Changes partitions outcome partition = AnyOf (λ (changed : ℕ). changed ≡ partition) (changes partitions outcome)
 
-abbrev pub is_some_list : {A : Type 0} → List A → Bool
+abbrev pub is_some_list : {Item : Type 0} → List Item → Bool
 is_some_list [] = false
-is_some_list (x ∷ xs) = true
+is_some_list (item ∷ items) = true
 
 -- it touches something; it changes something
 abbrev pub is_touching : Outcome → Bool
@@ -29,8 +29,11 @@ is_changing partitions outcome = is_some_list (changes partitions outcome)
 
 -- the first changes a partition that the second touches
 abbrev pub Meets : ℕ → Outcome → Outcome → Type 0
-Meets partitions earlier later = (partition : ℕ) × Changes partitions earlier partition × Touches partitions later partition
+Meets partitions earlier later =
+    (partition : ℕ) × Changes partitions earlier partition × Touches partitions later partition
 
 -- the same as a test
 abbrev pub meets : ℕ → Outcome → Outcome → Bool
-meets partitions earlier later = list_any (λ (changed : ℕ). list_any (λ (answer : Answer). changed == partition_of partitions answer.key) later.answers) (changes partitions earlier)
+meets partitions earlier later =
+    list_any (λ (changed : ℕ). list_any
+    (λ (answer : Answer). changed == partition_of partitions answer.key) later.answers) (changes partitions earlier)

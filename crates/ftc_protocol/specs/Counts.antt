@@ -14,4 +14,4 @@ propagates_in journal = length (filter is_propagate journal)
 
 -- at most one for each packet, one for each `at` line, and one more
 abbrev pub AreFew : Setting → List Event → Type 0
-AreFew c journal = propagates_in journal ≤ count c + length c.lines + 1
+AreFew setting journal = propagates_in journal ≤ count setting + length setting.lines + 1

@@ -1,4 +1,5 @@
--- Runs in which a server crashes behind a visit: the server that takes its place undoes that visit, or gets it from another.
+-- Runs in which a server crashes behind a visit: the server that takes its place undoes that visit, or gets it from
+-- another.
 use Rattle.std.specs.Prelude.{ℕ, false, List, [], ◌∷◌}
 use Rattle.ftc_mbox.specs.declared.rule.Rule.TheVariants.{Monitor, Pass}
 use Rattle.ftc_script.specs.declared.line.ScriptLine.TheVariants as line
@@ -24,8 +25,8 @@ two_monitors = record {
   lines = line.Crash 1 0 ∷ line.Recover 1 0 ∷ [];
 }
 
--- the packet enters and is counted; server 0 crashes; a new server 0 undoes the count, which no other server has; both links are
--- made whole again
+-- the packet enters and is counted; server 0 crashes; a new server 0 undoes the count, which no other server has;
+-- both links are made whole again
 abbrev pub undoing : List Event
 undoing =
     event.Enter 0 ∷ event.Visit 0 0 63 ∷ event.Crash 0 ∷ event.Recover 0 (record { server = 0; packet = 0 } ∷ [])
@@ -42,8 +43,8 @@ monitor_and_pass = record {
   lines = line.Crash 1 0 ∷ line.Recover 1 0 ∷ [];
 }
 
--- the packet is counted, and server 1 applies the count; server 0 crashes, and the new one gets the count from server 1, so that
--- nothing is undone; the packet goes on and is released, and nothing is left to do
+-- the packet is counted, and server 1 applies the count; server 0 crashes, and the new one gets the count from server
+-- 1, so that nothing is undone; the packet goes on and is released, and nothing is left to do
 abbrev pub saving : List Event
 saving =
     event.Enter 0 ∷ event.Visit 0 0 63 ∷ event.Pass 0 0 ∷ event.Take 0 0 ∷ event.Apply 1 0 0 0

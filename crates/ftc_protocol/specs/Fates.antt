@@ -25,38 +25,40 @@ abbrev pub IsGiven : List Entry → ℕ → Type 0
 IsGiven trace packet = AnyOf (IsRelease packet) trace
 
 -- a message carries the packet; the buffer withholds it
-pub record IsCarried (s : ChainState) (packet : ℕ) : Type 0 where
+pub record IsCarried (state : ChainState) (packet : ℕ) : Type 0 where
   pub message : Message
-  pub there : s.message packet ≡ Some message
+  pub there : state.message packet ≡ Some message
   pub bytes : List ℕ
   pub carries : message.packet ≡ Some bytes
 
-pub record IsBuffered (s : ChainState) (packet : ℕ) : Type 0 where
+pub record IsBuffered (state : ChainState) (packet : ℕ) : Type 0 where
   pub withheld : Withheld
-  pub there : s.withheld packet ≡ Some withheld
+  pub there : state.withheld packet ≡ Some withheld
 
 -- A packet is released, filtered, lost or inside, and its fate says which: nothing else is left for a lost one.
-pub record AreFates (s : ChainState) : Type 0 where
-  pub released : (packet : ℕ) → (s.fate packet ≡ became.Released) ↔ IsGiven s.trace packet
-  pub filtered : (server packet : ℕ) → (s.fate packet ≡ became.Filtered server) ↔ IsDropped s.trace server packet
-  pub inside : (packet : ℕ) → packet < s.entered → (s.fate packet ≡ became.Inside) ↔ (IsCarried s packet ⊎ IsBuffered s packet)
-  pub waiting : (packet : ℕ) → s.entered ≤ packet → s.fate packet ≡ became.Inside
+pub record AreFates (state : ChainState) : Type 0 where
+  pub released : (packet : ℕ) → (state.fate packet ≡ became.Released) ↔ IsGiven state.trace packet
+  pub filtered : (server packet : ℕ) →
+      (state.fate packet ≡ became.Filtered server) ↔ IsDropped state.trace server packet
+  pub inside : (packet : ℕ) → packet < state.entered →
+      (state.fate packet ≡ became.Inside) ↔ (IsCarried state packet ⊎ IsBuffered state packet)
+  pub waiting : (packet : ℕ) → state.entered ≤ packet → state.fate packet ≡ became.Inside
 
 -- the events at which a packet can be lost
 abbrev pub MayLose : Setting → ChainState → Event → Type 0
-MayLose c s (event.Enter packet) = s.up 0 ≡ false
-MayLose c s (event.Pass server origin) = s.up (next_of (servers c) server) ≡ false
-MayLose c s (event.Lose server origin) = Unit {0}
-MayLose c s (event.Crash server) = Unit {0}
-MayLose c s (event.Recover server undone) = Unit {0}
-MayLose c s (event.Take link origin) = ⊥
-MayLose c s (event.Apply server origin group packet) = ⊥
-MayLose c s (event.Visit server packet worker) = ⊥
-MayLose c s (event.Carry origin) = ⊥
-MayLose c s (event.Pull link) = ⊥
-MayLose c s (event.Propagate origin) = ⊥
-MayLose c s (event.Release packet) = ⊥
+MayLose setting state (event.Enter packet) = state.up 0 ≡ false
+MayLose setting state (event.Pass server origin) = state.up (next_of (servers setting) server) ≡ false
+MayLose setting state (event.Lose server origin) = Unit {0}
+MayLose setting state (event.Crash server) = Unit {0}
+MayLose setting state (event.Recover server undone) = Unit {0}
+MayLose setting state (event.Take link origin) = ⊥
+MayLose setting state (event.Apply server origin group packet) = ⊥
+MayLose setting state (event.Visit server packet worker) = ⊥
+MayLose setting state (event.Carry origin) = ⊥
+MayLose setting state (event.Pull link) = ⊥
+MayLose setting state (event.Propagate origin) = ⊥
+MayLose setting state (event.Release packet) = ⊥
 
 -- what became of each packet, from packet 0 on
 abbrev pub fates_in : Setting → ChainState → List Fate
-fates_in c s = map s.fate (range_with_len 0 (count c))
+fates_in setting state = map state.fate (range_with_len 0 (count setting))

@@ -9,25 +9,27 @@ use Rattle.ftc_protocol.specs.Trace.{IsChanging, content_of}
 use Rattle.ftc_protocol.specs.State.{ChainState}
 use Rattle.ftc_protocol.specs.Moment.{steps_in, released_in}
 
-pub record IsComplete (c : Setting) (s : ChainState) : Type 0 where
+pub record IsComplete (setting : Setting) (state : ChainState) : Type 0 where
   -- the script is done, and all servers are up
-  pub lines : s.lines ≡ []
-  pub up : (server : ℕ) → server < servers c → s.up server ≡ true
+  pub lines : state.lines ≡ []
+  pub up : (server : ℕ) → server < servers setting → state.up server ≡ true
   -- all packets have entered
-  pub entered : s.entered ≡ count c
+  pub entered : state.entered ≡ count setting
   -- there is no message, no log in the forwarder, no gap and no packet in the buffer
-  pub message : (origin : ℕ) → s.message origin ≡ None
-  pub forwarder : (group packet : ℕ) → s.forwarder group packet ≡ false
-  pub gap : (link : ℕ) → link < servers c → s.gap link ≡ false
-  pub withheld : (packet : ℕ) → s.withheld packet ≡ None
+  pub message : (origin : ℕ) → state.message origin ≡ None
+  pub forwarder : (group packet : ℕ) → state.forwarder group packet ≡ false
+  pub gap : (link : ℕ) → link < servers setting → state.gap link ≡ false
+  pub withheld : (packet : ℕ) → state.withheld packet ≡ None
   -- all members of a group have the same list: the changing visits of that middlebox in the trace
-  pub lists : (group server packet : ℕ) → server < servers c → is_member c group server ≡ true → group < servers c →
-      In (s.lists server) group packet ↔ IsChanging c.partitions s.trace group packet
+  pub lists : (group server packet : ℕ) → server < servers setting → is_member setting group server ≡ true →
+      group < servers setting →
+      In (state.lists server) group packet ↔ IsChanging setting.partitions state.trace group packet
   -- so the store of each member is the map of the serial run of the trace, which released what was released
   pub end : State
-  pub serial : serial_run c.rules (serial.opening c.packets) (steps_in s.trace) ≡ Some end
-  pub released : end.released ≡ released_in s.trace
-  pub stores : (group server : ℕ) → server < servers c → is_member c group server ≡ true → group < servers c →
-      content_of s.trace (s.lists server group) group ≡ end.maps group
+  pub serial : serial_run setting.rules (serial.opening setting.packets) (steps_in state.trace) ≡ Some end
+  pub released : end.released ≡ released_in state.trace
+  pub stores : (group server : ℕ) → server < servers setting → is_member setting group server ≡ true →
+      group < servers setting →
+      content_of state.trace (state.lists server group) group ≡ end.maps group
   -- and each packet was released, filtered or lost
-  pub fates : (packet : ℕ) → packet < count c → s.fate packet ≢ became.Inside
+  pub fates : (packet : ℕ) → packet < count setting → state.fate packet ≢ became.Inside

@@ -20,16 +20,18 @@ AreApart partitions (Given packet bytes ∷ older) = AreApart partitions older
 
 -- with a visit of the middlebox the set, which goes by their packets, has each that is before it
 pub record IsClosed (partitions : ℕ) (trace : List Entry) (server : ℕ) (packets : ℕ → Bool) : Type 0 where
-  pub before : (packet other : ℕ) → packets other ≡ true → IsBefore partitions trace server packet other → packets packet ≡ true
+  pub before : (packet other : ℕ) → packets other ≡ true → IsBefore partitions trace server packet other →
+      packets packet ≡ true
 
-pub record IsFront (c : Setting) (s : ChainState) (visits : Visits) : Type 0 where
-  pub closed : (group : ℕ) → IsClosed c.partitions s.trace group (visits group)
-  pub there : (group packet : ℕ) → In visits group packet → IsChanging c.partitions s.trace group packet
+pub record IsFront (setting : Setting) (state : ChainState) (visits : Visits) : Type 0 where
+  pub closed : (group : ℕ) → IsClosed setting.partitions state.trace group (visits group)
+  pub there : (group packet : ℕ) → In visits group packet → IsChanging setting.partitions state.trace group packet
 
 -- the lists of the servers, what they know and what messages tell are fronts
-pub record AreFronts (c : Setting) (s : ChainState) : Type 0 where
-  pub visits : AreApart c.partitions s.trace
-  pub lists : (server : ℕ) → IsFront c s (s.lists server)
-  pub known : (server : ℕ) → IsFront c s (s.known server)
-  pub knows : (server : ℕ) → IsFront c s (knows c s server)
-  pub told : (origin : ℕ) (message : Message) → s.message origin ≡ Some message → IsFront c s message.known
+pub record AreFronts (setting : Setting) (state : ChainState) : Type 0 where
+  pub visits : AreApart setting.partitions state.trace
+  pub lists : (server : ℕ) → IsFront setting state (state.lists server)
+  pub known : (server : ℕ) → IsFront setting state (state.known server)
+  pub knows : (server : ℕ) → IsFront setting state (knows setting state server)
+  pub told : (origin : ℕ) (message : Message) → state.message origin ≡ Some message →
+      IsFront setting state message.known

@@ -7,18 +7,21 @@ use Rattle.ftc_protocol.specs.State.{Message, Withheld, ChainState}
 
 -- the server has a visit
 abbrev pub ServerHas : Setting → ChainState → ℕ → ℕ → ℕ → Type 0
-ServerHas c s server group packet = Has c.partitions s.trace (s.lists server) group packet
+ServerHas setting state server group packet = Has setting.partitions state.trace (state.lists server) group packet
 
 -- a message is ready at a server that has all its logs
 abbrev pub IsReady : Setting → ChainState → ℕ → Message → Type 0
-IsReady c s server message = (group packet : ℕ) → In message.logs group packet → ServerHas c s server group packet
+IsReady setting state server message =
+    (group packet : ℕ) → In message.logs group packet → ServerHas setting state server group packet
 
 -- what a server knows to be at the tails: of a group whose tail it is, at least its own list
 abbrev pub knows : Setting → ChainState → ℕ → Visits
-knows c s server group packet = s.known server group packet || (is_tail c group server && s.lists server group packet)
+knows setting state server group packet =
+    state.known server group packet || (is_tail setting group server && state.lists server group packet)
 
 -- a withheld packet is due where the last server knows each of its needs to be at its tail
 abbrev pub IsDue : Setting → ChainState → ℕ → Withheld → Type 0
-IsDue c s packet withheld =
-    (s.withheld packet ≡ Some withheld)
-    × ((group : ℕ) → withheld.needs group ≡ true → Has c.partitions s.trace (knows c s (servers c - 1)) group packet)
+IsDue setting state packet withheld =
+    (state.withheld packet ≡ Some withheld)
+    × ((group : ℕ) → withheld.needs group ≡ true
+    → Has setting.partitions state.trace (knows setting state (servers setting - 1)) group packet)

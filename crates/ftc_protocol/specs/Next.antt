@@ -68,28 +68,34 @@ fresh_message now packet = record {
 -- ---- take: the receiver of the link holds the message
 
 abbrev pub taken_message : Setting → ChainState → ℕ → Option Message → Option Message
-taken_message c s link None = None
-taken_message c s link (Some message) =
-    Some (record message { place = Held (next_of (servers c) link) false (link + 1 == servers c); since = s.events })
+taken_message setting state link None = None
+taken_message setting state link (Some message) =
+    Some (record message {
+      place = Held (next_of (servers setting) link) false
+          (link + 1 == servers setting);
+      since = state.events;
+    })
 
 -- ---- visit: the rule runs on the store of the server's own list
 
 abbrev pub outcome_at : Setting → ChainState → ℕ → ℕ → Outcome
-outcome_at c s server packet = taken (rule_at c server) (bytes_of (s.message packet)) (content_of s.trace (s.lists server server) server)
+outcome_at setting state server packet =
+    taken (rule_at setting server) (bytes_of (state.message packet))
+    (content_of state.trace (state.lists server server) server)
 
 abbrev pub visited_at : Where → Where
 visited_at (Held server visited by_ring) = Held server true by_ring
 visited_at (Queued link) = Queued link
 
--- A visit that touches something joins the logs, where there are replicas, and the needs. The packet becomes what the rule
--- made of it; where it is dropped, the message has no packet and no needs.
+-- A visit that touches something joins the logs, where there are replicas, and the needs. The packet becomes what the
+-- rule made of it; where it is dropped, the message has no packet and no needs.
 abbrev pub visited_message : Setting → ℕ → ℕ → Outcome → Option Message → Option Message
-visited_message c server packet outcome None = None
-visited_message c server packet outcome (Some message) = Some (record {
+visited_message setting server packet outcome None = None
+visited_message setting server packet outcome (Some message) = Some (record {
   place = visited_at message.place;
   since = message.since;
   packet = outcome.packet;
-  logs = union message.logs (just server packet (is_touching outcome && nat_lt 0 c.failures));
+  logs = union message.logs (just server packet (is_touching outcome && nat_lt 0 setting.failures));
   needs = λ group. is_some outcome.packet && (message.needs group || ((group == server) && is_touching outcome));
   known = message.known;
 })
@@ -102,48 +108,54 @@ fate_by server before (Some bytes) = before
 
 -- It loses the logs of groups whose tail the server is, and at server 0 it gets those of the forwarder.
 abbrev pub logs_sent : Setting → ChainState → ℕ → Message → Visits
-logs_sent c s server message group packet = (message.logs group packet && not (is_tail c group server)) || ((server == 0) && s.forwarder group packet)
+logs_sent setting state server message group packet =
+    (message.logs group packet && not (is_tail setting group server)) || ((server == 0) && state.forwarder group packet)
 
 -- behind the last server it has no packet and no needs
 abbrev pub sent_message : Setting → ChainState → ℕ → Option Message → Option Message
-sent_message c s server None = None
-sent_message c s server (Some message) = Some (record {
+sent_message setting state server None = None
+sent_message setting state server (Some message) = Some (record {
   place = Queued server;
-  since = s.events;
-  packet = if server + 1 == servers c then None else message.packet;
-  logs = logs_sent c s server message;
-  needs = λ group. not (server + 1 == servers c) && message.needs group;
-  known = knows c s server;
+  since = state.events;
+  packet = if server + 1 == servers setting then None else message.packet;
+  logs = logs_sent setting state server message;
+  needs = λ group. not (server + 1 == servers setting) && message.needs group;
+  known = knows setting state server;
 })
 
 -- the packet goes to the buffer
 abbrev pub withheld_packet : ChainState → Message → Option (List ℕ) → Option Withheld
-withheld_packet s message None = None
-withheld_packet s message (Some bytes) = Some (record { since = s.events; bytes = bytes; needs = message.needs })
+withheld_packet state message None = None
+withheld_packet state message (Some bytes) =
+    Some (record { since = state.events; bytes = bytes; needs = message.needs })
 
 abbrev pub withheld_of : ChainState → Option Message → Option Withheld
-withheld_of s None = None
-withheld_of s (Some message) = withheld_packet s message message.packet
+withheld_of state None = None
+withheld_of state (Some message) = withheld_packet state message message.packet
 
 -- the message goes away: the link loses it, or the next server is down
 abbrev pub is_away : Setting → ChainState → ℕ → Bool → Bool
-is_away c s server lost = lost || not (s.up (next_of (servers c) server))
+is_away setting state server lost = lost || not (state.up (next_of (servers setting) server))
 
 abbrev pub sent_on : Setting → ChainState → ℕ → ℕ → Bool → ChainState
-sent_on c s server origin lost = record s {
-  message = with_at s.message origin (if is_sent c server && not (is_away c s server lost) then sent_message c s server (s.message origin) else None);
-  forwarder = λ group packet. not (server == 0) && s.forwarder group packet;
-  withheld = with_at s.withheld origin (if server + 1 == servers c then withheld_of s (s.message origin) else s.withheld origin);
-  gap = with_at s.gap server (s.gap server || (is_sent c server && is_away c s server lost));
-  fate = with_at s.fate origin
-      (if is_away c s server lost && not (server + 1 == servers c) && has_packet (s.message origin) then became.Lost s.events else s.fate origin);
+sent_on setting state server origin lost = record state {
+  message = with_at state.message origin
+      (if is_sent setting server && not (is_away setting state server lost)
+      then sent_message setting state server (state.message origin) else None);
+  forwarder = λ group packet. not (server == 0) && state.forwarder group packet;
+  withheld = with_at state.withheld origin
+      (if server + 1 == servers setting then withheld_of state (state.message origin) else state.withheld origin);
+  gap = with_at state.gap server (state.gap server || (is_sent setting server && is_away setting state server lost));
+  fate = with_at state.fate origin
+      (if is_away setting state server lost && not (server + 1 == servers setting)
+      && has_packet (state.message origin) then became.Lost state.events else state.fate origin);
 }
 
 -- ---- crash: all that the server held is gone, and what was queued to it
 
 abbrev pub is_at : Setting → ℕ → Where → Bool
-is_at c server (Held holder visited by_ring) = holder == server
-is_at c server (Queued link) = next_of (servers c) link == server
+is_at setting server (Held holder visited by_ring) = holder == server
+is_at setting server (Queued link) = next_of (servers setting) link == server
 
 abbrev pub drop_if : (Message → Bool) → Option Message → Option Message
 drop_if test None = None
@@ -155,18 +167,19 @@ loses_packet test None = false
 loses_packet test (Some message) = test message && is_some message.packet
 
 abbrev pub crashed : Setting → ChainState → ℕ → ChainState
-crashed c s server = record s {
-  up = with_at s.up server false;
-  lists = with_at s.lists server no_visits;
-  known = with_at s.known server no_visits;
-  message = λ origin. drop_if (λ message. is_at c server message.place) (s.message origin);
-  forwarder = λ group packet. not (server == 0) && s.forwarder group packet;
-  withheld = λ packet. if server + 1 == servers c then None else s.withheld packet;
-  lines = lines_behind s.lines;
+crashed setting state server = record state {
+  up = with_at state.up server false;
+  lists = with_at state.lists server no_visits;
+  known = with_at state.known server no_visits;
+  message = λ origin. drop_if (λ message. is_at setting server message.place) (state.message origin);
+  forwarder = λ group packet. not (server == 0) && state.forwarder group packet;
+  withheld = λ packet. if server + 1 == servers setting then None else state.withheld packet;
+  lines = lines_behind state.lines;
   fate = λ packet.
-      if loses_packet (λ message. is_at c server message.place) (s.message packet) || ((server + 1 == servers c) && is_some (s.withheld packet))
-      then became.Lost s.events
-      else s.fate packet;
+      if loses_packet (λ message. is_at setting server message.place) (state.message packet)
+      || ((server + 1 == servers setting) && is_some (state.withheld packet))
+      then became.Lost state.events
+      else state.fate packet;
 }
 
 -- ---- recover
@@ -177,80 +190,91 @@ is_undone_drop undone packet (became.Filtered server) = names undone server pack
 is_undone_drop undone packet other = false
 
 abbrev pub recovered : Setting → ChainState → ℕ → List VisitName → ℕ → ℕ → ChainState
-recovered c s server undone previous following = record s {
-  trace = left_of (names undone) s.trace;
-  up = with_at s.up server true;
-  lists = with_at s.lists server (list_got c s server previous following);
-  known = with_at s.known server (union (knows c s previous) (knows c s following));
-  message = λ origin. drop_if (is_dropped c s following) (s.message origin);
-  gap = gaps_at c (gaps_at c s.gap server) following;
-  lines = lines_behind s.lines;
+recovered setting state server undone previous following = record state {
+  trace = left_of (names undone) state.trace;
+  up = with_at state.up server true;
+  lists = with_at state.lists server (list_got setting state server previous following);
+  known = with_at state.known server (union (knows setting state previous) (knows setting state following));
+  message = λ origin. drop_if (is_dropped setting state following) (state.message origin);
+  gap = gaps_at setting (gaps_at setting state.gap server) following;
+  lines = lines_behind state.lines;
   fate = λ packet.
-      if loses_packet (is_dropped c s following) (s.message packet) || is_undone_drop undone packet (s.fate packet)
-      then became.Lost s.events
-      else s.fate packet;
+      if loses_packet (is_dropped setting state following) (state.message packet)
+      || is_undone_drop undone packet (state.fate packet)
+      then became.Lost state.events
+      else state.fate packet;
 }
 
--- ---- pull: of each group that both ends belong to, and whose head the receiver isn't, the receiver gets the sender's list
+-- ---- pull: of each group that both ends belong to and whose head the receiver isn't, it gets the sender's list
 
 abbrev pub pulled_list : Setting → ChainState → ℕ → ℕ → Visits
-pulled_list c s sender receiver group packet =
-    if is_member c group sender && is_member c group receiver && not (group == receiver) then s.lists sender group packet else s.lists receiver group packet
+pulled_list setting state sender receiver group packet =
+    if is_member setting group sender && is_member setting group receiver && not (group == receiver)
+    then state.lists sender group packet else state.lists receiver group packet
 
 -- it is new for the receiver, which isn't its tail
 abbrev pub is_news : Setting → ChainState → ℕ → ℕ → Entry → Bool
-is_news c s sender receiver (Visited group packet outcome) =
-    pulled_list c s sender receiver group packet && not (s.lists receiver group packet) && not (is_tail c group receiver)
-is_news c s sender receiver (Given packet bytes) = false
+is_news setting state sender receiver (Visited group packet outcome) =
+    pulled_list setting state sender receiver group packet && not (state.lists receiver group packet)
+    && not (is_tail setting group receiver)
+is_news setting state sender receiver (Given packet bytes) = false
 
 abbrev pub pulled : Setting → ChainState → ℕ → ℕ → ChainState
-pulled c s sender receiver = record s {
-  lists = with_at s.lists receiver (pulled_list c s sender receiver);
+pulled setting state sender receiver = record state {
+  lists = with_at state.lists receiver (pulled_list setting state sender receiver);
   gap = λ link.
       if link == sender then false
-      else (if link == receiver then s.gap receiver || list_any (is_news c s sender receiver) s.trace else s.gap link);
+      else (if link == receiver
+      then state.gap receiver || list_any (is_news setting state sender receiver) state.trace else state.gap link);
 }
 
 -- ---- what each event does
 
 abbrev pub happened : Setting → ChainState → Event → ChainState
-happened c s (event.Enter packet) = record s {
-  entered = s.entered + 1;
-  message = with_at s.message packet (if s.up 0 then Some (fresh_message s.events (Some (packet_at c packet))) else s.message packet);
-  fate = with_at s.fate packet (if s.up 0 then s.fate packet else became.Lost s.events);
+happened setting state (event.Enter packet) = record state {
+  entered = state.entered + 1;
+  message = with_at state.message packet
+      (if state.up 0 then Some (fresh_message state.events (Some (packet_at setting packet))) else state.message packet);
+  fate = with_at state.fate packet (if state.up 0 then state.fate packet else became.Lost state.events);
 }
-happened c s (event.Take link origin) = record s {
-  message = with_at s.message origin (taken_message c s link (s.message origin));
-  known = with_at s.known (next_of (servers c) link) (union (s.known (next_of (servers c) link)) (known_by (s.message origin)));
+happened setting state (event.Take link origin) = record state {
+  message = with_at state.message origin (taken_message setting state link (state.message origin));
+  known = with_at state.known (next_of (servers setting) link)
+      (union (state.known (next_of (servers setting) link)) (known_by (state.message origin)));
 }
-happened c s (event.Apply server origin group packet) = record s {
-  lists = with_at s.lists server (union (s.lists server) (just group packet true));
+happened setting state (event.Apply server origin group packet) = record state {
+  lists = with_at state.lists server (union (state.lists server) (just group packet true));
 }
-happened c s (event.Visit server packet worker) = record s {
-  trace = Visited server packet (outcome_at c s server packet) ∷ s.trace;
-  lists = with_at s.lists server (union (s.lists server) (just server packet (is_changing c.partitions (outcome_at c s server packet))));
-  message = with_at s.message packet (visited_message c server packet (outcome_at c s server packet) (s.message packet));
-  fate = with_at s.fate packet (fate_by server (s.fate packet) (outcome_at c s server packet).packet);
+happened setting state (event.Visit server packet worker) = record state {
+  trace = Visited server packet (outcome_at setting state server packet) ∷ state.trace;
+  lists = with_at state.lists server
+      (union (state.lists server)
+      (just server packet (is_changing setting.partitions (outcome_at setting state server packet))));
+  message = with_at state.message packet
+      (visited_message setting server packet (outcome_at setting state server packet) (state.message packet));
+  fate = with_at state.fate packet (fate_by server (state.fate packet) (outcome_at setting state server packet).packet);
 }
-happened c s (event.Pass server origin) = sent_on c s server origin false
-happened c s (event.Lose server origin) = sent_on c s server origin true
-happened c s (event.Carry origin) = record s {
-  message = with_at s.message origin None;
-  forwarder = union s.forwarder (λ group packet. logs_of (s.message origin) group packet && not (is_tail c group 0));
+happened setting state (event.Pass server origin) = sent_on setting state server origin false
+happened setting state (event.Lose server origin) = sent_on setting state server origin true
+happened setting state (event.Carry origin) = record state {
+  message = with_at state.message origin None;
+  forwarder = union state.forwarder
+      (λ group packet. logs_of (state.message origin) group packet && not (is_tail setting group 0));
 }
-happened c s (event.Crash server) = crashed c s server
-happened c s (event.Recover server undone) = recovered c s server undone (previous_live c s server) (following_live c s server)
-happened c s (event.Pull link) = pulled c s link (next_of (servers c) link)
-happened c s (event.Propagate origin) = record s {
-  propagates = s.propagates + 1;
-  message = with_at s.message origin (Some (fresh_message s.events None));
+happened setting state (event.Crash server) = crashed setting state server
+happened setting state (event.Recover server undone) =
+    recovered setting state server undone (previous_live setting state server) (following_live setting state server)
+happened setting state (event.Pull link) = pulled setting state link (next_of (servers setting) link)
+happened setting state (event.Propagate origin) = record state {
+  propagates = state.propagates + 1;
+  message = with_at state.message origin (Some (fresh_message state.events None));
 }
-happened c s (event.Release packet) = record s {
-  trace = Given packet (bytes_withheld (s.withheld packet)) ∷ s.trace;
-  withheld = with_at s.withheld packet None;
-  fate = with_at s.fate packet became.Released;
+happened setting state (event.Release packet) = record state {
+  trace = Given packet (bytes_withheld (state.withheld packet)) ∷ state.trace;
+  withheld = with_at state.withheld packet None;
+  fate = with_at state.fate packet became.Released;
 }
 
 -- events are counted
 abbrev pub next : Setting → ChainState → Event → ChainState
-next c s event = record (happened c s event) { events = s.events + 1 }
+next setting state event = record (happened setting state event) { events = state.events + 1 }

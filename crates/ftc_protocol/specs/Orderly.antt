@@ -14,34 +14,48 @@ use Rattle.ftc_protocol.specs.Trace.{IsTouching, IsChanging, IsSomeVisit}
 use Rattle.ftc_protocol.specs.State.{Where, Held, Queued, Message, Withheld, ChainState, opening}
 use Rattle.ftc_protocol.specs.Known.{ServerHas}
 use Rattle.ftc_protocol.specs.Recovery.{previous_live, following_live}
+use Rattle.ftc_protocol.specs.Legal.{IsNextLine}
 use Rattle.ftc_protocol.specs.Fates.{MayLose}
 use Rattle.ftc_protocol.specs.Run.{state_after}
 
 -- the server that holds a message, or to which it is queued
 abbrev pub aim : ℕ → Where → ℕ
-aim n (Held server visited by_ring) = server
-aim n (Queued link) = next_of n link
+aim size (Held server visited by_ring) = server
+aim size (Queued link) = next_of size link
 
-pub record IsOrderly (c : Setting) (s : ChainState) : Type 0 where
-  pub admissible : IsAdmissible (shape c) s.up
-  pub inside : (server : ℕ) → s.up server ≡ true → server < servers c
-  pub history : IsHistory c.rules (serial.opening c.packets) s.trace
-  pub had : (server group packet : ℕ) → In (s.lists server) group packet →
-      (s.up server ≡ true) × (group < servers c) × (apart (servers c) group server ≤ c.failures) × IsChanging c.partitions s.trace group packet
-  pub heads : (group packet : ℕ) → s.up group ≡ true → IsChanging c.partitions s.trace group packet → In (s.lists group) group packet
-  pub awake : (origin : ℕ) (message : Message) → s.message origin ≡ Some message → s.up (aim (servers c) message.place) ≡ true
-  pub rides : (origin group packet : ℕ) (message : Message) → s.message origin ≡ Some message → In message.logs group packet →
-      (group < servers c) × (apart (servers c) group (aim (servers c) message.place) ≤ c.failures)
-  pub forwarded : (group packet : ℕ) → In s.forwarder group packet → (s.up 0 ≡ true) × IsTouching s.trace group packet
-  pub needs : (origin group : ℕ) (message : Message) (bytes : List ℕ) → s.message origin ≡ Some message → message.packet ≡ Some bytes →
-      IsTouching s.trace group origin → message.needs group ≡ true
-  pub buffered : (packet : ℕ) (withheld : Withheld) → s.withheld packet ≡ Some withheld →
-      (s.up (servers c - 1) ≡ true) × ((group : ℕ) → IsTouching s.trace group packet → withheld.needs group ≡ true)
-  pub clock : (origin : ℕ) (message : Message) → s.message origin ≡ Some message → message.since < s.events
-  pub numbered : (origin : ℕ) (message : Message) → s.message origin ≡ Some message →
-      (origin < s.entered) ⊎ ((count c ≤ origin) × (origin < count c + s.propagates))
-  pub entered : s.entered ≤ count c
-  pub gaps : (link : ℕ) → s.gap link ≡ true → servers c ≢ 1
+pub record IsOrderly (setting : Setting) (state : ChainState) : Type 0 where
+  pub admissible : IsAdmissible (shape setting) state.up
+  pub inside : (server : ℕ) → state.up server ≡ true → server < servers setting
+  pub history : IsHistory setting.rules (serial.opening setting.packets) state.trace
+  pub had : (server group packet : ℕ) → In (state.lists server) group packet →
+      (state.up server ≡ true) × (group < servers setting) × (apart (servers setting) group server ≤ setting.failures)
+      × IsChanging setting.partitions state.trace group packet
+  pub heads : (group packet : ℕ) → state.up group ≡ true → IsChanging setting.partitions state.trace group packet →
+      In (state.lists group) group packet
+  pub awake : (origin : ℕ) (message : Message) → state.message origin ≡ Some message →
+      state.up (aim (servers setting) message.place) ≡ true
+  pub rides : (origin group packet : ℕ) (message : Message) → state.message origin ≡ Some message →
+      In message.logs group packet →
+      (group < servers setting)
+      × (apart (servers setting) group (aim (servers setting) message.place) ≤ setting.failures)
+  pub forwarded : (group packet : ℕ) → In state.forwarder group packet →
+      (state.up 0 ≡ true) × IsTouching state.trace group packet
+  pub needs : (origin group : ℕ) (message : Message) (bytes : List ℕ) → state.message origin ≡ Some message →
+      message.packet ≡ Some bytes →
+      IsTouching state.trace group origin → message.needs group ≡ true
+  pub buffered : (packet : ℕ) (withheld : Withheld) → state.withheld packet ≡ Some withheld →
+      (state.up (servers setting - 1) ≡ true)
+      × ((group : ℕ) → IsTouching state.trace group packet → withheld.needs group ≡ true)
+  pub clock : (origin : ℕ) (message : Message) → state.message origin ≡ Some message → message.since < state.events
+  pub numbered : (origin : ℕ) (message : Message) → state.message origin ≡ Some message →
+      (origin < state.entered) ⊎ ((count setting ≤ origin) × (origin < count setting + state.propagates))
+  pub entered : state.entered ≤ count setting
+  pub links : (origin link : ℕ) (message : Message) → state.message origin ≡ Some message →
+      message.place ≡ Queued link → link < servers setting
+  pub gaps : (link : ℕ) → state.gap link ≡ true → servers setting ≢ 1
+  pub crashes : (entered server : ℕ) → IsNextLine state.lines (line.Crash entered server) → server < servers setting
+  pub recoveries : (entered server : ℕ) → IsNextLine state.lines (line.Recover entered server) →
+      (server < servers setting) × (state.up server ≡ false)
 
 -- the crashes and recoveries of a journal, each with the count of packets that had entered
 abbrev pub lines_done : ℕ → List Event → List ScriptLine
@@ -60,50 +74,58 @@ lines_done entered (event.Propagate origin ∷ events) = lines_done entered even
 lines_done entered (event.Release packet ∷ events) = lines_done entered events
 
 -- each log rides on one message at most, and on none where the forwarder has it
-pub record IsRiding (s : ChainState) : Type 0 where
-  pub once : (group packet origin other : ℕ) (message another : Message) → s.message origin ≡ Some message → s.message other ≡ Some another →
+pub record IsRiding (state : ChainState) : Type 0 where
+  pub once : (group packet origin other : ℕ) (message another : Message) → state.message origin ≡ Some message →
+      state.message other ≡ Some another →
       In message.logs group packet → In another.logs group packet → origin ≡ other
-  pub away : (group packet origin : ℕ) (message : Message) → In s.forwarder group packet → s.message origin ≡ Some message → In message.logs group packet → ⊥
+  pub away : (group packet origin : ℕ) (message : Message) → In state.forwarder group packet →
+      state.message origin ≡ Some message → In message.logs group packet → ⊥
 
 -- what a packet needs are touching visits of its own in the trace
-pub record IsNeeding (s : ChainState) : Type 0 where
-  pub carried : (origin group : ℕ) (message : Message) → s.message origin ≡ Some message → message.needs group ≡ true →
-      IsTouching s.trace group origin × ((bytes : List ℕ) × (message.packet ≡ Some bytes))
-  pub withheld : (packet group : ℕ) (withheld : Withheld) → s.withheld packet ≡ Some withheld → withheld.needs group ≡ true → IsTouching s.trace group packet
+pub record IsNeeding (state : ChainState) : Type 0 where
+  pub carried : (origin group : ℕ) (message : Message) → state.message origin ≡ Some message →
+      message.needs group ≡ true →
+      IsTouching state.trace group origin × ((bytes : List ℕ) × (message.packet ≡ Some bytes))
+  pub withheld : (packet group : ℕ) (withheld : Withheld) → state.withheld packet ≡ Some withheld →
+      withheld.needs group ≡ true → IsTouching state.trace group packet
 
 -- the message is still to be visited at the server at which it is, or to which it is queued
 abbrev pub IsUnvisited : Where → Type 0
 IsUnvisited (Held server visited by_ring) = visited ≡ false
 IsUnvisited (Queued link) = Unit {0}
 
--- Such a message has no log and no need of that server's own middlebox: its logs are of other groups, its needs of middleboxes before.
-pub record AreAhead (c : Setting) (s : ChainState) : Type 0 where
-  pub logs : (origin group packet : ℕ) (message : Message) → s.message origin ≡ Some message → IsUnvisited message.place →
-      In message.logs group packet → group ≢ aim (servers c) message.place
-  pub needs : (origin group : ℕ) (message : Message) → s.message origin ≡ Some message → IsUnvisited message.place →
-      message.needs group ≡ true → group < aim (servers c) message.place
+-- Such a message has no log and no need of that server's own middlebox: its logs are of other groups, its needs of
+-- middleboxes before.
+pub record AreAhead (setting : Setting) (state : ChainState) : Type 0 where
+  pub logs : (origin group packet : ℕ) (message : Message) → state.message origin ≡ Some message →
+      IsUnvisited message.place →
+      In message.logs group packet → group ≢ aim (servers setting) message.place
+  pub needs : (origin group : ℕ) (message : Message) → state.message origin ≡ Some message → IsUnvisited message.place →
+      message.needs group ≡ true → group < aim (servers setting) message.place
 
 -- the event of that number in the journal lost something of the packet
-pub record IsLostAt (c : Setting) (journal : List Event) (number : ℕ) : Type 0 where
+pub record IsLostAt (setting : Setting) (journal : List Event) (number : ℕ) : Type 0 where
   pub before : List Event
   pub event : Event
   pub after : List Event
   pub parts : journal ≡ before ++ event ∷ after
   pub number_is : length before ≡ number
-  pub may : MayLose c (state_after c (opening c) before) event
+  pub may : MayLose setting (state_after setting (opening setting) before) event
 
--- A visit is undone by the recovery of a server where it, or an earlier one of its packet, touches something, has its head strictly
--- between the live servers before and after, and is lacked by the one after.
-pub record IsUndone (c : Setting) (s : ChainState) (server group packet : ℕ) : Type 0 where
-  pub there : IsSomeVisit s.trace group packet
+-- A visit is undone by the recovery of a server where it, or an earlier one of its packet, touches something, has its
+-- head strictly between the live servers before and after, and is lacked by the one after.
+pub record IsUndone (setting : Setting) (state : ChainState) (server group packet : ℕ) : Type 0 where
+  pub there : IsSomeVisit state.trace group packet
   pub earlier : ℕ
   pub before : earlier ≤ group
-  pub touching : IsTouching s.trace earlier packet
-  pub between : IsBetween (servers c) (previous_live c s server) (following_live c s server) earlier
-  pub lacked : ServerHas c s (following_live c s server) earlier packet → ⊥
+  pub touching : IsTouching state.trace earlier packet
+  pub between : IsBetween (servers setting) (previous_live setting state server)
+      (following_live setting state server) earlier
+  pub lacked : ServerHas setting state (following_live setting state server) earlier packet → ⊥
 
--- A visit of the trace stands where the first live member of its group has it, if it touches something, and so for the earlier ones of
--- its packet.
-pub record IsStanding (c : Setting) (s : ChainState) (group packet : ℕ) : Type 0 where
-  pub there : IsSomeVisit s.trace group packet
-  pub had : (earlier server : ℕ) → earlier ≤ group → IsTouching s.trace earlier packet → IsFirstLive (shape c) s.up earlier server → ServerHas c s server earlier packet
+-- A visit of the trace stands where the first live member of its group has it, if it touches something, and so for
+-- the earlier ones of its packet.
+pub record IsStanding (setting : Setting) (state : ChainState) (group packet : ℕ) : Type 0 where
+  pub there : IsSomeVisit state.trace group packet
+  pub had : (earlier server : ℕ) → earlier ≤ group → IsTouching state.trace earlier packet →
+      IsFirstLive (shape setting) state.up earlier server → ServerHas setting state server earlier packet

@@ -7,9 +7,9 @@ use Rattle.ftc_protocol.specs.Setting.{Setting, count}
 use Rattle.ftc_protocol.specs.State.{ChainState}
 
 -- the script has no line
-pub record IsQuiet (c : Setting) : Type 0 where
-  pub lines : c.lines ≡ []
-  pub loses : (link origin : ℕ) → c.loses link origin ≡ false
+pub record IsQuiet (setting : Setting) : Type 0 where
+  pub lines : setting.lines ≡ []
+  pub loses : (link origin : ℕ) → setting.loses link origin ≡ false
 
 -- the event is no loss on a link and no pull
 abbrev pub IsQuietEvent : Event → Type 0
@@ -28,4 +28,6 @@ IsQuietEvent (event.Release packet) = Unit {0}
 
 -- each packet was released, or a middlebox dropped it
 abbrev pub AreDone : Setting → ChainState → Type 0
-AreDone c s = (packet : ℕ) → packet < count c → (s.fate packet ≡ became.Released) ⊎ ((server : ℕ) × (s.fate packet ≡ became.Filtered server))
+AreDone setting state =
+    (packet : ℕ) → packet < count setting →
+    (state.fate packet ≡ became.Released) ⊎ ((server : ℕ) × (state.fate packet ≡ became.Filtered server))

@@ -7,13 +7,14 @@ use Rattle.ftc_script.specs.declared.line.ScriptLine.{ScriptLine}
 use Rattle.ftc_protocol.specs.Setting.{Setting, servers}
 use Rattle.ftc_protocol.specs.Visits.{Visits, no_visits}
 
--- where a message is: held by a server, where it was visited or not and came by the ring link or not, or queued on a link
+-- where a message is: held by a server, where it was visited or not and came by the ring link or not, or queued on a
+-- link
 pub data Where : Type 0 where
   Held : (server : ℕ) → (visited : Bool) → (by_ring : Bool) → Where
   Queued : (link : ℕ) → Where
 
--- A message: where it is, and the number of the event by which it came there; its packet; the visits whose logs it carries; the
--- middleboxes at which its packet has needs; and the visits that its sender knew to be at their tails.
+-- A message: where it is, and the number of the event by which it came there; its packet; the visits whose logs it
+-- carries; the middleboxes at which its packet has needs; and the visits that its sender knew to be at their tails.
 pub record Message : Type 0 where
   pub place : Where
   pub since : ℕ
@@ -22,7 +23,8 @@ pub record Message : Type 0 where
   pub needs : ℕ → Bool
   pub known : Visits
 
--- A packet in the buffer: the number of the event by which it came there, its bytes, and the middleboxes at which it has needs.
+-- A packet in the buffer: the number of the event by which it came there, its bytes, and the middleboxes at which it
+-- has needs.
 pub record Withheld : Type 0 where
   pub since : ℕ
   pub bytes : List ℕ
@@ -52,9 +54,9 @@ pub record ChainState : Type 0 where
 
 -- all servers are up, and everything is empty
 abbrev pub opening : Setting → ChainState
-opening c = record {
+opening setting = record {
   trace = [];
-  up = λ server. nat_lt server (servers c);
+  up = λ server. nat_lt server (servers setting);
   lists = λ server. no_visits;
   known = λ server. no_visits;
   message = λ origin. None;
@@ -62,7 +64,7 @@ opening c = record {
   withheld = λ packet. None;
   gap = λ link. false;
   entered = 0;
-  lines = c.lines;
+  lines = setting.lines;
   propagates = 0;
   events = 0;
   fate = λ packet. became.Inside;

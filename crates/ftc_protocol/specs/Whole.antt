@@ -9,11 +9,12 @@ use Rattle.ftc_serial.specs.Trace.{trace_of}
 use Rattle.ftc_protocol.specs.Setting.{Setting}
 
 -- the serial run of a journal's trace exists
-pub record HasSerialRun (c : Setting) (journal : List Event) : Type 0 where
+pub record HasSerialRun (setting : Setting) (journal : List Event) : Type 0 where
   pub end : State
-  pub exists : serial_run c.rules (serial.opening c.packets) (trace_of journal) ≡ Some end
+  pub exists : serial_run setting.rules (serial.opening setting.packets) (trace_of journal) ≡ Some end
 
 -- each released packet has visited all middleboxes, so many, and none of its visits was undone
 abbrev pub ReleasedVisited : ℕ → List Event → Type 0
 ReleasedVisited servers journal =
-    (packet server : ℕ) → Contains journal (event.Release packet) → server < servers → Contains (trace_of journal) (Visit server packet)
+    (packet server : ℕ) → Contains journal (event.Release packet) → server < servers →
+    Contains (trace_of journal) (Visit server packet)

@@ -16,7 +16,7 @@ ghost use Rattle.ftc_protocol.specs.Next.{next};
 ghost use Rattle.ftc_protocol.specs.Quiet.{IsQuiet};
 ghost use Rattle.ftc_protocol.specs.Run.{AreLegal, IsRun, IsFinished, state_after};
 ghost use Rattle.ftc_protocol.specs.Jobs.{event_of, slot_of, IsLegalJob, IsEarlier, IsFirstJob, IsWork, IsNoWork, IsNoPull, AreIdle, IsNoTake, IsNoLine, IsNoEnter, IsInTurn, IsWithin};
-ghost use Rattle.ftc_protocol.specs.Drive.{IsNoneDue, AreReleases, AreFinish, IsFinish, IsPassedOver, IsPlay, IsDrive};
+ghost use Rattle.ftc_protocol.specs.Drive.{event_after, IsNoneDue, AreReleases, AreFinish, IsFinish, IsPassedOver, IsPlay, IsDrive};
 
 /// A job is legal where its event is, in whatever slot, and each event but a release does a job. The numbers
 /// of a legal job are those of servers, messages and packets.
@@ -71,12 +71,16 @@ pub fn work()
         ((job : AJob) × IsWork setting (state_after setting (opening setting) journal) server origin job)
         ⊎ IsNoWork setting (state_after setting (opening setting) journal) server origin }
     ensures visit { (setting : Setting) (state : ChainState) (server packet : ℕ) →
-        IsLegalJob setting state (job.Visit server packet) → IsWork setting state server packet (job.Visit server packet) }
+        IsLegalJob setting state (job.Visit server packet) →
+        IsWork setting state server packet (job.Visit server packet) }
     ensures pass { (setting : Setting) (state : ChainState) (server origin : ℕ) →
-        IsLegalJob setting state (job.Pass server origin) → IsWork setting state server origin (job.Pass server origin) }
+        IsLegalJob setting state (job.Pass server origin) →
+        IsWork setting state server origin (job.Pass server origin) }
     ensures lose { (setting : Setting) (state : ChainState) (server origin : ℕ) →
-        IsLegalJob setting state (job.Lose server origin) → IsWork setting state server origin (job.Lose server origin) }
-    ensures carry { (setting : Setting) → IsSetting setting → (journal : List AnEvent) → IsRun setting journal → (origin : ℕ) →
+        IsLegalJob setting state (job.Lose server origin) →
+        IsWork setting state server origin (job.Lose server origin) }
+    ensures carry { (setting : Setting) → IsSetting setting → (journal : List AnEvent) → IsRun setting journal →
+        (origin : ℕ) →
         IsLegalJob setting (state_after setting (opening setting) journal) (job.Carry origin) →
         IsWork setting (state_after setting (opening setting) journal) 0 origin (job.Carry origin) }
 {}
@@ -121,12 +125,14 @@ pub fn finish()
     ensures turn { (setting : Setting) (state : ChainState) (job : AJob) (releases rest : List AnEvent) →
         IsFirstJob setting state job →
         AreReleases setting (next setting state (event_of setting state FINISHING_SLOT job)) releases →
-        AreFinish setting (state_after setting (next setting state (event_of setting state FINISHING_SLOT job)) releases) rest →
+        AreFinish setting
+        (state_after setting (next setting state (event_of setting state FINISHING_SLOT job)) releases) rest →
         AreFinish setting state (event_of setting state FINISHING_SLOT job ∷ (releases ++ rest)) }
     ensures begun { (setting : Setting) (journal whole : List AnEvent) (job : AJob) (releases : List AnEvent) →
         IsFirstJob setting (state_after setting (opening setting) journal) job →
-        AreReleases setting (state_after setting (opening setting) (journal ++ event_of setting (state_after setting (opening setting) journal) FINISHING_SLOT job ∷ [])) releases →
-        IsFinish setting ((journal ++ event_of setting (state_after setting (opening setting) journal) FINISHING_SLOT job ∷ []) ++ releases) whole →
+        AreReleases setting (state_after setting (opening setting)
+        (journal ++ event_after setting journal job ∷ [])) releases →
+        IsFinish setting ((journal ++ event_after setting journal job ∷ []) ++ releases) whole →
         IsFinish setting journal whole }
     ensures ended { (setting : Setting) (journal : List AnEvent) →
         IsFinished setting (state_after setting (opening setting) journal) → IsFinish setting journal journal }
@@ -138,7 +144,8 @@ pub fn play()
         IsPlay setting (opening setting) schedule one → IsPlay setting (opening setting) schedule other → one ≡ other }
     ensures run { (setting : Setting) (schedule played : List AnEvent) →
         IsPlay setting (opening setting) schedule played → IsRun setting played }
-    ensures made { (setting : Setting) (schedule played : List AnEvent) (event : AnEvent) (job : AJob) (releases : List AnEvent) →
+    ensures made { (setting : Setting) (schedule played : List AnEvent) (event : AnEvent) (job : AJob)
+        (releases : List AnEvent) →
         IsPlay setting (opening setting) schedule played → job_of event ≡ Some job →
         IsLegalJob setting (state_after setting (opening setting) played) job →
         AreReleases setting (next setting (state_after setting (opening setting) played)

@@ -29,7 +29,8 @@ pub fn every_run_ends()
         work_left setting (state_after setting (opening setting) (before ++ event ∷ []))
         < work_left setting (state_after setting (opening setting) before) }
     ensures bounded { (setting : Setting) → IsSetting setting → (journal : List AnEvent) → IsRun setting journal →
-        length journal + work_left setting (state_after setting (opening setting) journal) ≤ work_left setting (opening setting) }
+        length journal + work_left setting (state_after setting (opening setting) journal)
+        ≤ work_left setting (opening setting) }
 {}
 
 /// When no event is legal any more, nothing is left to do: the script is done, all packets have entered, no

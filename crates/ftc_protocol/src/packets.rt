@@ -53,7 +53,8 @@ pub fn losses()
         (state_after setting (opening setting) before).fate packet ≡ became.Lost number →
         (state_after setting (opening setting) (before ++ after)).fate packet ≡ became.Lost number }
     ensures place { (setting : Setting) (journal : List AnEvent) (packet number : ℕ) →
-        (state_after setting (opening setting) journal).fate packet ≡ became.Lost number → IsLostAt setting journal number }
+        (state_after setting (opening setting) journal).fate packet ≡ became.Lost number →
+        IsLostAt setting journal number }
     ensures counted { (setting : Setting) (journal : List AnEvent) →
         (state_after setting (opening setting) journal).events ≡ length journal }
 {}
@@ -78,7 +79,8 @@ pub fn what_a_run_released()
 pub fn each_visit_once()
     ensures { (setting : Setting) → IsSetting setting → (before middle after : List AnEvent)
         (server packet worker other : ℕ) →
-        IsRun setting (before ++ event.Visit server packet worker ∷ (middle ++ event.Visit server packet other ∷ after)) → ⊥ }
+        IsRun setting (before ++ event.Visit server packet worker
+        ∷ (middle ++ event.Visit server packet other ∷ after)) → ⊥ }
 {}
 
 /// What becomes of each packet in that run is what the serial run's end says.

@@ -18,7 +18,7 @@ pub returns-clause-state : goal.returns-clause-state
 returns-clause-state c = λ setting state before after. state_on setting before after state
 
 pub returns-clause-opens : goal.returns-clause-opens
-returns-clause-opens c = λ setting is. record { setting = is; journal = []; run = tt; state = refl }
+returns-clause-opens c = λ setting is. record { right = is; journal = []; run = tt; reaches = refl }
 
 pub returns-clause-next : goal.returns-clause-next
 returns-clause-next c = run_next
