@@ -18,7 +18,8 @@ use Rattle.ftc_script.specs.declared.statement.Statement.{Statement}
 use Rattle.ftc_script.specs.declared.statement.Statement.TheVariants as said
 use Rattle.ftc_script.specs.Steps.{all_live, with_at, last_of, IsInTurn, IsCrash}
 use Rattle.ftc_script.specs.Script.{ScriptShape, IsScript, IsLose}
-use Rattle.ftc_script.specs.Words.{◌>>=◌, ◌>>◌, unless, statement_of}
+use Rattle.ftc_base.specs.Reading.{◌>>=◌, ◌>>◌, unless}
+use Rattle.ftc_script.specs.Words.{statement_of}
 use Rattle.ftc_script.specs.Grammar.{ScriptDraft, no_lines, live_in, with_step, with_lose, in_turn, unless_gone, may_crash, may_recover, lose_line, add, line_step, fault_at, placed, down_of, finished, finish, script_from, script_of, IsDraft}
 use Rattle.ftc_script.proofs.InTurn.{steps_push}
 
