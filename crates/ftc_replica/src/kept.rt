@@ -93,7 +93,7 @@ impl Kept {
     /// Drops the logs that the vector covers.
     pub fn prune(&mut self, commit: &Vector)
         ensures items { self.new.items ≡ missing commit.now self.old.items }
-        ensures spare { self.old.spare + length self.old.items ≤ self.new.spare + length self.new.items }
+        ensures spare { self.new.spare + length self.new.items ≡ self.old.spare + length self.old.items }
     {
         self.logs.retain(|log| !covers_log(commit, log));
     }
