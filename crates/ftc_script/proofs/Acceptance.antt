@@ -9,6 +9,7 @@ use Rattle.ftc_base.specs.declared.limits.TheConstants.{MOST_SCRIPT_BYTES}
 use Rattle.ftc_ring.specs.Ring.{RingShape, IsRing}
 use Rattle.ftc_ring.specs.Live.{IsLive, IsDown, gone_of}
 use Rattle.ftc_ring.proofs.Nearest.{gone_none}
+use Rattle.ftc_base.proofs.EachOf.{all_push}
 use Rattle.ftc_script.specs.declared.fault.ScriptCause.{ScriptCause}
 use Rattle.ftc_script.specs.declared.fault.ScriptCause.TheVariants.{Order, Past, NotUp, NotDown, Link, TooLong}
 use Rattle.ftc_script.specs.declared.fault.ScriptFault.{ScriptFault}
@@ -68,10 +69,6 @@ was_down false e = refl
 
 pub recover_passed : (live : ℕ → Bool) (server : ℕ) (v : Unit {0}) → may_recover live server ≡ Ok v → IsDown live server
 recover_passed live server v e = was_down (live server) (passed (not (live server)) NotDown v e)
-
-all_push : {A : Type 0} (P : A → Type 0) (xs : List A) (x : A) → AllByRecursion P xs → P x → AllByRecursion P (xs ++ x ∷ [])
-all_push P [] x all is = (is, tt)
-all_push P (y ∷ xs) x all is = (all.0, all_push P xs x all.1 is)
 
 pub lose_passed : (ring : RingShape) (packets place number origin : ℕ) (line : LoseLine) → lose_line ring packets place number origin ≡ Ok line → IsLose ring packets line
 lose_passed ring packets place number origin line e =
