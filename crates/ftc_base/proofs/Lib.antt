@@ -1,5 +1,8 @@
 pub mod Numbers
 pub mod FirstParts
-pub mod ReadAgain
+pub mod EachOf
+pub mod Separated
+pub mod PlainWords
+pub mod Decimals
 pub mod Members
 pub mod Parts

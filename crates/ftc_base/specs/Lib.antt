@@ -6,3 +6,5 @@ pub mod Number
 pub mod Endpoint
 pub mod Ask
 pub mod Refused
+pub mod Reading
+pub mod Touched

@@ -1,6 +1,12 @@
 //! Bytes that can grow.
 
-ghost use Rattle.std.specs.Prelude.{◌≡◌, ◌++◌, [], length, IfOk, OnOk, OnErr, ◌==◌};
+ghost use Rattle.std.specs.Prelude.{◌≡◌, ◌++◌, [], length, IfOk, OnOk, OnErr, ◌==◌, nat_eq, take, drop};
+ghost use Rattle.std.proofs.Common.{rules};
+ghost use Rattle.std.specs.Borrow.{Lends, sem, u8 as byte};
+ghost use Rattle.ftc_base.specs.contracts.bytes.Bytes.{the_row};
+ghost use denote.Array.{Array};
+ghost use Rattle.std.specs.Cmp.Lexicographic.{pointwise};
+ghost use Rattle.std.specs.Cmp.Rules.{comparing};
 
 use crate::items::Items;
 use crate::refusal::NoMemory;
@@ -34,6 +40,15 @@ impl Bytes {
         }
     }
 
+    /// No bytes yet, in memory of the same allocator.
+    pub fn none_alike(&self) -> Bytes
+        ensures { result ≡ [] }
+    {
+        Bytes {
+            buffer: Vec::new(*self.buffer.allocator()),
+        }
+    }
+
     /// The bytes of a vector, which are not copied.
     pub fn from_vec(buffer: Vec<u8>) -> Bytes
         ensures { result ≡ buffer.items }
@@ -53,6 +68,16 @@ impl Bytes {
         ensures { result.now ≡ self.now }
     {
         self.buffer.as_slice()
+    }
+
+    /// The bytes, which may be changed in place.
+    pub fn as_mut_slice(&mut self) -> &mut [u8]
+        ensures value { result.now ≡ self.old }
+        // What is written takes the place of the bytes. It is as long as they were.
+        ensures* writes_back { sem 𝓛 (Lends the_row (Array byte 0) self.entry result
+            (λ bytes. take (length self.old) (bytes ++ drop (length bytes) self.old))) }
+    {
+        self.buffer.as_mut_slice()
     }
 
     /// How many bytes there are.
@@ -85,4 +110,18 @@ impl Bytes {
         let buffer = self.buffer.clone()?;
         Ok(Bytes { buffer })
     }
+}
+
+impl PartialEq for Bytes {
+    ghost eq = { pointwise nat_eq };
+
+    ghost laws = { Prim.search (comparing, rules) };
+
+    fn eq(&self, other: &Bytes) -> bool {
+        self.as_slice() == other.as_slice()
+    }
+}
+
+impl Eq for Bytes {
+    ghost laws = { Prim.search (comparing, rules) };
 }

@@ -24,11 +24,11 @@ pub struct Word {
 #[derive(Clone, Copy, Debug, PartialEq, Eq, Error)]
 pub enum Lexical {
     #[error("not a number")]
-    NotNumber = 1,
+    NotNumber,
     #[error("a number that is too large")]
-    TooLarge = 2,
+    TooLarge,
     #[error("neither an address nor a net")]
-    NotAddress = 3,
+    NotAddress,
 }
 
 /// The line that begins at `from`, and None at the text's end.

@@ -30,7 +30,7 @@ pub use network::Net;
 pub use partition::partition_of;
 pub use refusal::{NoMemory, Refuse};
 pub use released::{Released, ReleasedList};
-pub use sets::{NumberSet, PartSet, ServerSet, WorkerSet, same_members};
+pub use sets::{PartSet, ServerSet, WorkerSet, same_members};
 pub use split::{split_line, split_part, split_word};
 
 #[cfg(test)]

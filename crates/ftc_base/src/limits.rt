@@ -1,5 +1,7 @@
 //! The limits of a chain and of its texts. Each is the greatest number that is accepted.
 
+ghost use Rattle.std.specs.Prelude.{◌≡◌};
+
 /// Servers of a chain.
 pub const MOST_SERVERS: u8 = 16;
 
@@ -11,6 +13,9 @@ pub const MOST_SLOTS: u8 = 64;
 
 /// The slot in which a run on one thread makes its visits.
 pub const FINISHING_SLOT: u8 = 63;
+
+/// Numbers that a set may have as members: they are below this one.
+pub const MOST_MEMBERS: u8 = 64;
 
 /// Worker threads.
 pub const MOST_THREADS: u8 = 32;
@@ -47,3 +52,24 @@ pub const MOST_BACKENDS: usize = 16;
 
 /// Groups of a monitor.
 pub const MOST_MONITOR_GROUPS: u16 = 256;
+
+/// The limits, as numbers.
+pub fn law_of_limits()
+    ensures servers { MOST_SERVERS ≡ 16 }
+    ensures partitions { MOST_PARTITIONS ≡ 64 }
+    ensures slots { MOST_SLOTS ≡ 64 }
+    ensures finishing { FINISHING_SLOT ≡ 63 }
+    ensures members { MOST_MEMBERS ≡ 64 }
+    ensures threads { MOST_THREADS ≡ 32 }
+    ensures key { MOST_KEY_BYTES ≡ 16 }
+    ensures value { MOST_VALUE_BYTES ≡ 16 }
+    ensures reads { MOST_READS ≡ 8 }
+    ensures writes { MOST_WRITES ≡ 8 }
+    ensures records { MOST_RECORDS ≡ 100000 }
+    ensures captured { MOST_CAPTURED ≡ 262144 }
+    ensures capture { MOST_CAPTURE_BYTES ≡ 67108864 }
+    ensures script { MOST_SCRIPT_BYTES ≡ 1048576 }
+    ensures firewall { MOST_FIREWALL_LINES ≡ 64 }
+    ensures backends { MOST_BACKENDS ≡ 16 }
+    ensures groups { MOST_MONITOR_GROUPS ≡ 256 }
+{}

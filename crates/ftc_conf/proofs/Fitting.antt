@@ -18,7 +18,8 @@ use Rattle.ftc_conf.specs.declared.draft.Draft.{Draft}
 use Rattle.ftc_conf.specs.declared.statement.Form.{Form}
 use Rattle.ftc_conf.specs.declared.statement.Statement.{Statement}
 use Rattle.ftc_conf.specs.declared.statement.Statement.TheVariants as said
-use Rattle.ftc_conf.specs.Words.{◌>>=◌, ◌>>◌, is_comment}
+use Rattle.ftc_base.specs.Reading.{◌>>=◌, ◌>>◌}
+use Rattle.ftc_conf.specs.Words.{is_comment}
 use Rattle.ftc_conf.specs.Forms.{failures_of, partitions_of}
 use Rattle.ftc_conf.specs.Draft.{servers, no_lines, last_firewall, longer_firewall, with_statement, HasRoom}
 use Rattle.ftc_conf.specs.Grammar.{form_of, room_for, said_in, words_in, line_in, statement_of, line_step, finished, placed, chain_from, chain_within}

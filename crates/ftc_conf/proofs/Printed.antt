@@ -13,35 +13,15 @@ use Rattle.ftc_firewall.specs.declared.rule.FireLine.{FireLine}
 use Rattle.ftc_firewall.specs.Bounds.{IsFireLine}
 use Rattle.ftc_balance.specs.declared.rule.BalanceRule.{BalanceRule}
 use Rattle.ftc_balance.specs.Bounds.{IsBalanceRule}
+use Rattle.ftc_base.proofs.EachOf.{all-append, all-weaker}
+use Rattle.ftc_base.proofs.Separated.{Without, parts_of-join}
+use Rattle.ftc_base.proofs.PlainWords.{IsLetter, IsPlainWord, plain}
+use Rattle.ftc_base.proofs.Decimals.{some_digit, plain_number}
 use Rattle.ftc_conf.specs.declared.limits.TheConstants.{MOST_PORT}
 use Rattle.ftc_conf.specs.Forms.{nat_of, protocol_of, fire_line_of, with_backend, with_backends, backends_of, balance_of}
 use Rattle.ftc_conf.specs.Plain.{address_text, net_text, ports_text, protocol_text, decision_text, nat_words, fire_line_words, balance_words}
-use Rattle.ftc_conf.proofs.Letters.{IsLetter, IsPlainWord, all-append, all-weaker, Without, parts_of-join, part_before-part, part_behind-part}
-use Rattle.ftc_conf.proofs.Spelled.{IsDigit, digits, some_digit, longer, IsAddressByte, all-join, address_bytes, some_address, net_bytes, ports_bytes, number_from_to-decimal, address_word-text, net_word-text, dashed_ports-text, ports_word-text}
-
--- whether a word that is written out is plain
-abbrev pub is_plain : List ℕ → Bool
-is_plain word = nat_lt 0 (length word) && list_all (λ b. nat_le 33 b && nat_le b 126) word
-
-both : (s t : Bool) → (s && t) ≡ true → (s ≡ true) × (t ≡ true)
-both true true e = (refl, refl)
-both true false e = absurd cc
-both false t e = absurd cc
-
-letters : (word : List ℕ) → list_all (λ b. nat_le 33 b && nat_le b 126) word ≡ true → AllByRecursion IsLetter word
-letters [] e = tt
-letters (b ∷ bs) e =
-    let split = both (nat_le 33 b && nat_le b 126) (list_all (λ b. nat_le 33 b && nat_le b 126) bs) e in
-    let first = both (nat_le 33 b) (nat_le b 126) split.0 in
-    ((grind (arith, nat_tests, first.0), grind (arith, nat_tests, first.1)), letters bs split.1)
-
-pub plain : (word : List ℕ) → is_plain word ≡ true → IsPlainWord word
-plain word e =
-    let split = both (nat_lt 0 (length word)) (list_all (λ b. nat_le 33 b && nat_le b 126) word) e in
-    record { some = grind (arith, nat_tests, split.0); letters = letters word split.1 }
-
-pub plain_number : (n : ℕ) → n ≤ 4294967295 → IsPlainWord (decimal n)
-plain_number n small = record { some = some_digit n small; letters = all-weaker IsDigit IsLetter (decimal n) (λ b digit. (omega arith, omega arith)) (digits n small) }
+use Rattle.ftc_conf.proofs.Letters.{part_before-part, part_behind-part}
+use Rattle.ftc_conf.proofs.Spelled.{longer, IsAddressByte, all-join, address_bytes, some_address, net_bytes, ports_bytes, number_from_to-decimal, address_word-text, net_word-text, dashed_ports-text, ports_word-text}
 
 pub plain_address : (address : ℕ) → address ≤ 4294967295 → IsPlainWord (address_text address)
 plain_address address small = record { some = some_address address small; letters = all-weaker IsAddressByte IsLetter (address_text address) (λ b byte. (omega arith, omega arith)) (address_bytes address small) }

@@ -17,6 +17,9 @@ use Rattle.ftc_mbox.specs.Bounds.{IsRule}
 use Rattle.ftc_mbox.specs.Chain.{Chain, IsChain}
 use Rattle.ftc_mbox.specs.declared.rule.Rule.{Rule}
 use Rattle.ftc_mbox.specs.declared.rule.Rule.TheVariants as rule
+use Rattle.ftc_base.proofs.EachOf.{all-append}
+use Rattle.ftc_base.proofs.PlainWords.{IsPlainWord, lines_of-line, words_of-join, line_bytes-join, plain}
+use Rattle.ftc_base.proofs.Decimals.{plain_number}
 use Rattle.ftc_conf.specs.declared.limits.TheConstants.{MOST_FAILURES}
 use Rattle.ftc_conf.specs.declared.fault.ChainCause.{ChainCause}
 use Rattle.ftc_conf.specs.declared.fault.ChainFault.{ChainFault}
@@ -26,13 +29,14 @@ use Rattle.ftc_conf.specs.declared.statement.Statement.{Statement}
 use Rattle.ftc_conf.specs.declared.statement.Statement.TheVariants as said
 use Rattle.ftc_conf.specs.declared.draft.Failures.{Failures}
 use Rattle.ftc_conf.specs.declared.draft.Draft.{Draft}
-use Rattle.ftc_conf.specs.Words.{◌>>=◌, is_comment}
+use Rattle.ftc_base.specs.Reading.{◌>>=◌}
+use Rattle.ftc_conf.specs.Words.{is_comment}
 use Rattle.ftc_conf.specs.Draft.{no_lines, last_firewall, with_statement}
 use Rattle.ftc_conf.specs.Grammar.{form_of, room_for, middlebox_room, said_in, middlebox_line, words_in, line_step, finish, placed, chain_from, chain_within, chain_of}
 use Rattle.ftc_conf.specs.Plain.{address_text, net_text, ports_text, decision_text, protocol_text, nat_words, fire_line_words, balance_words, rule_lines, chain_lines, text_of_lines, plain_text}
-use Rattle.ftc_conf.proofs.Letters.{IsPlainWord, all-append, are_text, lines_of-line, words_of-join, line_bytes-join}
+use Rattle.ftc_conf.proofs.Letters.{are_text}
 use Rattle.ftc_conf.proofs.Spelled.{number_from_to-decimal}
-use Rattle.ftc_conf.proofs.Printed.{plain, plain_number, plain_nat, nat_of-words, plain_fire_line, fire_line_of-words, plain_balance, balance_of-words}
+use Rattle.ftc_conf.proofs.Printed.{plain_nat, nat_of-words, plain_fire_line, fire_line_of-words, plain_balance, balance_of-words}
 
 -- words with one space between them
 abbrev line_of_words : List (List ℕ) → List ℕ

@@ -12,7 +12,7 @@ use Rattle.ftc_conf.specs.declared.statement.Form.TheVariants as form
 use Rattle.ftc_conf.specs.declared.statement.Statement.{Statement}
 use Rattle.ftc_conf.specs.declared.statement.Statement.TheVariants as said
 use Rattle.ftc_conf.specs.declared.draft.Draft.{Draft}
-use Rattle.ftc_conf.specs.Words.{◌>>=◌, ◌>>◌, unless}
+use Rattle.ftc_base.specs.Reading.{◌>>=◌, ◌>>◌, unless}
 use Rattle.ftc_conf.specs.Forms.{no_words, monitor_of, nat_of, fire_line_of, balance_of}
 use Rattle.ftc_conf.specs.Draft.{servers, HasRoom}
 use Rattle.ftc_base.specs.Refused.{IsReading}

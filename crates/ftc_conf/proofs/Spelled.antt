@@ -10,49 +10,13 @@ use Rattle.std.proofs.lemmas.Str.Parse.{IsNumeralModel, numerals_by_fold}
 use Rattle.ftc_base.specs.declared.network.Net.{Net}
 use Rattle.ftc_base.specs.Number.{number_of, is_numeral, is_digit, decimal_from}
 use Rattle.ftc_base.specs.Endpoint.{parts_of, address_in, address_of, net_in, net_of, IsNet}
-use Rattle.ftc_base.proofs.ReadAgain.{read_again}
+use Rattle.ftc_base.proofs.EachOf.{all-append, all-weaker}
+use Rattle.ftc_base.proofs.Separated.{Without, parts_of-part, parts_of-last, parts_of-join}
+use Rattle.ftc_base.proofs.Decimals.{IsDigit, digits, some_digit, number_of-decimal}
 use Rattle.ftc_conf.specs.declared.limits.TheConstants.{MOST_NUMBER, MOST_PORT}
 use Rattle.ftc_conf.specs.Words.{number_word, number_from_to, address_word, net_word, ports_between, dashed_ports, ports_word}
 use Rattle.ftc_conf.specs.Plain.{address_text, net_text, ports_text}
-use Rattle.ftc_conf.proofs.Letters.{all-append, all-weaker, Without, parts_of-part, parts_of-last, parts_of-join, part_before-part, part_behind-part, has_byte-part}
-
-abbrev pub IsDigit : ℕ → Type 0
-IsDigit b = (48 ≤ b) × (b ≤ 57)
-
-own : IsNumeralModel (AllByRecursion IsDigit) (decimal_from 0)
-own = numerals_by_fold _ (search rules) decimal_from (search rules)
-
-pub digits : (n : ℕ) → n ≤ 4294967295 → AllByRecursion IsDigit (decimal n)
-digits n small = digits_decimal own n (omega arith)
-
-pub some_digit : (n : ℕ) → n ≤ 4294967295 → 1 ≤ length (decimal n)
-some_digit n small = let some = decimal_nonempty n (omega arith) in omega arith
-
-leading_zero : (n : ℕ) → n ≤ 4294967295 → get_or (decimal n) 0 0 ≡ 48 → length (decimal n) ≡ 1
-leading_zero zero small first = ap length (decimal_digit 0 (omega arith))
-leading_zero (suc n) small first = let more = first_decimal (suc n) (omega arith) (omega arith) in absurd (omega arith)
-
-digit-is_digit : (b : ℕ) → IsDigit b → is_digit b ≡ true
-digit-is_digit b digit = grind (arith, nat_tests)
-
-all_digits : (ds : List ℕ) → AllByRecursion IsDigit ds → list_all is_digit ds ≡ true
-all_digits [] all = refl
-all_digits (d ∷ ds) all = rw (digit-is_digit d all.0, all_digits ds all.1) refl
-
-numeral : (ds : List ℕ) → 1 ≤ length ds → AllByRecursion IsDigit ds → (get_or ds 0 0 ≡ 48 → length ds ≡ 1) → is_numeral ds ≡ true
-numeral [] some all alone = absurd (omega arith)
-numeral (b ∷ []) some all alone = digit-is_digit b all.0
-numeral (b ∷ c ∷ ds) some all alone =
-    let differs : b ≡ 48 → ⊥ = λ e. (let one : length (b ∷ c ∷ ds) ≡ 1 = alone e in omega arith) in
-    let other : (b == 48) ≡ false = grind (arith, nat_tests, differs) in
-    rw other (all_digits (b ∷ c ∷ ds) all)
-
-pub number_of-decimal : (n most : ℕ) → n ≤ most → n ≤ 4294967295 → number_of (decimal n) most ≡ Ok n
-number_of-decimal n most within small =
-    let spelled = numeral (decimal n) (some_digit n small) (digits n small) (leading_zero n small) in
-    let worth = read_again n (omega arith) in
-    let fits : nat_le n most ≡ true = search rules in
-    rw (spelled, worth, fits) refl
+use Rattle.ftc_conf.proofs.Letters.{part_before-part, part_behind-part, has_byte-part}
 
 pub number_word-decimal : (n : ℕ) → n ≤ 4294967295 → number_word (decimal n) ≡ Ok n
 number_word-decimal n small = rw (number_of-decimal n MOST_NUMBER small small) refl

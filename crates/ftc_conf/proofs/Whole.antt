@@ -15,7 +15,8 @@ use Rattle.ftc_conf.specs.declared.statement.Statement.{Statement}
 use Rattle.ftc_conf.specs.declared.statement.Statement.TheVariants as said
 use Rattle.ftc_conf.specs.declared.draft.Failures.{Failures}
 use Rattle.ftc_conf.specs.declared.draft.Draft.{Draft}
-use Rattle.ftc_conf.specs.Words.{◌>>=◌, ◌>>◌, unless, is_text_byte, is_comment, number_word}
+use Rattle.ftc_base.specs.Reading.{◌>>=◌, ◌>>◌, unless}
+use Rattle.ftc_conf.specs.Words.{is_text_byte, is_comment, number_word}
 use Rattle.ftc_conf.specs.Forms.{no_words, failures_of, partitions_of, monitor_of, nat_of, fire_line_of, balance_of}
 use Rattle.ftc_conf.specs.Draft.{no_lines, with_statement}
 use Rattle.ftc_conf.specs.Grammar.{form_of, room_for, said_in, middlebox_line, words_in, line_in, statement_of, line_step, finished, placed, chain_from, chain_within, chain_of}

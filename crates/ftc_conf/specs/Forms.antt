@@ -9,7 +9,8 @@ use Rattle.ftc_balance.specs.declared.rule.BalanceRule.{BalanceRule}
 use Rattle.ftc_conf.specs.declared.limits.TheConstants.{MOST_FAILURES, MOST_PORT}
 use Rattle.ftc_conf.specs.declared.fault.ChainCause.{ChainCause}
 use Rattle.ftc_conf.specs.declared.fault.ChainCause.TheVariants.{UnknownWord, WordCount, BadRange, TooManyItems}
-use Rattle.ftc_conf.specs.Words.{◌>>=◌, ◌>>◌, unless, fixed, number_from_to, address_word, net_word, part_before, part_behind, dashed_ports, ports_word}
+use Rattle.ftc_base.specs.Reading.{◌>>=◌, ◌>>◌, unless}
+use Rattle.ftc_conf.specs.Words.{fixed, number_from_to, address_word, net_word, part_before, part_behind, dashed_ports, ports_word}
 
 -- each form speaks of the words behind the first word of its line
 

@@ -2,6 +2,7 @@
 use Rattle.std.specs.Prelude.{ℕ, ◌≤◌, Bool, false, ◌&&◌, ◌||◌, ◌==◌, nat_le, List, [], ◌∷◌, Result, Ok, Err, if◌then◌else◌, codes}
 use Rattle.std.specs.List.{before_first, after_first, list_any}
 use Rattle.std.specs.Str.{bytes_eq}
+use Rattle.ftc_base.specs.Reading.{◌>>=◌, ◌>>◌, unless}
 use Rattle.ftc_base.specs.Number.{number_of}
 use Rattle.ftc_base.specs.Endpoint.{address_of, net_of}
 use Rattle.ftc_base.specs.declared.lexer.Lexical.{Lexical}
@@ -10,21 +11,6 @@ use Rattle.ftc_conf.specs.declared.limits.TheConstants.{MOST_NUMBER, MOST_PORT}
 use Rattle.ftc_conf.specs.declared.fault.ChainCause.{ChainCause}
 use Rattle.ftc_conf.specs.declared.fault.ChainCause.TheVariants.{UnknownWord, BadNumber, BadAddress, BadRange}
 use Rattle.ftc_conf.specs.declared.ports.PortRange.{PortRange}
-
--- one test after another: the first that refuses gives the cause
-infixl 10 ◌>>=◌
-abbrev pub ◌>>=◌ : {A B : Type 0} → Result A ChainCause → (A → Result B ChainCause) → Result B ChainCause
-Ok value >>= next = next value
-Err cause >>= next = Err cause
-
-infixl 10 ◌>>◌
-abbrev pub ◌>>◌ : {A B : Type 0} → Result A ChainCause → Result B ChainCause → Result B ChainCause
-Ok value >> next = next
-Err cause >> next = Err cause
-
--- a test that refuses with this cause, unless it is passed
-abbrev pub unless : Bool → ChainCause → Result (Unit {0}) ChainCause
-unless passed cause = if passed then Ok tt else Err cause
 
 -- the bytes of lines that say something: those that can be seen, space, tab and carriage return
 abbrev pub is_text_byte : ℕ → Bool

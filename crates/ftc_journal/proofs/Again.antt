@@ -3,6 +3,7 @@ use Rattle.std.proofs.Common.{◌≡◌, ℕ, ◌+◌, List, [], ◌∷◌, ◌+
 use Rattle.std.specs.Prelude.{codes}
 use Rattle.std.specs.List.{AllByRecursion, flat_map}
 use Rattle.ftc_base.specs.Endpoint.{parts_of}
+use Rattle.ftc_base.proofs.Separated.{Without, written, parts_of-part}
 use Rattle.ftc_journal.specs.declared.event.Event.{Event}
 use Rattle.ftc_journal.specs.declared.fault.JournalFault.{JournalFault}
 use Rattle.ftc_journal.specs.declared.form.Version.{Version}
@@ -10,7 +11,6 @@ use Rattle.ftc_journal.specs.declared.form.Version.TheVariants as version
 use Rattle.ftc_journal.specs.Text.{words_of, line_of, spelling}
 use Rattle.ftc_journal.specs.Reading.{header_of, version_of, event_of, events_from, journal_from, journal_of}
 use Rattle.ftc_journal.specs.Spelling.{IsEvent, IsSpelling, spelling_in}
-use Rattle.ftc_journal.proofs.Letters.{Without, written, parts_of-part}
 use Rattle.ftc_journal.proofs.Parts.{events_said, journal_said}
 use Rattle.ftc_journal.proofs.Words.{without_feed, words_found, event_again}
 

@@ -5,16 +5,17 @@ use Rattle.std.proofs.lemmas.Bool.{eqb-false, cases_Bool}
 use Rattle.std.proofs.lemmas.Bool.Decides.{nat_tests}
 use Rattle.std.proofs.lemmas.List.Splits.{join_with_byte-slice_split, slice_split-cons_yes, slice_split-cons_no}
 use Rattle.ftc_base.specs.Endpoint.{parts_of}
+use Rattle.ftc_base.proofs.Separated.{Without, parts_of-part, parts_of-last}
 use Rattle.ftc_journal.specs.declared.event.Event.{Event}
 use Rattle.ftc_journal.specs.declared.fault.JournalCause.{JournalCause}
 use Rattle.ftc_journal.specs.declared.fault.JournalCause.TheVariants.{Header, Cut}
 use Rattle.ftc_journal.specs.declared.fault.JournalFault.{JournalFault}
 use Rattle.ftc_journal.specs.declared.form.Version.{Version}
 use Rattle.ftc_journal.specs.Text.{words_of, line_of}
-use Rattle.ftc_journal.specs.Reading.{◌>>=◌, header_of, version_of, event_of, placed, ended, events_from, lines_behind, journal_from, journal_of}
+use Rattle.ftc_base.specs.Reading.{◌>>=◌}
+use Rattle.ftc_journal.specs.Reading.{header_of, version_of, event_of, placed, ended, events_from, lines_behind, journal_from, journal_of}
 use Rattle.ftc_journal.specs.Spelling.{IsEvent}
 use Rattle.ftc_journal.specs.Faulty.{IsOneLine, IsCut, IsRefused, IsFaulty, IsFirstFault}
-use Rattle.ftc_journal.proofs.Letters.{Without, parts_of-part, parts_of-last}
 use Rattle.ftc_journal.proofs.Parts.{some_parts, events_more, journal_more}
 use Rattle.ftc_journal.proofs.Words.{without_feed, words_found, event_again}
 use Rattle.ftc_journal.proofs.Again.{header_without_feed, header_known}

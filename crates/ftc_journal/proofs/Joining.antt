@@ -1,6 +1,6 @@
 -- What was read so far, and what is still to be read.
 use Rattle.std.proofs.Common.{◌≡◌, List, [], ◌∷◌, ◌++◌, Result, Ok, Err, refl, sym, ap, ◌∙◌, append_assoc}
-use Rattle.ftc_journal.specs.Reading.{◌>>=◌}
+use Rattle.ftc_base.specs.Reading.{◌>>=◌}
 
 -- what stands in front of what is still to be read
 abbrev pub joined : {A F : Type 0} → List A → Result (List A) F → Result (List A) F

@@ -11,7 +11,8 @@ use Rattle.ftc_journal.specs.declared.event.Event.{Event}
 use Rattle.ftc_journal.specs.declared.fault.JournalCause.TheVariants.{Header, Word}
 use Rattle.ftc_journal.specs.declared.fault.JournalFault.{JournalFault}
 use Rattle.ftc_journal.specs.declared.form.Version.{Version}
-use Rattle.ftc_journal.specs.Reading.{◌>>=◌, name_of, event_of, placed, events_from, lines_behind, journal_from, journal_of, version_of}
+use Rattle.ftc_base.specs.Reading.{◌>>=◌}
+use Rattle.ftc_journal.specs.Reading.{name_of, event_of, placed, events_from, lines_behind, journal_from, journal_of, version_of}
 use Rattle.ftc_journal.proofs.Joining.{joined, joined_none, one_more, none_more}
 
 parted : {A : Type 0} (parts : List A) → 0 < length parts → (head : A) × (tail : List A) × (parts ≡ head ∷ tail)

@@ -22,7 +22,8 @@ use Rattle.ftc_journal.specs.declared.form.Double.TheVariants as double
 use Rattle.ftc_journal.specs.declared.form.Form.{Form}
 use Rattle.ftc_journal.specs.declared.form.Form.TheVariants as form
 use Rattle.ftc_journal.specs.Text.{words_of, line_of}
-use Rattle.ftc_journal.specs.Reading.{◌>>=◌, header_of, servers_of, version_of, figure_of, figures_of, name_of, names_of, number_in, server_in, slot_in, name_in, undone_in, form_of, single_in, double_event, single_of, double_of, visit_of, apply_of, recovery, recover_of, said_in, said_by, event_of, placed, ended, events_from, lines_behind, journal_from, journal_of}
+use Rattle.ftc_base.specs.Reading.{◌>>=◌}
+use Rattle.ftc_journal.specs.Reading.{header_of, servers_of, version_of, figure_of, figures_of, name_of, names_of, number_in, server_in, slot_in, name_in, undone_in, form_of, single_in, double_event, single_of, double_of, visit_of, apply_of, recovery, recover_of, said_in, said_by, event_of, placed, ended, events_from, lines_behind, journal_from, journal_of}
 use Rattle.ftc_journal.specs.Spelling.{IsEvent, IsVisitName, IsSpelling}
 use Rattle.ftc_journal.proofs.Letters.{number_word, below_word}
 use Rattle.ftc_journal.proofs.Words.{name_text, word_list, words_joined}

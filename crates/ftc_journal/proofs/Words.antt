@@ -4,6 +4,8 @@ use Rattle.std.specs.Prelude.{◌==◌, codes, decimal, map}
 use Rattle.std.specs.List.{AllByRecursion, join_with_byte, flat_map}
 use Rattle.ftc_base.specs.Endpoint.{parts_of}
 use Rattle.ftc_base.specs.declared.limits.TheConstants.{MOST_SLOTS}
+use Rattle.ftc_base.proofs.Separated.{Without, without-append, written, parts_of-part, parts_of-last, parts_of-join, without-join}
+use Rattle.ftc_base.proofs.Decimals.{without_decimal}
 use Rattle.ftc_journal.specs.declared.event.Event.{Event}
 use Rattle.ftc_journal.specs.declared.event.Event.TheVariants as event
 use Rattle.ftc_journal.specs.declared.event.VisitName.{VisitName}
@@ -13,7 +15,7 @@ use Rattle.ftc_journal.specs.declared.form.Version.TheVariants as version
 use Rattle.ftc_journal.specs.Text.{spaced, spaced_name, words_of}
 use Rattle.ftc_journal.specs.Reading.{servers_of, names_of, name_of, undone_in, event_of, below}
 use Rattle.ftc_journal.specs.Spelling.{IsEvent, IsVisitName}
-use Rattle.ftc_journal.proofs.Letters.{Without, without-append, written, parts_of-part, parts_of-last, parts_of-join, without-join, without_decimal, figure_of-decimal}
+use Rattle.ftc_journal.proofs.Letters.{figure_of-decimal}
 
 abbrev pub name_text : VisitName → List ℕ
 name_text name = decimal name.server ++ 58 ∷ decimal name.packet

@@ -1,12 +1,13 @@
 -- The events that a text spells, or its first fault.
 use Rattle.std.specs.Prelude.{ℕ, ◌+◌, nat_lt, List, [], ◌∷◌, Option, Some, None, Result, Ok, Err, if◌then◌else◌, codes}
 use Rattle.std.specs.Str.{bytes_eq}
+use Rattle.ftc_base.specs.Reading.{◌>>=◌}
 use Rattle.ftc_base.specs.Number.{number_of}
 use Rattle.ftc_base.specs.Endpoint.{parts_of}
 use Rattle.ftc_base.specs.declared.lexer.Lexical.{Lexical}
 use Rattle.ftc_base.specs.declared.lexer.Lexical.TheVariants.{NotNumber, TooLarge, NotAddress}
-use Rattle.ftc_base.specs.declared.limits.TheConstants.{MOST_SLOTS}
-use Rattle.ftc_journal.specs.declared.limits.TheConstants.{MOST_NUMBER, FIRST_SERVERS, SECOND_SERVERS}
+use Rattle.ftc_base.specs.declared.limits.TheConstants.{MOST_SERVERS, MOST_SLOTS}
+use Rattle.ftc_journal.specs.declared.limits.TheConstants.{MOST_NUMBER, FIRST_SERVERS}
 use Rattle.ftc_journal.specs.declared.event.Event.{Event}
 use Rattle.ftc_journal.specs.declared.event.Event.TheVariants as event
 use Rattle.ftc_journal.specs.declared.event.VisitName.{VisitName}
@@ -23,12 +24,6 @@ use Rattle.ftc_journal.specs.declared.form.Form.{Form}
 use Rattle.ftc_journal.specs.declared.form.Form.TheVariants as form
 use Rattle.ftc_journal.specs.declared.figure.NameFigures.{NameFigures}
 
--- one test after another: the first that refuses gives the cause
-infixl 10 ◌>>=◌
-abbrev pub ◌>>=◌ : {A B F : Type 0} → Result A F → (A → Result B F) → Result B F
-Ok value >>= next = next value
-Err cause >>= next = Err cause
-
 -- the first line, without its line feed
 abbrev pub header_of : Version → List ℕ
 header_of version.First = codes "ftc-journal 1"
@@ -37,7 +32,7 @@ header_of version.Second = codes "ftc-journal 2"
 -- servers, groups and links are below this number
 abbrev pub servers_of : Version → ℕ
 servers_of version.First = FIRST_SERVERS
-servers_of version.Second = SECOND_SERVERS
+servers_of version.Second = MOST_SERVERS
 
 abbrev pub version_of : List ℕ → Option Version
 version_of header =

@@ -5,7 +5,8 @@ ghost use Rattle.std.specs.Str.{bytes_eq};
 ghost use Rattle.ftc_base.specs.declared.limits.TheConstants.{MOST_SERVERS};
 ghost use Rattle.ftc_journal.specs.Reading.{servers_of, version_of, form_of};
 
-use crate::limits::{FIRST_SERVERS, SECOND_SERVERS};
+use crate::limits::FIRST_SERVERS;
+use ftc_base::limits::MOST_SERVERS;
 
 /// Which header a text has.
 #[derive(Clone, Copy, Debug, PartialEq, Eq)]
@@ -50,7 +51,7 @@ pub fn servers_of(version: Version) -> u8
 {
     match version {
         Version::First => FIRST_SERVERS,
-        Version::Second => SECOND_SERVERS,
+        Version::Second => MOST_SERVERS,
     }
 }
 

@@ -244,7 +244,7 @@ known_read from k front (need ∷ ns) size within each rising =
 
 -- ---- commits
 
-pub zeros_commits : no_commits ≡ replicate 16 zeros
+pub zeros_commits : no_commits ≡ replicate MOST_SERVERS zeros
 unfolding by_group zeros
 zeros_commits = refl
 
@@ -262,7 +262,7 @@ unfolding commits_at
 commits_at_takes bytes x fits is =
     let ns = bind_ok (needs_at MOST_SERVERS 1 bytes) (λ ns. Ok (with_known ns.0 no_commits, ns.1)) x is in
     let found = needs_at_takes MOST_SERVERS 1 bytes ns.0 fits ns.1 in
-    let read = known_read 0 16 [] ns.0.0 refl refl found.1.each found.1.rising in
+    let read = known_read 0 MOST_SERVERS [] ns.0.0 refl refl found.1.each found.1.rising in
     let whole : with_known ns.0.0 no_commits ≡ read.back = ap (with_known ns.0.0) zeros_commits ∙ read.whole in
     let P : List (List ℕ) × List ℕ → Type 0 = λ y. Takes bytes (commits_bytes y.0) y.1 × AreCommits y.0 in
     let text : Takes bytes (commits_bytes read.back) ns.0.1 = subst (λ (n : List Need). Takes bytes (needs_bytes n) ns.0.1) (sym read.all) found.0 in

@@ -8,7 +8,8 @@ use Rattle.ftc_message.specs.declared.fault.FrameCause.{FrameCause}
 use Rattle.ftc_message.specs.declared.fault.FrameCause.TheVariants.{Cut, Range}
 use Rattle.ftc_message.specs.declared.fault.FieldFault.{FieldFault}
 use Rattle.ftc_message.specs.Numbers.{number_bytes, number_of}
-use Rattle.ftc_message.specs.Fields.{◌>>=◌, ◌>>◌, unless, byte_at, within_at, taken_at, number_at, group_at}
+use Rattle.ftc_base.specs.Reading.{◌>>=◌, ◌>>◌, unless}
+use Rattle.ftc_message.specs.Fields.{fault_of, byte_at, within_at, taken_at, number_at, group_at}
 use Rattle.ftc_message.specs.Reading.{times}
 
 abbrev pub IsBytes : List ℕ → Type 0
@@ -35,7 +36,7 @@ bind_ok (Ok x) next y is = (x, refl, is)
 bind_ok (Err fault) next y is = absurd cc
 
 -- a test that was passed
-pub test_ok : {A : Type 0} (passed : Bool) (bytes : List ℕ) (cause : FrameCause) (next : Result A FieldFault) (y : A) → (unless passed bytes cause >> next) ≡ Ok y → (passed ≡ true) × (next ≡ Ok y)
+pub test_ok : {A : Type 0} (passed : Bool) (bytes : List ℕ) (cause : FrameCause) (next : Result A FieldFault) (y : A) → (unless passed (fault_of bytes cause) >> next) ≡ Ok y → (passed ≡ true) × (next ≡ Ok y)
 test_ok true bytes cause next y is = (refl, is)
 test_ok false bytes cause next y is = absurd cc
 

@@ -4,7 +4,7 @@ use Rattle.std.specs.List.{AllByRecursion, flat_map}
 use Rattle.std.proofs.lemmas.Bool.{and_parts, and_from}
 use Rattle.std.proofs.lemmas.List.{append-nil}
 use Rattle.ftc_message.specs.declared.fault.FieldFault.{FieldFault}
-use Rattle.ftc_message.specs.Fields.{◌>>=◌}
+use Rattle.ftc_base.specs.Reading.{◌>>=◌}
 use Rattle.ftc_message.specs.Reading.{times}
 use Rattle.ftc_message.proofs.Fields.{IsBytes, Takes, Takes-then, bind_ok, ok_is, times_ok}
 

@@ -10,7 +10,8 @@ use Rattle.ftc_message.specs.Logged.{Logged, log_follows, logs_rise}
 use Rattle.ftc_message.specs.Bounds.{IsLog, MarksSome}
 use Rattle.ftc_message.specs.Numbers.{number_bytes}
 use Rattle.ftc_message.specs.Spelling.{marked, parts_bytes, writes_bytes, log_bytes, logs_bytes}
-use Rattle.ftc_message.specs.Fields.{◌>>=◌, ◌>>◌, unless, number_at, group_at}
+use Rattle.ftc_base.specs.Reading.{◌>>=◌, ◌>>◌, unless}
+use Rattle.ftc_message.specs.Fields.{fault_of, number_at, group_at}
 use Rattle.ftc_message.specs.Reading.{times, parts_at, writes_at, head_at, log_at, with_log, logs_at}
 use Rattle.ftc_message.proofs.Fields.{IsBytes, Takes, Takes-then, bind_ok, test_ok, ok_is, group_takes, group_again, number_takes, number_again, wide_4}
 use Rattle.ftc_message.proofs.MarkLaws.{IsMark, AreSpelled}
@@ -67,8 +68,8 @@ record HeadRead (last : Option (ℕ × ℕ)) (bytes : List ℕ) (x : (ℕ × ℕ
 head_takes : (last : Option (ℕ × ℕ)) (bytes : List ℕ) (x : (ℕ × ℕ) × List ℕ) → IsBytes bytes → head_at last bytes ≡ Ok x → HeadRead last bytes x
 unfolding head_at
 head_takes last bytes x fits is =
-    let group = bind_ok (group_at bytes) (λ group. number_at 4 group.1 >>= λ origin. unless (log_follows last origin.0 group.0) bytes Order >> Ok ((origin.0, group.0), origin.1)) x is in
-    let origin = bind_ok (number_at 4 group.0.1) (λ origin. unless (log_follows last origin.0 group.0.0) bytes Order >> Ok ((origin.0, group.0.0), origin.1)) x group.2 in
+    let group = bind_ok (group_at bytes) (λ group. number_at 4 group.1 >>= λ origin. unless (log_follows last origin.0 group.0) (fault_of bytes Order) >> Ok ((origin.0, group.0), origin.1)) x is in
+    let origin = bind_ok (number_at 4 group.0.1) (λ origin. unless (log_follows last origin.0 group.0.0) (fault_of bytes Order) >> Ok ((origin.0, group.0.0), origin.1)) x group.2 in
     let passed = test_ok (log_follows last origin.0.0 group.0.0) bytes Order (Ok ((origin.0.0, group.0.0), origin.0.1)) x origin.2 in
     let first = group_takes bytes group.0 fits group.1 in
     let second = number_takes 4 (2 ^ 32) wide_4 group.0.1 origin.0 first.0.rest_fits origin.1 in

@@ -9,7 +9,8 @@ use Rattle.ftc_vector.specs.Vector.{by_partition}
 use Rattle.ftc_message.specs.declared.fault.FrameCause.TheVariants.{Range, Order}
 use Rattle.ftc_message.specs.Numbers.{number_bytes}
 use Rattle.ftc_message.specs.Spelling.{marked, marks_from, marks_bytes}
-use Rattle.ftc_message.specs.Fields.{◌>>=◌, ◌>>◌, unless, within_at, number_at}
+use Rattle.ftc_base.specs.Reading.{◌>>=◌, ◌>>◌, unless}
+use Rattle.ftc_message.specs.Fields.{fault_of, within_at, number_at}
 use Rattle.ftc_message.specs.Reading.{times, partition_at, least_at, mark_at, with_mark, no_marks, marks_at}
 use Rattle.ftc_message.proofs.Fields.{IsBytes, Takes, Takes-then, bind_ok, test_ok, ok_is, times_ok, within_takes, within_again, number_takes, number_again, wide_8}
 use Rattle.ftc_message.proofs.Blanks.{blanks, fill, length_filled, all_blanks, all_behind}
@@ -19,7 +20,7 @@ use Rattle.ftc_message.proofs.Blanks.{blanks, fill, length_filled, all_blanks, a
 pub partition_takes : (from : ℕ) (bytes : List ℕ) (x : ℕ × List ℕ) → IsBytes bytes → partition_at from bytes ≡ Ok x → Takes bytes (x.0 ∷ []) x.1 × (from ≤ x.0) × (x.0 < MOST_PARTITIONS)
 unfolding partition_at
 partition_takes from bytes x fits is =
-    let byte = bind_ok (within_at 0 (MOST_PARTITIONS - 1) bytes) (λ partition. unless (leb from partition.0) bytes Order >> Ok partition) x is in
+    let byte = bind_ok (within_at 0 (MOST_PARTITIONS - 1) bytes) (λ partition. unless (leb from partition.0) (fault_of bytes Order) >> Ok partition) x is in
     let passed = test_ok (leb from byte.0.0) bytes Order (Ok byte.0) x byte.2 in
     let taken = within_takes 0 (MOST_PARTITIONS - 1) bytes byte.0 fits byte.1 in
     let P : ℕ × List ℕ → Type 0 = λ y. Takes bytes (y.0 ∷ []) y.1 × (from ≤ y.0) × (y.0 < MOST_PARTITIONS) in
@@ -33,7 +34,7 @@ partition_again from partition rest low high =
 least_takes : (least : ℕ) (bytes : List ℕ) (x : ℕ × List ℕ) → IsBytes bytes → least_at least bytes ≡ Ok x → Takes bytes (number_bytes 8 x.0) x.1 × (least ≤ x.0) × (x.0 < 2 ^ 64)
 unfolding least_at
 least_takes least bytes x fits is =
-    let number = bind_ok (number_at 8 bytes) (λ number. unless (leb least number.0) bytes Range >> Ok number) x is in
+    let number = bind_ok (number_at 8 bytes) (λ number. unless (leb least number.0) (fault_of bytes Range) >> Ok number) x is in
     let passed = test_ok (leb least number.0.0) bytes Range (Ok number.0) x number.2 in
     let taken = number_takes 8 (2 ^ 64) wide_8 bytes number.0 fits number.1 in
     let P : ℕ × List ℕ → Type 0 = λ y. Takes bytes (number_bytes 8 y.0) y.1 × (least ≤ y.0) × (y.0 < 2 ^ 64) in
@@ -172,7 +173,7 @@ marks_again least from place front (Some number ∷ back) rest low size within e
 
 -- ---- the count and the partitions
 
-pub blanks_are : no_marks ≡ blanks 64
+pub blanks_are : no_marks ≡ blanks MOST_PARTITIONS
 unfolding by_partition
 blanks_are = refl
 
@@ -187,7 +188,7 @@ pub record AreSpelled (least : ℕ) (marks : List (Option ℕ)) : Type 0 where
   pub some : 1 ≤ marked marks
   pub each : AllByRecursion (IsMark least) marks
 
-whole_read : (least count : ℕ) (bytes middle : List ℕ) (x : (ℕ × List (Option ℕ)) × List ℕ) → Takes bytes (count ∷ []) middle → 1 ≤ count → MarksRead least count 0 64 [] middle x
+whole_read : (least count : ℕ) (bytes middle : List ℕ) (x : (ℕ × List (Option ℕ)) × List ℕ) → Takes bytes (count ∷ []) middle → 1 ≤ count → MarksRead least count 0 MOST_PARTITIONS [] middle x
     → Takes bytes (marks_bytes x.0.1) x.1 × AreSpelled least x.0.1
 whole_read least count bytes middle x head some read =
     let P : List (Option ℕ) → Type 0 = λ marks. Takes bytes (marks_bytes marks) x.1 × AreSpelled least marks in
@@ -205,7 +206,7 @@ marks_at_takes least bytes x fits is =
     let marks = bind_ok (times (with_mark least) count.0.0 (0, no_marks) count.0.1) (λ marks. Ok (marks.0.1, marks.1)) x count.2 in
     let head = within_takes 1 MOST_PARTITIONS bytes count.0 fits count.1 in
     let started = subst (λ (marks' : List (Option ℕ)). times (with_mark least) count.0.0 (0, marks') count.0.1 ≡ Ok marks.0) blanks_are marks.1 in
-    let read = marks_read least count.0.0 0 64 [] count.0.1 marks.0 refl refl head.0.rest_fits started in
+    let read = marks_read least count.0.0 0 MOST_PARTITIONS [] count.0.1 marks.0 refl refl head.0.rest_fits started in
     let P : List (Option ℕ) × List ℕ → Type 0 = λ y. Takes bytes (marks_bytes y.0) y.1 × AreSpelled least y.0 in
     subst P (ok_is (marks.0.0.1, marks.0.1) x marks.2) (whole_read least count.0.0 bytes count.0.1 marks.0 head.0 head.1 read)
 

@@ -17,7 +17,8 @@ use Rattle.ftc_message.specs.Bounds.{IsLog, IsNeed, AreNeeds, AreCommits, MarksS
 use Rattle.ftc_message.specs.WellFormed.{IsTyped, IsWellFormed}
 use Rattle.ftc_message.specs.Numbers.{number_bytes}
 use Rattle.ftc_message.specs.Spelling.{kind, magic, packet_bytes, logs_bytes, needs_bytes, commits_bytes, spelling}
-use Rattle.ftc_message.specs.Fields.{◌>>=◌, ◌>>◌, unless, within_at, taken_at, number_at}
+use Rattle.ftc_base.specs.Reading.{◌>>=◌, ◌>>◌, unless}
+use Rattle.ftc_message.specs.Fields.{fault_of, within_at, taken_at, number_at}
 use Rattle.ftc_message.specs.Reading.{magic_at, packet_at, front_at, most_needs, logs_at, needs_at, commits_at, message_at, whole_of, message_of}
 use Rattle.ftc_message.proofs.Fields.{IsBytes, Takes, Takes-then, bind_ok, test_ok, ok_is, within_takes, within_again, taken_takes, taken_again, number_takes, number_again, wide_4}
 use Rattle.ftc_message.proofs.LogLaws.{IsLogSpelled, AreLogsSpelled, each_mark, marked_some, some_marked, marks_are, logs_at_takes, logs_at_again}
@@ -32,7 +33,7 @@ same_bytes a b same = (rw same at (bytes_eq-Decides a b)).0 refl
 magic_takes : (bytes rest : List ℕ) → IsBytes bytes → magic_at bytes ≡ Ok rest → Takes bytes magic rest
 unfolding magic_at
 magic_takes bytes rest fits is =
-    let front = bind_ok (taken_at 4 bytes) (λ front. unless (bytes_eq front.0 magic) bytes Magic >> Ok front.1) rest is in
+    let front = bind_ok (taken_at 4 bytes) (λ front. unless (bytes_eq front.0 magic) (fault_of bytes Magic) >> Ok front.1) rest is in
     let passed = test_ok (bytes_eq front.0.0 magic) bytes Magic (Ok front.0.1) rest front.2 in
     let taken = taken_takes 4 bytes front.0 fits front.1 in
     let text : Takes bytes magic front.0.1 = subst (λ (m : List ℕ). Takes bytes m front.0.1) (same_bytes front.0.0 magic passed.0) taken.0 in
@@ -67,7 +68,7 @@ packet_takes : (is_there : Bool) (bytes : List ℕ) (x : Option (List ℕ) × Li
 unfolding packet_at
 packet_takes is_there bytes x fits is =
     let most = (if is_there then MOST_CAPTURED else 0) in
-    let size = bind_ok (number_at 4 bytes) (λ size. unless (leb size.0 most) bytes Range >> (taken_at size.0 size.1 >>= λ packet. Ok ((if is_there then Some packet.0 else None), packet.1))) x is in
+    let size = bind_ok (number_at 4 bytes) (λ size. unless (leb size.0 most) (fault_of bytes Range) >> (taken_at size.0 size.1 >>= λ packet. Ok ((if is_there then Some packet.0 else None), packet.1))) x is in
     let passed = test_ok (leb size.0.0 most) bytes Range (taken_at size.0.0 size.0.1 >>= λ packet. Ok ((if is_there then Some packet.0 else None), packet.1)) x size.2 in
     let packet = bind_ok (taken_at size.0.0 size.0.1) (λ packet. Ok ((if is_there then Some packet.0 else None), packet.1)) x passed.1 in
     let first = number_takes 4 (2 ^ 32) wide_4 bytes size.0 fits size.1 in
@@ -241,7 +242,7 @@ message_again message rest is =
 pub whole_takes : (frame : List ℕ) (message : Message) → IsBytes frame → whole_of frame ≡ Ok message → (frame ≡ spelling message) × IsSpelled message
 unfolding whole_of
 whole_takes frame message fits is =
-    let read = bind_ok (message_at frame) (λ found. unless (length found.1 == 0) found.1 Trailing >> Ok found.0) message is in
+    let read = bind_ok (message_at frame) (λ found. unless (length found.1 == 0) (fault_of found.1 Trailing) >> Ok found.0) message is in
     let passed = test_ok (length read.0.1 == 0) read.0.1 Trailing (Ok read.0.0) message read.2 in
     let found = message_takes frame read.0 fits read.1 in
     let nothing : read.0.1 ≡ [] = nil_from_length read.0.1 (eqb-true (length read.0.1) 0 passed.0) in

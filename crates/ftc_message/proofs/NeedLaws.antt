@@ -6,7 +6,8 @@ use Rattle.ftc_message.specs.declared.fault.FrameCause.TheVariants.{Order}
 use Rattle.ftc_message.specs.declared.need.Need.{Need}
 use Rattle.ftc_message.specs.Logged.{needs_rise}
 use Rattle.ftc_message.specs.Spelling.{marks_bytes, need_bytes, needs_bytes}
-use Rattle.ftc_message.specs.Fields.{◌>>=◌, ◌>>◌, unless, within_at, group_at}
+use Rattle.ftc_base.specs.Reading.{◌>>=◌, ◌>>◌, unless}
+use Rattle.ftc_message.specs.Fields.{fault_of, within_at, group_at}
 use Rattle.ftc_message.specs.Reading.{times, marks_at, need_at, with_need, needs_at}
 use Rattle.ftc_message.proofs.Fields.{IsBytes, Takes, Takes-then, bind_ok, test_ok, ok_is, within_takes, within_again, group_takes, group_again}
 use Rattle.ftc_message.proofs.MarkLaws.{AreSpelled, marks_at_takes, marks_at_again}
@@ -20,7 +21,7 @@ pub record IsNeedSpelled (least : ℕ) (need : Need) : Type 0 where
 pub need_at_takes : (least from : ℕ) (bytes : List ℕ) (x : Need × List ℕ) → IsBytes bytes → need_at least from bytes ≡ Ok x → Takes bytes (need_bytes x.0) x.1 × IsNeedSpelled least x.0 × (leb from x.0.group ≡ true)
 unfolding need_at
 need_at_takes least from bytes x fits is =
-    let group = bind_ok (group_at bytes) (λ group. unless (leb from group.0) bytes Order >> (marks_at least group.1 >>= λ marks. Ok (record { group = group.0; marks = marks.0 }, marks.1))) x is in
+    let group = bind_ok (group_at bytes) (λ group. unless (leb from group.0) (fault_of bytes Order) >> (marks_at least group.1 >>= λ marks. Ok (record { group = group.0; marks = marks.0 }, marks.1))) x is in
     let passed = test_ok (leb from group.0.0) bytes Order (marks_at least group.0.1 >>= λ marks. Ok (record { group = group.0.0; marks = marks.0 }, marks.1)) x group.2 in
     let marks = bind_ok (marks_at least group.0.1) (λ marks. Ok (record { group = group.0.0; marks = marks.0 }, marks.1)) x passed.1 in
     let first = group_takes bytes group.0 fits group.1 in

@@ -11,7 +11,8 @@ use Rattle.ftc_message.specs.declared.parts.Part.{Part}
 use Rattle.ftc_message.specs.declared.parts.Parts.{Parts}
 use Rattle.ftc_message.specs.Numbers.{number_bytes}
 use Rattle.ftc_message.specs.Spelling.{marked, flag, parts_from, parts_bytes}
-use Rattle.ftc_message.specs.Fields.{◌>>=◌, within_at, number_at}
+use Rattle.ftc_base.specs.Reading.{◌>>=◌}
+use Rattle.ftc_message.specs.Fields.{within_at, number_at}
 use Rattle.ftc_message.specs.Reading.{times, partition_at, part_at, changed_by, plus_part, with_part, no_marks, no_parts, parts_at}
 use Rattle.ftc_message.proofs.Fields.{IsBytes, Takes, Takes-then, bind_ok, ok_is, times_ok, within_takes, within_again, number_takes, number_again, wide_8}
 use Rattle.ftc_message.proofs.Blanks.{blanks, fill, length_filled, all_blanks, all_behind}
@@ -257,7 +258,7 @@ parts_marked (suc count) from before changed bytes x size fits marks is =
     parts_marked count (place + 1) (slice_set before place (Some read.0.0.number)) (changed_by read.0.0 changed) read.0.1 x (omega (arith, length-set before place (Some read.0.0.number))) found.takes.rest_fits (marked_more before changed read.0.0 (omega (arith, found.high)) marks)
     (subst (λ (y : (ℕ × Parts) × List ℕ). times with_part count y.0 y.1 ≡ Ok x) (sym same) next.2)
 
-whole_read : (count : ℕ) (bytes middle : List ℕ) (x : (ℕ × Parts) × List ℕ) → Takes bytes (count ∷ []) middle → 1 ≤ count → PartsRead count 0 64 0 [] middle x → IsMarked x.0.1.before x.0.1.changed
+whole_read : (count : ℕ) (bytes middle : List ℕ) (x : (ℕ × Parts) × List ℕ) → Takes bytes (count ∷ []) middle → 1 ≤ count → PartsRead count 0 MOST_PARTITIONS 0 [] middle x → IsMarked x.0.1.before x.0.1.changed
     → Takes bytes (parts_bytes x.0.1.before x.0.1.changed) x.1 × ArePartsSpelled x.0.1
 whole_read count bytes middle x head some read marks =
     let last = x.0.1.changed in
@@ -268,7 +269,7 @@ whole_read count bytes middle x head some read marks =
       record { before = subst (AreSpelled 0) (sym read.whole) (record { size = read.size; some = omega (arith, read.all); each = read.each }); changed = marks },
     )
 
-no_marks_marked : IsMarked (blanks 64) 0
+no_marks_marked : IsMarked (blanks MOST_PARTITIONS) 0
 no_marks_marked q is = absurd (false_is_not (sym (has_none q) ∙ is))
   where
     false_is_not : false ≡ true → ⊥
@@ -281,8 +282,8 @@ parts_at_takes bytes x fits is =
     let parts = bind_ok (times with_part count.0.0 (0, no_parts) count.0.1) (λ parts. Ok (parts.0.1, parts.1)) x count.2 in
     let head = within_takes 1 MOST_PARTITIONS bytes count.0 fits count.1 in
     let started = subst (λ (marks : List (Option ℕ)). times with_part count.0.0 (state 0 marks 0) count.0.1 ≡ Ok parts.0) blanks_are parts.1 in
-    let read = parts_read count.0.0 0 64 0 [] count.0.1 parts.0 refl refl (λ q _. has_none q) head.0.rest_fits started in
-    let marks = parts_marked count.0.0 0 (blanks 64) 0 count.0.1 parts.0 (length-replicate {A = Option ℕ} 64 None) head.0.rest_fits no_marks_marked started in
+    let read = parts_read count.0.0 0 MOST_PARTITIONS 0 [] count.0.1 parts.0 refl refl (λ q _. has_none q) head.0.rest_fits started in
+    let marks = parts_marked count.0.0 0 (blanks MOST_PARTITIONS) 0 count.0.1 parts.0 (length-replicate {A = Option ℕ} MOST_PARTITIONS None) head.0.rest_fits no_marks_marked started in
     let P : Parts × List ℕ → Type 0 = λ y. Takes bytes (parts_bytes y.0.before y.0.changed) y.1 × ArePartsSpelled y.0 in
     subst P (ok_is (parts.0.0.1, parts.0.1) x parts.2) (whole_read count.0.0 bytes count.0.1 parts.0 head.0 head.1 read marks)
 

@@ -1,7 +1,7 @@
 -- Reading step by step, as a loop does.
 use Rattle.std.proofs.Common.{◌≡◌, ℕ, suc, ◌-◌, ◌+◌, ◌<◌, ◌≤◌, List, Result, Ok, Err, refl, ◌∙◌, arith}
 use Rattle.ftc_message.specs.declared.fault.FieldFault.{FieldFault}
-use Rattle.ftc_message.specs.Fields.{◌>>=◌}
+use Rattle.ftc_base.specs.Reading.{◌>>=◌}
 use Rattle.ftc_message.specs.Reading.{times}
 
 -- after one more step

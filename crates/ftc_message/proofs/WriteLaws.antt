@@ -9,7 +9,8 @@ use Rattle.ftc_message.specs.declared.fault.FrameCause.TheVariants.{Order}
 use Rattle.ftc_message.specs.Logged.{key_follows, keys_rise}
 use Rattle.ftc_message.specs.Bounds.{IsWrite}
 use Rattle.ftc_message.specs.Spelling.{value_bytes, write_bytes, writes_bytes}
-use Rattle.ftc_message.specs.Fields.{◌>>=◌, ◌>>◌, unless, within_at, taken_at}
+use Rattle.ftc_base.specs.Reading.{◌>>=◌, ◌>>◌, unless}
+use Rattle.ftc_message.specs.Fields.{fault_of, within_at, taken_at}
 use Rattle.ftc_message.specs.Reading.{times, put_at, value_at, key_at, write_at, with_write, writes_at}
 use Rattle.ftc_message.proofs.Fields.{IsBytes, Takes, Takes-then, bind_ok, test_ok, ok_is, within_takes, within_again, taken_takes, taken_again}
 use Rattle.ftc_message.proofs.ItemLaws.{Items, in_order, items_read, items_again}
@@ -81,8 +82,8 @@ record KeyRead (last : Option (List ℕ)) (bytes : List ℕ) (x : List ℕ × Li
 key_takes : (last : Option (List ℕ)) (bytes : List ℕ) (x : List ℕ × List ℕ) → IsBytes bytes → key_at last bytes ≡ Ok x → KeyRead last bytes x
 unfolding key_at
 key_takes last bytes x fits is =
-    let size = bind_ok (within_at 1 MOST_KEY_BYTES bytes) (λ size. taken_at size.0 size.1 >>= λ key. unless (key_follows last key.0) size.1 Order >> Ok key) x is in
-    let key = bind_ok (taken_at size.0.0 size.0.1) (λ key. unless (key_follows last key.0) size.0.1 Order >> Ok key) x size.2 in
+    let size = bind_ok (within_at 1 MOST_KEY_BYTES bytes) (λ size. taken_at size.0 size.1 >>= λ key. unless (key_follows last key.0) (fault_of size.1 Order) >> Ok key) x is in
+    let key = bind_ok (taken_at size.0.0 size.0.1) (λ key. unless (key_follows last key.0) (fault_of size.0.1 Order) >> Ok key) x size.2 in
     let passed = test_ok (key_follows last key.0.0) size.0.1 Order (Ok key.0) x key.2 in
     let first = within_takes 1 MOST_KEY_BYTES bytes size.0 fits size.1 in
     let second = taken_takes size.0.0 size.0.1 key.0 first.0.rest_fits key.1 in

@@ -1,29 +1,19 @@
 -- Reading a field from the front of bytes: its value and the bytes behind it, or the fault of the field.
 use Rattle.std.specs.Prelude.{ℕ, Bool, ◌&&◌, nat_lt, nat_le, List, [], ◌∷◌, length, take, drop, Result, Ok, Err, if◌then◌else◌}
+use Rattle.ftc_base.specs.Reading.{◌>>=◌, ◌>>◌, unless}
 use Rattle.ftc_base.specs.declared.limits.TheConstants.{MOST_SERVERS}
 use Rattle.ftc_message.specs.declared.fault.FrameCause.{FrameCause}
 use Rattle.ftc_message.specs.declared.fault.FrameCause.TheVariants.{Cut, Range}
 use Rattle.ftc_message.specs.declared.fault.FieldFault.{FieldFault}
 use Rattle.ftc_message.specs.Numbers.{number_of}
 
--- one field after another: the first that has a fault decides
-infixl 10 ◌>>=◌
-abbrev pub ◌>>=◌ : {A B : Type 0} → Result A FieldFault → (A → Result B FieldFault) → Result B FieldFault
-Ok value >>= next = next value
-Err fault >>= next = Err fault
+-- the fault of the field that stands at the front of these bytes
+abbrev pub fault_of : List ℕ → FrameCause → FieldFault
+fault_of bytes cause = record { left = length bytes; cause = cause }
 
-infixl 10 ◌>>◌
-abbrev pub ◌>>◌ : {A B : Type 0} → Result A FieldFault → Result B FieldFault → Result B FieldFault
-Ok value >> next = next
-Err fault >> next = Err fault
-
--- a fault of the field that stands at the front of these bytes
+-- that fault in place of the field's value
 abbrev pub fault_at : {A : Type 0} → List ℕ → FrameCause → Result A FieldFault
-fault_at bytes cause = Err (record { left = length bytes; cause = cause })
-
--- a test of the field that stands at the front of these bytes
-abbrev pub unless : Bool → List ℕ → FrameCause → Result (Unit {0}) FieldFault
-unless passed bytes cause = if passed then Ok tt else fault_at bytes cause
+fault_at bytes cause = Err (fault_of bytes cause)
 
 -- the next byte
 unfoldable pub byte_at : List ℕ → Result (ℕ × List ℕ) FieldFault
@@ -34,7 +24,7 @@ byte_at (byte ∷ rest) = Ok (byte, rest)
 unfoldable pub within_at : ℕ → ℕ → List ℕ → Result (ℕ × List ℕ) FieldFault
 within_at least most bytes = do
   byte ← byte_at bytes
-  unless (nat_le least byte.0 && nat_le byte.0 most) bytes Range
+  unless (nat_le least byte.0 && nat_le byte.0 most) (fault_of bytes Range)
   Ok byte
 
 -- so many bytes
@@ -51,5 +41,5 @@ number_at count bytes = do
 unfoldable pub group_at : List ℕ → Result (ℕ × List ℕ) FieldFault
 group_at bytes = do
   byte ← byte_at bytes
-  unless (nat_lt byte.0 MOST_SERVERS) bytes Range
+  unless (nat_lt byte.0 MOST_SERVERS) (fault_of bytes Range)
   Ok byte

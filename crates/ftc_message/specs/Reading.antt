@@ -14,7 +14,8 @@ use Rattle.ftc_message.specs.declared.parts.Parts.{Parts}
 use Rattle.ftc_message.specs.declared.message.Message.{Message}
 use Rattle.ftc_message.specs.Logged.{Logged, key_follows, log_follows}
 use Rattle.ftc_message.specs.Spelling.{magic}
-use Rattle.ftc_message.specs.Fields.{◌>>=◌, ◌>>◌, unless, within_at, taken_at, number_at, group_at}
+use Rattle.ftc_base.specs.Reading.{◌>>=◌, ◌>>◌, unless}
+use Rattle.ftc_message.specs.Fields.{fault_of, within_at, taken_at, number_at, group_at}
 
 -- so many steps, each of which reads from the front and adds to what was read so far
 unfoldable pub times : {S : Type 0} → (S → List ℕ → Result (S × List ℕ) FieldFault) → ℕ → S → List ℕ → Result (S × List ℕ) FieldFault
@@ -29,14 +30,14 @@ times step (suc count) so_far bytes = do
 unfoldable pub partition_at : ℕ → List ℕ → Result (ℕ × List ℕ) FieldFault
 partition_at from bytes = do
   partition ← within_at 0 (MOST_PARTITIONS - 1) bytes
-  unless (nat_le from partition.0) bytes Order
+  unless (nat_le from partition.0) (fault_of bytes Order)
   Ok partition
 
 -- a number of 8 bytes, which is at least `least`
 unfoldable pub least_at : ℕ → List ℕ → Result (ℕ × List ℕ) FieldFault
 least_at least bytes = do
   number ← number_at 8 bytes
-  unless (nat_le least number.0) bytes Range
+  unless (nat_le least number.0) (fault_of bytes Range)
   Ok number
 
 -- a partition of a need, and its number
@@ -113,7 +114,7 @@ unfoldable pub key_at : Option (List ℕ) → List ℕ → Result (List ℕ × L
 key_at last bytes = do
   size ← within_at 1 MOST_KEY_BYTES bytes
   key ← taken_at size.0 size.1
-  unless (key_follows last key.0) size.1 Order
+  unless (key_follows last key.0) (fault_of size.1 Order)
   Ok key
 
 unfoldable pub write_at : Option (List ℕ) → List ℕ → Result (Write × List ℕ) FieldFault
@@ -139,7 +140,7 @@ unfoldable pub head_at : Option (ℕ × ℕ) → List ℕ → Result ((ℕ × �
 head_at last bytes = do
   group ← group_at bytes
   origin ← number_at 4 group.1
-  unless (log_follows last origin.0 group.0) bytes Order
+  unless (log_follows last origin.0 group.0) (fault_of bytes Order)
   Ok ((origin.0, group.0), origin.1)
 
 unfoldable pub log_at : Option (ℕ × ℕ) → List ℕ → Result (Logged × List ℕ) FieldFault
@@ -167,7 +168,7 @@ logs_at bytes = do
 unfoldable pub need_at : ℕ → ℕ → List ℕ → Result (Need × List ℕ) FieldFault
 need_at least from bytes = do
   group ← group_at bytes
-  unless (nat_le from group.0) bytes Order
+  unless (nat_le from group.0) (fault_of bytes Order)
   marks ← marks_at least group.1
   Ok (record { group = group.0; marks = marks.0 }, marks.1)
 
@@ -209,14 +210,14 @@ commits_at bytes = do
 unfoldable pub magic_at : List ℕ → Result (List ℕ) FieldFault
 magic_at bytes = do
   front ← taken_at 4 bytes
-  unless (bytes_eq front.0 magic) bytes Magic
+  unless (bytes_eq front.0 magic) (fault_of bytes Magic)
   Ok front.1
 
 -- the packet of a frame of kind 0, and none of kind 1, whose length is 0
 unfoldable pub packet_at : Bool → List ℕ → Result (Option (List ℕ) × List ℕ) FieldFault
 packet_at is_there bytes = do
   size ← number_at 4 bytes
-  unless (nat_le size.0 (if is_there then MOST_CAPTURED else 0)) bytes Range
+  unless (nat_le size.0 (if is_there then MOST_CAPTURED else 0)) (fault_of bytes Range)
   packet ← taken_at size.0 size.1
   Ok ((if is_there then Some packet.0 else None), packet.1)
 
@@ -245,7 +246,7 @@ message_at bytes = do
 unfoldable pub whole_of : List ℕ → Result Message FieldFault
 whole_of frame = do
   message ← message_at frame
-  unless (length message.1 == 0) message.1 Trailing
+  unless (length message.1 == 0) (fault_of message.1 Trailing)
   Ok message.0
 
 -- a fault that stands so many bytes before the end of so many, placed from the front

@@ -1,6 +1,6 @@
 //! The bytes of what is known of the tails, which is written as needs whose numbers are not 0.
 
-ghost use Rattle.std.specs.Prelude.{◌≡◌, ◌<◌, ◌+◌, ◌++◌, ◌∷◌, length, drop, OnOk, IfOk, IfSome, IfNone};
+ghost use Rattle.std.specs.Prelude.{◌≡◌, ◌<◌, ◌+◌, ◌++◌, ◌∷◌, length, drop, OnOk, OnErr, IfOk, IfSome, IfNone};
 ghost use Rattle.ftc_vector.specs.Vector.{IsVector};
 ghost use Rattle.ftc_vector.specs.Commits.{vector_of};
 ghost use Rattle.ftc_message.specs.Bounds.{AreCommits};
@@ -103,7 +103,7 @@ fn count_known(commits: &Commits) -> u8
 }
 
 /// Adds the commits' bytes at the end. Where memory is refused, some of them may have been added.
-pub fn append_commits(commits: &Commits, out: &mut Bytes) -> Result<(), NoMemory>
+pub(crate) fn add_commits(commits: &Commits, out: &mut Bytes) -> Result<(), NoMemory>
     ensures added { OnOk result (out.new ≡ out.old ++ commits_bytes commits.now) }
     ensures bounds { OnOk result (AreCommits commits.now) }
 {
@@ -114,4 +114,15 @@ pub fn append_commits(commits: &Commits, out: &mut Bytes) -> Result<(), NoMemory
         }
     }
     Ok(())
+}
+
+/// Adds the commits' bytes at the end.
+pub fn append_commits(commits: &Commits, out: &mut Bytes) -> Result<(), NoMemory>
+    ensures ok { OnOk result (out.new ≡ out.old ++ commits_bytes commits.now) }
+    ensures err { OnErr result (out.new ≡ out.old) }
+    ensures bounds { OnOk result (AreCommits commits.now) }
+{
+    let mut piece = out.none_alike();
+    add_commits(commits, &mut piece)?;
+    out.append(piece.as_slice())
 }

@@ -5,10 +5,10 @@ ghost use Rattle.ftc_message.specs.Spelling.{kind, packet_bytes, spelling};
 ghost use Rattle.ftc_message.specs.WellFormed.{IsTyped, IsWellFormed};
 
 use crate::bytes::append_word;
-use crate::commits_bytes::append_commits;
-use crate::logs_bytes::append_logs;
+use crate::commits_bytes::add_commits;
+use crate::logs_bytes::add_logs;
 use crate::message::Message;
-use crate::need_bytes::append_needs;
+use crate::need_bytes::add_needs;
 use ftc_base::limits::MOST_CAPTURED;
 use ftc_base::{Bytes, NoMemory};
 use std::alloc::Global;
@@ -53,8 +53,8 @@ pub fn encode(alloc: Global, message: &Message) -> Result<Bytes, NoMemory>
     out.append(&[kind(&message.packet)])?;
     append_word(message.origin, &mut out)?;
     append_packet(&message.packet, &mut out)?;
-    append_logs(&message.logs, &mut out)?;
-    append_needs(&message.needs, &mut out)?;
-    append_commits(&message.commits, &mut out)?;
+    add_logs(&message.logs, &mut out)?;
+    add_needs(&message.needs, &mut out)?;
+    add_commits(&message.commits, &mut out)?;
     Ok(out)
 }

@@ -1,6 +1,6 @@
 //! The bytes of a log.
 
-ghost use Rattle.std.specs.Prelude.{◌≡◌, ◌++◌, true, length, Option, OnOk, IfOk};
+ghost use Rattle.std.specs.Prelude.{◌≡◌, ◌++◌, true, length, Option, OnOk, OnErr, IfOk};
 ghost use Rattle.ftc_message.specs.Logged.{log_follows};
 ghost use Rattle.ftc_message.specs.Spelling.{log_bytes};
 ghost use Rattle.ftc_message.specs.Reading.{head_at, log_at};
@@ -72,11 +72,21 @@ pub fn log_at<'a>(last: &Option<LogPlace>, bytes: &'a [u8]) -> Result<(Log, &'a 
 }
 
 /// Adds a log's bytes at the end. Where memory is refused, some of them may have been added.
-pub fn append_log(log: &Log, out: &mut Bytes) -> Result<(), NoMemory>
+pub(crate) fn add_log(log: &Log, out: &mut Bytes) -> Result<(), NoMemory>
     ensures { OnOk result (out.new ≡ out.old ++ log_bytes log.now) }
 {
     out.append(&[log.group().number()])?;
     append_word(log.origin(), out)?;
     append_parts(log.before(), log.changed(), out)?;
     append_writes(log.writes(), out)
+}
+
+/// Adds a log's bytes at the end.
+pub fn append_log(log: &Log, out: &mut Bytes) -> Result<(), NoMemory>
+    ensures ok { OnOk result (out.new ≡ out.old ++ log_bytes log.now) }
+    ensures err { OnErr result (out.new ≡ out.old) }
+{
+    let mut piece = out.none_alike();
+    add_log(log, &mut piece)?;
+    out.append(piece.as_slice())
 }

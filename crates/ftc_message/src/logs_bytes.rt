@@ -9,7 +9,7 @@ ghost use Rattle.ftc_message.specs.Front.{IsFront};
 use crate::bytes::append_word;
 use crate::fault::FieldFault;
 use crate::field::word_at;
-use crate::log_bytes::{append_log, log_at};
+use crate::log_bytes::{add_log, log_at};
 use crate::logs::Logs;
 use ftc_base::{Bytes, NoMemory, Refuse};
 use std::alloc::Global;
@@ -37,14 +37,14 @@ pub fn logs_at(alloc: Global, bytes: &[u8]) -> Result<(Logs, &[u8]), Refuse<Fiel
 }
 
 /// Adds the logs' bytes at the end.
-pub fn append_logs(logs: &Logs, out: &mut Bytes) -> Result<(), NoMemory>
+pub fn add_logs(logs: &Logs, out: &mut Bytes) -> Result<(), NoMemory>
     requires { length logs.now < 4294967296 }
     ensures added { OnOk result (out.new ≡ out.old ++ logs_bytes logs.now) }
     ensures bounds { AreLogs logs.now }
 {
     append_word(logs.len() as u32, out)?;
     for log in logs.as_slice() {
-        append_log(log, out)?;
+        add_log(log, out)?;
     }
     Ok(())
 }

@@ -1,6 +1,6 @@
 //! The bytes of needs.
 
-ghost use Rattle.std.specs.Prelude.{◌≡◌, ◌≤◌, ◌++◌, true, length, OnOk, IfOk, nat_le};
+ghost use Rattle.std.specs.Prelude.{◌≡◌, ◌≤◌, ◌++◌, true, length, OnOk, OnErr, IfOk, nat_le};
 ghost use Rattle.ftc_message.specs.Bounds.{AreNeeds};
 ghost use Rattle.ftc_message.specs.Spelling.{need_bytes, needs_bytes};
 ghost use Rattle.ftc_message.specs.Reading.{need_at, needs_at};
@@ -71,7 +71,7 @@ pub fn append_need(need: &Need, out: &mut Bytes) -> Result<(), NoMemory>
 }
 
 /// Adds the needs' bytes at the end. Where memory is refused, some of them may have been added.
-pub fn append_needs(needs: &Needs, out: &mut Bytes) -> Result<(), NoMemory>
+pub(crate) fn add_needs(needs: &Needs, out: &mut Bytes) -> Result<(), NoMemory>
     ensures added { OnOk result (out.new ≡ out.old ++ needs_bytes needs.now) }
     ensures bounds { AreNeeds needs.now }
 {
@@ -80,4 +80,15 @@ pub fn append_needs(needs: &Needs, out: &mut Bytes) -> Result<(), NoMemory>
         append_need(need, out)?;
     }
     Ok(())
+}
+
+/// Adds the needs' bytes at the end.
+pub fn append_needs(needs: &Needs, out: &mut Bytes) -> Result<(), NoMemory>
+    ensures ok { OnOk result (out.new ≡ out.old ++ needs_bytes needs.now) }
+    ensures err { OnErr result (out.new ≡ out.old) }
+    ensures bounds { AreNeeds needs.now }
+{
+    let mut piece = out.none_alike();
+    add_needs(needs, &mut piece)?;
+    out.append(piece.as_slice())
 }

@@ -18,5 +18,5 @@ mod tests;
 
 pub use crate::check::sums_right;
 pub use crate::flow::{Flow, flow_of};
-pub use crate::laws::{law_of_flows, law_of_updates};
+pub use crate::laws::{law_of_datagrams, law_of_flows, law_of_segments, law_of_updates};
 pub use crate::rewrite::{set_destination, set_source};

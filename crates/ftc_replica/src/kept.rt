@@ -72,6 +72,7 @@ impl Kept {
     pub fn reserve(&mut self, count: usize) -> Result<(), NoMemory>
         ensures ok { OnOk result (count ≤ self.new.spare) }
         ensures items { self.new.items ≡ self.old.items }
+        ensures spare { self.old.spare ≤ self.new.spare }
         ensures succeeds { count ≤ self.old.spare → IsOk result }
     {
         self.logs.reserve(count)?;
@@ -92,6 +93,7 @@ impl Kept {
     /// Drops the logs that the vector covers.
     pub fn prune(&mut self, commit: &Vector)
         ensures items { self.new.items ≡ missing commit.now self.old.items }
+        ensures spare { self.new.spare + length self.new.items ≡ self.old.spare + length self.old.items }
     {
         self.logs.retain(|log| !covers_log(commit, log));
     }

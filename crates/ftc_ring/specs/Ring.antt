@@ -7,7 +7,7 @@ pub record RingShape : Type 0 where
   pub servers : ℕ
   pub failures : ℕ
 
--- 1 to 16 servers, and fewer failures than servers
+-- at least one server and not too many, and fewer failures than servers
 pub record IsRing (ring : RingShape) : Type 0 where
   pub some : 1 ≤ ring.servers
   pub servers : ring.servers ≤ MOST_SERVERS

@@ -9,6 +9,7 @@ use Rattle.ftc_base.specs.declared.limits.TheConstants.{MOST_SCRIPT_BYTES}
 use Rattle.ftc_ring.specs.Ring.{RingShape, IsRing}
 use Rattle.ftc_ring.specs.Live.{IsLive, IsDown, gone_of}
 use Rattle.ftc_ring.proofs.Nearest.{gone_none}
+use Rattle.ftc_base.proofs.EachOf.{all_push}
 use Rattle.ftc_script.specs.declared.fault.ScriptCause.{ScriptCause}
 use Rattle.ftc_script.specs.declared.fault.ScriptCause.TheVariants.{Order, Past, NotUp, NotDown, Link, TooLong}
 use Rattle.ftc_script.specs.declared.fault.ScriptFault.{ScriptFault}
@@ -18,7 +19,8 @@ use Rattle.ftc_script.specs.declared.statement.Statement.{Statement}
 use Rattle.ftc_script.specs.declared.statement.Statement.TheVariants as said
 use Rattle.ftc_script.specs.Steps.{all_live, with_at, last_of, IsInTurn, IsCrash}
 use Rattle.ftc_script.specs.Script.{ScriptShape, IsScript, IsLose}
-use Rattle.ftc_script.specs.Words.{◌>>=◌, ◌>>◌, unless, statement_of}
+use Rattle.ftc_base.specs.Reading.{◌>>=◌, ◌>>◌, unless}
+use Rattle.ftc_script.specs.Words.{statement_of}
 use Rattle.ftc_script.specs.Grammar.{ScriptDraft, no_lines, live_in, with_step, with_lose, in_turn, unless_gone, may_crash, may_recover, lose_line, add, line_step, fault_at, placed, down_of, finished, finish, script_from, script_of, IsDraft}
 use Rattle.ftc_script.proofs.InTurn.{steps_push}
 
@@ -67,10 +69,6 @@ was_down false e = refl
 
 pub recover_passed : (live : ℕ → Bool) (server : ℕ) (v : Unit {0}) → may_recover live server ≡ Ok v → IsDown live server
 recover_passed live server v e = was_down (live server) (passed (not (live server)) NotDown v e)
-
-all_push : {A : Type 0} (P : A → Type 0) (xs : List A) (x : A) → AllByRecursion P xs → P x → AllByRecursion P (xs ++ x ∷ [])
-all_push P [] x all is = (is, tt)
-all_push P (y ∷ xs) x all is = (all.0, all_push P xs x all.1 is)
 
 pub lose_passed : (ring : RingShape) (packets place number origin : ℕ) (line : LoseLine) → lose_line ring packets place number origin ≡ Ok line → IsLose ring packets line
 lose_passed ring packets place number origin line e =

@@ -9,6 +9,8 @@ use Rattle.ftc_base.specs.declared.limits.TheConstants.{MOST_SCRIPT_BYTES}
 use Rattle.ftc_ring.specs.Ring.{RingShape, IsRing}
 use Rattle.ftc_ring.specs.Live.{gone_of}
 use Rattle.ftc_ring.proofs.Nearest.{gone_none}
+use Rattle.ftc_base.proofs.PlainWords.{IsPlainWord, lines_of-line, words_of-join, line_bytes-join, plain}
+use Rattle.ftc_base.proofs.Decimals.{plain_number}
 use Rattle.ftc_script.specs.declared.limits.TheConstants.{MOST_NUMBER}
 use Rattle.ftc_script.specs.declared.fault.ScriptCause.{ScriptCause}
 use Rattle.ftc_script.specs.declared.fault.ScriptCause.TheVariants.{NotUp}
@@ -20,11 +22,12 @@ use Rattle.ftc_script.specs.declared.statement.Statement.{Statement}
 use Rattle.ftc_script.specs.declared.statement.Statement.TheVariants as said
 use Rattle.ftc_script.specs.Steps.{all_live, with_at, live_after, live_after_all, last_of, IsStep, AreSteps}
 use Rattle.ftc_script.specs.Script.{ScriptShape, IsScript, IsLose}
-use Rattle.ftc_script.specs.Words.{◌>>◌, unless, statement_of}
+use Rattle.ftc_base.specs.Reading.{◌>>◌, unless}
+use Rattle.ftc_script.specs.Words.{statement_of}
 use Rattle.ftc_script.specs.Grammar.{ScriptDraft, no_lines, live_in, with_step, with_lose, unless_gone, may_crash, add, line_step, placed, down_of, finish, script_from, script_of}
 use Rattle.ftc_script.specs.Plain.{words_in, plain_text, steps_in, loses_in}
 use Rattle.ftc_script.proofs.InTurn.{live_push, last_push}
-use Rattle.ftc_script.proofs.Letters.{IsPlainWord, lines_of-line, words_of-join, line_bytes-join, plain, plain_number, number_word-decimal}
+use Rattle.ftc_script.proofs.Letters.{number_word-decimal}
 
 -- the text of a line
 abbrev line_text : Statement → List ℕ

@@ -15,7 +15,8 @@ use Rattle.ftc_script.specs.declared.statement.Statement.{Statement}
 use Rattle.ftc_script.specs.declared.statement.Statement.TheVariants as said
 use Rattle.ftc_script.specs.Steps.{all_live, with_at, live_after_all, last_of, AreSteps}
 use Rattle.ftc_script.specs.Script.{ScriptShape, IsLose}
-use Rattle.ftc_script.specs.Words.{◌>>=◌, ◌>>◌, unless, statement_of}
+use Rattle.ftc_base.specs.Reading.{◌>>=◌, ◌>>◌, unless}
+use Rattle.ftc_script.specs.Words.{statement_of}
 
 -- the lines so far
 pub record ScriptDraft : Type 0 where

@@ -1,5 +1,6 @@
 -- Crashes and recoveries in order, and which servers are live after them.
 use Rattle.std.specs.Prelude.{ℕ, ◌≤◌, ◌<◌, ◌==◌, Bool, true, false, List, [], ◌∷◌, if◌then◌else◌}
+pub use Rattle.ftc_base.specs.Reading.{with_at}
 use Rattle.ftc_ring.specs.Ring.{RingShape}
 use Rattle.ftc_ring.specs.Live.{IsLive, IsDown, IsAdmissible}
 use Rattle.ftc_script.specs.declared.line.ScriptLine.{ScriptLine}
@@ -14,11 +15,7 @@ at_of (Recover at server) = at
 abbrev pub all_live : ℕ → Bool
 all_live server = true
 
--- the same servers are live but for one, of which it is told
-abbrev pub with_at : (ℕ → Bool) → ℕ → Bool → ℕ → Bool
-with_at live server value k = if k == server then value else live k
-
--- which servers are live after a step, and after some steps
+-- which servers are live after a step, which tells of one of them, and after some steps
 abbrev pub live_after : (ℕ → Bool) → ScriptLine → ℕ → Bool
 live_after live (Crash at server) = with_at live server false
 live_after live (Recover at server) = with_at live server true

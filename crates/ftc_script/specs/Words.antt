@@ -1,6 +1,7 @@
 -- What the words of a line say.
 use Rattle.std.specs.Prelude.{ℕ, Bool, false, ◌==◌, List, [], ◌∷◌, Result, Ok, Err, if◌then◌else◌, codes}
 use Rattle.std.specs.Str.{bytes_eq}
+use Rattle.ftc_base.specs.Reading.{◌>>=◌}
 use Rattle.ftc_base.specs.Number.{number_of}
 use Rattle.ftc_base.specs.declared.lexer.Lexical.{Lexical}
 use Rattle.ftc_script.specs.declared.limits.TheConstants.{MOST_NUMBER}
@@ -8,21 +9,6 @@ use Rattle.ftc_script.specs.declared.fault.ScriptCause.{ScriptCause}
 use Rattle.ftc_script.specs.declared.fault.ScriptCause.TheVariants.{Word}
 use Rattle.ftc_script.specs.declared.statement.Statement.{Statement}
 use Rattle.ftc_script.specs.declared.statement.Statement.TheVariants as said
-
--- one test after another: the first that refuses gives the cause
-infixl 10 ◌>>=◌
-abbrev pub ◌>>=◌ : {A B : Type 0} → Result A ScriptCause → (A → Result B ScriptCause) → Result B ScriptCause
-Ok value >>= next = next value
-Err cause >>= next = Err cause
-
-infixl 10 ◌>>◌
-abbrev pub ◌>>◌ : {A B : Type 0} → Result A ScriptCause → Result B ScriptCause → Result B ScriptCause
-Ok value >> next = next
-Err cause >> next = Err cause
-
--- a test that refuses with this cause, unless it is passed
-abbrev pub unless : Bool → ScriptCause → Result (Unit {0}) ScriptCause
-unless passed cause = if passed then Ok tt else Err cause
 
 -- a first word that makes its line a comment
 abbrev pub is_comment : List ℕ → Bool

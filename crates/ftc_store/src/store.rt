@@ -100,6 +100,7 @@ impl Store {
         ensures ok { OnOk result (count ≤ self.new.spare) }
         ensures content { self.new.content ≡ self.old.content }
         ensures partitions { self.new.partitions ≡ self.old.partitions }
+        ensures spare { self.old.spare ≤ self.new.spare }
         ensures succeeds { count ≤ self.old.spare → IsOk result }
     {
         self.held.reserve(count)?;

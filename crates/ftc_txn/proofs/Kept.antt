@@ -16,10 +16,6 @@ pub all_kept : {X : Type 0} (P Q : X → Type 0) → ((x : X) → P x → Q x) �
 all_kept P Q keep [] all = tt
 all_kept P Q keep (x ∷ xs) all = (keep x all.0, all_kept P Q keep xs all.1)
 
-pub all_push : {X : Type 0} (P : X → Type 0) (xs : List X) (x : X) → AllByRecursion P xs → P x → AllByRecursion P (xs ++ x ∷ [])
-all_push P [] x all last = (last, tt)
-all_push P (y ∷ ys) x all last = (all.0, all_push P ys x all.1 last)
-
 pub not_both : {A : Type 0} (b : Bool) → b ≡ false → b ≡ true → A
 not_both b isnt is = absurd (false≢true (sym isnt ∙ is))
 

@@ -17,7 +17,8 @@ use Rattle.ftc_locks.specs.Locks.{Locks, holds, holds_exclusively, conflicts, Sa
 use Rattle.ftc_txn.specs.Slots.{Running, slot_at, begun, restarted, answered}
 use Rattle.ftc_txn.specs.Head.{HeadState, RunsUnwounded, RunsWounded, IsCurrent, IsRunning, IsHead, AreItsWrites, next_age}
 use Rattle.ftc_txn.specs.Steps.{begins, restarts, IsGranted, IsFreed, HasRead, HasQuit}
-use Rattle.ftc_txn.proofs.Kept.{all_kept, all_push, not_both, none_or_some, slot_within, some_run_at, slot_set, slot_other, same_holdings, Stays, WasWounded, keeps}
+use Rattle.ftc_base.proofs.EachOf.{all_push}
+use Rattle.ftc_txn.proofs.Kept.{all_kept, not_both, none_or_some, slot_within, some_run_at, slot_set, slot_other, same_holdings, Stays, WasWounded, keeps}
 
 pub some_of : {A : Type 0} (o : Option A) (x y : A) → o ≡ Some x → o ≡ Some y → x ≡ y
 some_of o x y first second = cc

@@ -1,7 +1,7 @@
 -- what is left gives what the whole gives, behind logs that rise
 use Rattle.std.proofs.Common.{◌≡◌, ◌-◌, None, Ok, true}
 use Rattle.ftc_message.specs.Logged.{logs_rise}
-use Rattle.ftc_message.specs.Fields.{◌>>=◌}
+use Rattle.ftc_base.specs.Reading.{◌>>=◌}
 use Rattle.ftc_message.specs.Reading.{times, with_log, logs_at}
 use Rattle.ftc_message.proofs.Rising.{last_log}
 use Rattle.ftc_message.proofs.logs_bytes.logs_at.Given as goal

@@ -1,7 +1,7 @@
 -- what is left gives what the whole gives, behind needs that rise
 use Rattle.std.proofs.Common.{◌≡◌, ◌-◌, Ok, true}
 use Rattle.ftc_message.specs.Logged.{needs_rise}
-use Rattle.ftc_message.specs.Fields.{◌>>=◌}
+use Rattle.ftc_base.specs.Reading.{◌>>=◌}
 use Rattle.ftc_message.specs.Reading.{times, with_need, needs_at}
 use Rattle.ftc_message.proofs.Rising.{next_group}
 use Rattle.ftc_message.proofs.need_bytes.needs_at.Given as goal

@@ -1,6 +1,6 @@
 -- what is left gives what the whole gives
 use Rattle.std.proofs.Common.{◌≡◌, ◌-◌, Ok}
-use Rattle.ftc_message.specs.Fields.{◌>>=◌}
+use Rattle.ftc_base.specs.Reading.{◌>>=◌}
 use Rattle.ftc_message.specs.Reading.{times, with_part, parts_at}
 use Rattle.ftc_message.proofs.parts.parts_at.Given as goal
 
