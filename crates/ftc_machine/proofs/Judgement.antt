@@ -5,6 +5,7 @@ use Rattle.ftc_machine.specs.declared.kept.Kept.{Kept}
 use Rattle.ftc_protocol.specs.Setting.{Setting, servers}
 use Rattle.ftc_protocol.specs.State.{ChainState}
 use Rattle.ftc_machine.specs.Kept.{StandsFor}
+use Rattle.ftc_machine.specs.RecoveryEffect.{IsOfRun}
 use Rattle.ftc_protocol.proofs.Complete.{IsReached, reached}
 
 pub reached_by : {c : Setting} {s : ChainState} {k : Kept} → StandsFor c s k → IsReached c s
@@ -24,3 +25,6 @@ is_below {c} {s} {k} stands server said tells is = subst (λ n. server < n) (ap 
 pub isnt_below : {c : Setting} {s : ChainState} {k : Kept} → StandsFor c s k → (server : ℕ) (said : Bool) → (said ≡ true) ↔ (server < k.ring.servers) → said ≡ false → server < servers c → ⊥
 isnt_below {c} {s} {k} stands server said tells isnt below =
     true≢false (sym (tells.1 (subst (λ n. server < n) (sym (ap (λ ring. ring.servers) stands.kept.ring)) below)) ∙ isnt)
+
+pub of_run : {c : Setting} {s : ChainState} {k : Kept} → StandsFor c s k → IsOfRun c s
+of_run {c} {s} {k} stands = record { setting = stands.setting; journal = stands.journal; run = stands.run; state = stands.state }

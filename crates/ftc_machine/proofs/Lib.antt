@@ -6,7 +6,8 @@ mod Judgement
 mod JudgedScript
 mod Needing
 mod Knowing
-mod Trying
+mod Lawful
+mod Acting
 pub mod Handed
 mod SameNames
 mod Replayed

@@ -1,12 +1,13 @@
 -- What is so of a run whose state is kept.
-use Rattle.std.proofs.Common.{◌≡◌, ℕ, zero, suc, ◌+◌, ◌++◌, Bool, true, false, List, [], ◌∷◌, length, map, Result, Ok, Err, refl, sym, ap, subst, ◌∙◌, arith}
+use Rattle.std.proofs.Common.{◌≡◌, ℕ, zero, suc, ◌+◌, ◌↔◌, ◌++◌, Bool, true, false, List, [], ◌∷◌, length, map, Result, Ok, Err, refl, sym, ap, subst, ◌∙◌, arith}
 use Rattle.std.specs.Result.{IfOk}
 use Rattle.std.specs.List.{range_with_len}
 use Rattle.std.proofs.Math.Logic.{∥∥₁_map, ∥∥₁_elim}
 use Rattle.std.proofs.lemmas.Bool.{true≢false}
 use Rattle.ftc_journal.specs.declared.event.Event.{Event}
 use Rattle.ftc_script.specs.Script.{ScriptShape}
-use Rattle.std.specs.Coded.{Coded-set, coded_list}
+use Rattle.std.specs.Coded.{Coded-set, coded_list, coded_ℕ}
+use Rattle.ftc_ring.specs.Ring.{RingShape}
 use Rattle.ftc_protocol.specs.contracts.fate.Fate as contract
 use Rattle.ftc_protocol.specs.declared.fate.Fate.{Fate}
 use Rattle.ftc_machine.specs.declared.kept.Kept.{Kept}
@@ -17,17 +18,11 @@ use Rattle.ftc_protocol.specs.Fates.{fates_in}
 use Rattle.ftc_machine.specs.Kept.{AreInputs, StandsFor, fate_in}
 use Rattle.ftc_machine.specs.Played.{IsPlayed}
 use Rattle.ftc_machine.specs.Done.{is_done}
-use Rattle.ftc_journal.specs.declared.event.Event.TheVariants.{Apply, Carry, Crash, Enter, Lose, Pass, Propagate, Pull, Recover, Release, Take, Visit}
-use Rattle.ftc_journal.specs.declared.event.VisitName.{VisitName}
-use Rattle.ftc_machine.specs.Attempts.{NoneDue, IsTried, IsPassedOver}
-use Rattle.ftc_machine.specs.Dispatch.{is_on_way}
-use Rattle.ftc_machine.specs.Due.{is_any_due}
-use Rattle.ftc_machine.specs.Kept.{IsKept, StandsStill}
-use Rattle.ftc_protocol.specs.Legal.{IsLegal, is_release}
+use Rattle.ftc_machine.specs.Effects.{StandsAfter}
+use Rattle.ftc_machine.specs.Kept.{IsKept, MayFollow, StandsStill}
+use Rattle.ftc_protocol.specs.Legal.{IsLegal}
 use Rattle.ftc_protocol.specs.Next.{next}
 use Rattle.ftc_protocol.proofs.Forever.{run_on, next_on}
-use Rattle.ftc_machine.proofs.JudgedDue.{any_due, due_any}
-use Rattle.ftc_machine.proofs.Knowing.{known_reaches, needed_by}
 use Rattle.ftc_protocol.proofs.Complete.{reached, completes}
 use Rattle.ftc_machine.proofs.Conclusion.{done_finished, complete_done}
 
@@ -53,10 +48,10 @@ module _ (c : Setting) (journal : List Event) (k : Kept) where
   fates_are packets same played = ∥∥₁_elim played (Coded-set (coded_list contract.the_row.coded) _ _) (λ p.
       ap (λ n. map (fate_in k.fates) (range_with_len 0 n)) (sym same) ∙ same_fates 0 (count c) (state_after c (opening c) journal) p.kept_for.fates)
 
--- what is so of what an answer gives, by what is so of it
-pub ok_map : {A E : Type 0} → (result : Result A E) (P Q : A → Type 0) → ((x : A) → P x → Q x) → IfOk result P → IfOk result Q
-ok_map (Ok x) P Q f is = f x is
-ok_map (Err e) P Q f is = is
+-- what is kept is of as many servers as the setting has rules
+pub servers_of : (c : Setting) (journal : List Event) (k : Kept) → ∥ IsPlayed c journal k ∥₁ → length c.rules ≡ k.ring.servers
+servers_of c journal k played =
+    ∥∥₁_elim played (Coded-set coded_ℕ _ _) (λ p. sym (ap (λ (ring : RingShape). ring.servers) p.kept_for.ring))
 
 -- each event is counted
 events_on : (c : Setting) (events : List Event) (s : ChainState) → (state_after c s events).events ≡ s.events + length events
@@ -66,70 +61,46 @@ events_on c (event ∷ events) s = let more = events_on c events (next c s event
 pub events_are : (c : Setting) (events : List Event) → (state_after c (opening c) events).events ≡ length events
 events_are c events = let all = events_on c events (opening c) in omega arith
 
--- which events are left where these are excluded
-pub rest_on_way : (event : Event) → ((p : ℕ) → event ≡ Enter p → ⊥) → ((k : ℕ) → event ≡ Crash k → ⊥) → ((k : ℕ) (undone : List VisitName) → event ≡ Recover k undone → ⊥) → ((l : ℕ) → event ≡ Pull l → ⊥)
-    → ((p : ℕ) → event ≡ Propagate p → ⊥) → ((p : ℕ) → event ≡ Release p → ⊥) → (is_on_way event ≡ true) × (is_release event ≡ false)
-rest_on_way (Enter p) a b d e f g = absurd (a p refl)
-rest_on_way (Take l p) a b d e f g = (refl, refl)
-rest_on_way (Apply k p j q) a b d e f g = (refl, refl)
-rest_on_way (Visit k p w) a b d e f g = (refl, refl)
-rest_on_way (Pass k p) a b d e f g = (refl, refl)
-rest_on_way (Lose k p) a b d e f g = (refl, refl)
-rest_on_way (Carry p) a b d e f g = (refl, refl)
-rest_on_way (Crash k) a b d e f g = absurd (b k refl)
-rest_on_way (Recover k undone) a b d e f g = absurd (d k undone refl)
-rest_on_way (Pull l) a b d e f g = absurd (e l refl)
-rest_on_way (Propagate p) a b d e f g = absurd (f p refl)
-rest_on_way (Release p) a b d e f g = absurd (g p refl)
-
 module _ (c : Setting) (journal : List Event) (k new : Kept) where
   -- what stands still
   pub still : StandsStill k new → ∥ IsPlayed c journal k ∥₁ → ∥ IsPlayed c journal new ∥₁
-  still same played = ∥∥₁_map played (λ p. record { right = p.right; run = p.run; kept_for = same c (state_after c (opening c) journal) p.kept_for })
+  still same played = ∥∥₁_map played (λ p. record {
+    right = p.right;
+    run = p.run;
+    kept_for = same c (state_after c (opening c) journal) p.kept_for;
+  })
 
-  module _ (event : Event) (now : ℕ) (time : now ≡ length journal) (due : is_release event ≡ false → is_any_due k ≡ false) where
-    none_due : IsPlayed c journal k → is_release event ≡ false → NoneDue c (state_after c (opening c) journal)
-    none_due p isnt packet withheld is_due =
-        let s = state_after c (opening c) journal in
-        let r = reached c p.right journal p.run in
-        true≢false (sym (due_any c p.right s r k p.kept_for (known_reaches c p.right s r k p.kept_for) (needed_by (stands c journal k p)) packet withheld is_due) ∙ due isnt)
+module _ (c : Setting) (journal : List Event) (k : Kept) (script : ScriptShape) (packets : ℕ)
+    (given : AreInputs c script packets) (event : Event) (said : Bool)
+    (right : (setting : Setting) (state : ChainState) → StandsFor setting state k → AreInputs setting script packets
+    → (said ≡ true) ↔ IsLegal setting state event) where
+  says : IsPlayed c journal k → (said ≡ true) ↔ IsLegal c (state_after c (opening c) journal) event
+  says p = right c (state_after c (opening c) journal) (stands c journal k p) given
 
-    on_time : now ≡ (state_after c (opening c) journal).events
-    on_time = time ∙ sym (events_are c journal)
+  -- an event that is said not to be legal isn't, and one that is said to be legal is
+  pub illegal : said ≡ false → ∥ IsPlayed c journal k ∥₁ → IsLegal c (state_after c (opening c) journal) event → ⊥
+  illegal isnt played legal =
+      ∥∥₁_elim played (λ x y. absurd x) (λ p. true≢false (sym ((says p).1 legal) ∙ isnt))
 
-    abbrev pub HasTried : Bool → Type 0
-    HasTried made = (s : ChainState) → StandsFor c s k → (is_release event ≡ false → NoneDue c s) → now ≡ s.events → IsTried c s event new made
+  pub legal : said ≡ true → ∥ IsPlayed c journal k ∥₁ → ∥ IsLegal c (state_after c (opening c) journal) event ∥₁
+  legal is played = ∥∥₁_map played (λ p. (says p).0 is)
 
-    passed : HasTried false → IsPlayed c journal k → IsPassedOver c (state_after c (opening c) journal) event new
-    passed tried p = tried (state_after c (opening c) journal) (stands c journal k p) (none_due p) on_time
-
-    pub passed_played : HasTried false → ∥ IsPlayed c journal k ∥₁ → ∥ IsPlayed c journal new ∥₁
-    passed_played tried played = ∥∥₁_map played (λ p. record { right = p.right; run = p.run; kept_for = (passed tried p).same })
-
-    pub passed_illegal : HasTried false → ∥ IsPlayed c journal k ∥₁ → IsLegal c (state_after c (opening c) journal) event → ⊥
-    passed_illegal tried played legal = ∥∥₁_elim played (λ x y. absurd x) (λ p. (passed tried p).not_so legal.0)
-
-    made_legally : HasTried true → IsPlayed c journal k → IsLegal c (state_after c (opening c) journal) event
-    made_legally tried p =
-        let made = tried (state_after c (opening c) journal) (stands c journal k p) (none_due p) on_time in
-        (made.may, λ isnt. none_due p isnt)
-
-    pub made_legal : HasTried true → ∥ IsPlayed c journal k ∥₁ → ∥ IsLegal c (state_after c (opening c) journal) event ∥₁
-    made_legal tried played = ∥∥₁_map played (made_legally tried)
-
-    pub made_played : HasTried true → ∥ IsPlayed c journal k ∥₁ → ∥ IsPlayed c (journal ++ event ∷ []) new ∥₁
-    made_played tried played = ∥∥₁_map played (λ p.
-        let made = tried (state_after c (opening c) journal) (stands c journal k p) (none_due p) on_time in
-        record {
-          right = p.right;
-          run = run_on c journal event (opening c) p.run (made_legally tried p);
-          kept_for = subst (λ (s : ChainState). IsKept c s new) (sym (next_on c journal event (opening c))) made.after;
-        })
-
-  -- while a packet is due, no other event is legal
-  pub due_illegal : (event : Event) → is_release event ≡ false → is_any_due k ≡ true → ∥ IsPlayed c journal k ∥₁ → IsLegal c (state_after c (opening c) journal) event → ⊥
-  due_illegal event isnt due played legal = ∥∥₁_elim played (λ x y. absurd x) (λ p.
-      let s = state_after c (opening c) journal in
-      let r = reached c p.right journal p.run in
-      let found = any_due c p.right s r k p.kept_for (known_reaches c p.right s r k p.kept_for) (needed_by (stands c journal k p)) due in
-      legal.1 isnt found.0 found.1 found.2)
+  -- what it does to what is kept makes the run longer by the event
+  pub goes_on : (new : Kept) (now : ℕ) → said ≡ true → now ≡ length journal
+      → ((state : ChainState) → now ≡ state.events → StandsAfter c state event k new)
+      → ∥ IsPlayed c journal k ∥₁ → ∥ IsPlayed c (journal ++ event ∷ []) new ∥₁
+  goes_on new now is time after played = ∥∥₁_map played (λ p.
+      let state : ChainState = state_after c (opening c) journal in
+      let follows : MayFollow c state event = record {
+        setting = p.right;
+        journal = journal;
+        run = p.run;
+        state = refl;
+        legal = (says p).0 is;
+      } in
+      record {
+        right = p.right;
+        run = run_on c journal event (opening c) p.run ((says p).0 is);
+        kept_for = subst (λ (s : ChainState). IsKept c s new) (sym (next_on c journal event (opening c)))
+            (after state (time ∙ sym (events_are c journal)) follows p.kept_for);
+      })

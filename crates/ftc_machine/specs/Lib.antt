@@ -5,15 +5,13 @@ pub mod Slots
 pub mod Kept
 pub mod Tests
 pub mod Due
-pub mod Judging
 pub mod Played
 pub mod Illegal
-pub mod Attempts
 pub mod Done
-pub mod Dispatch
 pub mod Effects
 pub mod Tails
 pub mod RecoveryEffect
 pub mod News
 pub mod Marking
 pub mod Making
+pub mod Legality

@@ -12,7 +12,7 @@ use ftc_journal::VisitName;
 
 impl Kept {
     /// The server's list gets the visit, from whichever message carries its log.
-    pub fn apply(&mut self, server: ServerId, log: &VisitName)
+    pub fn apply_log(&mut self, server: ServerId, log: &VisitName)
         requires { server < self.old.ring.servers }
         ensures { (c : Setting) (s : ChainState) (origin : ℕ) →
             StandsAfter c s (event.Apply server origin log.now.server log.now.packet) self.old self.new }

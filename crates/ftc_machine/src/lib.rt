@@ -4,7 +4,6 @@
 
 mod apart;
 mod apply;
-mod attempt;
 mod carry;
 mod choice;
 mod copying;
@@ -12,16 +11,16 @@ mod crash;
 mod departure;
 mod dropped;
 mod due;
+mod effect;
 mod ending;
 mod enter;
 mod footprint;
 mod fresh;
 mod going;
 mod handover;
-mod happen;
-mod judge;
 mod kept;
 mod legal;
+mod legality;
 mod losses;
 mod machine;
 mod membership;

@@ -3,7 +3,6 @@
 ghost use Rattle.std.specs.Prelude.{◌≡◌, ◌++◌, [], ◌∷◌, true, false, length, IfOk, OnOk, OnErr};
 ghost use Rattle.ftc_base.specs.Refused.{IfBad};
 ghost use Rattle.ftc_serial.specs.Packets.{bytes_of};
-ghost use Rattle.ftc_protocol.specs.Legal.{is_release};
 
 use crate::Fates;
 use crate::copying::copy_event;
@@ -22,16 +21,6 @@ use thiserror::Error;
 #[derive(Clone, Copy, Debug, PartialEq, Eq, Error)]
 #[error("the protocol does not allow the event")]
 pub struct Illegal;
-
-/// Whether the event is a release.
-fn is_release(event: &Event) -> bool
-    ensures { result ≡ is_release event.now }
-{
-    match event {
-        Event::Release { .. } => true,
-        _ => false,
-    }
-}
 
 /// A run of the protocol, event by event. It is plain: there is no vector of a replica, no frame and no
 /// lock, and what it does is what the protocol's definitions say. A contract sees what the run was given and
@@ -103,15 +92,13 @@ impl<'a> Machine<'a> {
         if now == u64::MAX {
             return Err(Refuse::NoMemory);
         }
-        if !is_release(event) && self.kept.is_some_due() {
+        let legal = self.kept.is_legal(self.alloc, self.packets, self.script, event)?;
+        if !legal {
             return Err(Refuse::Bad(Illegal));
         }
         let copy = copy_event(self.alloc, event)?;
         self.journal.reserve(1)?;
-        let made = self.kept.happen(self.alloc, self.spec, self.packets, self.script, event, now)?;
-        if !made {
-            return Err(Refuse::Bad(Illegal));
-        }
+        self.kept.apply(self.alloc, self.spec, self.packets, self.script, event, now)?;
         self.journal.push(copy)?;
         Ok(())
     }

@@ -1,6 +1,0 @@
-use Rattle.ftc_machine.proofs.JudgedScript.{right_pull}
-use Rattle.ftc_machine.proofs.Judgement.{reached_by, right_as}
-use Rattle.ftc_machine.proofs.kept.Kept.judge_pull.Goals as goal
-
-pub returns-clause-right : goal.returns-clause-right
-returns-clause-right c setting state stands = right_as c.may_pull.ensures (right_pull setting stands.setting state (reached_by stands) c.args.self.now stands.kept c.args.link)

@@ -1,6 +1,0 @@
-use Rattle.ftc_machine.proofs.JudgedScript.{right_recover}
-use Rattle.ftc_machine.proofs.Judgement.{reached_by, right_as}
-use Rattle.ftc_machine.proofs.kept.Kept.judge_recover.Goals as goal
-
-pub returns-clause-right : goal.returns-clause-right
-returns-clause-right c setting state stands packets undone given = right_as c.may_recover.ensures (right_recover setting stands.setting state (reached_by stands) c.args.self.now stands.kept c.args.script.now packets given c.args.server)
