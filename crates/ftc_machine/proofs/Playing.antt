@@ -25,7 +25,7 @@ use Rattle.ftc_machine.specs.Due.{is_any_due}
 use Rattle.ftc_machine.specs.Kept.{IsKept, StandsStill}
 use Rattle.ftc_protocol.specs.Legal.{IsLegal, is_release}
 use Rattle.ftc_protocol.specs.Next.{next}
-use Rattle.ftc_protocol.proofs.Forever.{run_on, next_on}
+use Rattle.ftc_protocol.proofs.RunLists.{run_on, next_on}
 use Rattle.ftc_machine.proofs.JudgedDue.{any_due, due_any}
 use Rattle.ftc_machine.proofs.Knowing.{known_reaches, needed_by}
 use Rattle.ftc_protocol.proofs.Complete.{reached, completes}
