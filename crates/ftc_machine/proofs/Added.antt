@@ -43,7 +43,7 @@ use Rattle.ftc_machine.proofs.Reaching.{same_reach, head_last}
 use Rattle.ftc_machine.proofs.Replaced.{row_replaced}
 use Rattle.ftc_protocol.proofs.TraceLemmas.{stands_map}
 use Rattle.ftc_protocol.proofs.Earlier.{visited_earlier}
-use Rattle.ftc_protocol.proofs.Supposed.{changed_touched}
+use Rattle.ftc_protocol.proofs.Changing.{changed_touched}
 
 pub some_length : {A : Type 0} (xs : List A) → is_some_list xs ≡ not (length xs == 0)
 some_length [] = refl

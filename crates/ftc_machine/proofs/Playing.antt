@@ -22,7 +22,7 @@ use Rattle.ftc_machine.specs.Effects.{StandsAfter}
 use Rattle.ftc_machine.specs.Kept.{IsKept, MayFollow, StandsStill}
 use Rattle.ftc_protocol.specs.Legal.{IsLegal}
 use Rattle.ftc_protocol.specs.Next.{next}
-use Rattle.ftc_protocol.proofs.Forever.{run_on, next_on}
+use Rattle.ftc_protocol.proofs.RunLists.{run_on, next_on}
 use Rattle.ftc_protocol.proofs.Complete.{reached, completes}
 use Rattle.ftc_machine.proofs.Conclusion.{done_finished, complete_done}
 

@@ -43,7 +43,7 @@ use Rattle.ftc_machine.proofs.Handing.{got_reaches, both_reach_known}
 use Rattle.ftc_protocol.proofs.Inv.{Inv}
 use Rattle.ftc_machine.proofs.Judging.{dropped_same}
 use Rattle.ftc_protocol.proofs.Listed.{undone_listed}
-use Rattle.ftc_protocol.proofs.Moments.{store_left}
+use Rattle.ftc_protocol.proofs.TraceLemmas.{store_left}
 use Rattle.ftc_protocol.proofs.Premises.{IsGood}
 use Rattle.ftc_machine.proofs.Rebuilding.{visits_left, rebuilt_content}
 use Rattle.ftc_machine.proofs.Replaced.{row_replaced}

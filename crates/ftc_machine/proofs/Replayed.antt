@@ -8,7 +8,7 @@ use Rattle.ftc_protocol.specs.Legal.{IsLegal}
 use Rattle.ftc_protocol.specs.Next.{next}
 use Rattle.ftc_protocol.specs.Run.{AreLegal, IsRun, state_after}
 use Rattle.ftc_machine.specs.Illegal.{IsFirstIllegal}
-use Rattle.ftc_protocol.proofs.Forever.{run_on}
+use Rattle.ftc_protocol.proofs.RunLists.{run_on}
 
 -- one more event of a list
 one_taken : (events : List Event) (place : ℕ) (event : Event) → slice_get events place ≡ Some event → take (suc place) events ≡ take place events ++ event ∷ []

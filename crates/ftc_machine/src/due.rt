@@ -3,6 +3,7 @@
 ghost use Rattle.std.specs.Prelude.{◌≡◌, ◌<◌, ◌||◌, not};
 ghost use Rattle.std.specs.List.{list_any};
 ghost use Rattle.ftc_base.specs.Sets.{has};
+ghost use Rattle.ftc_base.specs.declared.limits.TheConstants.{MOST_SERVERS};
 ghost use Rattle.ftc_machine.specs.Slots.{has_such, slot_at};
 ghost use Rattle.ftc_machine.specs.Tests.{footprints_of, has_named};
 ghost use Rattle.ftc_machine.specs.Due.{known_last, named, is_due_by, is_due_before, is_any_due, may_release};
@@ -23,7 +24,7 @@ impl Kept {
 
     /// Whether the packet has no need of that group, or its visit there is known so far.
     fn is_need_met(&self, reach: &Commits, withheld: &Withheld, group: u8) -> bool
-        requires { group < 16 }
+        requires { group < MOST_SERVERS }
         ensures { result ≡ (not (has withheld.now.needs group) || has_named (footprints_of self.now) reach.now (named group withheld.now.packet)) }
     {
         let name = VisitName {

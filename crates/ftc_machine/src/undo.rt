@@ -1,6 +1,7 @@
 //! Which visits a recovery undoes.
 
 ghost use Rattle.std.specs.Prelude.{ℕ, ◌≡◌, ◌<◌, ◌≤◌, filter, IfOk};
+ghost use Rattle.ftc_base.specs.declared.limits.TheConstants.{MOST_SERVERS};
 ghost use Rattle.ftc_vector.specs.Commits.{vector_of};
 ghost use Rattle.ftc_journal.specs.declared.event.VisitName.{VisitName as AName};
 ghost use Rattle.ftc_machine.specs.Kept.{IsKept};
@@ -74,7 +75,7 @@ impl Kept {
     ) -> bool
         requires previous { previous < self.now.ring.servers }
         requires following { following < self.now.ring.servers }
-        requires group { group < 16 }
+        requires group { group < MOST_SERVERS }
         ensures { result ≡ is_undone_alone self.now previous following packet group }
     {
         let server = ServerId::new(group).unwrap();

@@ -56,12 +56,3 @@ kept_forever c good s h (Recover k undone) legal p bytes given j st =
     let i = u.0 in let le : i ≤ j = u.1 in let il : i < n = omega arith in
     let it = apart_cases n i t il after.below in
     u.2.3 (h.world.released p bytes given i u.2.0 t after.below after.live (member_after c s k r t fit.0 down before after admissible i il (u.2.1, u.2.2)) (omega arith))))
-
--- a run goes on by one event
-pub run_on : (c : Setting) (es : List Event) (e : Event) (s : ChainState) → AreLegal c s es → IsLegal c (state_after c s es) e → AreLegal c s (es ++ e ∷ [])
-run_on c [] e s run legal = (legal, tt)
-run_on c (x ∷ es) e s run legal = (run.0, run_on c es e (next c s x) run.1 legal)
-
-pub next_on : (c : Setting) (es : List Event) (e : Event) (s : ChainState) → state_after c s (es ++ e ∷ []) ≡ next c (state_after c s es) e
-next_on c [] e s = refl
-next_on c (x ∷ es) e s = next_on c es e (next c s x)

@@ -21,7 +21,7 @@ use Rattle.ftc_protocol.specs.Setting.{Setting, servers, shape}
 use Rattle.ftc_protocol.proofs.Passed.{Somehow, some_stands}
 use Rattle.ftc_serial.specs.Removal.{Takes, left_of}
 use Rattle.ftc_protocol.proofs.Undoing.{all_of, among, before_touching}
-use Rattle.ftc_protocol.proofs.TraceLemmas.{any_map, before_first, visit_stood}
+use Rattle.ftc_protocol.proofs.TraceLemmas.{store_left, any_map, before_first, visit_stood}
 use Rattle.ftc_protocol.proofs.Earlier.{visited_earlier}
 use Rattle.ftc_ring.specs.Ring.{apart}
 use Rattle.ftc_protocol.proofs.Ring.{apart_cases}
@@ -59,21 +59,6 @@ closed_by c some trace gone before later released (e ∷ older) is lift up' =
           let below : j < k = visited_earlier c older k q is.0.0 is.1 is.0.1 j (subst (λ v. IsInTrace Somehow older j v) same (among Somehow older j p u a tt)) in
           subst (λ v. gone k v ≡ true) same (later j k p goes below (lifts _ (among Somehow older j p u a tt)) (subst (λ v. IsInTrace Somehow trace k v) (sym same) (any_map _ (IsVisit Somehow k q) (λ x i. subst (IsVisit Somehow k q) (sym i) (refl, refl, tt)) trace stands)))
     ]
-
--- the store of a set that has no visit that is taken out
-pub store_left : (gone : Visits) (trace : List Entry) (j : ℕ) (set : ℕ → Bool) → ((p : ℕ) → IsInTrace Somehow trace j p → gone j p ≡ true → set p ≡ false) → content_of trace set j ≡ content_of (left_of gone trace) set j
-store_left gone [] j set apart_cases = refl
-store_left gone (Given p b ∷ older) j set apart_cases = store_left gone older j set (λ q st. apart_cases q (inr st))
-store_left gone (Visited k p o ∷ older) j set apart_cases =
-    let rest = store_left gone older j set (λ q st. apart_cases q (inr st)) in
-    elim (gone k p) as (λ b. gone k p ≡ b → (if (k == j) && set p then written o.writes (content_of older set j) else content_of older set j) ≡ content_of (cond (not b) (Visited k p o ∷ left_of gone older) (left_of gone older)) set j) [
-      | true ↦ λ g. elim (k == j) as (λ t. k == j ≡ t → (if t && set p then written o.writes (content_of older set j) else content_of older set j) ≡ content_of (left_of gone older) set j) [
-        | true ↦ λ e. let kj = eqb-true k j e in
-            subst (λ b. (if true && b then written o.writes (content_of older set j) else content_of older set j) ≡ content_of (left_of gone older) set j) (sym (apart_cases p (inl (kj, refl, tt)) (subst (λ v. gone v p ≡ true) kj g))) rest
-        | false ↦ λ e. rest
-      ] refl
-      | false ↦ λ g. ap (λ v. if (k == j) && set p then written o.writes v else v) rest
-    ] refl
 
 module _ (c : Setting) (good : IsGood c) (ring : IsRing (shape c)) (s : ChainState) (h : Inv c s) where
   pub admissible : IsAdmissible c s.up

@@ -34,3 +34,12 @@ run_next c s e r legal =
       run = joined_legal c r.journal (e ∷ []) (opening c) r.run (subst (λ (x : ChainState). IsLegal c x e) (sym r.reaches) legal, tt);
       reaches = on ∙ ap (λ (x : ChainState). next c x e) r.reaches;
     }
+
+-- a run and one event more
+pub run_on : (c : Setting) (es : List Event) (e : Event) (s : ChainState) → AreLegal c s es → IsLegal c (state_after c s es) e → AreLegal c s (es ++ e ∷ [])
+run_on c [] e s run legal = (legal, tt)
+run_on c (x ∷ es) e s run legal = (run.0, run_on c es e (next c s x) run.1 legal)
+
+pub next_on : (c : Setting) (es : List Event) (e : Event) (s : ChainState) → state_after c s (es ++ e ∷ []) ≡ next c (state_after c s es) e
+next_on c [] e s = refl
+next_on c (x ∷ es) e s = next_on c es e (next c s x)

@@ -29,6 +29,7 @@ use Rattle.ftc_serial.proofs.Functions.{with_at_both}
 use Rattle.ftc_protocol.specs.Setting.{Setting, servers, shape, count, setting_of, IsSetting}
 use Rattle.ftc_protocol.specs.State.{opening}
 use Rattle.ftc_protocol.specs.Changes.{Changes, changes}
+use Rattle.ftc_protocol.proofs.Changing.{changed_touched}
 use Rattle.ftc_protocol.proofs.Places.{IsSoundTaking}
 use Rattle.ftc_protocol.proofs.Premises.{IsAdmissible, AreFit, IsGood}
 
@@ -60,23 +61,6 @@ module _ (c : Setting) where
 
   pub all_admissible : IsRing (shape c) → ring.IsAdmissible (shape c) all_live
   all_admissible is = record { each = λ group below. record { server = group; within = below; member = grind (arith); up = refl } }
-
-same_partition : (partitions i : ℕ) (key other : List ℕ) → other ≡ key → partition_of partitions key ≡ i → partition_of partitions other ≡ i
-same_partition partitions i key other same at = ap (partition_of partitions) same ∙ at
-
-read : (partitions i : ℕ) (key : List ℕ) → partition_of partitions key ≡ i → (answers : List Answer) → IsRead answers key → AnyOf (λ (answer : Answer). partition_of partitions answer.key ≡ i) answers
-read partitions i key at [] is = absurd is
-read partitions i key at (answer ∷ answers) is = elim is [ inl here ↦ inl (same_partition partitions i key answer.key here at) | inr more ↦ inr (read partitions i key at answers more) ]
-
-touches : (partitions : ℕ) (o : Outcome) (i : ℕ) (writes : List Write) → AllByRecursion (λ (write : Write). IsRead o.answers write.key) writes
-    → AnyOf (λ (changed : ℕ). changed ≡ i) (changes partitions (record o { writes = writes })) → Touches partitions o i
-unfolding changes
-touches partitions o i [] all any = absurd any
-touches partitions o i (write ∷ writes) all any = elim any [ inl here ↦ read partitions i write.key here o.answers all.0 | inr more ↦ touches partitions o i writes all.1 more ]
-
--- a visit changes only partitions that it touches, for it writes only at keys that it read
-pub changed_touched : (partitions : ℕ) (rule : Rule) (bytes : List ℕ) (content : Content) (i : ℕ) → Changes partitions (taken rule bytes content) i → Touches partitions (taken rule bytes content) i
-changed_touched partitions rule bytes content i = touches partitions (taken rule bytes content) i (taken rule bytes content).writes (written_read rule bytes content)
 
 pub sound_taking : (c : Setting) → IsSoundTaking c
 sound_taking c = record { touched = changed_touched c.partitions }

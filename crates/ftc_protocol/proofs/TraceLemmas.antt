@@ -1,10 +1,12 @@
 -- What stands in a trace, and what is before what, as the trace grows and loses visits.
-use Rattle.std.proofs.Common.{◌≡◌, ℕ, ◌+◌, ◌<◌, ◌==◌, Bool, true, false, cond, not, List, [], ◌∷◌, inl, inr, refl, sym, subst, ◌∙◌, arith, Option, Some, None}
+use Rattle.std.proofs.Common.{◌≡◌, ap, ◌&&◌, if◌then◌else◌, eqb-true, ℕ, ◌+◌, ◌<◌, ◌==◌, Bool, true, false, cond, not, List, [], ◌∷◌, inl, inr, refl, sym, subst, ◌∙◌, arith, Option, Some, None}
 use Rattle.std.proofs.lemmas.Bool.{true≢false}
+use Rattle.ftc_store.specs.Store.{written}
 use Rattle.ftc_serial.specs.Words.{AnyOf}
 use Rattle.ftc_protocol.specs.Changes.{Changes, Meets, changes, is_changing, is_some_list}
 use Rattle.ftc_serial.specs.Serial.{Entry, Given, Visited}
-use Rattle.ftc_protocol.specs.Trace.{IsBefore, IsChanging, IsInTrace, IsVisit}
+use Rattle.ftc_protocol.specs.Visits.{Visits}
+use Rattle.ftc_protocol.specs.Trace.{content_of, IsBefore, IsChanging, IsInTrace, IsVisit}
 use Rattle.ftc_serial.specs.Take.{Outcome}
 use Rattle.ftc_serial.specs.Removal.{is_taken, left_of}
 
@@ -89,3 +91,18 @@ module _ (gone : ℕ → ℕ → Bool) where
           | inr there ↦ inr (before_left part older j p q there)
         ]
       ]
+
+-- the store of a set that has no visit that is taken out
+pub store_left : (gone : Visits) (trace : List Entry) (j : ℕ) (set : ℕ → Bool) → ((p : ℕ) → IsInTrace (λ o. Unit {0}) trace j p → gone j p ≡ true → set p ≡ false) → content_of trace set j ≡ content_of (left_of gone trace) set j
+store_left gone [] j set apart = refl
+store_left gone (Given p b ∷ older) j set apart = store_left gone older j set (λ q st. apart q (inr st))
+store_left gone (Visited k p o ∷ older) j set apart =
+    let rest = store_left gone older j set (λ q st. apart q (inr st)) in
+    elim (gone k p) as (λ b. gone k p ≡ b → (if (k == j) && set p then written o.writes (content_of older set j) else content_of older set j) ≡ content_of (cond (not b) (Visited k p o ∷ left_of gone older) (left_of gone older)) set j) [
+      | true ↦ λ g. elim (k == j) as (λ t. k == j ≡ t → (if t && set p then written o.writes (content_of older set j) else content_of older set j) ≡ content_of (left_of gone older) set j) [
+        | true ↦ λ e. let kj = eqb-true k j e in
+            subst (λ b. (if true && b then written o.writes (content_of older set j) else content_of older set j) ≡ content_of (left_of gone older) set j) (sym (apart p (inl (kj, refl, tt)) (subst (λ v. gone v p ≡ true) kj g))) rest
+        | false ↦ λ e. rest
+      ] refl
+      | false ↦ λ g. ap (λ v. if (k == j) && set p then written o.writes v else v) rest
+    ] refl

@@ -2,6 +2,7 @@
 
 ghost use Rattle.std.specs.Prelude.{◌≡◌, ◌<◌, ◌≤◌, ◌↔◌, length, OnOk, OnErr, IfOk, Some, None, IsSome, option_map};
 ghost use Rattle.ftc_base.specs.Refused.{IfBad};
+ghost use Rattle.ftc_base.specs.declared.limits.TheConstants.{MOST_SERVERS};
 
 use crate::advance::{has_passed, released_bytes, visited, waits};
 use crate::opening::{empty_stores, first_positions};
@@ -36,7 +37,7 @@ pub struct Serial {
     positions: Vec<Position>,
     released: ReleasedList,
     ghost one_store_each: { length stores.items ≡ length rules },
-    ghost few: { length rules ≤ 16 },
+    ghost few: { length rules ≤ MOST_SERVERS },
 }
 
 impl Serial {
@@ -67,7 +68,7 @@ impl Serial {
     /// How many middleboxes there are.
     pub fn servers(&self) -> usize
         ensures same { result ≡ length (rules_of self.now) }
-        ensures few { result ≤ 16 }
+        ensures few { result ≤ MOST_SERVERS }
     {
         self.rules.len()
     }
