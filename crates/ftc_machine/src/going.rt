@@ -27,7 +27,7 @@ fn is_begun(slot: &Option<Message>) -> bool
     }
 }
 
-/// Whether one of these messages is.
+/// Whether server 0 holds one of these messages, where it began.
 fn is_any_begun(slots: &[Option<Message>]) -> bool
     ensures { result ≡ list_any (has_such (λ (message : AMessage). is_begun message.place)) slots.now }
 {
