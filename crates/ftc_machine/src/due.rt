@@ -41,7 +41,7 @@ impl Kept {
         (0..self.ring.servers()).all(|group| self.is_need_met(reach, withheld, group))
     }
 
-    /// The same of a place of the buffer.
+    /// Whether the place of the buffer has a packet each of whose visits is known, so far, to be at its tail.
     fn is_slot_due(&self, reach: &Commits, slot: &Option<Withheld>) -> bool
         ensures { result ≡ has_such (is_due_by self.now reach.now) slot.now }
     {

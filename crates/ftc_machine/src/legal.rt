@@ -24,7 +24,7 @@ fn is_older(slot: &Option<Message>, link: ServerId, since: u64) -> bool
     }
 }
 
-/// Whether one of these messages is.
+/// Whether one of these messages is queued on the link since an earlier event.
 fn is_any_older(slots: &[Option<Message>], link: ServerId, since: u64) -> bool
     ensures { result ≡ list_any (has_such (is_older link since)) slots.now }
 {
