@@ -5,10 +5,10 @@ use Rattle.ftc_machine.specs.declared.kept.Kept.{Kept}
 use Rattle.ftc_protocol.specs.Setting.{Setting, servers}
 use Rattle.ftc_protocol.specs.State.{ChainState}
 use Rattle.ftc_machine.specs.Kept.{StandsFor}
-use Rattle.ftc_protocol.proofs.Complete.{IsReached, reached}
+use Rattle.ftc_machine.specs.Usual.{IsUsual}
 
-pub reached_by : {c : Setting} {s : ChainState} {k : Kept} → StandsFor c s k → IsReached c s
-reached_by {c} {s} {k} stands = subst (λ (state : ChainState). IsReached c state) stands.state (reached c stands.setting stands.journal stands.run)
+pub reached_by : {c : Setting} {s : ChainState} {k : Kept} → StandsFor c s k → IsUsual c s
+reached_by {c} {s} {k} stands = stands.laws s (record { right = stands.setting; journal = stands.journal; run = stands.run; reaches = stands.state })
 
 -- what a test says, its answer says
 pub right_as : {said test : Bool} {P : Type 0} → said ≡ test → (test ≡ true) ↔ P → (said ≡ true) ↔ P

@@ -4,7 +4,6 @@ mod Told
 mod Judged
 mod Judgement
 mod JudgedScript
-mod Needing
 mod Knowing
 mod Trying
 pub mod Handed
@@ -52,3 +51,4 @@ pub mod Handing
 pub mod Rebuilding
 pub mod Judging
 pub mod Recovered
+mod UsualStates

@@ -28,20 +28,27 @@ use Rattle.ftc_protocol.specs.Next.{next}
 use Rattle.ftc_protocol.proofs.RunLists.{run_on, next_on}
 use Rattle.ftc_machine.proofs.JudgedDue.{any_due, due_any}
 use Rattle.ftc_machine.proofs.Knowing.{known_reaches, needed_by}
-use Rattle.ftc_protocol.proofs.Complete.{reached, completes}
+use Rattle.ftc_protocol.specs.Setting.{IsSetting}
+use Rattle.ftc_protocol.specs.Run.{IsRun}
+use Rattle.ftc_protocol.specs.Finish.{IsComplete}
+use Rattle.ftc_machine.specs.Usual.{IsUsual}
 use Rattle.ftc_machine.proofs.Conclusion.{done_finished, complete_done}
 
 module _ (c : Setting) (journal : List Event) (k : Kept) where
   pub stands : IsPlayed c journal k → StandsFor c (state_after c (opening c) journal) k
-  stands played = record { setting = played.right; journal = journal; run = played.run; state = refl; kept = played.kept_for }
+  stands played = record { setting = played.right; journal = journal; run = played.run; state = refl; laws = played.laws; kept = played.kept_for }
+
+  usual : IsPlayed c journal k → IsUsual c (state_after c (opening c) journal)
+  usual p = p.laws (state_after c (opening c) journal) (record { right = p.right; journal = journal; run = p.run; reaches = refl })
 
   module _ (script : ScriptShape) (packets : ℕ) (given : AreInputs c script packets) where
     pub over : is_done k script packets ≡ true → ∥ IsPlayed c journal k ∥₁ → ∥ IsFinished c (state_after c (opening c) journal) ∥₁
-    over is played = ∥∥₁_map played (λ p. done_finished c p.right (state_after c (opening c) journal) (reached c p.right journal p.run) k p.kept_for script packets given is)
+    over is played = ∥∥₁_map played (λ p. done_finished c p.right (state_after c (opening c) journal) (usual p) k p.kept_for script packets given is)
 
-    pub not_over : is_done k script packets ≡ false → ∥ IsPlayed c journal k ∥₁ → IsFinished c (state_after c (opening c) journal) → ⊥
-    not_over isnt played finished = ∥∥₁_elim played (λ x y. absurd x) (λ p.
-        true≢false (sym (complete_done c p.right (state_after c (opening c) journal) (reached c p.right journal p.run) k p.kept_for script packets given (completes c p.right journal p.run finished)) ∙ isnt))
+    pub not_over : ((setting : Setting) → IsSetting setting → (events : List Event) → IsRun setting events → IsFinished setting (state_after setting (opening setting) events) → IsComplete setting (state_after setting (opening setting) events))
+        → is_done k script packets ≡ false → ∥ IsPlayed c journal k ∥₁ → IsFinished c (state_after c (opening c) journal) → ⊥
+    not_over complete isnt played finished = ∥∥₁_elim played (λ x y. absurd x) (λ p.
+        true≢false (sym (complete_done c p.right (state_after c (opening c) journal) (usual p) k p.kept_for script packets given (complete c p.right journal p.run finished)) ∙ isnt))
 
   same_fates : (start more : ℕ) (s : ChainState) → ((packet : ℕ) → fate_in k.fates packet ≡ s.fate packet) → map (fate_in k.fates) (range_with_len start more) ≡ map s.fate (range_with_len start more)
   same_fates start zero s each = refl
@@ -85,13 +92,13 @@ rest_on_way (Release p) a b d e f g = absurd (g p refl)
 module _ (c : Setting) (journal : List Event) (k new : Kept) where
   -- what stands still
   pub still : StandsStill k new → ∥ IsPlayed c journal k ∥₁ → ∥ IsPlayed c journal new ∥₁
-  still same played = ∥∥₁_map played (λ p. record { right = p.right; run = p.run; kept_for = same c (state_after c (opening c) journal) p.kept_for })
+  still same played = ∥∥₁_map played (λ p. record { right = p.right; run = p.run; laws = p.laws; kept_for = same c (state_after c (opening c) journal) p.kept_for })
 
   module _ (event : Event) (now : ℕ) (time : now ≡ length journal) (due : is_release event ≡ false → is_any_due k ≡ false) where
     none_due : IsPlayed c journal k → is_release event ≡ false → NoneDue c (state_after c (opening c) journal)
     none_due p isnt packet withheld is_due =
         let s = state_after c (opening c) journal in
-        let r = reached c p.right journal p.run in
+        let r = usual c journal k p in
         true≢false (sym (due_any c p.right s r k p.kept_for (known_reaches c p.right s r k p.kept_for) (needed_by (stands c journal k p)) packet withheld is_due) ∙ due isnt)
 
     on_time : now ≡ (state_after c (opening c) journal).events
@@ -104,7 +111,7 @@ module _ (c : Setting) (journal : List Event) (k new : Kept) where
     passed tried p = tried (state_after c (opening c) journal) (stands c journal k p) (none_due p) on_time
 
     pub passed_played : HasTried false → ∥ IsPlayed c journal k ∥₁ → ∥ IsPlayed c journal new ∥₁
-    passed_played tried played = ∥∥₁_map played (λ p. record { right = p.right; run = p.run; kept_for = (passed tried p).same })
+    passed_played tried played = ∥∥₁_map played (λ p. record { right = p.right; run = p.run; laws = p.laws; kept_for = (passed tried p).same })
 
     pub passed_illegal : HasTried false → ∥ IsPlayed c journal k ∥₁ → IsLegal c (state_after c (opening c) journal) event → ⊥
     passed_illegal tried played legal = ∥∥₁_elim played (λ x y. absurd x) (λ p. (passed tried p).not_so legal.0)
@@ -123,6 +130,7 @@ module _ (c : Setting) (journal : List Event) (k new : Kept) where
         record {
           right = p.right;
           run = run_on c journal event (opening c) p.run (made_legally tried p);
+          laws = p.laws;
           kept_for = subst (λ (s : ChainState). IsKept c s new) (sym (next_on c journal event (opening c))) made.after;
         })
 
@@ -130,6 +138,6 @@ module _ (c : Setting) (journal : List Event) (k new : Kept) where
   pub due_illegal : (event : Event) → is_release event ≡ false → is_any_due k ≡ true → ∥ IsPlayed c journal k ∥₁ → IsLegal c (state_after c (opening c) journal) event → ⊥
   due_illegal event isnt due played legal = ∥∥₁_elim played (λ x y. absurd x) (λ p.
       let s = state_after c (opening c) journal in
-      let r = reached c p.right journal p.run in
+      let r = usual c journal k p in
       let found = any_due c p.right s r k p.kept_for (known_reaches c p.right s r k p.kept_for) (needed_by (stands c journal k p)) due in
       legal.1 isnt found.0 found.1 found.2)

@@ -16,14 +16,14 @@ module _ {c : Setting} {s : ChainState} {old : Kept} (stands : StandsFor c s old
   pub made : (event : Event) (new : Kept) → NoneDue c s → MayHappen c s event → StandsAfter c s event old new → IsMade c s event new
   made event new none_due may after = record {
     may = may;
-    after = after (record { setting = stands.setting; journal = stands.journal; run = stands.run; state = stands.state; legal = (may, λ _. none_due) }) stands.kept;
+    after = after (record { setting = stands.setting; journal = stands.journal; run = stands.run; state = stands.state; laws = stands.laws; legal = (may, λ _. none_due) }) stands.kept;
   }
 
   -- a release may happen while a packet is due
   pub released : (packet : ℕ) (new : Kept) → MayHappen c s (event.Release packet) → StandsAfter c s (event.Release packet) old new → IsMade c s (event.Release packet) new
   released packet new may after = record {
     may = may;
-    after = after (record { setting = stands.setting; journal = stands.journal; run = stands.run; state = stands.state; legal = (may, λ other. absurd (true≢false other)) }) stands.kept;
+    after = after (record { setting = stands.setting; journal = stands.journal; run = stands.run; state = stands.state; laws = stands.laws; legal = (may, λ other. absurd (true≢false other)) }) stands.kept;
   }
 
   pub passed_over : (event : Event) → (MayHappen c s event → ⊥) → IsPassedOver c s event old
@@ -34,4 +34,4 @@ pub not_said : {said : Bool} {P : Type 0} → (said ≡ true) ↔ P → said ≡
 not_said {said} {P} right isnt so = true≢false (sym (right.1 so) ∙ isnt)
 
 pub of_run : {c : Setting} {s : ChainState} {k : Kept} → StandsFor c s k → IsOfRun c s
-of_run {c} {s} {k} stands = record { setting = stands.setting; journal = stands.journal; run = stands.run; state = stands.state }
+of_run {c} {s} {k} stands = record { setting = stands.setting; journal = stands.journal; run = stands.run; state = stands.state; laws = stands.laws }

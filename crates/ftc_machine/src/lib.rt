@@ -21,6 +21,7 @@ mod handover;
 mod happen;
 mod judge;
 mod kept;
+mod laws;
 mod legal;
 mod losses;
 mod machine;
