@@ -30,19 +30,17 @@ use Rattle.ftc_machine.specs.Slots.{slot_at}
 use Rattle.ftc_protocol.specs.State.{ChainState, Message, Where, Held, Queued}
 use Rattle.ftc_protocol.specs.Trace.{IsChanging, IsSomeVisit, content_of}
 use Rattle.ftc_protocol.specs.Visits.{Visits, In, just, union}
-use Rattle.ftc_protocol.proofs.Awake.{IsUp}
-use Rattle.ftc_machine.proofs.Following.{reached_before, visits_within, changes_within}
+use Rattle.ftc_protocol.specs.Orderly.{aim}
+use Rattle.ftc_machine.specs.Usual.{IsUsual}
+use Rattle.ftc_machine.proofs.Following.{reached_before, reached_after, visits_within, changes_within}
 use Rattle.ftc_machine.proofs.Growing.{rising_grows, footprints_grow, others_grow, head_grows}
-use Rattle.ftc_protocol.proofs.Inv.{Inv, expected}
 use Rattle.ftc_protocol.proofs.Sets.{in_one}
 use Rattle.ftc_machine.proofs.Makes.{footprint_of}
-use Rattle.ftc_protocol.proofs.Places.{Waits, serial_of}
 use Rattle.ftc_machine.proofs.Raised.{raised_reaches, or_false}
 use Rattle.ftc_machine.proofs.Reached.{AreWithin}
 use Rattle.ftc_machine.proofs.Reaching.{same_reach, head_last}
 use Rattle.ftc_machine.proofs.Replaced.{row_replaced}
 use Rattle.ftc_protocol.proofs.TraceLemmas.{stands_map}
-use Rattle.ftc_protocol.proofs.Earlier.{visited_earlier}
 use Rattle.ftc_protocol.proofs.Changing.{changed_touched}
 
 pub some_length : {A : Type 0} (xs : List A) → is_some_list xs ≡ not (length xs == 0)
@@ -122,20 +120,17 @@ content_grows partitions trace server packet outcome packets others fresh same o
     ] refl
 
 module _ (c : Setting) (s : ChainState) (server packet worker : ℕ) (may : MayFollow c s (event.Visit server packet worker)) (k : Kept) (is : IsKept c s k) where
-  inv : Inv c s
-  inv = (reached_before c s (event.Visit server packet worker) may).live.inv
+  usual : IsUsual c s
+  usual = reached_before c s (event.Visit server packet worker) may
 
   pub live : s.up server ≡ true
-  live = subst (IsUp (servers c) s.up) may.legal.0.4 (inv.awake packet may.legal.0.0 may.legal.0.3)
+  live = subst (λ w. s.up (aim (servers c) w) ≡ true) may.legal.0.4 (usual.order.awake packet may.legal.0.0 may.legal.0.3)
 
   pub below : server < servers c
-  below = inv.world.inside server live
-
-  waits : (serial_of c s.trace).place packet ≡ Waits server may.legal.0.1
-  waits = ((inv.messages packet may.legal.0.0 may.legal.0.3).under_way may.legal.0.1 may.legal.0.5).place ∙ ap (λ at. expected (servers c) at may.legal.0.1) may.legal.0.4
+  below = usual.order.inside server live
 
   pub fresh : IsSomeVisit s.trace server packet → ⊥
-  fresh there = let less : server < server = visited_earlier c s.trace server packet may.legal.0.1 inv.world.serial waits server there in omega arith
+  fresh = let after = reached_after c s (event.Visit server packet worker) may in let fronts = after.fronts in fronts.visits.0
 
   -- a set of changing visits of the trace doesn't have it
   without : (visits : Visits) → ((group number : ℕ) → In visits group number → IsChanging c.partitions s.trace group number) → (row : ℕ) → row ≡ server → visits row packet ≡ false
@@ -149,7 +144,7 @@ module _ (c : Setting) (s : ChainState) (server packet worker : ℕ) (may : MayF
       footprint_of c.partitions s.trace (numbers_of (footprints_in k.visits.items)) server (outcome_at c s server packet) vector footprint made
       (subst (λ (v : List ℕ). (partition : ℕ) → Rattle.ftc_machine.specs.Reach.IsLast c.partitions s.trace (numbers_of (footprints_in k.visits.items)) server partition (number_at v partition)) (sym vector_is)
       (head_last c.partitions s.trace (numbers_of (footprints_in k.visits.items)) server (s.lists server server) (reach_in (reach_of k.lists.items server) server)
-      (λ number changing. inv.world.lists.heads server number live changing) (is.sets.lists server below server)))
+      (λ number changing. usual.order.heads server number live changing) (is.sets.lists server below server)))
       (λ partition changing. changed_touched c.partitions _ _ _ partition changing)
 
   module _ (footprint : Footprint) (after : List (List (Option Footprint))) (own : footprints_in after server packet ≡ Some footprint)
@@ -173,7 +168,7 @@ module _ (c : Setting) (s : ChainState) (server packet worker : ℕ) (may : MayF
 
     pub known_grows : (other : ℕ) → other < servers c
         → Reaches c.partitions (Visited server packet (outcome_at c s server packet) ∷ s.trace) (numbers_of (footprints_in after)) (s.known other) (reach_of k.known.items other)
-    known_grows other within = reaches_grow (s.known other) (reach_of k.known.items other) (λ group number member. (inv.known other group number member).changing) (is.sets.known other within)
+    known_grows other within = reaches_grow (s.known other) (reach_of k.known.items other) (λ group number member. (usual.fronts.known other).there group number member) (is.sets.known other within)
 
     -- messages carry what they carried
     place_grows : (known : Visits) (at : Where) (kept : Place) → ((group number : ℕ) → In known group number → IsChanging c.partitions s.trace group number)
@@ -199,7 +194,7 @@ module _ (c : Setting) (s : ChainState) (server packet worker : ℕ) (may : MayF
     }
 
     pub messages_grow : (origin : ℕ) → IsMessageSlot c.partitions (Visited server packet (outcome_at c s server packet) ∷ s.trace) (numbers_of (footprints_in after)) (s.message origin) (slot_at k.messages origin)
-    messages_grow origin = slot_grows (s.message origin) (slot_at k.messages origin) (λ message there group number member. ((inv.messages origin message there).told group number member).changing) (is.sets.messages origin)
+    messages_grow origin = slot_grows (s.message origin) (slot_at k.messages origin) (λ message there group number member. (usual.fronts.told origin message there).there group number member) (is.sets.messages origin)
 
     -- the new visit, too, is one of so few that a reach tells
     within_after : AreWithin c.partitions (Visited server packet (outcome_at c s server packet) ∷ s.trace)
@@ -245,7 +240,7 @@ module _ (c : Setting) (s : ChainState) (server packet worker : ℕ) (may : MayF
     lists_grow vector raised new marks size raises is_new =
         let outcome = outcome_at c s server packet in
         let extra : Visits = just server packet (is_changing c.partitions outcome) in
-        let listed = λ (other group another : ℕ) (member : In (s.lists other) group another). (inv.world.lists.listed other group another member).1 in
+        let listed = λ (other group another : ℕ) (member : In (s.lists other) group another). (usual.order.had other group another member).3 in
         row_replaced (λ other (visits : Visits) (row : List (List ℕ)). other < servers c → Reaches c.partitions (Visited server packet outcome ∷ s.trace) (numbers_of (footprints_in after)) visits row)
         s.lists [] k.lists.items k.lists.items new server (union (s.lists server) extra) raised is_new
         (let long = k.each_list in let same = ap (λ (ring : RingShape). ring.servers) is.ring in let low : server < servers c = below in omega arith) (λ _ _. refl)
@@ -258,7 +253,7 @@ module _ (c : Setting) (s : ChainState) (server packet worker : ℕ) (may : MayF
         (marked_at footprint (number_at (vector_of (reach_of k.lists.items server) server))) (number_at vector) (λ _. refl) (λ partition. sym (marks partition))
         (head_grows c.partitions (s.events + 1) s.trace (footprints_in k.visits.items) (footprints_in after) is.sets.rising server packet outcome footprint fresh own others
         (omega (arith, number)) (omega (arith, number)) made (s.lists server server) (union (s.lists server) extra server) (number_at (vector_of (reach_of k.lists.items server) server))
-        (λ another changing. inv.world.lists.heads server another live changing) joins (is.sets.lists server within server)))
+        (λ another changing. usual.order.heads server another live changing) joins (is.sets.lists server within server)))
         (reaches_grow (s.lists server) (reach_of k.lists.items server) (listed server) (is.sets.lists server within))))
         (λ other within. reaches_grow (s.lists other) (reach_of k.lists.items other) (listed other) (is.sets.lists other within))
 

@@ -19,7 +19,7 @@ use Rattle.ftc_machine.specs.Slots.{slot_at, has_such}
 use Rattle.ftc_machine.specs.Kept.{IsKept, AreInputs}
 use Rattle.ftc_machine.specs.Tests.{all_below}
 use Rattle.ftc_machine.specs.Done.{is_done}
-use Rattle.ftc_protocol.proofs.Complete.{IsReached}
+use Rattle.ftc_machine.specs.Usual.{IsUsual}
 use Rattle.ftc_protocol.proofs.Stopped.{nothing_left}
 use Rattle.ftc_machine.proofs.Told.{any_item, item_any, names_here, untrue, not_so}
 use Rattle.ftc_machine.proofs.Judged.{said_message}
@@ -33,7 +33,7 @@ names_none : (visits : List VisitName) → ((server packet : ℕ) → names visi
 names_none [] each = refl
 names_none (name ∷ visits) each = absurd (true≢false (sym (names_here name visits) ∙ each name.server name.packet))
 
-module _ (c : Setting) (is : IsSetting c) (s : ChainState) (r : IsReached c s) (k : Kept) (h : IsKept c s k) (script : ScriptShape) (packets : ℕ) (given : AreInputs c script packets) where
+module _ (c : Setting) (is : IsSetting c) (s : ChainState) (r : IsUsual c s) (k : Kept) (h : IsKept c s k) (script : ScriptShape) (packets : ℕ) (given : AreInputs c script packets) where
   abbrev some_message : Bool
   some_message = list_any (has_such (λ (m : KeptMessage). true)) k.messages
 
@@ -69,7 +69,7 @@ module _ (c : Setting) (is : IsSetting c) (s : ChainState) (r : IsReached c s) (
       let all_in : k.entered ≡ packets = eqb-true k.entered packets p1.1 in
       nothing_left c s (lines_done p1.0) (sym h.entered ∙ (all_in ∙ sym given.counted)) (none_said c is s r k h script packets given p2.1)
       (λ group packet. sym (h.forwarder group packet) ∙ no_names k.forwarder p3.1 group packet)
-      (no_gap c is s r k h script packets given p4.1) (none_withheld p5.1) (λ server up. r.live.inv.world.inside server up)
+      (no_gap c is s r k h script packets given p4.1) (none_withheld p5.1) (λ server up. r.order.inside server up)
 
   pub complete_done : IsComplete c s → is_done k script packets ≡ true
   complete_done complete =

@@ -24,7 +24,7 @@ use Rattle.ftc_protocol.specs.State.{ChainState}
 use Rattle.ftc_machine.specs.Tails.{group_ending, is_behind, part_of}
 use Rattle.ftc_protocol.specs.Trace.{IsChanging, IsInTrace, content_of}
 use Rattle.ftc_protocol.specs.Visits.{In, Visits, union}
-use Rattle.ftc_protocol.proofs.Complete.{IsReached}
+use Rattle.ftc_machine.specs.Usual.{IsUsual}
 use Rattle.ftc_machine.proofs.Following.{reached_before, visits_below, visits_within}
 use Rattle.ftc_machine.proofs.Parts.{part_reaches}
 use Rattle.ftc_machine.proofs.Reached.{merged_reaches, reach_moves}
@@ -59,17 +59,17 @@ abbrev pub is_shared : Setting → ℕ → ℕ → ℕ → Bool
 is_shared c sender receiver group = is_member c group sender && is_member c group receiver && not (group == receiver)
 
 module _ (c : Setting) (s : ChainState) (link : ℕ) (may : MayFollow c s (event.Pull link)) (k : Kept) (is : IsKept c s k) where
-  reached : IsReached c s
+  reached : IsUsual c s
   reached = reached_before c s (event.Pull link) may
 
   several : servers c ≢ 1
-  several = reached.live.inv.gaps link may.legal.0.2
+  several = reached.order.gaps link may.legal.0.2
 
   pub link_below : link < servers c
-  link_below = reached.live.inv.world.inside link may.legal.0.0
+  link_below = reached.order.inside link may.legal.0.0
 
   pub next_below : next_of (servers c) link < servers c
-  next_below = reached.live.inv.world.inside (next_of (servers c) link) may.legal.0.1
+  next_below = reached.order.inside (next_of (servers c) link) may.legal.0.1
 
   -- the sender is a link nearer to each head but the receiver
   nearer : (group : ℕ) → group < servers c → group ≢ next_of (servers c) link → apart (servers c) group (next_of (servers c) link) ≡ apart (servers c) group link + 1
@@ -104,7 +104,7 @@ module _ (c : Setting) (s : ChainState) (link : ℕ) (may : MayFollow c s (event
   sender_has group packet below shared there =
       let other : group ≢ next_of (servers c) link = eqb-false group (next_of (servers c) link) (not-true _ (and_parts (is_member c group link && is_member c group (next_of (servers c) link)) _ shared).1) in
       let far : apart (servers c) group (next_of (servers c) link) ≡ apart (servers c) group link + 1 = nearer group below other in
-      reached.live.inv.world.nest.nested group link (next_of (servers c) link) packet link_below may.legal.0.0 (omega arith) there
+      reached.sound.nested group link (next_of (servers c) link) packet link_below may.legal.0.0 (omega arith) there
 
   -- what the receiver has then
   pulled_is : (group packet : ℕ) → group < servers c
@@ -165,8 +165,8 @@ module _ (c : Setting) (s : ChainState) (link : ℕ) (may : MayFollow c s (event
         let parts = and_parts (pulled_list c s link receiver group packet) (not (s.lists receiver group packet)) both.0 in
         let lacks : s.lists receiver group packet ≡ false = not-true (s.lists receiver group packet) parts.1 in
         let new = new_is group packet parts.0 lacks in
-        let below : group < servers c = (reached.live.inv.world.nest.member link group packet new.1).2 in
-        let changing = changes_in c.partitions s.trace group packet (reached.live.inv.world.lists.listed link group packet new.1).1 in
+        let below : group < servers c = (reached.order.had link group packet new.1).1 in
+        let changing = changes_in c.partitions s.trace group packet (reached.order.had link group packet new.1).3 in
         let partition = changing.0 in
         let shared : has groups group ≡ true = are group ∙ shared_is group below ∙ new.0 in
         let reach : numbers_of (footprints_in k.visits.items) group packet ≤ reach_in (part_of (has groups) (reach_of k.lists.items link)) group partition =

@@ -13,7 +13,11 @@ use Rattle.ftc_machine.specs.Reach.{IsChangingIn}
 use Rattle.ftc_protocol.specs.Setting.{Setting, servers, IsSetting}
 use Rattle.ftc_protocol.specs.State.{ChainState}
 use Rattle.ftc_protocol.specs.Trace.{IsInTrace}
-use Rattle.ftc_protocol.proofs.Complete.{IsReached, reached}
+use Rattle.ftc_protocol.specs.Next.{next}
+use Rattle.ftc_protocol.specs.Run.{IsRunState}
+use Rattle.ftc_protocol.proofs.RunLists.{run_next}
+use Rattle.ftc_machine.specs.Usual.{IsUsual}
+use Rattle.ftc_machine.proofs.UsualStates.{serial_in}
 use Rattle.ftc_machine.proofs.Reached.{AreWithin}
 use Rattle.ftc_protocol.proofs.Stores.{stands_below}
 
@@ -36,12 +40,12 @@ changes_within partitions outcome partition some any = among outcome.writes any
     ]
 
 -- the visits of a trace that was reached are of the chain's servers
-pub reached_below : (c : Setting) → IsSetting c → (s : ChainState) → IsReached c s → (server packet partition : ℕ) → IsChangingIn c.partitions s.trace server packet partition → server < servers c
+pub reached_below : (c : Setting) → IsSetting c → (s : ChainState) → IsUsual c s → (server packet partition : ℕ) → IsChangingIn c.partitions s.trace server packet partition → server < servers c
 reached_below c is s r server packet partition changes =
-    stands_below c is.ring.some (λ o. Changes c.partitions o partition) s.trace r.live.inv.world.serial server packet changes
+    stands_below c is.ring.some (λ o. Changes c.partitions o partition) s.trace (serial_in c s r) server packet changes
 
 -- of so few that a reach tells
-pub reached_within : (c : Setting) → IsSetting c → (s : ChainState) → IsReached c s → (k : Kept) → IsKept c s k → AreWithin c.partitions s.trace
+pub reached_within : (c : Setting) → IsSetting c → (s : ChainState) → IsUsual c s → (k : Kept) → IsKept c s k → AreWithin c.partitions s.trace
 reached_within c setting s r k is = let some = k.some_partition in let few = k.few_partitions in let same = is.partitions in record {
   server = λ server packet partition changes. let below : server < servers c = reached_below c setting s r server packet partition changes in let most = setting.ring.servers in omega arith;
   partition = λ server packet partition changes.
@@ -50,8 +54,14 @@ reached_within c setting s r k is = let some = k.some_partition in let few = k.f
 }
 
 module _ (c : Setting) (s : ChainState) (event : Event) (may : MayFollow c s event) where
-  pub reached_before : IsReached c s
-  reached_before = subst (λ (state : ChainState). IsReached c state) may.state (reached c may.setting may.journal may.run)
+  leads : IsRunState c s
+  leads = record { right = may.setting; journal = may.journal; run = may.run; reaches = may.state }
+
+  pub reached_before : IsUsual c s
+  reached_before = may.laws s leads
+
+  pub reached_after : IsUsual c (next c s event)
+  reached_after = may.laws (next c s event) (run_next c s event leads may.legal)
 
   pub visits_below : (server packet partition : ℕ) → IsChangingIn c.partitions s.trace server packet partition → server < servers c
   visits_below = reached_below c may.setting s reached_before

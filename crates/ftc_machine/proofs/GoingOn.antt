@@ -34,7 +34,7 @@ module _ (c : Setting) (s : ChainState) (event : Event) (may : MayFollow c s eve
   log_below : (origin : ℕ) (o : Option Message) → s.message origin ≡ o → (group packet : ℕ) → logs_of o group packet ≡ true → group < servers c
   log_below origin None there group packet log = absurd (cc)
   log_below origin (Some message) there group packet log =
-      let steady = (reached_before c s event may).live.inv.messages origin message there in (steady.carried.member group packet log).0
+      ((reached_before c s event may).order.rides origin group packet message there log).0
 
   -- those that go on from a server
   pub logs_go_on : (server origin : ℕ) → server < servers c → (list : List VisitName)

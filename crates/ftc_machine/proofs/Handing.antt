@@ -23,7 +23,7 @@ use Rattle.ftc_protocol.specs.Setting.{Setting, servers, shape, is_member, is_ta
 use Rattle.ftc_protocol.specs.State.{ChainState}
 use Rattle.ftc_machine.specs.Tests.{list_of}
 use Rattle.ftc_protocol.specs.Visits.{Visits, In, no_visits, union}
-use Rattle.ftc_protocol.proofs.Inv.{Inv}
+use Rattle.ftc_machine.specs.Usual.{IsUsual}
 use Rattle.ftc_machine.proofs.Raised.{joined_reaches}
 use Rattle.ftc_machine.proofs.Reached.{AreWithin, merged_row, merged_reaches, outside}
 use Rattle.ftc_machine.proofs.Reaching.{same_reach, zero_reach}
@@ -33,9 +33,9 @@ merged_length : (one other : List (List ℕ)) → length (all_merged one other) 
 unfolding by_group
 merged_length one other = length-map-range_with_len (λ group. merged (vector_of one group) (vector_of other group)) 0 MOST_SERVERS
 
-module _ (c : Setting) (setting : IsSetting c) (s : ChainState) (inv : Inv c s) (k : Kept) (is : IsKept c s k) (few : AreWithin c.partitions s.trace) where
+module _ (c : Setting) (setting : IsSetting c) (s : ChainState) (usual : IsUsual c s) (k : Kept) (is : IsKept c s k) (few : AreWithin c.partitions s.trace) where
   group_below : (x group packet : ℕ) → In (s.lists x) group packet → group < servers c
-  group_below x group packet member = stands_below c setting.ring.some (λ o. is_changing c.partitions o ≡ true) s.trace inv.world.serial group packet (inv.world.lists.listed x group packet member).1
+  group_below x group packet member = (usual.order.had x group packet member).1
 
   -- ---- the list
 

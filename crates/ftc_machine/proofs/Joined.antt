@@ -21,7 +21,8 @@ use Rattle.ftc_protocol.specs.Setting.{Setting, servers}
 use Rattle.ftc_protocol.specs.State.{ChainState}
 use Rattle.ftc_protocol.specs.Trace.{IsChanging, IsInTrace, IsSomeVisit, content_of}
 use Rattle.ftc_protocol.specs.Visits.{Visits, just, union}
-use Rattle.ftc_protocol.proofs.Awake.{IsUp}
+use Rattle.ftc_protocol.specs.Orderly.{aim}
+use Rattle.ftc_machine.proofs.UsualStates.{serial_in}
 use Rattle.ftc_machine.proofs.Following.{reached_before, visits_within}
 use Rattle.ftc_machine.proofs.Joining.{apply_reach}
 use Rattle.ftc_protocol.proofs.Sets.{in_one}
@@ -47,7 +48,7 @@ same_content trace server packets others same = let are : packets ≡ others = �
 
 module _ (c : Setting) (s : ChainState) (server origin group packet : ℕ) (may : MayFollow c s (event.Apply server origin group packet)) (k : Kept) (is : IsKept c s k) where
   live : s.up server ≡ true
-  live = let held = may.legal.0.1 in subst (IsUp (servers c) s.up) held.3 ((reached_before c s (event.Apply server origin group packet) may).live.inv.awake origin may.legal.0.0 held.0)
+  live = let held = may.legal.0.1 in subst (λ w. s.up (aim (servers c) w) ≡ true) held.3 ((reached_before c s (event.Apply server origin group packet) may).order.awake origin may.legal.0.0 held.0)
 
   changing : IsChanging c.partitions s.trace group packet
   changing = may.legal.0.3
@@ -58,7 +59,7 @@ module _ (c : Setting) (s : ChainState) (server origin group packet : ℕ) (may 
   -- it is a visit of another middlebox, for the server has all of its own
   pub apart_from : group ≢ server
   apart_from same =
-      let own = (reached_before c s (event.Apply server origin group packet) may).live.inv.world.lists.heads server packet live (subst (λ row. IsChanging c.partitions s.trace row packet) same changing) in
+      let own = (reached_before c s (event.Apply server origin group packet) may).order.heads server packet live (subst (λ row. IsChanging c.partitions s.trace row packet) same changing) in
       true≢false (sym own ∙ subst (λ row. s.lists server row packet ≡ false) same may.legal.0.4)
 
   pub applied_footprint : (footprint : Footprint) × (footprints_in k.visits.items group packet ≡ Some footprint)
@@ -90,7 +91,7 @@ module _ (c : Setting) (s : ChainState) (server origin group packet : ℕ) (may 
       (let long = k.each_list in let same = ap (λ (ring : RingShape). ring.servers) is.ring in omega arith) (λ _ _. refl)
       (λ within.
       let old : Reaches c.partitions s.trace numbers (s.lists server) (reach_of k.lists.items place) = subst (λ p. Reaches c.partitions s.trace numbers (s.lists server) (reach_of k.lists.items p)) (sym at) (is.sets.lists server within) in
-      let few : group < servers c = stands_below c may.setting.ring.some (λ o. is_changing c.partitions o ≡ true) s.trace (reached_before c s (event.Apply server origin group packet) may).live.inv.world.serial group packet changing in
+      let few : group < servers c = stands_below c may.setting.ring.some (λ o. is_changing c.partitions o ≡ true) s.trace (serial_in c s (reached_before c s (event.Apply server origin group packet) may)) group packet changing in
       subst (λ (row : List (List ℕ)). Reaches c.partitions s.trace numbers (union (s.lists server) (just group packet true)) row) (sym raises)
       (raised_reaches c.partitions s.trace numbers (visits_within c s (event.Apply server origin group packet) may k is) (s.lists server) (just group packet true) (reach_of k.lists.items place) group vector
       (let most = may.setting.ring.servers in omega arith)

@@ -18,12 +18,13 @@ use Rattle.ftc_machine.specs.Tests.{footprints_of, has_named}
 use Rattle.ftc_machine.specs.Due.{known_last, is_due_by, is_due_before, is_any_due, may_release, named}
 use Rattle.ftc_protocol.specs.Changes.{is_touching}
 use Rattle.ftc_protocol.proofs.Stores.{stands_below}
-use Rattle.ftc_protocol.proofs.Complete.{IsReached}
+use Rattle.ftc_machine.specs.Usual.{IsUsual}
+use Rattle.ftc_machine.proofs.UsualStates.{serial_in}
 use Rattle.ftc_machine.proofs.Told.{such_item, item_such, any_item, item_any, untrue, not_so}
 use Rattle.ftc_machine.proofs.Judged.{named_has}
 use Rattle.ftc_machine.proofs.JudgedScript.{kept_withheld, said_withheld, each_below, below_each}
 
-module _ (c : Setting) (is : IsSetting c) (s : ChainState) (r : IsReached c s) (k : Kept) (h : IsKept c s k)
+module _ (c : Setting) (is : IsSetting c) (s : ChainState) (r : IsUsual c s) (k : Kept) (h : IsKept c s k)
     (reaches : Reaches c.partitions s.trace (numbers_of (footprints_of k)) (knows c s (servers c - 1)) (known_last k))
     (needed : (packet group : ℕ) (withheld : Withheld) → s.withheld packet ≡ Some withheld → withheld.needs group ≡ true → IsTouching s.trace group packet) where
   servers_same : k.ring.servers ≡ servers c
@@ -34,7 +35,7 @@ module _ (c : Setting) (is : IsSetting c) (s : ChainState) (r : IsReached c s) (
     there,
     λ group need.
         let touching = needed packet group withheld there need in
-        let below : group < servers c = stands_below c (let some = is.ring.some in omega arith) (λ o. is_touching o ≡ true) s.trace r.live.inv.world.serial group packet touching in
+        let below : group < servers c = stands_below c (let some = is.ring.some in omega arith) (λ o. is_touching o ≡ true) s.trace (serial_in c s r) group packet touching in
         let turn = each_below k.ring.servers (λ g. not (has kept.needs g) || has_named (footprints_of k) (known_last k) (named g kept.packet)) test group (let n = servers_same in omega arith) in
         elim (or_cases (not (has kept.needs group)) (has_named (footprints_of k) (known_last k) (named group kept.packet)) turn) [
           | inl isnt ↦ absurd (not_so (has kept.needs group) isnt (same.needs group ∙ need))

@@ -21,9 +21,8 @@ use Rattle.ftc_machine.specs.Slots.{slot_at, has_such}
 use Rattle.ftc_machine.specs.Reach.{Numbers, numbers_of, has_changed, contains, follows}
 use Rattle.ftc_machine.specs.Kept.{IsKept, IsMessage, IsPlace, AreInputs}
 use Rattle.ftc_machine.specs.Tests.{footprints_of, list_of, has_named, is_held, is_unvisited, may_go, came_by_ring, is_queued, is_ready, is_older, may_take, may_add, is_in_turn, carries, may_apply, may_visit, may_leave, sends, may_pass, may_lose, may_carry}
-use Rattle.ftc_protocol.proofs.Complete.{IsReached}
-use Rattle.ftc_protocol.proofs.Awake.{IsUp}
-use Rattle.ftc_protocol.proofs.Waiting.{IsRinged}
+use Rattle.ftc_machine.specs.Usual.{IsUsual}
+use Rattle.ftc_protocol.specs.Orderly.{aim}
 use Rattle.ftc_protocol.proofs.TraceLemmas.{stands_map}
 use Rattle.ftc_machine.proofs.Footprints.{changed_changing, contains_in, follows_all}
 use Rattle.ftc_machine.proofs.Told.{such_item, item_such, any_item, item_any, name_of, each_name, all_names, untrue, not_so}
@@ -103,22 +102,22 @@ none_bytes : (packet : Option (List ℕ)) → is_none packet ≡ true → packet
 none_bytes None is = refl
 none_bytes (Some bytes) is = absurd (true≢false (sym is))
 
-module _ (c : Setting) (is : IsSetting c) (s : ChainState) (r : IsReached c s) (k : Kept) (h : IsKept c s k) where
+module _ (c : Setting) (is : IsSetting c) (s : ChainState) (r : IsUsual c s) (k : Kept) (h : IsKept c s k) where
   abbrev pub Numbered : Numbers
   Numbered = numbers_of (footprints_of k)
 
   up_below : (server : ℕ) → s.up server ≡ true → server < servers c
-  up_below server up = r.live.inv.world.inside server up
+  up_below server up = r.order.inside server up
 
   held_below : (origin : ℕ) (message : Message) (server : ℕ) (visited by_ring : Bool) → s.message origin ≡ Some message → message.place ≡ Held server visited by_ring → server < servers c
   held_below origin message server visited by_ring there at =
-      up_below server (subst (λ w. IsUp (servers c) s.up w) at (r.live.inv.awake origin message there))
+      up_below server (subst (λ w. s.up (aim (servers c) w) ≡ true) at (r.order.awake origin message there))
 
   pub apply_below : (server origin group packet : ℕ) → MayHappen c s (Apply server origin group packet) → server < servers c
   apply_below server origin group packet may = held_below origin may.0 server may.1.1 may.1.2 may.1.0 may.1.3
 
   pub take_below : (link origin : ℕ) → MayHappen c s (Take link origin) → link < servers c
-  take_below link origin may = subst (λ (at : Where). IsRinged (servers c) at may.0.logs) may.2 (r.live.timed.ringed origin may.0 may.1)
+  take_below link origin may = r.order.links origin link may.0 may.1 may.2
 
   pub visit_below : (server packet worker : ℕ) → MayHappen c s (Visit server packet worker) → server < servers c
   visit_below server packet worker may = held_below packet may.0 server false may.2 may.3 may.4
@@ -127,7 +126,7 @@ module _ (c : Setting) (is : IsSetting c) (s : ChainState) (r : IsReached c s) (
   leave_below server origin message may = held_below origin message server may.visited false may.there may.held
 
   touching : (origin : ℕ) (message : Message) → s.message origin ≡ Some message → (group packet : ℕ) → In message.logs group packet → IsTouching s.trace group packet
-  touching origin message there group packet log = let steady = r.live.inv.messages origin message there in (steady.carried.member group packet log).2
+  touching origin message there group packet log = r.sound.logs origin group packet message there log
 
   ready_is : (server : ℕ) → server < servers c → (origin : ℕ) (message : Message) → s.message origin ≡ Some message → (kept : KeptMessage) → IsMessage c.partitions s.trace Numbered message kept
       → (is_ready k server kept ≡ true) ↔ IsReady c s server message

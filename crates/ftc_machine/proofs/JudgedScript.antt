@@ -26,7 +26,7 @@ use Rattle.ftc_protocol.specs.Legal.{MayHappen, IsNextLine, IsStalled}
 use Rattle.ftc_machine.specs.Slots.{slot_at, has_such}
 use Rattle.ftc_machine.specs.Kept.{IsKept, IsPlace, IsWithheld, IsWithheldSlot, AreInputs}
 use Rattle.ftc_machine.specs.Tests.{lines_left, first_of, may_enter, is_crash, is_recovery, may_crash, may_recover, may_pull, all_below, is_begun, is_stalled, may_propagate}
-use Rattle.ftc_protocol.proofs.Complete.{IsReached}
+use Rattle.ftc_machine.specs.Usual.{IsUsual}
 use Rattle.ftc_machine.proofs.Told.{any_item, item_any, names_here, untrue, not_so}
 use Rattle.ftc_machine.proofs.Judged.{kept_message, said_message}
 
@@ -135,7 +135,7 @@ name_some : (visits : List VisitName) (server packet : ℕ) → names visits ser
 name_some [] server packet is = absurd (true≢false (sym is))
 name_some (name ∷ visits) server packet is = refl
 
-module _ (c : Setting) (is : IsSetting c) (s : ChainState) (r : IsReached c s) (k : Kept) (h : IsKept c s k) where
+module _ (c : Setting) (is : IsSetting c) (s : ChainState) (r : IsUsual c s) (k : Kept) (h : IsKept c s k) where
   module _ (script : ScriptShape) (packets : ℕ) (given : AreInputs c script packets) where
     left : s.lines ≡ lines_left k script
     left = h.lines ∙ ap (drop k.done) given.lines
@@ -286,7 +286,7 @@ module _ (c : Setting) (is : IsSetting c) (s : ChainState) (r : IsReached c s) (
           sym (h.gaps link below) ∙ p3.1,
         ),
     λ may.
-        let below : link < servers c = r.live.inv.world.inside link may.0 in
+        let below : link < servers c = r.order.inside link may.0 in
         and_from (nat_lt link k.ring.servers && is_live k.down link && is_live k.down (next_of k.ring.servers link)) (has k.gaps link)
         (and_from (nat_lt link k.ring.servers && is_live k.down link) (is_live k.down (next_of k.ring.servers link))
         (and_from (nat_lt link k.ring.servers) (is_live k.down link) (lt-ltb link k.ring.servers (let n = servers_same in omega arith)) (sym (h.up link below) ∙ may.0))

@@ -6,10 +6,10 @@ use Rattle.ftc_protocol.specs.Setting.{Setting, servers}
 use Rattle.ftc_protocol.specs.State.{ChainState}
 use Rattle.ftc_machine.specs.Kept.{StandsFor}
 use Rattle.ftc_machine.specs.RecoveryEffect.{IsOfRun}
-use Rattle.ftc_protocol.proofs.Complete.{IsReached, reached}
+use Rattle.ftc_machine.specs.Usual.{IsUsual}
 
-pub reached_by : {c : Setting} {s : ChainState} {k : Kept} → StandsFor c s k → IsReached c s
-reached_by {c} {s} {k} stands = subst (λ (state : ChainState). IsReached c state) stands.state (reached c stands.setting stands.journal stands.run)
+pub reached_by : {c : Setting} {s : ChainState} {k : Kept} → StandsFor c s k → IsUsual c s
+reached_by {c} {s} {k} stands = stands.laws s (record { right = stands.setting; journal = stands.journal; run = stands.run; reaches = stands.state })
 
 -- what a test says, its answer says
 pub right_as : {said test : Bool} {P : Type 0} → said ≡ test → (test ≡ true) ↔ P → (said ≡ true) ↔ P
@@ -27,4 +27,4 @@ isnt_below {c} {s} {k} stands server said tells isnt below =
     true≢false (sym (tells.1 (subst (λ n. server < n) (sym (ap (λ ring. ring.servers) stands.kept.ring)) below)) ∙ isnt)
 
 pub of_run : {c : Setting} {s : ChainState} {k : Kept} → StandsFor c s k → IsOfRun c s
-of_run {c} {s} {k} stands = record { setting = stands.setting; journal = stands.journal; run = stands.run; state = stands.state }
+of_run {c} {s} {k} stands = record { setting = stands.setting; journal = stands.journal; run = stands.run; state = stands.state; laws = stands.laws }

@@ -24,7 +24,8 @@ use Rattle.ftc_protocol.specs.Trace.{IsTouching, Has, has_each}
 use Rattle.ftc_protocol.specs.Visits.{In}
 use Rattle.ftc_machine.proofs.Footprints.{had_has}
 use Rattle.ftc_protocol.proofs.HasEach.{each_has}
-use Rattle.ftc_protocol.proofs.Inv.{Inv}
+use Rattle.ftc_machine.specs.Usual.{IsUsual}
+use Rattle.ftc_machine.proofs.UsualStates.{serial_in}
 use Rattle.ftc_machine.proofs.Joined.{footprint_there}
 use Rattle.ftc_protocol.proofs.Passed.{some_stands}
 use Rattle.ftc_protocol.proofs.Ready.{each_had}
@@ -52,7 +53,7 @@ all_has test (name ∷ list) each =
     (and_from (name.server == name.server) (name.packet == name.packet) (eq-eqb name.server name.server refl) (eq-eqb name.packet name.packet refl))))
     (all_has test list (λ server packet is. each server packet (or_right (name.server == server && name.packet == packet) (names list server packet) is)))
 
-module _ (c : Setting) (s : ChainState) (inv : Inv c s) (k : Kept) (is : IsKept c s k) (x : ℕ) (below : x < servers c) where
+module _ (c : Setting) (s : ChainState) (usual : IsUsual c s) (k : Kept) (is : IsKept c s k) (x : ℕ) (below : x < servers c) where
   -- a visit that stands in the trace is had where the test says so
   named_has : (j p : ℕ) → IsTouching s.trace j p
       → ((has_named (footprints_of k) (list_of k x) (record { server = j; packet = p }) ≡ true → Has c.partitions s.trace (s.lists x) j p)
@@ -71,11 +72,11 @@ module _ (c : Setting) (s : ChainState) (inv : Inv c s) (k : Kept) (is : IsKept 
   module _ (origin : ℕ) (message : Message) (kept : KeptMessage) (there : s.message origin ≡ Some message)
       (at : IsMessage c.partitions s.trace (numbers_of (footprints_in k.visits.items)) message kept) where
     touching : (j p : ℕ) → In message.logs j p → IsTouching s.trace j p
-    touching j p log = (let steady = inv.messages origin message there in (steady.carried.member j p log).2)
+    touching j p log = usual.sound.logs origin j p message there log
 
     pub ready_same : is_ready k x kept ≡ has_each c.partitions s.trace (s.lists x) message.logs
     ready_same = same_tests (is_ready k x kept) (has_each c.partitions s.trace (s.lists x) message.logs)
-        (λ ready. each_has c (s.lists x) message.logs s.trace inv.world.serial (λ j p log.
+        (λ ready. each_has c (s.lists x) message.logs s.trace (serial_in c s usual) (λ j p log.
         (named_has j p (touching j p log)).0 (all_says (has_named (footprints_of k) (list_of k x)) kept.logs ready j p (at.logs j p ∙ log))))
         (λ each. all_has (has_named (footprints_of k) (list_of k x)) kept.logs (λ j p is_in.
         let log : In message.logs j p = sym (at.logs j p) ∙ is_in in

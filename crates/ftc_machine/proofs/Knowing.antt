@@ -10,11 +10,11 @@ use Rattle.ftc_machine.specs.Kept.{IsKept, StandsFor}
 use Rattle.ftc_machine.specs.Tails.{known_at}
 use Rattle.ftc_machine.specs.Tests.{footprints_of}
 use Rattle.ftc_machine.specs.Due.{known_last}
-use Rattle.ftc_protocol.proofs.Complete.{IsReached}
-use Rattle.ftc_machine.proofs.Needing.{AreNeeding, needing}
+use Rattle.ftc_machine.specs.Usual.{IsUsual}
+use Rattle.ftc_machine.proofs.Judgement.{reached_by}
 use Rattle.ftc_machine.proofs.Tailed.{reached_knows}
 
-pub known_reaches : (c : Setting) → IsSetting c → (s : ChainState) → IsReached c s → (k : Kept) → IsKept c s k
+pub known_reaches : (c : Setting) → IsSetting c → (s : ChainState) → IsUsual c s → (k : Kept) → IsKept c s k
     → Reaches c.partitions s.trace (numbers_of (footprints_of k)) (knows c s (servers c - 1)) (known_last k)
 known_reaches c is s r k h =
     let same : k.ring.servers ≡ servers c = ap (λ ring. ring.servers) h.ring in
@@ -23,5 +23,4 @@ known_reaches c is s r k h =
 
 pub needed_by : {c : Setting} {s : ChainState} {k : Kept} → StandsFor c s k → (packet group : ℕ) (withheld : Withheld) → s.withheld packet ≡ Some withheld → withheld.needs group ≡ true → IsTouching s.trace group packet
 needed_by {c} {s} {k} stands packet group withheld there need =
-    let all = subst (λ (state : ChainState). AreNeeding c state) stands.state (needing c stands.setting stands.journal stands.run) in
-    all.withheld packet withheld there group need
+    let usual = reached_by stands in usual.needs.withheld packet group withheld there need

@@ -4,7 +4,6 @@ mod Told
 mod Judged
 mod Judgement
 mod JudgedScript
-mod Needing
 mod Knowing
 mod Lawful
 mod Acting
@@ -53,3 +52,4 @@ pub mod Handing
 pub mod Rebuilding
 pub mod Judging
 pub mod Recovered
+mod UsualStates

@@ -11,8 +11,7 @@ use Rattle.ftc_protocol.specs.Setting.{Setting, servers}
 use Rattle.ftc_machine.specs.Slots.{has_such}
 use Rattle.ftc_protocol.specs.State.{ChainState}
 use Rattle.ftc_machine.specs.Tests.{first_of}
-use Rattle.ftc_protocol.proofs.Complete.{IsReached}
-use Rattle.ftc_protocol.proofs.Premises.{AreFit, server_of}
+use Rattle.ftc_machine.specs.Usual.{IsUsual}
 
 -- the first of those that are left is the one in its place
 pub first_left : (lines : List ScriptLine) (done : ℕ) → first_of (drop done lines) ≡ slice_get lines done
@@ -54,12 +53,8 @@ some_left test lines done is = elim (cases_lt done (length lines)) [
 ]
 
 -- the server of the next line is one of the chain's
-line_below : (c : Setting) (up : ℕ → Bool) (lines : List ScriptLine) (line : ScriptLine) → AreFit c up lines → IsNextLine lines line → server_of line < servers c
-line_below c up [] line fit is = absurd is
-line_below c up (first ∷ lines) line fit is = subst (λ l. server_of l < servers c) is fit.1
+pub crash_below : (c : Setting) (s : ChainState) → IsUsual c s → (server : ℕ) → MayHappen c s (event.Crash server) → server < servers c
+crash_below c s r server may = r.order.crashes s.entered server may
 
-pub crash_below : (c : Setting) (s : ChainState) → IsReached c s → (server : ℕ) → MayHappen c s (event.Crash server) → server < servers c
-crash_below c s r server may = line_below c s.up s.lines (Crash s.entered server) r.live.inv.fit may
-
-pub recovery_below : (c : Setting) (s : ChainState) → IsReached c s → (server : ℕ) → IsNextLine s.lines (Recover s.entered server) → server < servers c
-recovery_below c s r server may = line_below c s.up s.lines (Recover s.entered server) r.live.inv.fit may
+pub recovery_below : (c : Setting) (s : ChainState) → IsUsual c s → (server : ℕ) → IsNextLine s.lines (Recover s.entered server) → server < servers c
+recovery_below c s r server may = (r.order.recoveries s.entered server may).0

@@ -23,20 +23,27 @@ use Rattle.ftc_machine.specs.Kept.{IsKept, MayFollow, StandsStill}
 use Rattle.ftc_protocol.specs.Legal.{IsLegal}
 use Rattle.ftc_protocol.specs.Next.{next}
 use Rattle.ftc_protocol.proofs.RunLists.{run_on, next_on}
-use Rattle.ftc_protocol.proofs.Complete.{reached, completes}
+use Rattle.ftc_protocol.specs.Setting.{IsSetting}
+use Rattle.ftc_protocol.specs.Run.{IsRun}
+use Rattle.ftc_protocol.specs.Finish.{IsComplete}
+use Rattle.ftc_machine.specs.Usual.{IsUsual}
 use Rattle.ftc_machine.proofs.Conclusion.{done_finished, complete_done}
 
 module _ (c : Setting) (journal : List Event) (k : Kept) where
   pub stands : IsPlayed c journal k → StandsFor c (state_after c (opening c) journal) k
-  stands played = record { setting = played.right; journal = journal; run = played.run; state = refl; kept = played.kept_for }
+  stands played = record { setting = played.right; journal = journal; run = played.run; state = refl; laws = played.laws; kept = played.kept_for }
+
+  usual : IsPlayed c journal k → IsUsual c (state_after c (opening c) journal)
+  usual p = p.laws (state_after c (opening c) journal) (record { right = p.right; journal = journal; run = p.run; reaches = refl })
 
   module _ (script : ScriptShape) (packets : ℕ) (given : AreInputs c script packets) where
     pub over : is_done k script packets ≡ true → ∥ IsPlayed c journal k ∥₁ → ∥ IsFinished c (state_after c (opening c) journal) ∥₁
-    over is played = ∥∥₁_map played (λ p. done_finished c p.right (state_after c (opening c) journal) (reached c p.right journal p.run) k p.kept_for script packets given is)
+    over is played = ∥∥₁_map played (λ p. done_finished c p.right (state_after c (opening c) journal) (usual p) k p.kept_for script packets given is)
 
-    pub not_over : is_done k script packets ≡ false → ∥ IsPlayed c journal k ∥₁ → IsFinished c (state_after c (opening c) journal) → ⊥
-    not_over isnt played finished = ∥∥₁_elim played (λ x y. absurd x) (λ p.
-        true≢false (sym (complete_done c p.right (state_after c (opening c) journal) (reached c p.right journal p.run) k p.kept_for script packets given (completes c p.right journal p.run finished)) ∙ isnt))
+    pub not_over : ((setting : Setting) → IsSetting setting → (events : List Event) → IsRun setting events → IsFinished setting (state_after setting (opening setting) events) → IsComplete setting (state_after setting (opening setting) events))
+        → is_done k script packets ≡ false → ∥ IsPlayed c journal k ∥₁ → IsFinished c (state_after c (opening c) journal) → ⊥
+    not_over complete isnt played finished = ∥∥₁_elim played (λ x y. absurd x) (λ p.
+        true≢false (sym (complete_done c p.right (state_after c (opening c) journal) (usual p) k p.kept_for script packets given (complete c p.right journal p.run finished)) ∙ isnt))
 
   same_fates : (start more : ℕ) (s : ChainState) → ((packet : ℕ) → fate_in k.fates packet ≡ s.fate packet) → map (fate_in k.fates) (range_with_len start more) ≡ map s.fate (range_with_len start more)
   same_fates start zero s each = refl
@@ -67,6 +74,7 @@ module _ (c : Setting) (journal : List Event) (k new : Kept) where
   still same played = ∥∥₁_map played (λ p. record {
     right = p.right;
     run = p.run;
+    laws = p.laws;
     kept_for = same c (state_after c (opening c) journal) p.kept_for;
   })
 
@@ -96,10 +104,12 @@ module _ (c : Setting) (journal : List Event) (k : Kept) (script : ScriptShape) 
         journal = journal;
         run = p.run;
         state = refl;
+        laws = p.laws;
         legal = (says p).0 is;
       } in
       record {
         right = p.right;
+        laws = p.laws;
         run = run_on c journal event (opening c) p.run ((says p).0 is);
         kept_for = subst (λ (s : ChainState). IsKept c s new) (sym (next_on c journal event (opening c)))
             (after state (time ∙ sym (events_are c journal)) follows p.kept_for);

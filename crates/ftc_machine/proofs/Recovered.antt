@@ -9,7 +9,6 @@ use Rattle.ftc_base.specs.declared.limits.TheConstants.{MOST_SERVERS}
 use Rattle.ftc_journal.specs.declared.event.Event.TheVariants as event
 use Rattle.ftc_journal.specs.declared.event.VisitName.{VisitName}
 use Rattle.ftc_ring.specs.Ring.{RingShape}
-use Rattle.ftc_script.specs.declared.line.ScriptLine.TheVariants as script_line
 use Rattle.ftc_serial.specs.Contents.{content_at}
 use Rattle.ftc_serial.specs.Removal.{left_of}
 use Rattle.ftc_serial.specs.Trace.{names}
@@ -36,26 +35,18 @@ use Rattle.ftc_protocol.specs.State.{ChainState, Message, Where, Held, Queued}
 use Rattle.ftc_machine.specs.Tests.{footprints_of}
 use Rattle.ftc_protocol.specs.Trace.{IsBefore, IsChanging, content_of}
 use Rattle.ftc_protocol.specs.Visits.{Visits, In, union}
-use Rattle.ftc_protocol.proofs.Complete.{IsReached, keeps_reached}
+use Rattle.ftc_machine.specs.Usual.{IsUsual}
 use Rattle.ftc_machine.proofs.Dropping.{drops, loses_same}
-use Rattle.ftc_machine.proofs.Following.{reached_before, visits_within}
+use Rattle.ftc_machine.proofs.Following.{reached_before, reached_after, visits_within}
 use Rattle.ftc_machine.proofs.Handing.{got_reaches, both_reach_known}
-use Rattle.ftc_protocol.proofs.Inv.{Inv}
 use Rattle.ftc_machine.proofs.Judging.{dropped_same}
-use Rattle.ftc_protocol.proofs.Listed.{undone_listed}
 use Rattle.ftc_protocol.proofs.TraceLemmas.{store_left}
-use Rattle.ftc_protocol.proofs.Premises.{IsGood}
 use Rattle.ftc_machine.proofs.Rebuilding.{visits_left, rebuilt_content}
 use Rattle.ftc_machine.proofs.Replaced.{row_replaced}
 use Rattle.ftc_protocol.proofs.Ring.{IsLastLive, IsNextLive, last_live, next_live}
 use Rattle.ftc_machine.proofs.Rising.{rising_more}
-use Rattle.ftc_protocol.proofs.SmallEvents.{fit_next, fit_now}
 use Rattle.ftc_protocol.proofs.TraceLemmas.{visit_stood}
-use Rattle.ftc_protocol.proofs.Supposed.{is_good}
 use Rattle.ftc_machine.proofs.Thinning.{rising_left, reach_left, footprints_left}
-use Rattle.ftc_protocol.proofs.Undone.{IsUndone}
-use Rattle.ftc_protocol.proofs.Undoing.{undone_before}
-use Rattle.ftc_protocol.proofs.World.{nobody_has}
 
 -- at its own place a changed function has what it was given, and elsewhere what it had
 given : {A : Type 0} (f : ℕ → A) (k : ℕ) (v : A) → with_at f k v k ≡ v
@@ -76,45 +67,36 @@ lost_both true other event slot fate is = refl
 lost_both false other event slot fate is = is
 
 module _ (c : Setting) (s : ChainState) (server : ℕ) (undone : List VisitName) (may : MayFollow c s (event.Recover server undone)) (k : Kept) (is : IsKept c s k) where
-  before : IsReached c s
+  before : IsUsual c s
   before = reached_before c s (event.Recover server undone) may
 
-  good : IsGood c
-  good = is_good c may.setting
-
-  after : IsReached c (next c s (event.Recover server undone))
-  after = keeps_reached c good s before (event.Recover server undone) may.legal.0
-
-  inv : Inv c s
-  inv = before.live.inv
+  after : IsUsual c (next c s (event.Recover server undone))
+  after = reached_after c s (event.Recover server undone) may
 
   pub below : server < servers c
-  below = (fit_next c s.up s.lines (script_line.Recover s.entered server) may.legal.0.0 inv.fit).0
+  below = (before.order.recoveries s.entered server may.legal.0.0).0
 
   down : s.up server ≡ false
-  down = (fit_next c s.up s.lines (script_line.Recover s.entered server) may.legal.0.0 inv.fit).1 refl
+  down = (before.order.recoveries s.entered server may.legal.0.0).1
 
   both_live : IsLastLive (servers c) s.up server (previous_live c s server) × IsNextLive (servers c) s.up server (following_live c s server)
   both_live =
-      let z = fit_now c s.up s.lines inv.fit server below in
-      let other : z.0 ≢ server = λ e. true≢false (sym z.2 ∙ subst (λ v. s.up v ≡ false) (sym e) down) in
-      (last_live (servers c) s.up server below z.0 z.1 z.2 other, next_live (servers c) s.up server below z.0 z.1 z.2 other)
-
-  exact : (j p : ℕ) → In (names undone) j p ↔ IsUndone c s (previous_live c s server) (following_live c s server) j p
-  exact = undone_listed c s server undone may.legal.0.1 good.some (let last = both_live.0 in last.below) (let following = both_live.1 in following.below) inv.world.serial
-
-  -- no list has an undone visit, and what an undone visit is before is undone
-  listed_left : (x j p : ℕ) → In (s.lists x) j p → names undone j p ≡ false
-  listed_left = nobody_has c s good.some good.sound inv.world (fit_now c s.up s.lines inv.fit) server (previous_live c s server) (following_live c s server) below down both_live.0 both_live.1 (names undone) exact
-
-  closed : (row packet other : ℕ) → IsBefore c.partitions s.trace row packet other → names undone row packet ≡ true → names undone row other ≡ true
-  closed row packet other first taken =
-      let w = inv.world in
-      (exact row other).1 (undone_before c s good.some good.sound w.lists w.nest w.serial w.passed w.earlier w.released (fit_now c s.up s.lines inv.fit) server
-      (previous_live c s server) (following_live c s server) below down both_live.0 both_live.1 row packet other ((exact row packet).0 taken) first)
+      let z = before.order.admissible.each server below in
+      let other : z.server ≢ server = λ e. true≢false (sym z.up ∙ subst (λ v. s.up v ≡ false) (sym e) down) in
+      (last_live (servers c) s.up server below z.server z.within z.up other, next_live (servers c) s.up server below z.server z.within z.up other)
 
   changing_left : (j p : ℕ) → IsChanging c.partitions (left_of (names undone) s.trace) j p → names undone j p ≡ false
   changing_left j p changing = (visit_stood (names undone) (λ o. is_changing c.partitions o ≡ true) s.trace j p changing).1
+
+  -- no list has an undone visit, and what an undone visit is before is undone
+  listed_left : (x j p : ℕ) → In (s.lists x) j p → names undone j p ≡ false
+  listed_left x j p member = elim (cases_eq x server) [
+    | inl same ↦ absurd (true≢false (sym (before.order.had x j p member).0 ∙ subst (λ y. s.up y ≡ false) (sym same) down))
+    | inr differs ↦ changing_left j p (after.order.had x j p (subst (λ (visits : Visits). In visits j p) (sym (had s.lists server (list_got c s server (previous_live c s server) (following_live c s server)) x differs)) member)).3
+  ]
+
+  closed : (row packet other : ℕ) → IsBefore c.partitions s.trace row packet other → names undone row packet ≡ true → names undone row other ≡ true
+  closed row packet other first taken = before.undone server undone may.legal.0 row packet other taken first
 
   -- ---- the trace
 
@@ -151,8 +133,8 @@ module _ (c : Setting) (s : ChainState) (server : ℕ) (undone : List VisitName)
       s.lists [] k.lists.items k.lists.items new server (list_got c s server r t) list (is_new ∙ ap (λ p. slice_set k.lists.items p list) at)
       (let long = k.each_list in let same = ap (λ (ring : RingShape). ring.servers) is.ring in let low : server < servers c = below in omega arith) (λ _ _. refl)
       (λ within. reaches_left (list_got c s server r t) list
-      (λ j p member. changing_left j p (after.live.inv.world.lists.listed server j p (subst (λ (visits : Visits). In visits j p) (sym (given s.lists server (list_got c s server r t))) member)).1)
-      (got_reaches c may.setting s inv k is (visits_within c s (event.Recover server undone) may k is) server r t (let last = both_live.0 in last.below) (let next_one = both_live.1 in next_one.below) list size
+      (λ j p member. changing_left j p (after.order.had server j p (subst (λ (visits : Visits). In visits j p) (sym (given s.lists server (list_got c s server r t))) member)).3)
+      (got_reaches c may.setting s before k is (visits_within c s (event.Recover server undone) may k is) server r t (let last = both_live.0 in last.below) (let next_one = both_live.1 in next_one.below) list size
       (λ group less. rows group less ∙ (ap (λ p. got_vector k server p following group) previous_is ∙ ap (λ f. got_vector k server r f group) following_is))))
       (λ other within. reaches_left (s.lists other) (reach_of k.lists.items other) (listed_left other) (is.sets.lists other within))
 
@@ -171,9 +153,9 @@ module _ (c : Setting) (s : ChainState) (server : ℕ) (undone : List VisitName)
       (let long = k.each_known in let same = ap (λ (ring : RingShape). ring.servers) is.ring in let low : server < servers c = below in omega arith) (λ _ _. refl)
       (λ _ stay. reaches_left both known stay
       (subst (λ (reach : List (List ℕ)). Reaches c.partitions s.trace numbers both reach) (sym (known_is ∙ (ap (λ p. both_known k p following) previous_is ∙ ap (λ f. both_known k r f) following_is)))
-      (both_reach_known c may.setting s inv k is (visits_within c s (event.Recover server undone) may k is) r t (let last = both_live.0 in last.below) (let next_one = both_live.1 in next_one.below))))
+      (both_reach_known c may.setting s before k is (visits_within c s (event.Recover server undone) may k is) r t (let last = both_live.0 in last.below) (let next_one = both_live.1 in next_one.below))))
       (λ row low stay. reaches_left (s.known row) (reach_of k.known.items row) stay (is.sets.known row low))
-      other within (λ j p member. changing_left j p (after.live.inv.known other j p member).changing)
+      other within (λ j p member. changing_left j p ((after.fronts.known other).there j p member))
 
   -- ---- stores
 
@@ -186,7 +168,7 @@ module _ (c : Setting) (s : ChainState) (server : ℕ) (undone : List VisitName)
         | inl same ↦ subst (λ at. stores at ≡ content_of (left_of (names undone) s.trace) (with_at s.lists server got at at) at) (sym same)
             (here ∙ (ap (fold (rewritten (footprints_of k) server) empty) (order_after order order_is)
             ∙ rebuilt_content c.partitions (footprints_in k.visits.items) server (with_at s.lists server got server server) (left_of (names undone) s.trace) footprints_after
-            (λ packet changing. after.live.inv.world.lists.heads server packet (given s.up server true) changing)))
+            (λ packet changing. after.order.heads server packet (given s.up server true) changing)))
         | inr differs ↦
             elsewhere other differs ∙ (is.sets.stores other within (sym (had s.up server true other differs) ∙ up)
             ∙ (store_left (names undone) s.trace other (s.lists other other)
@@ -220,7 +202,7 @@ module _ (c : Setting) (s : ChainState) (server : ℕ) (undone : List VisitName)
   judged : (following : ℕ) → following ≡ following_live c s server → (origin : ℕ) (message : Message) (kept : KeptMessage) → s.message origin ≡ Some message
       → IsMessage c.partitions s.trace (numbers_of (footprints_in k.visits.items)) message kept → is_dropped_kept k following kept ≡ is_dropped c s (following_live c s server) message
   judged following following_is origin message kept there at =
-      ap (λ f. is_dropped_kept k f kept) following_is ∙ dropped_same c s inv k is (following_live c s server) (let next_one = both_live.1 in next_one.below) origin message kept there at
+      ap (λ f. is_dropped_kept k f kept) following_is ∙ dropped_same c s before k is (following_live c s server) (let next_one = both_live.1 in next_one.below) origin message kept there at
 
   pub messages_after : (following : ℕ) → following ≡ following_live c s server → (slots : List (Option KeptMessage))
       → ((origin : ℕ) → slot_at slots origin ≡ drop_kept (is_dropped_kept k following) (slot_at k.messages origin)) → (origin : ℕ)
@@ -229,7 +211,7 @@ module _ (c : Setting) (s : ChainState) (server : ℕ) (undone : List VisitName)
       let test = is_dropped c s (following_live c s server) in
       subst (λ (slot : Option KeptMessage). IsMessageSlot c.partitions (left_of (names undone) s.trace) (numbers_of (footprints_in k.visits.items)) (drop_if test (s.message origin)) slot) (sym (dropped origin))
       (slot_left (drop_if test (s.message origin)) (drop_kept (is_dropped_kept k following) (slot_at k.messages origin))
-      (λ message there j p member. changing_left j p ((let steady = after.live.inv.messages origin message there in steady.told j p member).changing))
+      (λ message there j p member. changing_left j p ((after.fronts.told origin message there).there j p member))
       (drops c.partitions s.trace (numbers_of (footprints_in k.visits.items)) test (is_dropped_kept k following) (s.message origin) (slot_at k.messages origin)
       (λ message kept there _ at. judged following following_is origin message kept there at) (is.sets.messages origin)))
 

@@ -10,7 +10,7 @@ use Rattle.ftc_protocol.specs.Setting.{Setting, servers, is_tail, IsSetting}
 use Rattle.ftc_protocol.specs.State.{ChainState}
 use Rattle.ftc_machine.specs.Tails.{group_ending, known_at, part_of}
 use Rattle.ftc_protocol.specs.Visits.{Visits}
-use Rattle.ftc_protocol.proofs.Complete.{IsReached}
+use Rattle.ftc_machine.specs.Usual.{IsUsual}
 use Rattle.ftc_machine.proofs.Following.{reached_before, reached_below, reached_within}
 use Rattle.ftc_machine.proofs.Parts.{part_reaches}
 use Rattle.ftc_machine.proofs.Reached.{merged_reaches, reach_moves}
@@ -35,7 +35,7 @@ ends n f group server below within small =
     (λ is. let at : apart n group server ≡ f = eqb-true (apart n group server) f is in eq-eqb group (group_ending (record { servers = n; failures = f }) server) (omega arith))
     (λ is. let at : group ≡ group_ending (record { servers = n; failures = f }) server = eqb-true group (group_ending (record { servers = n; failures = f }) server) is in eq-eqb (apart n group server) f (omega arith))
 
-module _ (c : Setting) (setting : IsSetting c) (s : ChainState) (r : IsReached c s) (k : Kept) (is : IsKept c s k) where
+module _ (c : Setting) (setting : IsSetting c) (s : ChainState) (r : IsUsual c s) (k : Kept) (is : IsKept c s k) where
   -- of a group of the chain
   pub reached_ends : (group server : ℕ) → group < servers c → server < servers c → is_tail c group server ≡ (group == group_ending k.ring server)
   reached_ends group server below within =

@@ -21,7 +21,8 @@ use Rattle.ftc_machine.specs.Tests.{footprints_of, list_of}
 use Rattle.ftc_protocol.specs.Trace.{IsSomeVisit, lacked_by}
 use Rattle.ftc_protocol.specs.Visits.{Visits}
 use Rattle.ftc_machine.proofs.Chained.{visited_before}
-use Rattle.ftc_protocol.proofs.Complete.{IsReached, reached}
+use Rattle.ftc_machine.specs.Usual.{IsUsual}
+use Rattle.ftc_machine.proofs.UsualStates.{serial_in}
 use Rattle.ftc_machine.proofs.Footprints.{touched_touching, had_has}
 use Rattle.ftc_machine.proofs.Joined.{footprint_there}
 use Rattle.ftc_protocol.proofs.Listed.{lacked_says, lacked_has, up_to_says, up_to_has}
@@ -109,8 +110,8 @@ filter_in_order test visits (Visited server packet outcome ∷ older) same =
 -- ---- which visits are undone
 
 module _ (c : Setting) (s : ChainState) (of : IsOfRun c s) (k : Kept) (is : IsKept c s k) (previous following : ℕ) (within : following < servers c) where
-  pub of_run : IsReached c s
-  of_run = subst (λ (state : ChainState). IsReached c state) of.state (reached c of.setting of.journal of.run)
+  pub of_run : IsUsual c s
+  of_run = of.laws s (record { right = of.setting; journal = of.journal; run = of.run; reaches = of.state })
 
   lacked_same : (i p : ℕ) → IsSomeVisit s.trace i p
       → has_such (is_lacked (vector_of (list_of k following) i)) (footprints_of k i p) ≡ lacked_by c.partitions s.trace (s.lists following) i p
@@ -118,7 +119,7 @@ module _ (c : Setting) (s : ChainState) (of : IsOfRun c s) (k : Kept) (is : IsKe
       let footprints = footprints_in k.visits.items in
       let vector = vector_of (list_of k following) i in
       let found = footprint_there (λ o. Unit {0}) c.partitions footprints s.trace is.sets.footprints i p there in
-      let serial = of_run.live.inv.world.serial in
+      let serial = (serial_in c s of_run) in
       let touched = touched_touching c.partitions (s.events + 1) s.trace footprints is.sets.rising is.sets.footprints i p found.0 there found.1 in
       let had = had_has c.partitions (s.events + 1) s.trace footprints is.sets.rising is.sets.footprints i p found.0 there found.1 (s.lists following) vector (is.sets.lists following within i) in
       ap (has_such (is_lacked vector)) found.1 ∙ same_tests (is_lacked vector found.0) (lacked_by c.partitions s.trace (s.lists following) i p)
@@ -136,7 +137,7 @@ module _ (c : Setting) (s : ChainState) (of : IsOfRun c s) (k : Kept) (is : IsKe
   undone_same : (j p : ℕ) → IsSomeVisit s.trace j p → is_undone_kept k previous following (record { server = j; packet = p }) ≡ is_undone c s previous following j p
   undone_same j p there =
       up_to_same (λ earlier. is_undone_itself c s previous following earlier p) (is_undone_alone k previous following p) j
-      (λ i le. alone_same p i (visited_before c s.trace of_run.live.inv.world.serial j p there i le))
+      (λ i le. alone_same p i (visited_before c s.trace (serial_in c s of_run) j p there i le))
 
   pub undone_is : (server : ℕ) (names : List VisitName) → server < servers c → previous ≡ kept_previous k server → following ≡ kept_following k server
       → names ≡ filter (is_undone_kept k previous following) k.order → names ≡ undone_visits c s server

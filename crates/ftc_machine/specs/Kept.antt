@@ -9,6 +9,7 @@ use Rattle.ftc_serial.specs.Serial.{Entry, Visited, Given}
 use Rattle.ftc_serial.specs.Trace.{names}
 use Rattle.ftc_protocol.specs.declared.fate.Fate.{Fate}
 use Rattle.ftc_protocol.specs.declared.fate.Fate.TheVariants as became
+use Rattle.ftc_machine.specs.Usual.{AreUsual}
 use Rattle.ftc_machine.specs.declared.footprint.Footprint.{Footprint}
 use Rattle.ftc_machine.specs.declared.kept.Kept.{Kept}
 use Rattle.ftc_machine.specs.declared.message.Message.{Message as KeptMessage}
@@ -106,6 +107,7 @@ pub record MayFollow (c : Setting) (s : ChainState) (event : Event) : Type 0 whe
   pub journal : List Event
   pub run : IsRun c journal
   pub state : state_after c (opening c) journal ≡ s
+  pub laws : AreUsual c
   pub legal : IsLegal c s event
 
 -- what stands for one state stands for another
@@ -122,6 +124,7 @@ pub record StandsFor (c : Setting) (s : ChainState) (k : Kept) : Type 0 where
   pub journal : List Event
   pub run : IsRun c journal
   pub state : state_after c (opening c) journal ≡ s
+  pub laws : AreUsual c
   pub kept : IsKept c s k
 
 -- the script and the count of packets of a setting

@@ -2,6 +2,7 @@ pub mod VisitEffect
 pub mod Losses
 pub mod Reach
 pub mod Slots
+pub mod Usual
 pub mod Kept
 pub mod Tests
 pub mod Due

@@ -7,6 +7,7 @@ use Rattle.ftc_machine.specs.declared.kept.Kept.{Kept}
 use Rattle.ftc_protocol.specs.Setting.{Setting, setting_of, IsSetting}
 use Rattle.ftc_protocol.specs.State.{ChainState, opening}
 use Rattle.ftc_protocol.specs.Run.{IsRun, state_after}
+use Rattle.ftc_machine.specs.Usual.{AreUsual}
 use Rattle.ftc_machine.specs.Kept.{IsKept}
 
 pub record Played : Type 0 where
@@ -22,8 +23,9 @@ setting_in played = setting_of played.chain played.packets played.script
 abbrev pub state_of : Played → ChainState
 state_of played = state_after (setting_in played) (opening (setting_in played)) played.journal
 
--- the journal is a run of a setting, and what is kept stands for its state
+-- the journal is a run of a setting, of whose runs the laws hold, and what is kept stands for its state
 pub record IsPlayed (setting : Setting) (journal : List Event) (kept : Kept) : Type 0 where
   pub right : IsSetting setting
   pub run : IsRun setting journal
+  pub laws : AreUsual setting
   pub kept_for : IsKept setting (state_after setting (opening setting) journal) kept

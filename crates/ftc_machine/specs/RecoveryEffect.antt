@@ -16,6 +16,7 @@ use Rattle.ftc_machine.specs.declared.message.Message.{Message}
 use Rattle.ftc_machine.specs.declared.message.Place.{Place}
 use Rattle.ftc_machine.specs.declared.message.Place.TheVariants.{Held, Queued}
 use Rattle.ftc_protocol.specs.Changes.{is_some_list}
+use Rattle.ftc_machine.specs.Usual.{AreUsual}
 use Rattle.ftc_machine.specs.Kept.{reach_of}
 use Rattle.ftc_machine.specs.Reach.{Footprints, is_had_by}
 use Rattle.ftc_protocol.specs.Recovery.{is_between}
@@ -32,6 +33,7 @@ pub record IsOfRun (c : Setting) (s : ChainState) : Type 0 where
   pub journal : List Event
   pub run : IsRun c journal
   pub state : state_after c (opening c) journal ≡ s
+  pub laws : AreUsual c
 
 -- the nearest other live server before, and the nearest after, or the server itself where there is none
 abbrev pub kept_previous : Kept → ℕ → ℕ

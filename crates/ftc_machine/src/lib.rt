@@ -19,6 +19,7 @@ mod fresh;
 mod going;
 mod handover;
 mod kept;
+mod laws;
 mod legal;
 mod legality;
 mod losses;

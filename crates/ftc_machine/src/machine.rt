@@ -7,11 +7,12 @@ ghost use Rattle.ftc_serial.specs.Packets.{bytes_of};
 use crate::Fates;
 use crate::copying::copy_event;
 use crate::kept::Kept;
+use crate::laws::states_are_usual;
 use ftc_base::{NoMemory, Refuse};
 use ftc_journal::{Event, Journal};
 use ftc_mbox::ChainSpec;
 use ftc_pcap::Packets;
-use ftc_protocol::accepted;
+use ftc_protocol::{accepted, every_moment, finished_run};
 use ftc_script::Script;
 use std::alloc::Global;
 use std::marker::Model;
@@ -68,6 +69,7 @@ impl<'a> Machine<'a> {
         ensures { IfOk result (λ machine. machine ≡ record { chain = spec.now; packets = bytes_of packets.now; script = script.now; journal = [] }) }
     {
         accepted();
+        states_are_usual();
         let _ = spec.rules();
         let kept = Kept::new(alloc, *script.ring(), spec.partitions())?;
         Ok(Machine {
@@ -108,6 +110,7 @@ impl<'a> Machine<'a> {
         ensures finished { result ≡ true → ∥ IsFinished (setting_in self.now) (state_of self.now) ∥₁ }
         ensures unfinished { result ≡ false → IsFinished (setting_in self.now) (state_of self.now) → ⊥ }
     {
+        finished_run();
         self.kept.is_done(self.script, self.packets.len() as u32)
     }
 
@@ -127,11 +130,12 @@ impl<'a> Machine<'a> {
         &self.journal
     }
 
-    /// What holds at every moment of a run holds of its state: what was released is what a serial run of
-    /// the visits that stand released, and no state behind it is lost.
+    /// What holds at every moment of a run holds of its state: the serial run of the visits that stand exists
+    /// and released what was released, and each first live member of a group has that run's content.
     pub fn moment(&self)
         ensures { ∥ IsSound (setting_in self.now) (state_of self.now) ∥₁ }
     {
+        every_moment();
         let _ = self.journal();
     }
 }

@@ -1,10 +1,12 @@
+use Rattle.std.proofs.Common.{[], sym, subst}
 use Rattle.std.proofs.Math.Logic.{∥∥₁_map₂}
+use Rattle.std.proofs.lemmas.List.{append-nil}
+use Rattle.ftc_protocol.specs.Run.{IsRun}
 use Rattle.ftc_machine.specs.Played.{setting_in}
-use Rattle.ftc_protocol.proofs.Sound.{sound}
-use Rattle.ftc_protocol.proofs.Supposed.{is_good, opens_fit}
 use Rattle.ftc_machine.proofs.machine.Machine.moment.Goals as goal
 
 pub returns : goal.returns
 returns c =
     let setting = setting_in c.args.self.now in
-    ∥∥₁_map₂ c.journal.ensures.setting c.journal.ensures.run (λ is run. sound setting (is_good setting is) is.ring (opens_fit setting is) c.args.self.now.journal run)
+    let journal = c.args.self.now.journal in
+    ∥∥₁_map₂ c.journal.ensures.setting c.journal.ensures.run (λ is run. c.every_moment.ensures setting is journal [] (subst (IsRun setting) (sym (append-nil journal)) run))

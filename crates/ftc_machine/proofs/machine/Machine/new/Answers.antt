@@ -14,6 +14,7 @@ invariant_of-result c =
     ∣ record {
       right = c.accepted.ensures.setting c.args.spec.now (bytes_of c.args.packets.now) c.args.script.now c.rules.ensures.bounds c.ring.ensures.accepted c.requires.ring (c.requires.packets ∙ sym (bytes_count c.args.packets.now));
       run = subst (λ (events : List Event). IsRun setting events) (sym c.new-2.ensures) tt;
+      laws = c.states_are_usual.ensures setting;
       kept_for = subst (λ (events : List Event). IsKept setting (state_after setting (opening setting) events) c.in_ok-kept.kept) (sym c.new-2.ensures)
           (c.in_ok-kept.ensures setting (sym (c.ring.ensures.same ∙ c.requires.ring)) (sym c.partitions.ensures.same));
     } ∣₁
