@@ -1,5 +1,5 @@
 -- A message that its server is still to visit has no log and no need of that server's own middlebox.
-use Rattle.std.proofs.Common.{◌≡◌, ℕ, ◌+◌, ◌<◌, ◌==◌, ◌&&◌, if◌then◌else◌, Bool, true, false, not, List, [], ◌∷◌, Option, Some, None, inl, inr, refl, sym, ap, subst, ◌∙◌, arith, eqb-true}
+use Rattle.std.proofs.Common.{◌≡◌, ℕ, ◌+◌, ◌<◌, ◌==◌, ◌&&◌, if◌then◌else◌, Bool, true, false, not, List, [], ◌∷◌, Option, Some, None, inl, inr, refl, sym, subst, ◌∙◌, arith, eqb-true}
 use Rattle.std.proofs.lemmas.Bool.{true≢false, and_parts, or_cases}
 use Rattle.std.proofs.lemmas.Option.{none-some, same_Some}
 use Rattle.ftc_journal.specs.declared.event.Event.{Event}
@@ -25,7 +25,7 @@ use Rattle.ftc_protocol.proofs.Supposed.{is_good, opens_fit}
 use Rattle.ftc_protocol.proofs.Ring.{apart_cases}
 use Rattle.ftc_protocol.proofs.TraceLemmas.{stands_map}
 use Rattle.ftc_protocol.proofs.Earlier.{visited_earlier}
-use Rattle.ftc_protocol.proofs.Places.{Waits, serial_of}
+use Rattle.ftc_protocol.proofs.Places.{Waits}
 use Rattle.ftc_protocol.proofs.Orderly.{aim_is}
 use Rattle.ftc_protocol.proofs.Needing.{needing}
 

@@ -1,5 +1,5 @@
 -- Each released packet has visited all middleboxes.
-use Rattle.std.proofs.Common.{◌≡◌, ℕ, ◌<◌, List, [], ◌∷◌, ◌++◌, refl, inl, inr, ◌∙◌, sym, ap, subst, Contains}
+use Rattle.std.proofs.Common.{◌≡◌, ℕ, List, [], ◌∷◌, refl, inl, inr, sym, ap, subst, Contains}
 use Rattle.std.specs.List.{flat_map}
 use Rattle.ftc_journal.specs.declared.event.Event.{Event}
 use Rattle.ftc_journal.specs.declared.event.Event.TheVariants as event

@@ -1,5 +1,5 @@
 -- The second example is a finished run: each of its events is legal in its turn, and none is at its end.
-use Rattle.std.proofs.Common.{◌≡◌, ℕ, ◌<◌, ◌≤◌, ◌&&◌, ◌||◌, ◌==◌, not, nat_lt, Bool, true, false, [], ◌∷◌, inl, inr, refl, sym, ap, subst, ◌∙◌, arith, Some, None, ltb-true, eqb-true}
+use Rattle.std.proofs.Common.{◌≡◌, ℕ, ◌<◌, ◌≤◌, ◌&&◌, ◌||◌, ◌==◌, not, Bool, true, false, [], inl, inr, refl, sym, ap, subst, ◌∙◌, arith, Some, None, ltb-true, eqb-true}
 use Rattle.std.proofs.lemmas.Bool.{true≢false, cases_eq, and_parts, or_cases, false_from_ne_true}
 use Rattle.std.proofs.lemmas.Option.{none-some, same_Some}
 use Rattle.ftc_ring.specs.Live.{HasLive, IsLive}
@@ -13,14 +13,14 @@ use Rattle.ftc_mbox.specs.Ask.{ask}
 use Rattle.ftc_packet.specs.Flow.{flow_found, flow_in, is_flow}
 use Rattle.ftc_packet.specs.Layout.{word_at, transport_start}
 use Rattle.ftc_protocol.specs.declared.fate.Fate.TheVariants as became
-use Rattle.ftc_protocol.specs.Setting.{shape, servers, is_tail, IsSetting}
-use Rattle.ftc_protocol.specs.Visits.{Visits, In, no_visits, union, just}
+use Rattle.ftc_protocol.specs.Setting.{shape, is_tail, IsSetting}
+use Rattle.ftc_protocol.specs.Visits.{In, no_visits, union, just}
 use Rattle.ftc_protocol.specs.Changes.{changes}
 use Rattle.ftc_protocol.specs.State.{ChainState, Message, Withheld, Where, Queued, opening}
 use Rattle.ftc_protocol.specs.Trace.{Has}
 use Rattle.ftc_protocol.specs.Legal.{MayHappen}
 use Rattle.ftc_protocol.specs.Known.{ServerHas, IsDue, knows}
-use Rattle.ftc_protocol.specs.Recovery.{undone_visits, following_live, is_dropped}
+use Rattle.ftc_protocol.specs.Recovery.{following_live, is_dropped}
 use Rattle.ftc_protocol.specs.Next.{next, drop_if, is_at, logs_of}
 use Rattle.ftc_protocol.specs.Run.{IsRun, IsFinished, state_after}
 use Rattle.ftc_protocol.specs.Example.{monitor_and_pass, saving, datagram}

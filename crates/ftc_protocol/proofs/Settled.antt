@@ -1,7 +1,5 @@
 -- A packet that the trace released or dropped is so in the serial run of the trace.
-use Rattle.std.proofs.Common.{◌≡◌, ℕ, ◌+◌, ◌<◌, ◌≤◌, ◌==◌, true, false, List, [], ◌∷◌, refl, sym, ap, subst, arith, inl, inr, Option, Some, None}
-use Rattle.std.specs.Prelude.{slice_get, option_map}
-use Rattle.ftc_serial.specs.declared.position.Position.TheVariants as position
+use Rattle.std.proofs.Common.{◌≡◌, ℕ, ◌<◌, ◌≤◌, List, [], ◌∷◌, refl, sym, ap, subst, arith, inl, inr, None}
 use Rattle.ftc_serial.specs.Words.{AnyOf}
 use Rattle.ftc_serial.specs.Serial.{Entry, Visited, Given}
 use Rattle.ftc_serial.proofs.Functions.{with_at_cases}
@@ -9,7 +7,7 @@ use Rattle.ftc_protocol.specs.Setting.{Setting, servers}
 use Rattle.ftc_protocol.specs.Trace.{IsSomeVisit}
 use Rattle.ftc_protocol.specs.Fates.{IsDropped, IsGiven}
 use Rattle.ftc_protocol.proofs.Places.{Filtered, Released, Waits, Passed, IsSerial, place_after, serial_of}
-use Rattle.ftc_protocol.proofs.PlacedFates.{opening_unfiltered, visit_filtered}
+use Rattle.ftc_protocol.proofs.PlacedFates.{visit_filtered}
 use Rattle.ftc_protocol.proofs.Earlier.{visited_earlier}
 
 -- a release of the trace, with its bytes

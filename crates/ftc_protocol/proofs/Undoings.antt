@@ -8,7 +8,6 @@ use Rattle.ftc_serial.specs.Words.{EachLater}
 use Rattle.ftc_serial.specs.Serial.{Entry, Visited, Given}
 use Rattle.ftc_serial.specs.Trace.{names}
 use Rattle.ftc_serial.specs.Removal.{left_of}
-use Rattle.ftc_protocol.specs.declared.fate.Fate.{Fate}
 use Rattle.ftc_protocol.specs.declared.fate.Fate.TheVariants.{Released, Filtered, Lost, Inside}
 use Rattle.ftc_protocol.specs.Setting.{Setting}
 use Rattle.ftc_protocol.specs.Visits.{Visits, In}
