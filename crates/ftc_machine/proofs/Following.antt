@@ -1,5 +1,5 @@
 -- What an event that may follow says of the state before it.
-use Rattle.std.proofs.Common.{◌≡◌, ℕ, ◌<◌, ◌≤◌, List, [], ◌∷◌, inl, inr, subst, arith}
+use Rattle.std.proofs.Common.{◌≡◌, ℕ, ◌<◌, ◌≤◌, List, [], ◌∷◌, inl, inr, arith}
 use Rattle.ftc_base.specs.declared.ask.Write.{Write}
 use Rattle.ftc_base.specs.Partition.{partition_of}
 use Rattle.ftc_journal.specs.declared.event.Event.{Event}

@@ -12,7 +12,6 @@ use Rattle.ftc_ring.proofs.Geometry.{same_start, apart_cases}
 use Rattle.ftc_vector.specs.Vector.{by_partition, number_at, merged}
 use Rattle.ftc_vector.specs.Commits.{vector_of, by_group, all_merged, group_raised}
 use Rattle.ftc_machine.specs.declared.kept.Kept.{Kept}
-use Rattle.ftc_protocol.specs.Changes.{is_changing}
 use Rattle.ftc_machine.specs.Kept.{IsKept, footprints_in, reach_of}
 use Rattle.ftc_protocol.specs.Known.{knows}
 use Rattle.ftc_machine.specs.Reach.{IsReach, Reaches, numbers_of, reach_in}
@@ -27,7 +26,6 @@ use Rattle.ftc_machine.specs.Usual.{IsUsual}
 use Rattle.ftc_machine.proofs.Raised.{joined_reaches}
 use Rattle.ftc_machine.proofs.Reached.{AreWithin, merged_row, merged_reaches, outside}
 use Rattle.ftc_machine.proofs.Reaching.{same_reach, zero_reach}
-use Rattle.ftc_protocol.proofs.Stores.{stands_below}
 
 merged_length : (one other : List (List ℕ)) → length (all_merged one other) ≡ MOST_SERVERS
 unfolding by_group

@@ -27,7 +27,7 @@ use Rattle.ftc_protocol.proofs.HasEach.{each_has}
 use Rattle.ftc_machine.specs.Usual.{IsUsual}
 use Rattle.ftc_machine.proofs.UsualStates.{serial_in}
 use Rattle.ftc_machine.proofs.Joined.{footprint_there}
-use Rattle.ftc_protocol.proofs.Passed.{some_stands}
+use Rattle.ftc_protocol.proofs.TraceLemmas.{stands_map}
 use Rattle.ftc_protocol.proofs.Ready.{each_had}
 use Rattle.ftc_machine.proofs.UndoneKept.{same_tests}
 
@@ -61,7 +61,7 @@ module _ (c : Setting) (s : ChainState) (usual : IsUsual c s) (k : Kept) (is : I
   named_has j p there =
       let footprints = footprints_in k.visits.items in
       let vector = vector_of (list_of k x) j in
-      let stands = some_stands (λ o. is_touching o ≡ true) s.trace j p there in
+      let stands = stands_map (λ o. is_touching o ≡ true) (λ o. Unit {0}) (λ o _. tt) s.trace j p there in
       let found = footprint_there (λ o. Unit {0}) c.partitions footprints s.trace is.sets.footprints j p stands in
       let had = had_has c.partitions (s.events + 1) s.trace footprints is.sets.rising is.sets.footprints j p found.0 stands found.1 (s.lists x) vector (is.sets.lists x below j) in
       let same : has_named (footprints_of k) (list_of k x) (record { server = j; packet = p }) ≡ is_had_by found.0 vector = ap (λ (o : Option Footprint). option_map_or (λ (f : Footprint). is_had_by f vector) o true) found.1 in (

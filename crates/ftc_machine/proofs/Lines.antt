@@ -5,7 +5,7 @@ use Rattle.ftc_script.specs.declared.line.ScriptLine.{ScriptLine}
 use Rattle.ftc_script.specs.Steps.{at_of}
 use Rattle.std.proofs.lemmas.Bool.{true≢false, cases_lt}
 use Rattle.ftc_journal.specs.declared.event.Event.TheVariants as event
-use Rattle.ftc_script.specs.declared.line.ScriptLine.TheVariants.{Crash, Recover}
+use Rattle.ftc_script.specs.declared.line.ScriptLine.TheVariants.{Recover}
 use Rattle.ftc_protocol.specs.Legal.{MayHappen, IsNextLine}
 use Rattle.ftc_protocol.specs.Setting.{Setting, servers}
 use Rattle.ftc_machine.specs.Slots.{has_such}

@@ -1,5 +1,5 @@
 -- What is kept after a recovery.
-use Rattle.std.proofs.Common.{◌≡◌, ◌≢◌, ℕ, ◌+◌, ◌<◌, ◌==◌, ◌&&◌, ◌||◌, ◌↔◌, if◌then◌else◌, not, Bool, true, false, List, [], length, filter, Option, Some, None, inl, inr, refl, sym, ◌∙◌, ap, subst, slice_set, arith}
+use Rattle.std.proofs.Common.{◌≡◌, ◌≢◌, ℕ, ◌+◌, ◌<◌, ◌==◌, ◌&&◌, ◌||◌, if◌then◌else◌, not, Bool, true, false, List, [], length, filter, Option, Some, None, inl, inr, refl, sym, ◌∙◌, ap, subst, slice_set, arith}
 use Rattle.std.specs.Prelude.{fold}
 use Rattle.std.specs.FinMap.{empty}
 use Rattle.std.specs.Option.{option_map_or}

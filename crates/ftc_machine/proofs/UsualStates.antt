@@ -17,17 +17,21 @@ use Rattle.ftc_protocol.specs.Orderly.{IsOrderly, IsNeeding}
 use Rattle.ftc_protocol.proofs.Places.{IsSerial, serial_by}
 use Rattle.ftc_machine.specs.Usual.{IsUsual, AreUsual}
 
-pub usual_by : ((setting : Setting) → IsSetting setting → (before after : List Event) → IsRun setting (before ++ after) → IsSound setting (state_after setting (opening setting) before))
+pub usual_by : ((setting : Setting) → IsSetting setting → (before after : List Event)
+    → IsRun setting (before ++ after) → IsSound setting (state_after setting (opening setting) before))
     → ((setting : Setting) (state : ChainState) → IsRunState setting state → IsOrderly setting state)
     → ((setting : Setting) (state : ChainState) → IsRunState setting state → AreFronts setting state)
     → ((setting : Setting) (state : ChainState) → IsRunState setting state → IsNeeding state)
-    → ((setting : Setting) (state : ChainState) (server : ℕ) (visits : List VisitName) → IsRunState setting state → MayHappen setting state (Recover server visits)
-    → (group packet other : ℕ) → In (names visits) group packet → IsBefore setting.partitions state.trace group packet other → In (names visits) group other)
+    → ((setting : Setting) (state : ChainState) (server : ℕ) (visits : List VisitName) → IsRunState setting state
+    → MayHappen setting state (Recover server visits)
+    → (group packet other : ℕ) → In (names visits) group packet
+    → IsBefore setting.partitions state.trace group packet other → In (names visits) group other)
     → (setting : Setting) → AreUsual setting
 usual_by moment order fronts needs undone setting state run = record {
   order = order setting state run;
   fronts = fronts setting state run;
-  sound = subst (IsSound setting) run.reaches (moment setting run.right run.journal [] (subst (IsRun setting) (sym (append-nil run.journal)) run.run));
+  sound = subst (IsSound setting) run.reaches (moment setting run.right run.journal []
+      (subst (IsRun setting) (sym (append-nil run.journal)) run.run));
   needs = needs setting state run;
   undone = λ server visits. undone setting state server visits run;
 }

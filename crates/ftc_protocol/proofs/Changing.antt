@@ -1,5 +1,5 @@
 -- The two laws of what a visit changes.
-use Rattle.std.proofs.Common.{◌≡◌, ◌↔◌, ℕ, List, [], ◌∷◌, inl, inr, map, refl, ap, ◌∙◌, subst, sym}
+use Rattle.std.proofs.Common.{◌≡◌, ◌↔◌, ℕ, List, [], ◌∷◌, inl, inr, map, refl, ap, ◌∙◌}
 use Rattle.ftc_base.specs.Partition.{partition_of}
 use Rattle.ftc_base.specs.declared.ask.Write.{Write}
 use Rattle.std.specs.List.{AllByRecursion}

@@ -1,19 +1,17 @@
 -- What was released stays, and a run goes on.
-use Rattle.std.proofs.Common.{◌≡◌, ◌≢◌, ℕ, ◌<◌, ◌≤◌, false, List, [], ◌∷◌, inr, refl, sym, subst, ◌∙◌, arith}
+use Rattle.std.proofs.Common.{◌≡◌, ◌≢◌, ℕ, ◌<◌, ◌≤◌, false, List, inr, refl, sym, subst, ◌∙◌, arith}
 use Rattle.std.proofs.lemmas.Bool.{true≢false}
-use Rattle.std.proofs.Common.{◌++◌}
 use Rattle.std.proofs.lemmas.Bool.{false_from_ne_true}
 use Rattle.ftc_script.specs.declared.line.ScriptLine.TheVariants as script_line
 use Rattle.ftc_serial.specs.Words.{AnyOf}
 use Rattle.ftc_journal.specs.declared.event.Event.TheVariants.{Apply, Carry, Crash, Enter, Lose, Pass, Propagate, Pull, Recover, Release, Take, Visit}
-use Rattle.ftc_protocol.specs.Run.{AreLegal, state_after}
 use Rattle.ftc_protocol.specs.State.{ChainState}
 use Rattle.ftc_journal.specs.declared.event.Event.{Event}
 use Rattle.ftc_serial.specs.Serial.{Given}
 use Rattle.ftc_protocol.proofs.Inv.{Inv}
 use Rattle.ftc_protocol.proofs.Premises.{IsGood}
 use Rattle.ftc_protocol.specs.Trace.{IsInTrace}
-use Rattle.ftc_protocol.specs.Legal.{IsLegal, MayHappen}
+use Rattle.ftc_protocol.specs.Legal.{MayHappen}
 use Rattle.ftc_protocol.specs.Setting.{Setting, servers}
 use Rattle.ftc_protocol.proofs.Passed.{Somehow}
 use Rattle.ftc_protocol.proofs.Ring.{apart_cases, last_live, next_live}

@@ -1,97 +1,98 @@
 pub mod Places
-pub mod Removed
+mod Removed
 pub mod Undone
 pub mod Ring
 pub mod TraceLemmas
 pub mod Sets
 pub mod RunLists
 pub mod Earlier
-pub mod Awake
-pub mod Listing
-pub mod Nesting
-pub mod Carrying
-pub mod Between
+mod Awake
+mod Listing
+mod Nesting
+mod Carrying
+mod Between
 pub mod Ready
-pub mod Premises
-pub mod Having
-pub mod Within
-pub mod Passed
+mod Premises
+mod Having
+mod Within
+mod Passed
 pub mod Changing
 pub mod Stores
-pub mod Undoing
-pub mod World
-pub mod Inv
-pub mod SmallEvents
-pub mod Ends
-pub mod Visiting
-pub mod Leaving
+mod Undoing
+mod World
+mod Inv
+mod SmallEvents
+mod Ends
+mod Visiting
+mod Leaving
 pub mod Listed
-pub mod Recovering
-pub mod Every
-pub mod First
-pub mod Fallen
-pub mod Moments
-pub mod Sound
-pub mod Pending
-pub mod Waiting
-pub mod Soon
-pub mod Progress
-pub mod Finished
-pub mod Forever
-pub mod Supposed
-pub mod Prefixes
-pub mod Lined
-pub mod Inside
-pub mod Full
-pub mod Complete
-pub mod Losing
-pub mod Calm
-pub mod Shapes
-pub mod Ended
+mod Recovering
+mod Every
+mod First
+mod Fallen
+mod Moments
+mod Sound
+mod Pending
+mod Waiting
+mod Soon
+mod Progress
+mod Finished
+mod Forever
+mod Supposed
+mod Prefixes
+mod Lined
+mod Inside
+mod Full
+mod Complete
+mod Losing
+mod Calm
+mod Shapes
+mod Ended
 pub mod HasEach
-pub mod Counting
-pub mod Telling
-pub mod Few
-pub mod Falling
-pub mod Example
-pub mod Traced
+mod Counting
+mod Telling
+mod Few
+mod Falling
+mod Example
+mod Traced
 pub mod Stopped
-pub mod Whole
-pub mod Droppable
-pub mod Driven
-pub mod Lone
-pub mod Entering
-pub mod LoneVisit
-pub mod LonePass
-pub mod LoneTake
-pub mod LastPass
-pub mod LoneRelease
-pub mod Course
-pub mod DriveTrace
-pub mod PlainRun
-pub mod PlacedFates
-pub mod PlainFates
-pub mod InTurn
-pub mod Working
-pub mod Choiceless
-pub mod Orderly
-pub mod Radix
-pub mod Riding
-pub mod Needing
-pub mod Fronts
-pub mod Ahead
-pub mod Stated
-pub mod Settled
-pub mod Undoings
-pub mod Repeated
-pub mod Members
-pub mod Released
-pub mod Saving
-pub mod Meant
-pub mod Ordered
-pub mod Dated
-pub mod OneWay
-pub mod Deciding
-pub mod Legally
-pub mod Firstly
-pub mod LoneFirst
+mod Whole
+mod Droppable
+mod Driven
+mod Lone
+mod Entering
+mod LoneVisit
+mod LonePass
+mod LoneTake
+mod LastPass
+mod LoneRelease
+mod Course
+mod DriveTrace
+mod PlainRun
+mod PlacedFates
+mod PlainFates
+mod InTurn
+mod Working
+mod Choiceless
+mod Orderly
+mod Radix
+mod Riding
+mod Needing
+mod Fronts
+mod Ahead
+mod Stated
+mod Settled
+mod Undoings
+mod Repeated
+mod Members
+mod Released
+mod Saving
+mod RingTests
+mod Meant
+mod Ordered
+mod Dated
+mod OneWay
+mod Deciding
+mod Legally
+mod Firstly
+mod LoneFirst

@@ -1,12 +1,12 @@
 -- Lists hold changing visits of the trace, a live head has all of its middlebox, and lists are closed under `before`.
-use Rattle.std.proofs.Common.{◌≡◌, ℕ, ◌==◌, Bool, true, false, List, ◌∷◌, ◌⊎◌, inl, inr, refl, sym, subst, eqb-true, eq-eqb}
-use Rattle.std.proofs.lemmas.Bool.{true≢false, or_cases, or_left, or_right, and_parts, and_from}
+use Rattle.std.proofs.Common.{◌≡◌, ℕ, Bool, true, false, List, ◌∷◌, ◌⊎◌, inl, inr, refl, sym, subst}
+use Rattle.std.proofs.lemmas.Bool.{true≢false}
 use Rattle.ftc_serial.specs.Serial.{Entry, Given, Visited}
 use Rattle.ftc_protocol.specs.Visits.{In, Visits, just, no_visits, union}
 use Rattle.ftc_protocol.specs.Trace.{IsBefore, IsChanging, IsInTrace}
 use Rattle.ftc_serial.specs.Take.{Outcome}
 use Rattle.ftc_protocol.specs.Setting.{Setting}
-use Rattle.ftc_protocol.proofs.Sets.{gained, kept, gets, in_left}
+use Rattle.ftc_protocol.proofs.Sets.{gained, kept, gets}
 use Rattle.ftc_protocol.proofs.TraceLemmas.{before_last, before_left, meets_changing, stands_map, visit_left, visit_stood}
 use Rattle.ftc_protocol.specs.Changes.{is_changing}
 use Rattle.ftc_serial.specs.Removal.{left_of}

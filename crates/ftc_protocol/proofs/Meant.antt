@@ -1,13 +1,13 @@
 -- Where packets were lost, and what the tests of standing and of undone visits say.
-use Rattle.std.proofs.Common.{◌≡◌, ◌≢◌, ◌↔◌, ℕ, ◌+◌, ◌<◌, ◌≤◌, ◌==◌, Bool, true, false, List, [], ◌∷◌, ◌++◌, length, refl, sym, ap, subst, ◌∙◌, arith, inl, inr, ◌⊎◌, if◌then◌else◌, eqb-true, eq-eqb, leb-true}
-use Rattle.std.proofs.lemmas.Bool.{true≢false, cases_eq, cases_lt, eqb-false, false_from_ne_true}
+use Rattle.std.proofs.Common.{◌≡◌, ◌≢◌, ◌↔◌, ℕ, ◌+◌, ◌<◌, ◌==◌, true, false, List, [], ◌∷◌, ◌++◌, length, refl, sym, ap, subst, ◌∙◌, arith, inl, inr, ◌⊎◌, if◌then◌else◌, eqb-true, leb-true}
+use Rattle.std.proofs.lemmas.Bool.{true≢false, cases_lt, eqb-false, false_from_ne_true}
 use Rattle.ftc_journal.specs.declared.event.Event.{Event}
 use Rattle.ftc_journal.specs.declared.event.Event.TheVariants.{Recover}
 use Rattle.ftc_journal.specs.declared.event.VisitName.{VisitName}
 use Rattle.ftc_serial.specs.Trace.{names}
 use Rattle.ftc_ring.specs.Ring.{apart}
-use Rattle.ftc_ring.specs.Live.{IsBetween, IsFirstLive, span}
-use Rattle.ftc_protocol.specs.declared.fate.Fate.TheVariants.{Lost, Inside}
+use Rattle.ftc_ring.specs.Live.{IsBetween, IsFirstLive}
+use Rattle.ftc_protocol.specs.declared.fate.Fate.TheVariants.{Lost}
 use Rattle.ftc_protocol.specs.Setting.{Setting, servers, shape, IsSetting}
 use Rattle.ftc_protocol.specs.Visits.{In}
 use Rattle.ftc_protocol.specs.State.{ChainState, opening}

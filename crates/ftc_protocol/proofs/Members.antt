@@ -1,5 +1,5 @@
 -- What is in a list that is put together of lists.
-use Rattle.std.proofs.Common.{◌≡◌, ◌⊎◌, ℕ, zero, suc, List, [], ◌∷◌, ◌++◌, refl, inl, inr, sym, arith, subst, Contains}
+use Rattle.std.proofs.Common.{◌≡◌, ◌⊎◌, zero, suc, List, [], ◌∷◌, ◌++◌, refl, inl, inr, sym, arith, subst, Contains}
 use Rattle.std.specs.List.{flat_map}
 
 pub in_head : {A : Type 0} (x : A) (xs : List A) → Contains (x ∷ xs) x

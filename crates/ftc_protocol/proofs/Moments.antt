@@ -1,5 +1,5 @@
 -- The trace now: the visits that don't stand can be taken out.
-use Rattle.std.proofs.Common.{◌≡◌, ℕ, ◌+◌, ◌-◌, ◌<◌, ◌≤◌, ◌==◌, ◌&&◌, if◌then◌else◌, Bool, true, false, cond, not, List, [], ◌∷◌, inl, inr, refl, sym, ap, subst, ◌∙◌, arith, eqb-true}
+use Rattle.std.proofs.Common.{◌≡◌, ℕ, ◌+◌, ◌-◌, ◌<◌, ◌≤◌, true, false, List, [], ◌∷◌, inl, inr, refl, sym, subst, ◌∙◌, arith}
 use Rattle.std.proofs.lemmas.Bool.{true≢false, cases_eq, cases_lt}
 use Rattle.std.proofs.lemmas.Bool.{leb-true, false_from_ne_true}
 use Rattle.ftc_ring.specs.Ring.{IsRing}
@@ -29,7 +29,6 @@ use Rattle.ftc_protocol.proofs.SmallEvents.{fit_now}
 use Rattle.ftc_protocol.proofs.Having.{has_before, has_stable, in_has}
 use Rattle.ftc_protocol.proofs.Stores.{stands_below, store_all, touching_changing}
 use Rattle.ftc_protocol.proofs.Removed.{taken_out}
-use Rattle.ftc_store.specs.Store.{written}
 use Rattle.ftc_protocol.proofs.Changing.{written_changed}
 
 -- a set of visits with which go those that they are before, and the later ones of their packets, none of which is released

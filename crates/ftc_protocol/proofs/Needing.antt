@@ -1,13 +1,12 @@
 -- What a packet needs are touching visits of its own in the trace.
-use Rattle.std.proofs.Common.{◌≡◌, ◌≢◌, ℕ, ◌+◌, ◌<◌, ◌≤◌, ◌&&◌, ◌||◌, ◌==◌, Bool, true, false, not, List, [], ◌∷◌, refl, sym, ap, subst, ◌∙◌, arith, inl, inr, ◌⊎◌, Option, Some, None, is_some, if◌then◌else◌, eqb-true}
+use Rattle.std.proofs.Common.{◌≡◌, ℕ, ◌+◌, ◌<◌, ◌&&◌, ◌||◌, ◌==◌, Bool, true, false, not, List, [], ◌∷◌, refl, sym, ap, subst, ◌∙◌, inl, inr, Option, Some, None, is_some, if◌then◌else◌, eqb-true}
 use Rattle.std.proofs.lemmas.Bool.{true≢false, and_parts, or_cases, not-true}
 use Rattle.std.proofs.lemmas.Option.{none-some, same_Some}
 use Rattle.ftc_journal.specs.declared.event.Event.{Event}
 use Rattle.ftc_journal.specs.declared.event.Event.TheVariants.{Apply, Carry, Crash, Enter, Lose, Pass, Propagate, Pull, Recover, Release, Take, Visit}
 use Rattle.ftc_journal.specs.declared.event.VisitName.{VisitName}
 use Rattle.ftc_serial.specs.declared.position.Position.TheVariants as position
-use Rattle.ftc_serial.specs.Words.{with_at}
-use Rattle.ftc_serial.specs.Serial.{Entry, Visited, Given}
+use Rattle.ftc_serial.specs.Serial.{Entry, Visited}
 use Rattle.ftc_serial.specs.Trace.{names}
 use Rattle.ftc_serial.specs.Removal.{left_of}
 use Rattle.ftc_serial.proofs.Functions.{with_at_cases}
@@ -15,15 +14,15 @@ use Rattle.ftc_protocol.specs.Setting.{Setting, servers, packet_at, IsSetting}
 use Rattle.ftc_protocol.specs.State.{ChainState, Message, Withheld, Where, Held, Queued, opening}
 use Rattle.ftc_protocol.specs.Changes.{is_touching}
 use Rattle.ftc_protocol.specs.Trace.{IsTouching, IsSomeVisit}
-use Rattle.ftc_protocol.specs.Next.{next, fresh_message, taken_message, visited_message, sent_message, sent_on, is_away, is_at, outcome_at, drop_if, withheld_of, withheld_packet}
+use Rattle.ftc_protocol.specs.Next.{next, fresh_message, taken_message, visited_message, sent_message, sent_on, is_away, is_at, outcome_at, withheld_of, withheld_packet}
 use Rattle.ftc_protocol.specs.Recovery.{following_live, is_dropped}
 use Rattle.ftc_protocol.specs.Run.{IsRun, AreLegal, state_after}
-use Rattle.ftc_protocol.specs.Legal.{MayHappen, MayLeave, is_sent}
+use Rattle.ftc_protocol.specs.Legal.{MayHappen, is_sent}
 use Rattle.ftc_protocol.specs.Orderly.{IsNeeding}
 use Rattle.ftc_protocol.proofs.Premises.{IsGood, ticked}
 use Rattle.ftc_protocol.proofs.Supposed.{is_good}
 use Rattle.ftc_protocol.proofs.Awake.{kept_drop}
-use Rattle.ftc_protocol.proofs.Places.{Place, Waits, Passed, IsSerial, serial_of, placed}
+use Rattle.ftc_protocol.proofs.Places.{Place, Passed, IsSerial, serial_of, placed}
 use Rattle.ftc_protocol.proofs.Earlier.{visited_earlier}
 use Rattle.ftc_protocol.proofs.TraceLemmas.{visit_left, visit_stood}
 use Rattle.ftc_protocol.proofs.Passed.{Somehow, some_stands}
@@ -31,7 +30,7 @@ use Rattle.ftc_protocol.proofs.Stores.{stands_below}
 use Rattle.ftc_protocol.proofs.Inv.{Inv, expected, each_message}
 use Rattle.ftc_protocol.proofs.Every.{keeps}
 use Rattle.ftc_protocol.proofs.Sound.{visited_before, visited_all}
-use Rattle.ftc_protocol.proofs.Complete.{IsReached, reached, keeps_reached, opens_reached}
+use Rattle.ftc_protocol.proofs.Complete.{IsReached, keeps_reached, opens_reached}
 
 -- a packet that is under way
 abbrev IsMoving : Place → Type 0

@@ -1,7 +1,7 @@
 -- What else holds of every state of a run.
-use Rattle.std.proofs.Common.{◌≡◌, ◌≢◌, ◌↔◌, ℕ, ◌+◌, ◌<◌, ◌≤◌, ◌&&◌, ◌||◌, ◌==◌, Bool, true, false, not, List, [], ◌∷◌, ◌++◌, length, refl, sym, ap, subst, ◌∙◌, arith, inl, inr, Option, Some, None, is_some, if◌then◌else◌}
+use Rattle.std.proofs.Common.{◌≡◌, ◌≢◌, ◌↔◌, ℕ, ◌+◌, ◌<◌, ◌≤◌, ◌&&◌, ◌==◌, Bool, true, false, not, List, [], ◌∷◌, ◌++◌, length, refl, sym, ap, subst, ◌∙◌, arith, inl, inr, Option, Some, None, is_some, if◌then◌else◌}
 use Rattle.std.proofs.lemmas.Bool.{true≢false, and_parts, or_cases}
-use Rattle.std.proofs.lemmas.Option.{none-some, same_Some}
+use Rattle.std.proofs.lemmas.Option.{same_Some}
 use Rattle.ftc_journal.specs.declared.event.Event.{Event}
 use Rattle.ftc_journal.specs.declared.event.Event.TheVariants.{Apply, Carry, Crash, Enter, Lose, Pass, Propagate, Pull, Recover, Release, Take, Visit}
 use Rattle.ftc_serial.specs.Words.{with_at}
@@ -10,10 +10,10 @@ use Rattle.ftc_ring.specs.Live as live
 use Rattle.ftc_protocol.specs.declared.fate.Fate.{Fate}
 use Rattle.ftc_protocol.specs.declared.fate.Fate.TheVariants.{Inside, Lost, Filtered, Released}
 use Rattle.ftc_protocol.specs.Setting.{Setting, servers, shape, IsSetting}
-use Rattle.ftc_protocol.specs.State.{ChainState, Message, Withheld, Where, Held, Queued, opening}
+use Rattle.ftc_protocol.specs.State.{ChainState, Message, Where, Held, Queued, opening}
 use Rattle.ftc_protocol.specs.Next.{next, has_packet, loses_packet, is_undone_drop, is_away, is_at}
 use Rattle.ftc_protocol.specs.Run.{IsRun, AreLegal, state_after}
-use Rattle.ftc_protocol.specs.Legal.{MayHappen, MayLeave}
+use Rattle.ftc_protocol.specs.Legal.{MayHappen}
 use Rattle.ftc_protocol.specs.Orderly.{aim, IsOrderly, lines_done}
 use Rattle.ftc_script.specs.declared.line.ScriptLine.{ScriptLine}
 use Rattle.ftc_script.specs.declared.line.ScriptLine.TheVariants as line

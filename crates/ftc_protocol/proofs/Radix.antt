@@ -1,27 +1,23 @@
 -- The seven numbers as one.
 use Rattle.std.proofs.Common.{◌≡◌, ◌≢◌, ℕ, zero, suc, ◌+◌, ◌-◌, ◌*◌, ◌<◌, ◌≤◌, ◌==◌, ◌&&◌, Bool, true, false, not, List, [], ◌∷◌, ◌++◌, length, refl, sym, ap, subst, ◌∙◌, arith, inl, inr, Option, Some, None, is_some, ◌⊎◌, eqb-true, if◌then◌else◌}
-use Rattle.std.specs.FinMap.{get}
-use Rattle.std.proofs.lemmas.Bool.{true≢false, cases_eq, cases_lt, eqb-false}
+use Rattle.std.proofs.lemmas.Bool.{cases_eq}
 use Rattle.ftc_journal.specs.declared.event.Event.{Event}
 use Rattle.ftc_serial.specs.declared.position.Position.{Position}
 use Rattle.ftc_serial.specs.declared.position.Position.TheVariants as position
-use Rattle.ftc_serial.specs.Words.{with_at}
 use Rattle.ftc_serial.specs.Serial.{Entry, Visited, Given}
 use Rattle.ftc_serial.proofs.Functions.{with_at_cases}
 use Rattle.ftc_protocol.specs.Setting.{Setting, servers, count, IsSetting}
-use Rattle.ftc_protocol.specs.State.{ChainState, Where, Held, Queued, Message, Withheld, opening}
-use Rattle.ftc_protocol.specs.Trace.{IsSomeVisit, IsVisit}
-use Rattle.ftc_protocol.specs.Run.{IsRun, AreLegal, state_after}
-use Rattle.ftc_protocol.specs.Next.{next}
+use Rattle.ftc_protocol.specs.State.{ChainState, Where, Held, Queued, Message, opening}
+use Rattle.ftc_protocol.specs.Trace.{IsSomeVisit}
+use Rattle.ftc_protocol.specs.Run.{IsRun, state_after}
 use Rattle.ftc_protocol.specs.Measure.{sum_below, one_for, way_from, way_of, lacks, lacking, most_messages, measure, IsBelow, most_of, AreAtMost, number_of, work_left}
-use Rattle.ftc_protocol.proofs.Places.{IsSerial, serial_of, Waits, place_after, placed}
-use Rattle.ftc_protocol.proofs.Inv.{Inv}
-use Rattle.ftc_protocol.proofs.Few.{IsCounted, counted_on, opens_counted}
+use Rattle.ftc_protocol.proofs.Places.{IsSerial, serial_of, place_after, placed}
+use Rattle.ftc_protocol.proofs.Few.{counted_on, opens_counted}
 use Rattle.ftc_protocol.proofs.Orderly.{licensed}
 use Rattle.ftc_protocol.specs.Orderly.{lines_done}
 use Rattle.ftc_script.specs.declared.line.ScriptLine.{ScriptLine}
 use Rattle.ftc_protocol.proofs.Falling.{falls_on}
-use Rattle.ftc_protocol.proofs.RunLists.{first_legal, state_on}
+use Rattle.ftc_protocol.proofs.RunLists.{first_legal}
 
 -- ---- digits
 

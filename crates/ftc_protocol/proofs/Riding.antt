@@ -1,18 +1,18 @@
 -- Each log rides on one message at most.
-use Rattle.std.proofs.Common.{◌≡◌, ◌≢◌, ℕ, ◌+◌, ◌<◌, ◌≤◌, ◌&&◌, ◌||◌, ◌==◌, Bool, true, false, not, nat_lt, List, [], ◌∷◌, refl, sym, ap, subst, ◌∙◌, arith, inl, inr, ◌⊎◌, Option, Some, None, is_some, if◌then◌else◌, eqb-true}
-use Rattle.std.proofs.lemmas.Bool.{true≢false, and_parts, or_cases, cases_eq}
+use Rattle.std.proofs.Common.{◌≡◌, ℕ, ◌<◌, ◌&&◌, ◌==◌, Bool, true, false, not, nat_lt, List, [], ◌∷◌, refl, sym, ap, subst, ◌∙◌, arith, inl, inr, ◌⊎◌, Option, Some, None, if◌then◌else◌}
+use Rattle.std.proofs.lemmas.Bool.{true≢false, and_parts, or_cases}
 use Rattle.std.proofs.lemmas.Option.{none-some, same_Some}
 use Rattle.ftc_journal.specs.declared.event.Event.{Event}
 use Rattle.ftc_journal.specs.declared.event.Event.TheVariants.{Apply, Carry, Crash, Enter, Lose, Pass, Propagate, Pull, Recover, Release, Take, Visit}
 use Rattle.ftc_serial.specs.Words.{with_at}
 use Rattle.ftc_serial.proofs.Functions.{with_at_cases}
 use Rattle.ftc_protocol.specs.Setting.{Setting, servers, is_tail, IsSetting}
-use Rattle.ftc_protocol.specs.Visits.{Visits, In, just, no_visits}
+use Rattle.ftc_protocol.specs.Visits.{Visits, In, just}
 use Rattle.ftc_protocol.specs.State.{ChainState, Message, opening}
 use Rattle.ftc_protocol.specs.Next.{next, fresh_message, taken_message, visited_message, sent_message, sent_on, is_away, is_at, outcome_at, drop_if, logs_of}
 use Rattle.ftc_protocol.specs.Recovery.{following_live, is_dropped}
 use Rattle.ftc_protocol.specs.Run.{IsRun, AreLegal, state_after}
-use Rattle.ftc_protocol.specs.Legal.{MayHappen, MayLeave, is_sent}
+use Rattle.ftc_protocol.specs.Legal.{MayHappen, is_sent}
 use Rattle.ftc_protocol.specs.Changes.{is_touching}
 use Rattle.ftc_protocol.specs.Orderly.{IsRiding}
 use Rattle.ftc_protocol.proofs.Premises.{IsGood, ticked}
@@ -23,7 +23,7 @@ use Rattle.ftc_protocol.proofs.Places.{Waits, serial_of}
 use Rattle.ftc_protocol.proofs.Earlier.{visited_earlier}
 use Rattle.ftc_protocol.proofs.Passed.{some_stands}
 use Rattle.ftc_protocol.proofs.Inv.{Inv, expected}
-use Rattle.ftc_protocol.proofs.Complete.{IsReached, reached, keeps_reached, opens_reached}
+use Rattle.ftc_protocol.proofs.Complete.{IsReached, keeps_reached, opens_reached}
 
 module _ (c : Setting) (good : IsGood c) (s : ChainState) (h : Inv c s) (is : IsRiding s) where
   abbrev NoMessage : ℕ → ℕ → Type 0

@@ -1,5 +1,5 @@
 -- The second example is a finished run: each of its events is legal in its turn, and none is at its end.
-use Rattle.std.proofs.Common.{◌≡◌, ℕ, ◌<◌, ◌≤◌, ◌&&◌, ◌||◌, ◌==◌, not, nat_lt, Bool, true, false, [], ◌∷◌, inl, inr, refl, sym, ap, subst, ◌∙◌, arith, Some, None, ltb-true, eqb-true}
+use Rattle.std.proofs.Common.{◌≡◌, ℕ, ◌<◌, ◌≤◌, ◌&&◌, ◌||◌, ◌==◌, not, Bool, true, false, [], inl, inr, refl, sym, ap, subst, ◌∙◌, arith, Some, None, ltb-true, eqb-true}
 use Rattle.std.proofs.lemmas.Bool.{true≢false, cases_eq, and_parts, or_cases, false_from_ne_true}
 use Rattle.std.proofs.lemmas.Option.{none-some, same_Some}
 use Rattle.ftc_ring.specs.Live.{HasLive, IsLive}
@@ -13,14 +13,14 @@ use Rattle.ftc_mbox.specs.Ask.{ask}
 use Rattle.ftc_packet.specs.Flow.{flow_found, flow_in, is_flow}
 use Rattle.ftc_packet.specs.Layout.{word_at, transport_start}
 use Rattle.ftc_protocol.specs.declared.fate.Fate.TheVariants as became
-use Rattle.ftc_protocol.specs.Setting.{shape, servers, is_tail, IsSetting}
-use Rattle.ftc_protocol.specs.Visits.{Visits, In, no_visits, union, just}
+use Rattle.ftc_protocol.specs.Setting.{shape, is_tail, IsSetting}
+use Rattle.ftc_protocol.specs.Visits.{In, no_visits, union, just}
 use Rattle.ftc_protocol.specs.Changes.{changes}
 use Rattle.ftc_protocol.specs.State.{ChainState, Message, Withheld, Where, Queued, opening}
 use Rattle.ftc_protocol.specs.Trace.{Has}
 use Rattle.ftc_protocol.specs.Legal.{MayHappen}
 use Rattle.ftc_protocol.specs.Known.{ServerHas, IsDue, knows}
-use Rattle.ftc_protocol.specs.Recovery.{undone_visits, following_live, is_dropped}
+use Rattle.ftc_protocol.specs.Recovery.{following_live, is_dropped}
 use Rattle.ftc_protocol.specs.Next.{next, drop_if, is_at, logs_of}
 use Rattle.ftc_protocol.specs.Run.{IsRun, IsFinished, state_after}
 use Rattle.ftc_protocol.specs.Example.{monitor_and_pass, saving, datagram}
@@ -82,9 +82,12 @@ elsewhere f v p ne = with_at_cases (λ x. x ≡ f p) f 0 v p (λ same. absurd (n
 same_both : {A : Type 0} (f : ℕ → A) (v w : A) (p : ℕ) → v ≡ w → ((q : ℕ) → f q ≡ w) → with_at f 0 v p ≡ w
 same_both f v w p here there = with_at_cases (λ x. x ≡ w) f 0 v p (λ same. here) (λ other. there p)
 
-least : (s : ChainState) (m : Message) → s.message 0 ≡ Some m → ((p : ℕ) → (p ≡ 0 → ⊥) → s.message p ≡ None) → (other : ℕ) (queued : Message) → s.message other ≡ Some queued → (place : Where) → queued.place ≡ place → m.since ≤ queued.since
+least : (s : ChainState) (m : Message) → s.message 0 ≡ Some m → ((p : ℕ) → (p ≡ 0 → ⊥) → s.message p ≡ None)
+    → (other : ℕ) (queued : Message) → s.message other ≡ Some queued → (place : Where) → queued.place ≡ place
+    → m.since ≤ queued.since
 least s m at none other queued is place held = elim (cases_eq other 0) [
-  | inl same ↦ subst (λ (x : Message). m.since ≤ x.since) (same_Some m queued (sym at ∙ subst (λ p. s.message p ≡ Some queued) same is)) (omega arith)
+  | inl same ↦ subst (λ (x : Message). m.since ≤ x.since) (same_Some m queued
+      (sym at ∙ subst (λ p. s.message p ≡ Some queued) same is)) (omega arith)
   | inr ne ↦ absurd (none-some queued (sym (none other ne) ∙ is))
 ]
 
@@ -137,29 +140,41 @@ w3 p = same_both s2.withheld _ None p refl (λ q. refl)
 
 w12 : (p : ℕ) → s12.withheld p ≡ None
 unfolding asked asked_from ask flow_found flow_in is_flow word_at transport_start changes
-w12 p = with_at_cases (λ x. x ≡ None) s11.withheld 0 None p (λ same. refl) (λ other. elsewhere s10.withheld _ p other ∙ w3 p)
+w12 p = with_at_cases (λ x. x ≡ None) s11.withheld 0 None p (λ same. refl)
+    (λ other. elsewhere s10.withheld _ p other ∙ w3 p)
 
 -- ---- the logs: that of the count alone
 
 one_log : (test : Bool) (g p : ℕ) → In (union no_visits (just 0 0 test)) g p → (g ≡ 0) × (p ≡ 0)
-one_log test g p is = elim (or_cases false (just 0 0 test g p) is) [ inl no_log ↦ absurd (true≢false (sym no_log)) | inr here ↦ let at = in_one 0 0 test g p here in (sym at.0, at.1) ]
+one_log test g p is = elim (or_cases false (just 0 0 test g p) is) [
+  | inl no_log ↦ absurd
+      (true≢false (sym no_log))
+  | inr here ↦ let at = in_one 0 0 test g p here in (sym at.0, at.1)
+]
 
 -- those that ride from server 0
-sent_log : (test : Bool) (g p : ℕ) → ((union no_visits (just 0 0 test) g p && not (is_tail monitor_and_pass g 0)) || (true && false)) ≡ true → (g ≡ 0) × (p ≡ 0)
-sent_log test g p is = elim (or_cases (union no_visits (just 0 0 test) g p && not (is_tail monitor_and_pass g 0)) false is) [
-  | inl own ↦ one_log test g p (and_parts (union no_visits (just 0 0 test) g p) (not (is_tail monitor_and_pass g 0)) own).0
-  | inr no_log ↦ absurd (true≢false (sym no_log))
-]
+sent_log : (test : Bool) (g p : ℕ) → ((union no_visits (just 0 0 test) g p && not (is_tail monitor_and_pass g 0))
+    || (true && false)) ≡ true → (g ≡ 0) × (p ≡ 0)
+sent_log test g p is = elim (or_cases (union no_visits (just 0 0 test) g p
+    && not (is_tail monitor_and_pass g 0)) false is) [
+      | inl own ↦ one_log test g p (and_parts (union no_visits (just 0 0 test) g p)
+          (not (is_tail monitor_and_pass g 0)) own).0
+      | inr no_log ↦ absurd (true≢false (sym no_log))
+    ]
 
 -- and those that are left after the second visit
-later_log : (g p : ℕ) → (((union no_visits (just 0 0 true) g p && not (is_tail monitor_and_pass g 0)) || (true && false)) || just 1 0 false g p) ≡ true → (g ≡ 0) × (p ≡ 0)
-later_log g p is = elim (or_cases ((union no_visits (just 0 0 true) g p && not (is_tail monitor_and_pass g 0)) || (true && false)) (just 1 0 false g p) is) [
-  | inl sent ↦ sent_log true g p sent
-  | inr new ↦ absurd (true≢false (sym (in_one 1 0 false g p new).2))
-]
+later_log : (g p : ℕ) → (((union no_visits (just 0 0 true) g p && not (is_tail monitor_and_pass g 0))
+    || (true && false)) || just 1 0 false g p) ≡ true → (g ≡ 0) × (p ≡ 0)
+later_log g p is = elim (or_cases ((union no_visits (just 0 0 true) g p && not (is_tail monitor_and_pass g 0))
+    || (true && false)) (just 1 0 false g p) is) [
+      | inl sent ↦ sent_log true g p sent
+      | inr new ↦ absurd (true≢false (sym (in_one 1 0 false g p new).2))
+    ]
 
-there : (s : ChainState) (k g p : ℕ) → ServerHas monitor_and_pass s k 0 0 → (g ≡ 0) × (p ≡ 0) → ServerHas monitor_and_pass s k g p
-there s k g p has at = subst (λ x. ServerHas monitor_and_pass s k x p) (sym at.0) (subst (λ x. ServerHas monitor_and_pass s k 0 x) (sym at.1) has)
+there : (s : ChainState) (k g p : ℕ) → ServerHas monitor_and_pass s k 0 0 → (g ≡ 0) × (p ≡ 0)
+    → ServerHas monitor_and_pass s k g p
+there s k g p has at = subst (λ x. ServerHas monitor_and_pass s k x p) (sym at.0)
+    (subst (λ x. ServerHas monitor_and_pass s k 0 x) (sym at.1) has)
 
 has2 : ServerHas monitor_and_pass s2 0 0 0
 unfolding asked asked_from ask flow_found flow_in is_flow word_at transport_start changes
@@ -177,7 +192,18 @@ has10 = record { changing = λ _. refl; other = λ isnt e before. absurd (isnt (
 
 legal3 : MayHappen monitor_and_pass s2 (Pass 0 0)
 unfolding asked asked_from ask flow_found flow_in is_flow word_at transport_start changes
-legal3 = (_, record { there = refl; visited = true; held = refl; ready = λ g p is. there s2 0 g p has2 (one_log true g p is); done = inl refl }, inl refl)
+legal3 = (
+  _,
+  record {
+    there = refl;
+    visited = true;
+    held = refl;
+    ready = λ g p is. there s2 0 g p has2
+        (one_log true g p is);
+    done = inl refl;
+  },
+  inl refl,
+)
 
 legal4 : MayHappen monitor_and_pass s3 (Take 0 0)
 unfolding asked asked_from ask flow_found flow_in is_flow word_at transport_start changes
@@ -205,7 +231,18 @@ legal10 = (_, datagram, false, refl, refl, refl, λ g p is. there s9 1 g p has9 
 
 legal11 : MayHappen monitor_and_pass s10 (Pass 1 0)
 unfolding asked asked_from ask flow_found flow_in is_flow word_at transport_start changes
-legal11 = (_, record { there = refl; visited = true; held = refl; ready = λ g p is. there s10 1 g p has10 (later_log g p is); done = inl refl }, inl refl)
+legal11 = (
+  _,
+  record {
+    there = refl;
+    visited = true;
+    held = refl;
+    ready = λ g p is. there s10 1 g p has10
+        (later_log g p is);
+    done = inl refl;
+  },
+  inl refl,
+)
 
 -- the count is all that the packet needs
 needed : (g : ℕ) → (((g == 0) && true) || ((g == 1) && false)) ≡ true → g ≡ 0
@@ -224,7 +261,8 @@ legal12 = (
         (record { changing = λ _. refl; other = λ isnt e before. absurd (isnt (inr (inl (refl, refl, refl)))) }),
   ),
   λ other w due. elim (cases_eq other 0) [
-    | inl same ↦ subst (λ (x : Withheld). 10 ≤ x.since) (same_Some _ w (subst (λ p. s11.withheld p ≡ Some w) same due.0)) (omega arith)
+    | inl same ↦ subst (λ (x : Withheld). 10 ≤ x.since) (same_Some _ w
+        (subst (λ p. s11.withheld p ≡ Some w) same due.0)) (omega arith)
     | inr ne ↦ absurd (none-some w (sym (elsewhere s10.withheld _ other ne ∙ w3 other) ∙ due.0))
   ],
 )
@@ -234,13 +272,16 @@ unfolding asked asked_from ask flow_found flow_in is_flow word_at transport_star
 legal13 = (_, refl, refl, λ other queued is. least s12 _ refl m11 other queued is (Queued 1))
 
 -- the log doesn't go on behind server 1, the tail of its group
-no_log : (g p : ℕ) → (((((union no_visits (just 0 0 true) g p && not (is_tail monitor_and_pass g 0)) || (true && false)) || just 1 0 false g p) && not (is_tail monitor_and_pass g 1)) || false) ≡ true → ⊥
-no_log g p is = elim (or_cases ((((union no_visits (just 0 0 true) g p && not (is_tail monitor_and_pass g 0)) || (true && false)) || just 1 0 false g p) && not (is_tail monitor_and_pass g 1)) false is) [
-  | inl some ↦
-      let parts = and_parts (((union no_visits (just 0 0 true) g p && not (is_tail monitor_and_pass g 0)) || (true && false)) || just 1 0 false g p) (not (is_tail monitor_and_pass g 1)) some in
-      true≢false (sym (subst (λ x. not (is_tail monitor_and_pass x 1) ≡ true) (later_log g p parts.0).0 parts.1))
-  | inr none_there ↦ true≢false (sym none_there)
-]
+no_log : (g p : ℕ) → (((((union no_visits (just 0 0 true) g p && not (is_tail monitor_and_pass g 0))
+    || (true && false)) || just 1 0 false g p) && not (is_tail monitor_and_pass g 1)) || false) ≡ true → ⊥
+no_log g p is = elim (or_cases ((((union no_visits (just 0 0 true) g p && not (is_tail monitor_and_pass g 0))
+    || (true && false)) || just 1 0 false g p) && not (is_tail monitor_and_pass g 1)) false is) [
+      | inl some ↦
+          let parts = and_parts (((union no_visits (just 0 0 true) g p && not (is_tail monitor_and_pass g 0))
+          || (true && false)) || just 1 0 false g p) (not (is_tail monitor_and_pass g 1)) some in
+          true≢false (sym (subst (λ x. not (is_tail monitor_and_pass x 1) ≡ true) (later_log g p parts.0).0 parts.1))
+      | inr none_there ↦ true≢false (sym none_there)
+    ]
 
 legal14 : MayHappen monitor_and_pass s13 (Carry 0)
 unfolding asked asked_from ask flow_found flow_in is_flow word_at transport_start changes
@@ -300,16 +341,19 @@ a_run = (
 
 no_logs : (g p : ℕ) → s14.forwarder g p ≡ false
 unfolding asked asked_from ask flow_found flow_in is_flow word_at transport_start changes
-no_logs g p = false_from_ne_true (s14.forwarder g p) (λ is. no_log g p (and_parts (logs_of (s13.message 0) g p) (not (is_tail monitor_and_pass g 0)) is).0)
+no_logs g p = false_from_ne_true (s14.forwarder g p) (λ is. no_log g p
+    (and_parts (logs_of (s13.message 0) g p) (not (is_tail monitor_and_pass g 0)) is).0)
 
 both_up : (k : ℕ) → s14.up k ≡ true → k < 2
 unfolding asked asked_from ask flow_found flow_in is_flow word_at transport_start changes
 both_up k is = with_at_cases (λ b. b ≡ true → k < 2) s6.up 0 true k (λ same _. omega arith)
-    (λ other up. with_at_cases (λ b. b ≡ true → k < 2) s5.up 0 false k (λ same _. absurd (other same)) (λ _ on. ltb-true k 2 on) up) is
+    (λ other up. with_at_cases (λ b. b ≡ true → k < 2) s5.up 0 false k (λ same _. absurd (other same))
+    (λ _ on. ltb-true k 2 on) up) is
 
 pub is_finished : IsFinished monitor_and_pass (state_after monitor_and_pass (opening monitor_and_pass) saving)
 unfolding asked asked_from ask flow_found flow_in is_flow word_at transport_start changes
-is_finished = nothing_left monitor_and_pass s14 refl refl m14 no_logs (only_two (λ link. s14.gap link ≡ false) refl refl) w12 both_up
+is_finished = nothing_left monitor_and_pass s14 refl refl m14 no_logs
+    (only_two (λ link. s14.gap link ≡ false) refl refl) w12 both_up
 
 pub released : (state_after monitor_and_pass (opening monitor_and_pass) saving).fate 0 ≡ became.Released
 unfolding asked asked_from ask flow_found flow_in is_flow word_at transport_start changes
@@ -327,7 +371,8 @@ a_setting = record {
         up = refl;
         admissible = record {
           each = only_two (HasLive (shape monitor_and_pass) (steps.with_at all_live 0 false))
-              (record { server = 1; within = omega arith; member = omega arith; up = refl }) (record { server = 1; within = omega arith; member = omega arith; up = refl });
+              (record { server = 1; within = omega arith; member = omega arith; up = refl })
+              (record { server = 1; within = omega arith; member = omega arith; up = refl });
         };
       },
     ),

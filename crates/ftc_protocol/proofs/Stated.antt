@@ -7,7 +7,8 @@ use Rattle.ftc_protocol.specs.Run.{IsRun, IsRunState, state_after}
 use Rattle.ftc_protocol.proofs.Complete.{IsReached, reached}
 use Rattle.ftc_protocol.proofs.Few.{IsCounted, opens_counted, counted_on}
 
-pub of_state : (P : Setting → ChainState → Type 0) → ((c : Setting) → IsSetting c → (journal : List Event) → IsRun c journal → P c (state_after c (opening c) journal))
+pub of_state : (P : Setting → ChainState → Type 0) → ((c : Setting) → IsSetting c → (journal : List Event)
+    → IsRun c journal → P c (state_after c (opening c) journal))
     → (c : Setting) (s : ChainState) → IsRunState c s → P c s
 of_state P law c s r = subst (P c) r.reaches (law c r.right r.journal r.run)
 

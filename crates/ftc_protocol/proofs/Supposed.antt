@@ -1,14 +1,9 @@
 -- An accepted chain and script give what the proofs suppose of a setting.
-use Rattle.std.proofs.Common.{◌≡◌, ℕ, ◌<◌, ◌≤◌, ◌^◌, ◌==◌, if◌then◌else◌, Some, Bool, true, false, List, [], ◌∷◌, inl, inr, refl, sym, ap, subst, ◌∙◌, arith, length, eqb-true, lt-ltb}
+use Rattle.std.proofs.Common.{◌≡◌, ℕ, ◌<◌, ◌≤◌, ◌^◌, ◌==◌, if◌then◌else◌, Some, Bool, true, false, List, [], ◌∷◌, refl, sym, subst, ◌∙◌, arith, length, eqb-true, lt-ltb}
 use Rattle.std.specs.List.{AllByRecursion}
-use Rattle.ftc_base.specs.declared.limits.TheConstants.{MOST_RECORDS, MOST_SCRIPT_BYTES}
+use Rattle.ftc_base.specs.declared.limits.TheConstants.{MOST_RECORDS}
 use Rattle.ftc_protocol.specs.Measure.{most_messages}
-use Rattle.ftc_base.specs.Partition.{partition_of}
-use Rattle.ftc_base.specs.declared.ask.Answer.{Answer}
-use Rattle.ftc_base.specs.declared.ask.Write.{Write}
-use Rattle.ftc_mbox.specs.declared.rule.Rule.{Rule}
 use Rattle.ftc_mbox.specs.Chain.{Chain, IsChain}
-use Rattle.ftc_store.specs.Store.{Content}
 use Rattle.ftc_ring.specs.Ring.{RingShape, IsRing}
 use Rattle.ftc_ring.specs.Live as ring
 use Rattle.ftc_script.specs.declared.line.ScriptLine.{ScriptLine}
@@ -20,15 +15,10 @@ use Rattle.ftc_script.specs.declared.line.LoseLine.{LoseLine}
 use Rattle.ftc_script.specs.Script.{ScriptShape, IsScript, IsLose, loses_of, is_of}
 use Rattle.ftc_script.specs.Steps.{all_live, AreSteps}
 use Rattle.ftc_script.proofs.InTurn.{keeps}
-use Rattle.ftc_serial.specs.Words.{with_at, AnyOf}
-use Rattle.ftc_serial.specs.Take.{Outcome, taken}
-use Rattle.ftc_serial.specs.Entries.{Touches}
-use Rattle.ftc_serial.specs.Reads.{IsRead}
-use Rattle.ftc_serial.proofs.Written.{written_read}
+use Rattle.ftc_serial.specs.Words.{with_at}
 use Rattle.ftc_serial.proofs.Functions.{with_at_both}
 use Rattle.ftc_protocol.specs.Setting.{Setting, servers, shape, count, setting_of, IsSetting}
 use Rattle.ftc_protocol.specs.State.{opening}
-use Rattle.ftc_protocol.specs.Changes.{Changes, changes}
 use Rattle.ftc_protocol.proofs.Changing.{changed_touched}
 use Rattle.ftc_protocol.proofs.Places.{IsSoundTaking}
 use Rattle.ftc_protocol.proofs.Premises.{IsAdmissible, AreFit, IsGood}

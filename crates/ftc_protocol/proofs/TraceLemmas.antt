@@ -1,5 +1,5 @@
 -- What stands in a trace, and what is before what, as the trace grows and loses visits.
-use Rattle.std.proofs.Common.{◌≡◌, ap, ◌&&◌, if◌then◌else◌, eqb-true, ℕ, ◌+◌, ◌<◌, ◌==◌, Bool, true, false, cond, not, List, [], ◌∷◌, inl, inr, refl, sym, subst, ◌∙◌, arith, Option, Some, None}
+use Rattle.std.proofs.Common.{◌≡◌, ap, ◌&&◌, if◌then◌else◌, eqb-true, ℕ, ◌==◌, Bool, true, false, cond, not, List, [], ◌∷◌, inl, inr, refl, sym, subst, ◌∙◌}
 use Rattle.std.proofs.lemmas.Bool.{true≢false}
 use Rattle.ftc_store.specs.Store.{written}
 use Rattle.ftc_serial.specs.Words.{AnyOf}

@@ -10,14 +10,14 @@ use Rattle.ftc_serial.specs.Serial.{Entry, Visited, Given}
 use Rattle.ftc_protocol.specs.Visits.{Visits, In, no_visits, union, just}
 use Rattle.ftc_protocol.specs.Changes.{is_touching, is_changing, Meets, meets}
 
--- the entry is that visit, and its outcome has P
+-- the entry is that visit, and its outcome is of that kind
 abbrev pub IsVisit : (Outcome → Type 0) → ℕ → ℕ → Entry → Type 0
-IsVisit P server packet (Visited visited passed outcome) = (visited ≡ server) × (passed ≡ packet) × P outcome
-IsVisit P server packet (Given released bytes) = ⊥
+IsVisit Kind server packet (Visited visited passed outcome) = (visited ≡ server) × (passed ≡ packet) × Kind outcome
+IsVisit Kind server packet (Given released bytes) = ⊥
 
 -- the visit stands in the trace, with such an outcome
 abbrev pub IsInTrace : (Outcome → Type 0) → List Entry → ℕ → ℕ → Type 0
-IsInTrace P trace server packet = AnyOf (IsVisit P server packet) trace
+IsInTrace Kind trace server packet = AnyOf (IsVisit Kind server packet) trace
 
 abbrev pub IsSomeVisit : List Entry → ℕ → ℕ → Type 0
 IsSomeVisit trace server packet = IsInTrace (λ outcome. Unit {0}) trace server packet

@@ -9,4 +9,5 @@ pub returns-clause-lines : goal.returns-clause-lines
 returns-clause-lines c = λ setting journal run. licensed setting journal (opening setting) run
 
 pub returns-clause-loses : goal.returns-clause-loses
-returns-clause-loses c = λ setting before after link origin run. (rest_legal setting before (Lose link origin ∷ after) (opening setting) run).0.0.3
+returns-clause-loses c = λ setting before after link origin run.
+    (rest_legal setting before (Lose link origin ∷ after) (opening setting) run).0.0.3

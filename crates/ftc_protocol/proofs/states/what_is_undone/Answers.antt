@@ -1,4 +1,3 @@
-use Rattle.ftc_protocol.proofs.Stated.{of_state}
 use Rattle.ftc_protocol.proofs.Meant.{undone_means, undone_closed}
 use Rattle.ftc_protocol.proofs.Undoings.{undone_order, undone_once, undone_lost}
 use Rattle.ftc_protocol.proofs.states.what_is_undone.Goals as goal

@@ -6,4 +6,5 @@ use Rattle.ftc_protocol.specs.Moment.{Stands}
 use Rattle.ftc_protocol.proofs.states.what_stands.Goals as goal
 
 pub returns : goal.returns
-returns c = of_state (λ setting state. (server packet : ℕ) → Stands setting state server packet ↔ IsStanding setting state server packet) stands_means
+returns c = of_state (λ setting state. (server packet : ℕ) → Stands setting state server packet
+    ↔ IsStanding setting state server packet) stands_means

@@ -1,4 +1,4 @@
-use Rattle.std.proofs.Common.{◌≡◌, None, Ok, Option, sym, ◌∙◌, ap}
+use Rattle.std.proofs.Common.{◌≡◌, None, Option, sym, ◌∙◌, ap}
 use Rattle.ftc_script.specs.Grammar.{live_in, down_of, finished}
 use Rattle.ftc_script.proofs.reader.finish.Goals as goal
 
