@@ -22,7 +22,7 @@ use Rattle.ftc_script.specs.Grammar.{script_of}
 use Rattle.ftc_serial.specs.Serial.{State}
 use Rattle.ftc_serial.specs.Packets.{bytes_of}
 use Rattle.ftc_serial.specs.Drive.{IsDriven}
-use Rattle.ftc_machine.proofs.Handed.{bytes_count}
+use Rattle.ftc_machine.proofs.RunInputs.{bytes_count}
 use Rattle.ftc_protocol.specs.declared.fate.Fate.{Fate}
 use Rattle.ftc_protocol.specs.declared.fate.Fate.TheVariants as became
 use Rattle.ftc_report.specs.Output.{out_bytes}

@@ -11,7 +11,7 @@ use crate::status::Status;
 use crate::words::Names;
 use ftc_base::NoMemory;
 use ftc_check::{Checked, check, right_runs};
-use ftc_machine::accepted;
+use ftc_protocol::accepted;
 use ftc_outside::Desk;
 use std::alloc::Global;
 

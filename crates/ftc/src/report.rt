@@ -13,7 +13,7 @@ ghost use Rattle.ftc.specs.Plain.{plain_setting, IsWholeRun};
 use crate::drive::Driven;
 use crate::protocol::drives_are_runs;
 use ftc_base::{Bytes, Lines, NoMemory, PacketNo};
-use ftc_machine::{Fate, Fates};
+use ftc_protocol::{Fate, Fates};
 use ftc_mbox::ChainSpec;
 use ftc_pcap::Packets;
 use ftc_report::print;

@@ -10,12 +10,12 @@ use Rattle.ftc_mbox.specs.Chain.{Chain}
 use Rattle.ftc_check.specs.Verdict.{IsWhole}
 use Rattle.ftc_protocol.specs.Setting.{Setting, IsSetting}
 use Rattle.ftc_protocol.specs.Run.{IsRun, IsFinished}
-use Rattle.ftc_machine.specs.Played.{Played, setting_in, state_of}
+use Rattle.ftc_machine.specs.RunSoFar.{RunSoFar, setting_in, state_of}
 use Rattle.ftc_protocol.specs.Whole.{HasSerialRun}
 use Rattle.ftc_report.proofs.Ended.{has_end}
 
 -- the trace of a run has a serial run for a chain and packets that are those of the run
-pub has_end_there : (played : Played) (chain : Chain) (packets : List (List ℕ)) (events : List Event) (steps : List Step) → ((setting : Setting) → IsSetting setting → (journal : List Event) → IsRun setting journal → HasSerialRun setting journal) → ∥ IsSetting (setting_in played) ∥₁ → ∥ IsRun (setting_in played) played.journal ∥₁
+pub has_end_there : (played : RunSoFar) (chain : Chain) (packets : List (List ℕ)) (events : List Event) (steps : List Step) → ((setting : Setting) → IsSetting setting → (journal : List Event) → IsRun setting journal → HasSerialRun setting journal) → ∥ IsSetting (setting_in played) ∥₁ → ∥ IsRun (setting_in played) played.journal ∥₁
     → played.chain ≡ chain → played.packets ≡ packets → events ≡ played.journal → steps ≡ trace_of events → IsSome (serial_run chain.rules (serial.opening packets) steps)
 has_end_there played chain packets events steps law setting run chain_is packets_are events_are steps_are =
     subst (λ (s : List Step). IsSome (serial_run chain.rules (serial.opening packets) s)) (sym (steps_are ∙ ap trace_of events_are))
@@ -23,7 +23,7 @@ has_end_there played chain packets events steps law setting run chain_is packets
     (subst (λ (k : Chain). IsSome (serial_run k.rules (serial.opening played.packets) (trace_of played.journal))) chain_is
     (has_end (setting_in played) played.journal law setting run)))
 
-pub whole : (played : Played) (chain : Chain) (packets : List (List ℕ)) (events : List Event) (steps : List Step) (end : State) → ∥ IsRun (setting_in played) played.journal ∥₁ → ∥ IsFinished (setting_in played) (state_of played) ∥₁
+pub whole : (played : RunSoFar) (chain : Chain) (packets : List (List ℕ)) (events : List Event) (steps : List Step) (end : State) → ∥ IsRun (setting_in played) played.journal ∥₁ → ∥ IsFinished (setting_in played) (state_of played) ∥₁
     → played.chain ≡ chain → played.packets ≡ packets → events ≡ played.journal → steps ≡ trace_of events → serial_run chain.rules (serial.opening packets) steps ≡ Some end → IsWhole (setting_in played) played.journal end
 whole played chain packets events steps end run finished chain_is packets_are events_are steps_are ends = record {
   run = run;

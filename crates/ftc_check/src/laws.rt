@@ -2,7 +2,7 @@
 
 ghost use Rattle.ftc_check.specs.Laws.{DifferencesAreOne, FrontsAreOne, VerdictsAreOne, OwnReportsStay, WholeRunsAreRight, WholeRunsAreOnlyRight, RightRunsAreVisited, RightRunsAreSettled};
 
-use ftc_machine::{finished_run, released_for_good};
+use ftc_protocol::{finished_run, released_for_good};
 
 /// Two texts have one first place where they differ.
 pub fn one_difference()

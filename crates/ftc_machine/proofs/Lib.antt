@@ -1,55 +1,55 @@
-mod Slotted
-mod Tested
-mod Told
-mod Judged
-mod Judgement
-mod JudgedScript
-mod Knowing
-mod Lawful
-mod Acting
-pub mod Handed
+mod SlotSearch
+mod FrontierTests
+mod SlotTests
+mod RepresentedMessages
+mod RepresentedRuns
+mod ScriptTests
+mod LastServer
+mod LegalityMeaning
+mod EventEffects
+pub mod RunInputs
 mod SameNames
-mod Replayed
-mod Opened
-mod Conclusion
-mod Playing
-mod JudgedDue
-mod JudgedMessages
-mod Lines
-pub mod Rising
-pub mod Reaching
-pub mod Placed
-pub mod Footprints
-pub mod Marks
-pub mod Makes
-pub mod Marked
-pub mod Joining
-pub mod Growing
-pub mod Thinning
-pub mod Replaced
-pub mod Groups
-pub mod Reached
-pub mod Parts
-pub mod Following
-pub mod Moved
-pub mod Tailed
-pub mod GoingOn
-pub mod Departing
-pub mod Raised
-pub mod Joined
-pub mod Alike
-pub mod Added
-pub mod Doing
+mod JournalReplay
+mod OpeningState
+mod EndOfRun
+mod RunsOnward
+mod DueMeanings
+mod MessageTests
+mod LinesLeft
+pub mod RisingNumbers
+pub mod SetFrontiers
+pub mod PlacedVisits
+pub mod FootprintTests
+pub mod VisitMarks
+pub mod MadeFootprints
+pub mod MarkedPartitions
+pub mod JoinedVisit
+pub mod TraceGrowth
+pub mod TraceRemoval
+pub mod ReplacedPlaces
+pub mod GroupVectors
+pub mod MergedFrontiers
+pub mod GroupParts
+pub mod LegalEvents
+pub mod MovedMessages
+pub mod GroupTails
+pub mod OnwardLogs
+pub mod AfterLeaving
+pub mod RaisedRows
+pub mod AfterApply
+pub mod SameParts
+pub mod AfterVisit
+pub mod VisitOutcomes
 pub mod Results
-pub mod Fetching
-pub mod Sweeping
-pub mod Dropping
-pub mod Downed
-pub mod Chained
-pub mod UndoneKept
-pub mod Filtering
-pub mod Handing
-pub mod Rebuilding
-pub mod Judging
-pub mod Recovered
-mod UsualStates
+pub mod AfterPull
+pub mod PlaceSweep
+pub mod DroppedPlaces
+pub mod AfterCrash
+pub mod VisitChain
+pub mod UndoneTests
+pub mod FilteredLosses
+pub mod TransferredLists
+pub mod RebuiltStore
+pub mod DroppedTests
+pub mod AfterRecovery
+mod LawfulStates

@@ -7,8 +7,8 @@ use Rattle.ftc_protocol.specs.Legal.{IsLegal}
 use Rattle.ftc_protocol.specs.Run.{IsRun, state_after}
 
 -- the events before that place are a run, after which the event there isn't legal
-pub record IsFirstIllegal (c : Setting) (journal : List Event) (place : ℕ) : Type 0 where
-  pub before : ∥ IsRun c (take place journal) ∥₁
+pub record IsFirstIllegal (setting : Setting) (journal : List Event) (place : ℕ) : Type 0 where
+  pub before : ∥ IsRun setting (take place journal) ∥₁
   pub event : Event
   pub there : slice_get journal place ≡ Some event
-  pub illegal : IsLegal c (state_after c (opening c) (take place journal)) event → ⊥
+  pub illegal : IsLegal setting (state_after setting (opening setting) (take place journal)) event → ⊥

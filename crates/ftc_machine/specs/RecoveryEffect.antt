@@ -10,67 +10,74 @@ use Rattle.ftc_serial.specs.Trace.{names}
 use Rattle.ftc_store.specs.Store.{Content, written}
 use Rattle.ftc_vector.specs.Vector.{by_partition, merged}
 use Rattle.ftc_vector.specs.Commits.{vector_of, all_merged, group_raised}
-use Rattle.ftc_machine.specs.declared.footprint.Footprint.{Footprint}
-use Rattle.ftc_machine.specs.declared.kept.Kept.{Kept}
-use Rattle.ftc_machine.specs.declared.message.Message.{Message}
-use Rattle.ftc_machine.specs.declared.message.Place.{Place}
-use Rattle.ftc_machine.specs.declared.message.Place.TheVariants.{Held, Queued}
+use Rattle.ftc_machine.specs.declared.state.footprint.Footprint.{Footprint}
+use Rattle.ftc_machine.specs.declared.state.MachineState.{MachineState}
+use Rattle.ftc_machine.specs.declared.state.message.Message.{Message}
+use Rattle.ftc_machine.specs.declared.state.message.Place.{Place}
+use Rattle.ftc_machine.specs.declared.state.message.Place.TheVariants.{Held, Queued}
 use Rattle.ftc_protocol.specs.Changes.{is_some_list}
-use Rattle.ftc_machine.specs.Usual.{AreUsual}
-use Rattle.ftc_machine.specs.Kept.{reach_of}
-use Rattle.ftc_machine.specs.Reach.{Footprints, is_had_by}
+use Rattle.ftc_machine.specs.Lawful.{AreLawful}
+use Rattle.ftc_machine.specs.Represents.{frontiers_of}
+use Rattle.ftc_machine.specs.Frontier.{Footprints, is_had_by}
 use Rattle.ftc_protocol.specs.Recovery.{is_between}
 use Rattle.ftc_protocol.specs.Run.{IsRun, state_after}
 use Rattle.ftc_protocol.specs.Setting.{Setting, IsSetting}
 use Rattle.ftc_machine.specs.Slots.{has_such}
 use Rattle.ftc_machine.specs.Tails.{group_ending}
 use Rattle.ftc_protocol.specs.State.{ChainState, opening}
-use Rattle.ftc_machine.specs.Tests.{footprints_of, list_of, is_ready}
+use Rattle.ftc_machine.specs.LegalityTests.{footprints_of, list_of, is_ready}
 
 -- a run leads to the state
-pub record IsOfRun (c : Setting) (s : ChainState) : Type 0 where
-  pub setting : IsSetting c
+pub record IsLawfulRun (setting : Setting) (state : ChainState) : Type 0 where
+  pub supposed : IsSetting setting
   pub journal : List Event
-  pub run : IsRun c journal
-  pub state : state_after c (opening c) journal ≡ s
-  pub laws : AreUsual c
+  pub run : IsRun setting journal
+  pub leads : state_after setting (opening setting) journal ≡ state
+  pub laws : AreLawful setting
 
 -- the nearest other live server before, and the nearest after, or the server itself where there is none
-abbrev pub kept_previous : Kept → ℕ → ℕ
-kept_previous k server = unwrap_or (live_before_of k.ring.servers (is_live k.down) server) server
+abbrev pub kept_previous : MachineState → ℕ → ℕ
+kept_previous machine server = unwrap_or (live_before_of machine.ring.servers (is_live machine.down) server) server
 
-abbrev pub kept_following : Kept → ℕ → ℕ
-kept_following k server = unwrap_or (live_after_of k.ring.servers (is_live k.down) server) server
+abbrev pub kept_following : MachineState → ℕ → ℕ
+kept_following machine server = unwrap_or (live_after_of machine.ring.servers (is_live machine.down) server) server
 
 -- the visit touches something, and a set that reaches so far at its middlebox lacks it
 abbrev pub is_lacked : List ℕ → Footprint → Bool
 is_lacked vector footprint = is_some_list footprint.touched.items && not (is_had_by footprint vector)
 
 -- a visit is undone by itself where its head lies between and the live server after lacks it
-abbrev pub is_undone_alone : Kept → ℕ → ℕ → ℕ → ℕ → Bool
-is_undone_alone k previous following packet group =
-    is_between k.ring.servers previous following group && has_such (is_lacked (vector_of (list_of k following) group)) (footprints_of k group packet)
+abbrev pub is_undone_alone : MachineState → ℕ → ℕ → ℕ → ℕ → Bool
+is_undone_alone machine previous following packet group =
+    is_between machine.ring.servers previous following group
+    && has_such (is_lacked (vector_of (list_of machine following) group)) (footprints_of machine group packet)
 
 -- and with it the later visits of its packet
-abbrev pub is_undone_kept : Kept → ℕ → ℕ → VisitName → Bool
-is_undone_kept k previous following name = list_any (is_undone_alone k previous following name.packet) (range_with_len 0 (name.server + 1))
+abbrev pub is_undone_kept : MachineState → ℕ → ℕ → VisitName → Bool
+is_undone_kept machine previous following name =
+    list_any (is_undone_alone machine previous following name.packet) (range_with_len 0 (name.server + 1))
 
 -- ---- what the new server gets
 
 -- the vector that it gets of a group: that of the live server from which it gets the group's list, where it is a member
-abbrev pub got_vector : Kept → ℕ → ℕ → ℕ → ℕ → List ℕ
-got_vector k server previous following group =
-    if nat_lt group k.ring.servers && nat_le (apart k.ring.servers group server) k.ring.failures
-    then merged (by_partition (λ _. 0)) (vector_of (list_of k (source_between k.ring.servers previous following group server)) group)
+abbrev pub got_vector : MachineState → ℕ → ℕ → ℕ → ℕ → List ℕ
+got_vector machine server previous following group =
+    if nat_lt group machine.ring.servers && nat_le (apart machine.ring.servers group server) machine.ring.failures
+    then merged (by_partition (λ _. 0)) (vector_of
+    (list_of machine (source_between machine.ring.servers previous following group server)) group)
     else by_partition (λ _. 0)
 
 -- to what is known the list of that group is added
-abbrev pub tail_added : Kept → ℕ → List (List ℕ) → List (List ℕ)
-tail_added k server known = group_raised known (group_ending k.ring server) (vector_of (list_of k server) (group_ending k.ring server))
+abbrev pub tail_added : MachineState → ℕ → List (List ℕ) → List (List ℕ)
+tail_added machine server known =
+    group_raised known (group_ending machine.ring server)
+    (vector_of (list_of machine server) (group_ending machine.ring server))
 
 -- what two servers know to be at the tails
-abbrev pub both_known : Kept → ℕ → ℕ → List (List ℕ)
-both_known k one other = tail_added k other (tail_added k one (all_merged (reach_of k.known.items one) (reach_of k.known.items other)))
+abbrev pub both_known : MachineState → ℕ → ℕ → List (List ℕ)
+both_known machine one other =
+    tail_added machine other (tail_added machine one
+    (all_merged (frontiers_of machine.known.items one) (frontiers_of machine.known.items other)))
 
 -- the visits that stay
 abbrev pub is_left : List VisitName → VisitName → Bool
@@ -89,12 +96,13 @@ rewritten footprints server content name =
 -- ---- what goes
 
 -- a message that is queued to the live server after, or that it holds and isn't ready there
-abbrev pub is_dropped_from : Kept → ℕ → Message → Place → Bool
-is_dropped_from k following message (Held server visited by_ring) = server == following && not (is_ready k following message)
-is_dropped_from k following message (Queued link known) = next_of k.ring.servers link == following
+abbrev pub is_dropped_from : MachineState → ℕ → Message → Place → Bool
+is_dropped_from machine following message (Held server visited by_ring) =
+    server == following && not (is_ready machine following message)
+is_dropped_from machine following message (Queued link known) = next_of machine.ring.servers link == following
 
-abbrev pub is_dropped_kept : Kept → ℕ → Message → Bool
-is_dropped_kept k following message = is_dropped_from k following message message.place
+abbrev pub is_dropped_kept : MachineState → ℕ → Message → Bool
+is_dropped_kept machine following message = is_dropped_from machine following message message.place
 
 -- the links into a server and out of it get gaps
 abbrev pub gaps_through : ℕ → (ℕ → Bool) → ℕ → ℕ → Bool

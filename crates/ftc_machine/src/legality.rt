@@ -5,10 +5,15 @@ ghost use Rattle.ftc_protocol.specs.Setting.{Setting};
 ghost use Rattle.ftc_protocol.specs.State.{ChainState};
 ghost use Rattle.ftc_protocol.specs.Legal.{IsLegal, is_release};
 ghost use Rattle.ftc_protocol.specs.Recovery.{undone_visits};
-ghost use Rattle.ftc_machine.specs.Kept.{AreInputs, StandsFor};
+ghost use Rattle.ftc_machine.specs.Represents.{AreInputs, RepresentsRun};
 ghost use Rattle.ftc_machine.specs.Legality.{is_placed, is_in_order, may_happen};
 
-use crate::kept::Kept;
+pub mod due;
+pub mod ending;
+pub mod messages;
+pub mod script_and_links;
+
+use crate::state::MachineState;
 use ftc_base::{NoMemory, ServerId};
 use ftc_journal::{Event, VisitName};
 use ftc_pcap::Packets;
@@ -41,7 +46,7 @@ fn is_placed(servers: u8, event: &Event) -> bool
     }
 }
 
-impl Kept {
+impl MachineState {
     /// Whether the event is in order for its kind. Its server or link is one of the chain's.
     fn is_in_order(&self, script: &Script, count: u32, event: &Event) -> bool
         requires { is_placed self.now.ring.servers event.now ≡ true }
@@ -82,7 +87,7 @@ impl Kept {
         visits: &[VisitName],
     ) -> Result<bool, NoMemory>
         requires { server < self.now.ring.servers }
-        ensures { IfOk result (λ same. (setting : Setting) (state : ChainState) → StandsFor setting state self.now →
+        ensures { IfOk result (λ same. (setting : Setting) (state : ChainState) → RepresentsRun setting state self.now →
             (same ≡ true) ↔ (visits.now ≡ undone_visits setting state server)) }
     {
         let undone = self.undone(alloc, server)?;
@@ -104,9 +109,11 @@ impl Kept {
         script: &Script,
         event: &Event,
     ) -> Result<bool, NoMemory>
-        ensures legal { IfOk result (λ legal. (setting : Setting) (state : ChainState) → StandsFor setting state self.now →
+        ensures legal { IfOk result (λ legal. (setting : Setting) (state : ChainState)
+            → RepresentsRun setting state self.now →
             AreInputs setting script.now (length packets.now) → (legal ≡ true) ↔ IsLegal setting state event.now) }
-        ensures tested { IfOk result (λ legal. legal ≡ true → may_happen self.now script.now (length packets.now) event.now ≡ true) }
+        ensures tested { IfOk result (λ legal. legal ≡ true → may_happen self.now script.now
+            (length packets.now) event.now ≡ true) }
     {
         if !is_release(event) && self.is_some_due() {
             return Ok(false);

@@ -4,15 +4,14 @@ ghost use Rattle.std.specs.Prelude.{◌≡◌, ◌++◌, [], ◌∷◌, true, fa
 ghost use Rattle.ftc_base.specs.Refused.{IfBad};
 ghost use Rattle.ftc_serial.specs.Packets.{bytes_of};
 
-use crate::Fates;
-use crate::copying::copy_event;
-use crate::kept::Kept;
-use crate::laws::states_are_usual;
+use crate::event_copy::copy_event;
+use crate::laws::states_are_lawful;
+use crate::state::MachineState;
 use ftc_base::{NoMemory, Refuse};
 use ftc_journal::{Event, Journal};
 use ftc_mbox::ChainSpec;
 use ftc_pcap::Packets;
-use ftc_protocol::{accepted, every_moment, finished_run};
+use ftc_protocol::{Fates, accepted, every_moment, finished_run};
 use ftc_script::Script;
 use std::alloc::Global;
 use std::marker::Model;
@@ -33,23 +32,30 @@ pub struct Machine<'a> {
     script: &'a Script,
     alloc: Global,
     journal: Journal,
-    kept: Kept,
+    kept: MachineState,
 }
 
 impl<'a> Model for Machine<'a> {
     ghost use Rattle.ftc_serial.specs.Packets.{bytes_of};
     ghost use Rattle.ftc_protocol.specs.Setting.{setting_of};
-    ghost use Rattle.ftc_machine.specs.Played.{Played, IsPlayed};
+    ghost use Rattle.ftc_machine.specs.RunSoFar.{RunSoFar, IsRunSoFar};
 
-    ghost Value = { Played };
+    ghost Value = { RunSoFar };
 
-    ghost view = { λ m. record { chain = m.spec.now; packets = bytes_of m.packets.now; script = m.script.now; journal = m.journal.items } };
+    ghost view = { λ m. record {
+      chain = m.spec.now;
+      packets = bytes_of m.packets.now;
+      script = m.script.now;
+      journal =
+          m.journal.items;
+    } };
 
-    ghost invariant = { λ m. ∥ IsPlayed (setting_of m.spec.now (bytes_of m.packets.now) m.script.now) m.journal.items m.kept ∥₁ };
+    ghost invariant = { λ m. ∥ IsRunSoFar (setting_of m.spec.now
+        (bytes_of m.packets.now) m.script.now) m.journal.items m.kept ∥₁ };
 }
 
 impl<'a> Machine<'a> {
-    ghost use Rattle.ftc_machine.specs.Played.{setting_in, state_of};
+    ghost use Rattle.ftc_machine.specs.RunSoFar.{setting_in, state_of};
     ghost use Rattle.ftc_protocol.specs.Moment.{IsSound};
     ghost use Rattle.ftc_protocol.specs.Run.{IsRun, IsFinished};
     ghost use Rattle.ftc_protocol.specs.Legal.{IsLegal};
@@ -66,12 +72,18 @@ impl<'a> Machine<'a> {
     ) -> Result<Machine<'a>, NoMemory>
         requires ring { script.now.ring ≡ record { servers = length spec.now.rules; failures = spec.now.failures } }
         requires packets { script.now.packets ≡ length packets.now }
-        ensures { IfOk result (λ machine. machine ≡ record { chain = spec.now; packets = bytes_of packets.now; script = script.now; journal = [] }) }
+        ensures { IfOk result (λ machine. machine ≡ record {
+          chain = spec.now;
+          packets = bytes_of packets.now;
+          script =
+              script.now;
+          journal = [];
+        }) }
     {
         accepted();
-        states_are_usual();
+        states_are_lawful();
         let _ = spec.rules();
-        let kept = Kept::new(alloc, *script.ring(), spec.partitions())?;
+        let kept = MachineState::new(alloc, *script.ring(), spec.partitions())?;
         Ok(Machine {
             spec,
             packets,
@@ -94,7 +106,9 @@ impl<'a> Machine<'a> {
         if now == u64::MAX {
             return Err(Refuse::NoMemory);
         }
-        let legal = self.kept.is_legal(self.alloc, self.packets, self.script, event)?;
+        let legal = self
+            .kept
+            .is_legal(self.alloc, self.packets, self.script, event)?;
         if !legal {
             return Err(Refuse::Bad(Illegal));
         }

@@ -9,12 +9,12 @@ ghost use Rattle.ftc_protocol.specs.Run.{IsRun, state_after};
 ghost use Rattle.ftc_protocol.specs.Fates.{fates_in};
 ghost use Rattle.ftc_machine.specs.Illegal.{IsFirstIllegal};
 
-use crate::Fates;
 use crate::machine::Machine;
 use ftc_base::{NoMemory, Refuse};
 use ftc_journal::Journal;
 use ftc_mbox::ChainSpec;
 use ftc_pcap::Packets;
+use ftc_protocol::Fates;
 use ftc_script::Script;
 use std::alloc::Global;
 use thiserror::Error;
@@ -37,8 +37,15 @@ pub fn replay<'a>(
 ) -> Result<Machine<'a>, Refuse<IllegalEvent>>
     requires ring { script.now.ring ≡ record { servers = length spec.now.rules; failures = spec.now.failures } }
     requires packets { script.now.packets ≡ length packets.now }
-    ensures run { IfOk result (λ machine. machine ≡ record { chain = spec.now; packets = bytes_of packets.now; script = script.now; journal = journal.now.items }) }
-    ensures bad { IfBad result (λ fault. IsFirstIllegal (setting_of spec.now (bytes_of packets.now) script.now) journal.now.items fault.event) }
+    ensures run { IfOk result (λ machine. machine ≡ record {
+      chain = spec.now;
+      packets = bytes_of packets.now;
+      script =
+          script.now;
+      journal = journal.now.items;
+    }) }
+    ensures bad { IfBad result (λ fault. IsFirstIllegal
+        (setting_of spec.now (bytes_of packets.now) script.now) journal.now.items fault.event) }
 {
     let mut machine = Machine::new(alloc, spec, packets, script)?;
     for (place, event) in journal.as_slice().iter().enumerate() {
@@ -66,7 +73,9 @@ pub fn fates_of(
     requires ring { script.now.ring ≡ record { servers = length spec.now.rules; failures = spec.now.failures } }
     requires packets { script.now.packets ≡ length packets.now }
     requires run { ∥ IsRun (setting_of spec.now (bytes_of packets.now) script.now) journal.now.items ∥₁ }
-    ensures { IfOk result (λ fates. fates ≡ fates_in (setting_of spec.now (bytes_of packets.now) script.now) (state_after (setting_of spec.now (bytes_of packets.now) script.now) (opening (setting_of spec.now (bytes_of packets.now) script.now)) journal.now.items)) }
+    ensures { IfOk result (λ fates. fates ≡ fates_in (setting_of spec.now (bytes_of packets.now) script.now)
+        (state_after (setting_of spec.now (bytes_of packets.now) script.now)
+        (opening (setting_of spec.now (bytes_of packets.now) script.now)) journal.now.items)) }
 {
     match replay(alloc, spec, packets, script, journal) {
         Ok(machine) => machine.fates(),

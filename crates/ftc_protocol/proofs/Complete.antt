@@ -20,14 +20,14 @@ use Rattle.ftc_protocol.specs.Run.{AreLegal, IsRun, IsFinished, state_after}
 use Rattle.ftc_protocol.specs.Fates.{AreFates}
 use Rattle.ftc_protocol.specs.Finish.{IsComplete}
 use Rattle.ftc_protocol.proofs.Premises.{IsGood}
-use Rattle.ftc_protocol.proofs.Supposed.{is_good, opens_fit}
+use Rattle.ftc_protocol.proofs.AcceptedSettings.{is_good, opens_fit}
 use Rattle.ftc_protocol.proofs.Places.{serial_of}
-use Rattle.ftc_protocol.proofs.Stores.{store_all}
-use Rattle.ftc_protocol.proofs.Sound.{serial_runs, records_are}
-use Rattle.ftc_protocol.proofs.Finished.{IsLive, keeps_live, live_opens, stuck, no_messages, quiet_gaps}
-use Rattle.ftc_protocol.proofs.Full.{full}
-use Rattle.ftc_protocol.proofs.Lined.{IsLined, AreInOrder, all_later, keeps_lines, opens_lined}
-use Rattle.ftc_protocol.proofs.Inside.{AreFated, keeps_fates, opens_fated, are_fates}
+use Rattle.ftc_protocol.proofs.ListStores.{store_all}
+use Rattle.ftc_protocol.proofs.Soundness.{serial_runs, records_are}
+use Rattle.ftc_protocol.proofs.FinishedState.{IsLive, keeps_live, live_opens, stuck, no_messages, quiet_gaps}
+use Rattle.ftc_protocol.proofs.FullLists.{full}
+use Rattle.ftc_protocol.proofs.ScriptLines.{IsLined, AreInOrder, all_later, keeps_lines, opens_lined}
+use Rattle.ftc_protocol.proofs.InsidePackets.{AreFated, keeps_fates, opens_fated, are_fates}
 
 -- all that holds of each state of a run
 pub record IsReached (c : Setting) (s : ChainState) : Type 0 where

@@ -15,7 +15,7 @@ use Rattle.ftc_protocol.specs.Next.{next}
 use Rattle.ftc_protocol.specs.Run.{AreLegal, state_after}
 use Rattle.ftc_protocol.proofs.Places.{IsEntry, legal_entry, serial_of}
 use Rattle.ftc_protocol.specs.Drive.{IsNextEvent}
-use Rattle.ftc_protocol.proofs.OneWay.{next_legal}
+use Rattle.ftc_protocol.proofs.UniqueDrive.{next_legal}
 use Rattle.ftc_protocol.proofs.LoneFirst.{AreNext, next_both}
 use Rattle.ftc_protocol.proofs.RunLists.{state_on}
 

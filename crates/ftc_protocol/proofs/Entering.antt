@@ -12,9 +12,9 @@ use Rattle.ftc_protocol.specs.Legal.{MayHappen, IsLegal}
 use Rattle.ftc_protocol.specs.Next.{next, fresh_message}
 use Rattle.ftc_protocol.specs.Quiet.{IsQuiet}
 use Rattle.ftc_protocol.proofs.Premises.{IsGood}
-use Rattle.ftc_protocol.proofs.Pending.{same_message, other_message}
+use Rattle.ftc_protocol.proofs.InTransit.{same_message, other_message}
 use Rattle.ftc_protocol.proofs.Complete.{keeps_reached}
-use Rattle.ftc_protocol.proofs.Calm.{keeps_calm}
+use Rattle.ftc_protocol.proofs.FaultFree.{keeps_calm}
 use Rattle.ftc_protocol.proofs.Lone.{IsIdle, IsAt, none_due}
 
 module _ (c : Setting) (good : IsGood c) (quiet : IsQuiet c) (s : ChainState) (p : ℕ) (idle : IsIdle c p s) (below : p < count c) where

@@ -24,10 +24,10 @@ use Rattle.ftc_protocol.specs.Run.{IsRun, AreLegal, state_after}
 use Rattle.ftc_protocol.proofs.Premises.{IsGood}
 use Rattle.ftc_protocol.proofs.Places.{IsSerial, serial_of}
 use Rattle.ftc_protocol.proofs.TraceLemmas.{stands_map, before_left}
-use Rattle.ftc_protocol.proofs.Earlier.{visited_earlier}
-use Rattle.ftc_protocol.proofs.Inv.{Inv, each_message}
-use Rattle.ftc_protocol.proofs.Every.{keeps, opens, always}
-use Rattle.ftc_protocol.proofs.Supposed.{is_good, opens_fit}
+use Rattle.ftc_protocol.proofs.EarlierVisits.{visited_earlier}
+use Rattle.ftc_protocol.proofs.Invariant.{Inv, each_message}
+use Rattle.ftc_protocol.proofs.Induction.{keeps, opens, always}
+use Rattle.ftc_protocol.proofs.AcceptedSettings.{is_good, opens_fit}
 
 -- a serial run's visits stand once, and touch what they change
 pub are_apart : (c : Setting) → IsGood c → (trace : List Entry) → IsSerial c trace → AreApart c.partitions trace

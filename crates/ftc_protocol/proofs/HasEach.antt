@@ -8,8 +8,8 @@ use Rattle.ftc_protocol.specs.Visits.{Visits, In}
 use Rattle.ftc_protocol.specs.Trace.{IsSomeVisit, Has, has_each, is_had}
 use Rattle.ftc_protocol.proofs.Places.{IsSerial}
 use Rattle.ftc_protocol.proofs.TraceLemmas.{before_last}
-use Rattle.ftc_protocol.proofs.Earlier.{visited_earlier}
-use Rattle.ftc_protocol.proofs.Listed.{had_here}
+use Rattle.ftc_protocol.proofs.EarlierVisits.{visited_earlier}
+use Rattle.ftc_protocol.proofs.UndoneList.{had_here}
 use Rattle.std.proofs.Common.{lt_irrefl}
 
 module _ (c : Setting) (set wanted : Visits) where

@@ -10,7 +10,7 @@ use Rattle.ftc_protocol.specs.Legal.{is_sent}
 use Rattle.ftc_protocol.specs.Next.{next, is_away, sent_message, withheld_of, withheld_packet}
 use Rattle.ftc_protocol.specs.Quiet.{IsQuiet}
 use Rattle.ftc_protocol.proofs.Premises.{IsGood}
-use Rattle.ftc_protocol.proofs.Pending.{same_message, other_message}
+use Rattle.ftc_protocol.proofs.InTransit.{same_message, other_message}
 use Rattle.ftc_protocol.proofs.Lone.{IsAt, IsBuffered, IsGone, IsThrough}
 use Rattle.ftc_protocol.proofs.LonePass.{plain_then}
 

@@ -1,63 +1,63 @@
 pub mod Places
-mod Removed
-pub mod Undone
-pub mod Ring
+mod TraceRemoval
+pub mod UndoneVisits
+pub mod RingDistances
 pub mod TraceLemmas
 pub mod Sets
 pub mod RunLists
-pub mod Earlier
-mod Awake
-mod Listing
-mod Nesting
-mod Carrying
-mod Between
-pub mod Ready
+pub mod EarlierVisits
+mod LiveHolders
+mod ServerLists
+mod MemberNesting
+mod CarriedLogs
+mod RecoveryBetween
+pub mod ReadyTest
 mod Premises
-mod Having
-mod Within
-mod Passed
-pub mod Changing
-pub mod Stores
-mod Undoing
-mod World
-mod Inv
+mod HavingVisits
+mod GroupDistance
+mod VisitsPassed
+pub mod ChangeLaws
+pub mod ListStores
+mod UndoneRemoval
+mod TraceAndLists
+mod Invariant
 mod SmallEvents
-mod Ends
-mod Visiting
-mod Leaving
-pub mod Listed
-mod Recovering
-mod Every
-mod First
-mod Fallen
-mod Moments
-mod Sound
-mod Pending
-mod Waiting
-mod Soon
-mod Progress
-mod Finished
-mod Forever
-mod Supposed
+mod ReleaseAndCrash
+mod VisitEvent
+mod LeavingServer
+pub mod UndoneList
+mod RecoveryEvent
+mod Induction
+mod FirstLive
+mod StandingVisits
+mod TraceNow
+mod Soundness
+mod InTransit
+mod ArrivalOrder
+mod MessageOrder
+mod Quiescence
+mod FinishedState
+mod ReleasedForGood
+mod AcceptedSettings
 mod Prefixes
-mod Lined
-mod Inside
-mod Full
+mod ScriptLines
+mod InsidePackets
+mod FullLists
 mod Complete
-mod Losing
-mod Calm
-mod Shapes
-mod Ended
+mod LossEvents
+mod FaultFree
+mod LogShapes
+mod EndedMessages
 pub mod HasEach
-mod Counting
-mod Telling
-mod Few
-mod Falling
+mod PropagateCounts
+mod TellingMessage
+mod FewPropagates
+mod MeasureFalls
 mod Example
-mod Traced
-pub mod Stopped
-mod Whole
-mod Droppable
+mod JournalTrace
+pub mod NothingLegal
+mod WholeTrace
+mod FilteredPackets
 mod Driven
 mod Lone
 mod Entering
@@ -66,33 +66,33 @@ mod LonePass
 mod LoneTake
 mod LastPass
 mod LoneRelease
-mod Course
+mod PlainCourse
 mod DriveTrace
 mod PlainRun
 mod PlacedFates
 mod PlainFates
-mod InTurn
-mod Working
-mod Choiceless
-mod Orderly
-mod Radix
-mod Riding
-mod Needing
+mod FirstJobInTurn
+mod MessageWork
+mod DriveLaws
+mod OrderlyStates
+mod MeasureNumber
+mod LogsRideOnce
+mod PacketNeeds
 mod Fronts
-mod Ahead
-mod Stated
-mod Settled
-mod Undoings
-mod Repeated
+mod NoOwnLogs
+mod StatesOfRuns
+mod SettledPlaces
+mod UndoneOnce
+mod OneVisit
 mod Members
-mod Released
-mod Saving
+mod ReleasedVisits
+mod RecoveryExample
 mod RingTests
-mod Meant
-mod Ordered
-mod Dated
-mod OneWay
-mod Deciding
-mod Legally
-mod Firstly
+mod TestMeanings
+mod JobOrder
+mod ArrivalTimes
+mod UniqueDrive
+mod BoundedSearch
+mod DecidedJobs
+mod FirstJobExists
 mod LoneFirst

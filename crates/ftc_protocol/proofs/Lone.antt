@@ -8,13 +8,13 @@ use Rattle.ftc_protocol.specs.State.{ChainState, Message, Withheld, Where, Held,
 use Rattle.ftc_protocol.specs.Known.{knows, IsReady, IsDue}
 use Rattle.ftc_protocol.proofs.Premises.{IsGood}
 use Rattle.ftc_protocol.proofs.Places.{Filtered, serial_of}
-use Rattle.ftc_protocol.proofs.Ring.{apart_cases}
-use Rattle.ftc_protocol.proofs.Awake.{IsUp}
-use Rattle.ftc_protocol.proofs.Carrying.{AreCarried}
-use Rattle.ftc_protocol.proofs.Having.{head_has}
+use Rattle.ftc_protocol.proofs.RingDistances.{apart_cases}
+use Rattle.ftc_protocol.proofs.LiveHolders.{IsUp}
+use Rattle.ftc_protocol.proofs.CarriedLogs.{AreCarried}
+use Rattle.ftc_protocol.proofs.HavingVisits.{head_has}
 use Rattle.ftc_protocol.proofs.SmallEvents.{held_target}
 use Rattle.ftc_protocol.proofs.Complete.{IsReached}
-use Rattle.ftc_protocol.proofs.Calm.{IsCalm}
+use Rattle.ftc_protocol.proofs.FaultFree.{IsCalm}
 
 -- so many packets have entered, nothing was lost, and the forwarder is empty
 pub record IsPlain (c : Setting) (s : ChainState) (count : ℕ) : Type 0 where

@@ -17,7 +17,7 @@ use Rattle.ftc_protocol.specs.Quiet.{IsQuiet}
 use Rattle.ftc_protocol.specs.Jobs.{event_of, place_of, IsEarlier}
 use Rattle.ftc_protocol.specs.Drive.{IsNextEvent, AreFinish}
 use Rattle.ftc_protocol.proofs.Premises.{IsGood}
-use Rattle.ftc_protocol.proofs.Ordered.{not_below_itself}
+use Rattle.ftc_protocol.proofs.JobOrder.{not_below_itself}
 use Rattle.ftc_protocol.proofs.Lone.{IsIdle, IsAt, ready_here}
 
 -- each event is what is done next after those before it

@@ -11,9 +11,9 @@ use Rattle.ftc_protocol.specs.Legal.{MayHappen, IsLegal, is_sent}
 use Rattle.ftc_protocol.specs.Next.{next, is_away, logs_sent, sent_message, withheld_of}
 use Rattle.ftc_protocol.specs.Quiet.{IsQuiet}
 use Rattle.ftc_protocol.proofs.Premises.{IsGood}
-use Rattle.ftc_protocol.proofs.Pending.{same_message, other_message}
+use Rattle.ftc_protocol.proofs.InTransit.{same_message, other_message}
 use Rattle.ftc_protocol.proofs.Complete.{keeps_reached}
-use Rattle.ftc_protocol.proofs.Calm.{keeps_calm, next_below}
+use Rattle.ftc_protocol.proofs.FaultFree.{keeps_calm, next_below}
 use Rattle.ftc_protocol.proofs.Lone.{IsPlain, IsAt, behind, none_due, ready_here, server_below}
 
 module _ (c : Setting) (good : IsGood c) (quiet : IsQuiet c) (alone : c.failures ≡ 0) (s : ChainState) (p k : ℕ) (visited : Bool) (at : IsAt c s p (Held k visited false))

@@ -12,7 +12,7 @@ use Rattle.ftc_protocol.specs.Next.{next}
 use Rattle.ftc_protocol.specs.Quiet.{IsQuiet}
 use Rattle.ftc_protocol.proofs.Premises.{IsGood}
 use Rattle.ftc_protocol.proofs.Complete.{keeps_reached}
-use Rattle.ftc_protocol.proofs.Calm.{keeps_calm}
+use Rattle.ftc_protocol.proofs.FaultFree.{keeps_calm}
 use Rattle.ftc_protocol.proofs.Lone.{IsPlain, IsIdle, IsBuffered}
 
 module _ (c : Setting) (good : IsGood c) (quiet : IsQuiet c) (s : ChainState) (p : ℕ) (plain : IsPlain c s (suc p)) (messages : (origin : ℕ) → s.message origin ≡ None) (buffered : IsBuffered c s p) where

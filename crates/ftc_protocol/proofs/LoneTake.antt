@@ -12,10 +12,10 @@ use Rattle.ftc_protocol.specs.Legal.{MayHappen, IsLegal}
 use Rattle.ftc_protocol.specs.Next.{next, known_by, taken_message}
 use Rattle.ftc_protocol.specs.Quiet.{IsQuiet}
 use Rattle.ftc_protocol.proofs.Premises.{IsGood}
-use Rattle.ftc_protocol.proofs.Pending.{same_message, other_message}
-use Rattle.ftc_protocol.proofs.Carrying.{has_more}
+use Rattle.ftc_protocol.proofs.InTransit.{same_message, other_message}
+use Rattle.ftc_protocol.proofs.CarriedLogs.{has_more}
 use Rattle.ftc_protocol.proofs.Complete.{keeps_reached}
-use Rattle.ftc_protocol.proofs.Calm.{keeps_calm}
+use Rattle.ftc_protocol.proofs.FaultFree.{keeps_calm}
 use Rattle.ftc_protocol.proofs.Lone.{IsAt, none_due}
 
 module _ (c : Setting) (good : IsGood c) (quiet : IsQuiet c) (s : ChainState) (p k : ℕ) (more : k + 1 ≢ servers c) (at : IsAt c s p (Queued k)) where

@@ -14,13 +14,13 @@ use Rattle.ftc_protocol.specs.Next.{next, outcome_at, visited_at, visited_messag
 use Rattle.ftc_protocol.specs.Quiet.{IsQuiet}
 use Rattle.ftc_protocol.proofs.Premises.{IsGood}
 use Rattle.ftc_protocol.proofs.Places.{place_after, serial_of}
-use Rattle.ftc_protocol.proofs.Ring.{apart_cases}
-use Rattle.ftc_protocol.proofs.Pending.{same_message, other_message}
+use Rattle.ftc_protocol.proofs.RingDistances.{apart_cases}
+use Rattle.ftc_protocol.proofs.InTransit.{same_message, other_message}
 use Rattle.ftc_protocol.proofs.Sets.{kept}
-use Rattle.ftc_protocol.proofs.Carrying.{has_more, has_grown}
-use Rattle.ftc_protocol.proofs.Having.{head_has}
+use Rattle.ftc_protocol.proofs.CarriedLogs.{has_more, has_grown}
+use Rattle.ftc_protocol.proofs.HavingVisits.{head_has}
 use Rattle.ftc_protocol.proofs.Complete.{IsReached, keeps_reached}
-use Rattle.ftc_protocol.proofs.Calm.{keeps_calm}
+use Rattle.ftc_protocol.proofs.FaultFree.{keeps_calm}
 use Rattle.ftc_protocol.proofs.Lone.{IsAt, none_due, ready_here, server_below}
 
 module _ (c : Setting) (good : IsGood c) (quiet : IsQuiet c) (alone : c.failures ≡ 0) (s : ChainState) (p k : ℕ) (at : IsAt c s p (Held k false false))

@@ -9,16 +9,16 @@ use Rattle.ftc_protocol.specs.Setting.{Setting, servers, count, IsSetting}
 use Rattle.ftc_protocol.specs.State.{opening}
 use Rattle.ftc_protocol.specs.Run.{IsRun, IsFinished, state_after}
 use Rattle.ftc_protocol.specs.Quiet.{IsQuiet}
-use Rattle.ftc_protocol.proofs.Supposed.{is_good}
+use Rattle.ftc_protocol.proofs.AcceptedSettings.{is_good}
 use Rattle.ftc_protocol.proofs.Complete.{opens_reached}
-use Rattle.ftc_protocol.proofs.Calm.{opens_calm}
-use Rattle.ftc_protocol.proofs.Stopped.{nothing_left}
+use Rattle.ftc_protocol.proofs.FaultFree.{opens_calm}
+use Rattle.ftc_protocol.proofs.NothingLegal.{nothing_left}
 use Rattle.ftc_protocol.proofs.Driven.{steps_with, IsAhead, Leads, each_drives}
 use Rattle.ftc_protocol.specs.Drive.{IsFinish}
 use Rattle.ftc_protocol.proofs.LoneFirst.{next_finish}
 use Rattle.ftc_protocol.proofs.DriveTrace.{drive_trace}
 use Rattle.ftc_protocol.proofs.Lone.{IsIdle}
-use Rattle.ftc_protocol.proofs.Course.{drives_packet}
+use Rattle.ftc_protocol.proofs.PlainCourse.{drives_packet}
 
 opens_idle : (c : Setting) → IsSetting c → IsQuiet c → IsIdle c 0 (opening c)
 opens_idle c is quiet = record {

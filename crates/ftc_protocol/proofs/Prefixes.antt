@@ -13,13 +13,13 @@ use Rattle.ftc_protocol.specs.Next.{next}
 use Rattle.ftc_protocol.specs.Run.{AreLegal, IsRun, state_after}
 use Rattle.ftc_protocol.specs.Moment.{IsSound}
 use Rattle.ftc_protocol.proofs.Premises.{IsGood}
-use Rattle.ftc_protocol.proofs.Supposed.{is_good, opens_fit}
+use Rattle.ftc_protocol.proofs.AcceptedSettings.{is_good, opens_fit}
 use Rattle.ftc_protocol.proofs.RunLists.{first_legal, rest_legal, state_on}
 use Rattle.ftc_protocol.proofs.TraceLemmas.{stands_left}
-use Rattle.ftc_protocol.proofs.Inv.{Inv}
-use Rattle.ftc_protocol.proofs.Every.{keeps, always}
-use Rattle.ftc_protocol.proofs.Forever.{kept_forever}
-use Rattle.ftc_protocol.proofs.Sound.{sound}
+use Rattle.ftc_protocol.proofs.Invariant.{Inv}
+use Rattle.ftc_protocol.proofs.Induction.{keeps, always}
+use Rattle.ftc_protocol.proofs.ReleasedForGood.{kept_forever}
+use Rattle.ftc_protocol.proofs.Soundness.{sound}
 
 pub sound_before : (c : Setting) → IsSetting c → (before after : List Event) → IsRun c (before ++ after) → IsSound c (state_after c (opening c) before)
 sound_before c is before after run = sound c (is_good c is) is.ring (opens_fit c is) before (first_legal c before after (opening c) run)

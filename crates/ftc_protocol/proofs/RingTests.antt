@@ -5,7 +5,7 @@ use Rattle.ftc_ring.specs.Ring.{apart, IsMember, tail_of}
 use Rattle.ftc_ring.specs.Live.{IsBetween, span}
 use Rattle.ftc_protocol.specs.Setting.{Setting, IsSetting, servers, shape, is_member, is_tail}
 use Rattle.ftc_protocol.specs.Recovery.{is_between}
-use Rattle.ftc_protocol.proofs.Ring.{apart_cases}
+use Rattle.ftc_protocol.proofs.RingDistances.{apart_cases}
 
 pub member_says : (c : Setting) (group server : ℕ) → (is_member c group server ≡ true) ↔ IsMember (shape c) group server
 member_says c group server = (

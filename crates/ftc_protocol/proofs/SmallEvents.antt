@@ -3,26 +3,26 @@ use Rattle.std.proofs.Common.{◌≡◌, ◌≢◌, ℕ, ◌+◌, ◌-◌, ◌<�
 use Rattle.std.proofs.lemmas.Bool.{true≢false, cases_lt, or_cases}
 use Rattle.std.proofs.lemmas.Option.{none-some, same_Some}
 use Rattle.ftc_journal.specs.declared.event.Event.TheVariants.{Apply, Carry, Propagate, Pull, Take}
-use Rattle.ftc_protocol.proofs.Carrying.{AreCarried, grows, passes, passes_far}
+use Rattle.ftc_protocol.proofs.CarriedLogs.{AreCarried, grows, passes, passes_far}
 use Rattle.ftc_protocol.proofs.Premises.{AreFit, IsAdmissible, IsGood, is_crash, server_of}
 use Rattle.ftc_protocol.specs.State.{ChainState, Held, Message, Queued, Where, Withheld}
 use Rattle.ftc_protocol.specs.Visits.{In, Visits, just, union}
-use Rattle.ftc_protocol.proofs.Inv.{Inv, IsSafe, IsSteady, each_message, empty_steady, expected, target, under_way_moves}
+use Rattle.ftc_protocol.proofs.Invariant.{Inv, IsSafe, IsSteady, each_message, empty_steady, expected, target, under_way_moves}
 use Rattle.ftc_protocol.specs.Trace.{IsInTrace, IsTouching}
 use Rattle.ftc_protocol.specs.Legal.{IsNextLine, MayHappen}
-use Rattle.ftc_protocol.proofs.Awake.{IsUp, stays_awake}
-use Rattle.ftc_protocol.proofs.Within.{IsWithin, carried_both, carried_pulls, within_more, within_pulls}
+use Rattle.ftc_protocol.proofs.LiveHolders.{IsUp, stays_awake}
+use Rattle.ftc_protocol.proofs.GroupDistance.{IsWithin, carried_both, carried_pulls, within_more, within_pulls}
 use Rattle.ftc_serial.specs.Take.{Outcome}
 use Rattle.ftc_script.specs.declared.line.ScriptLine.{ScriptLine}
 use Rattle.ftc_protocol.specs.Setting.{Setting, is_tail, servers}
 use Rattle.ftc_ring.specs.Ring.{apart, next_of}
-use Rattle.ftc_protocol.proofs.Ring.{apart_cases}
+use Rattle.ftc_protocol.proofs.RingDistances.{apart_cases}
 use Rattle.ftc_protocol.specs.Next.{fresh_message, known_by, lines_behind, logs_of, next, pulled_list, taken_message}
 use Rattle.ftc_protocol.proofs.Sets.{kept}
-use Rattle.ftc_protocol.proofs.Stores.{stands_below}
+use Rattle.ftc_protocol.proofs.ListStores.{stands_below}
 use Rattle.ftc_serial.specs.Words.{with_at}
 use Rattle.ftc_serial.proofs.Functions.{with_at_cases}
-use Rattle.ftc_protocol.proofs.World.{world_apply, world_pulls}
+use Rattle.ftc_protocol.proofs.TraceAndLists.{world_apply, world_pulls}
 
 pub fit_now : (c : Setting) (up : ℕ → Bool) (lines : List ScriptLine) → AreFit c up lines → IsAdmissible c up
 fit_now c up [] h = h

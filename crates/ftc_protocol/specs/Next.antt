@@ -234,7 +234,8 @@ abbrev pub happened : Setting → ChainState → Event → ChainState
 happened setting state (event.Enter packet) = record state {
   entered = state.entered + 1;
   message = with_at state.message packet
-      (if state.up 0 then Some (fresh_message state.events (Some (packet_at setting packet))) else state.message packet);
+      (if state.up 0 then Some (fresh_message state.events
+      (Some (packet_at setting packet))) else state.message packet);
   fate = with_at state.fate packet (if state.up 0 then state.fate packet else became.Lost state.events);
 }
 happened setting state (event.Take link origin) = record state {

@@ -4,7 +4,7 @@ ghost use Rattle.std.specs.Prelude.{◌≡◌, ◌++◌, OnOk, IfOk, count_by, s
 ghost use Rattle.ftc_report.specs.Text.{is_released, is_filtered, is_lost, head};
 
 use ftc_base::{Bytes, NoMemory};
-use ftc_machine::{Fate, Fates};
+use ftc_protocol::{Fate, Fates};
 use std::alloc::{AllocError, Global};
 
 fn is_released(fate: &Fate) -> bool

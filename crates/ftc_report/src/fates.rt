@@ -5,7 +5,7 @@ ghost use Rattle.std.specs.List.{flat_map, enumerate_from};
 ghost use Rattle.ftc_report.specs.Text.{fate_line};
 
 use ftc_base::{Bytes, NoMemory};
-use ftc_machine::{Fate, Fates};
+use ftc_protocol::{Fate, Fates};
 use std::alloc::{AllocError, Global};
 
 /// The line of a packet.

@@ -10,7 +10,7 @@ use crate::fates::append_fates;
 use crate::stores::append_stores;
 use crate::taps::append_taps;
 use ftc_base::{Bytes, Lines, NoMemory};
-use ftc_machine::Fates;
+use ftc_protocol::Fates;
 use ftc_serial::Serial;
 use std::alloc::Global;
 

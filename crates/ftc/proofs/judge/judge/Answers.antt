@@ -1,6 +1,6 @@
 use Rattle.std.proofs.Common.{◌≡◌, ◌∙◌, sym, List}
 use Rattle.ftc_serial.specs.Packets.{bytes_of}
-use Rattle.ftc_machine.proofs.Handed.{bytes_count}
+use Rattle.ftc_machine.proofs.RunInputs.{bytes_count}
 use Rattle.ftc_protocol.specs.Setting.{Setting, IsSetting, setting_of}
 use Rattle.ftc_check.specs.Verdict.{IsVerdict}
 use Rattle.ftc_check.specs.declared.verdict.Checked.TheVariants.{Yes}

@@ -2,7 +2,7 @@ use Rattle.std.proofs.Common.{◌≡◌, subst, refl, ℕ, Option}
 use Rattle.std.specs.Prelude.{IfSome, IsNone}
 use Rattle.ftc_serial.specs.Packets.{bytes_of}
 use Rattle.ftc_serial.specs.Held.{state_of}
-use Rattle.ftc_machine.specs.Played.{setting_in}
+use Rattle.ftc_machine.specs.RunSoFar.{setting_in}
 use Rattle.ftc_report.specs.Output.{out_bytes}
 use Rattle.ftc_check.specs.Difference.{IsFirstDifference}
 use Rattle.ftc_check.specs.Verdict.{IsReport, IsOtherReport}

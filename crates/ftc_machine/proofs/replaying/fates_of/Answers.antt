@@ -1,7 +1,7 @@
 use Rattle.std.proofs.Math.Logic.{∥∥₁_elim}
 use Rattle.ftc_serial.specs.Packets.{bytes_of}
 use Rattle.ftc_protocol.specs.Setting.{setting_of}
-use Rattle.ftc_machine.proofs.Replayed.{none_illegal}
+use Rattle.ftc_machine.proofs.JournalReplay.{none_illegal}
 use Rattle.ftc_machine.proofs.replaying.fates_of.Goals as goal
 
 pub unreachable-requires : goal.unreachable-requires

@@ -1,6 +1,6 @@
-use Rattle.ftc_protocol.proofs.Firstly.{drive_of}
-use Rattle.ftc_protocol.proofs.OneWay.{drive_is_one}
-use Rattle.ftc_protocol.proofs.Choiceless.{drive_run, drives_itself, drive_front}
+use Rattle.ftc_protocol.proofs.FirstJobExists.{drive_of}
+use Rattle.ftc_protocol.proofs.UniqueDrive.{drive_is_one}
+use Rattle.ftc_protocol.proofs.DriveLaws.{drive_run, drives_itself, drive_front}
 use Rattle.ftc_protocol.proofs.driving.drive.Goals as goal
 
 pub returns-clause-exists : goal.returns-clause-exists

@@ -1,6 +1,6 @@
-use Rattle.ftc_protocol.proofs.Firstly.{finish_of}
-use Rattle.ftc_protocol.proofs.OneWay.{finish_is_one, turn}
-use Rattle.ftc_protocol.proofs.Choiceless.{finish_run, finish_finished, finish_begun}
+use Rattle.ftc_protocol.proofs.FirstJobExists.{finish_of}
+use Rattle.ftc_protocol.proofs.UniqueDrive.{finish_is_one, turn}
+use Rattle.ftc_protocol.proofs.DriveLaws.{finish_run, finish_finished, finish_begun}
 use Rattle.ftc_protocol.proofs.driving.finish.Goals as goal
 
 pub returns-clause-exists : goal.returns-clause-exists

@@ -1,6 +1,6 @@
-use Rattle.ftc_protocol.proofs.Ordered.{one_first, not_below_itself, below_both}
-use Rattle.ftc_protocol.proofs.Choiceless.{first_exists, none_is_finished, first_in_turn}
-use Rattle.ftc_protocol.proofs.InTurn.{none_in_turn}
+use Rattle.ftc_protocol.proofs.JobOrder.{one_first, not_below_itself, below_both}
+use Rattle.ftc_protocol.proofs.DriveLaws.{first_exists, none_is_finished, first_in_turn}
+use Rattle.ftc_protocol.proofs.FirstJobInTurn.{none_in_turn}
 use Rattle.ftc_protocol.specs.Jobs.{place_of}
 use Rattle.ftc_protocol.proofs.driving.first_job.Goals as goal
 

@@ -1,7 +1,7 @@
 use Rattle.ftc_protocol.specs.State.{opening}
 use Rattle.ftc_protocol.specs.Run.{state_after}
-use Rattle.ftc_protocol.proofs.Choiceless.{any_slot_legal, job_of_event}
-use Rattle.ftc_protocol.proofs.Firstly.{within, counted_at}
+use Rattle.ftc_protocol.proofs.DriveLaws.{any_slot_legal, job_of_event}
+use Rattle.ftc_protocol.proofs.FirstJobExists.{within, counted_at}
 use Rattle.ftc_protocol.proofs.driving.jobs_of_events.Goals as goal
 
 pub returns-clause-slots : goal.returns-clause-slots

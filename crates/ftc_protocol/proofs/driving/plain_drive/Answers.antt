@@ -1,4 +1,4 @@
-use Rattle.ftc_protocol.proofs.Choiceless.{plain_is_drive, plain_is_one}
+use Rattle.ftc_protocol.proofs.DriveLaws.{plain_is_drive, plain_is_one}
 use Rattle.ftc_protocol.proofs.driving.plain_drive.Goals as goal
 
 pub returns-clause-drive : goal.returns-clause-drive

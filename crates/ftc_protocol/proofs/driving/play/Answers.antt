@@ -1,7 +1,7 @@
 use Rattle.ftc_protocol.specs.State.{opening}
-use Rattle.ftc_protocol.proofs.OneWay.{play_is_one, play_on, play_more, play_over}
-use Rattle.ftc_protocol.proofs.Firstly.{played_legal}
-use Rattle.ftc_protocol.proofs.Choiceless.{plays_itself}
+use Rattle.ftc_protocol.proofs.UniqueDrive.{play_is_one, play_on, play_more, play_over}
+use Rattle.ftc_protocol.proofs.FirstJobExists.{played_legal}
+use Rattle.ftc_protocol.proofs.DriveLaws.{plays_itself}
 use Rattle.ftc_protocol.proofs.driving.play.Goals as goal
 
 pub returns-clause-single : goal.returns-clause-single

@@ -1,5 +1,5 @@
-use Rattle.ftc_protocol.proofs.Firstly.{releases_of, releases_end}
-use Rattle.ftc_protocol.proofs.Choiceless.{releases_one, releases_run}
+use Rattle.ftc_protocol.proofs.FirstJobExists.{releases_of, releases_end}
+use Rattle.ftc_protocol.proofs.DriveLaws.{releases_one, releases_run}
 use Rattle.ftc_protocol.proofs.driving.releases.Goals as goal
 
 pub returns-clause-exist : goal.returns-clause-exist

@@ -1,4 +1,4 @@
-use Rattle.ftc_protocol.proofs.Choiceless.{messages_apart, withheld_apart}
+use Rattle.ftc_protocol.proofs.DriveLaws.{messages_apart, withheld_apart}
 use Rattle.ftc_protocol.proofs.driving.times_apart.Goals as goal
 
 pub returns-clause-messages : goal.returns-clause-messages

@@ -1,9 +1,9 @@
 use Rattle.ftc_protocol.specs.State.{opening}
 use Rattle.ftc_protocol.specs.Run.{state_after}
-use Rattle.ftc_protocol.proofs.InTurn.{one_work, visit_works, pass_works, lose_works, carry_works}
+use Rattle.ftc_protocol.proofs.FirstJobInTurn.{one_work, visit_works, pass_works, lose_works, carry_works}
 use Rattle.ftc_protocol.proofs.Complete.{reached}
-use Rattle.ftc_protocol.proofs.Working.{work_or_none}
-use Rattle.ftc_protocol.proofs.Firstly.{counted_at}
+use Rattle.ftc_protocol.proofs.MessageWork.{work_or_none}
+use Rattle.ftc_protocol.proofs.FirstJobExists.{counted_at}
 use Rattle.ftc_protocol.proofs.driving.work.Goals as goal
 
 pub returns-clause-visit : goal.returns-clause-visit

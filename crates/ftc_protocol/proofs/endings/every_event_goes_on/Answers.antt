@@ -1,4 +1,4 @@
-use Rattle.ftc_protocol.proofs.Falling.{falls_on}
+use Rattle.ftc_protocol.proofs.MeasureFalls.{falls_on}
 use Rattle.ftc_protocol.proofs.endings.every_event_goes_on.Goals as goal
 
 pub returns : goal.returns

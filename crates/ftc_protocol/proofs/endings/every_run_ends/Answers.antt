@@ -1,4 +1,4 @@
-use Rattle.ftc_protocol.proofs.Radix.{work_falls, bounded}
+use Rattle.ftc_protocol.proofs.MeasureNumber.{work_falls, bounded}
 use Rattle.ftc_protocol.proofs.endings.every_run_ends.Goals as goal
 
 pub returns-clause-falls : goal.returns-clause-falls

@@ -1,4 +1,4 @@
-use Rattle.ftc_protocol.proofs.Calm.{stays_quiet, all_done}
+use Rattle.ftc_protocol.proofs.FaultFree.{stays_quiet, all_done}
 use Rattle.ftc_protocol.proofs.endings.quiet_links.Goals as goal
 
 pub returns-clause-events : goal.returns-clause-events

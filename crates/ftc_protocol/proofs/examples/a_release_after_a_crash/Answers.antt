@@ -1,4 +1,4 @@
-use Rattle.ftc_protocol.proofs.Saving.{a_setting, a_run, is_finished, released}
+use Rattle.ftc_protocol.proofs.RecoveryExample.{a_setting, a_run, is_finished, released}
 use Rattle.ftc_protocol.proofs.examples.a_release_after_a_crash.Goals as goal
 
 pub returns-clause-setting : goal.returns-clause-setting

@@ -1,7 +1,7 @@
 use Rattle.ftc_journal.specs.declared.event.Event.TheVariants.{Lose}
 use Rattle.std.proofs.Common.{◌∷◌}
 use Rattle.ftc_protocol.specs.State.{opening}
-use Rattle.ftc_protocol.proofs.Orderly.{licensed}
+use Rattle.ftc_protocol.proofs.OrderlyStates.{licensed}
 use Rattle.ftc_protocol.proofs.RunLists.{rest_legal}
 use Rattle.ftc_protocol.proofs.journals.licence.Goals as goal
 

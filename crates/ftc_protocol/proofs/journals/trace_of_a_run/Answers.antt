@@ -1,4 +1,4 @@
-use Rattle.ftc_protocol.proofs.Traced.{trace_is}
+use Rattle.ftc_protocol.proofs.JournalTrace.{trace_is}
 use Rattle.ftc_protocol.proofs.journals.trace_of_a_run.Goals as goal
 
 pub returns : goal.returns

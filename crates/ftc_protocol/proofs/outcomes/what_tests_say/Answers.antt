@@ -1,10 +1,10 @@
 use Rattle.ftc_protocol.specs.State.{opening}
 use Rattle.ftc_protocol.specs.Run.{state_after}
-use Rattle.ftc_protocol.proofs.Ready.{each_had}
+use Rattle.ftc_protocol.proofs.ReadyTest.{each_had}
 use Rattle.ftc_protocol.proofs.HasEach.{each_has}
-use Rattle.ftc_protocol.proofs.Listed.{lacked_says, lacked_has}
-use Rattle.ftc_protocol.proofs.Supposed.{is_good, opens_fit}
-use Rattle.ftc_protocol.proofs.Every.{always}
+use Rattle.ftc_protocol.proofs.UndoneList.{lacked_says, lacked_has}
+use Rattle.ftc_protocol.proofs.AcceptedSettings.{is_good, opens_fit}
+use Rattle.ftc_protocol.proofs.Induction.{always}
 use Rattle.ftc_protocol.proofs.RingTests.{member_says, tail_says, between_says}
 use Rattle.ftc_protocol.proofs.outcomes.what_tests_say.Goals as goal
 

@@ -1,5 +1,5 @@
 use Rattle.ftc_protocol.proofs.Complete.{fates_of_run}
-use Rattle.ftc_protocol.proofs.Losing.{lost_by}
+use Rattle.ftc_protocol.proofs.LossEvents.{lost_by}
 use Rattle.ftc_protocol.proofs.packets.fates.Goals as goal
 
 pub returns-clause-says : goal.returns-clause-says

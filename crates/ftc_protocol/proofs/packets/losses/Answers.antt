@@ -1,5 +1,5 @@
-use Rattle.ftc_protocol.proofs.Orderly.{lost_for_good, counted}
-use Rattle.ftc_protocol.proofs.Meant.{lost_at}
+use Rattle.ftc_protocol.proofs.OrderlyStates.{lost_for_good, counted}
+use Rattle.ftc_protocol.proofs.TestMeanings.{lost_at}
 use Rattle.ftc_protocol.proofs.packets.losses.Goals as goal
 
 pub returns-clause-stay : goal.returns-clause-stay

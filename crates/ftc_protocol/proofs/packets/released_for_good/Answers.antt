@@ -1,5 +1,5 @@
 use Rattle.ftc_protocol.proofs.Prefixes.{kept_on}
-use Rattle.ftc_protocol.proofs.Released.{all_visited}
+use Rattle.ftc_protocol.proofs.ReleasedVisits.{all_visited}
 use Rattle.ftc_protocol.proofs.packets.released_for_good.Goals as goal
 
 pub returns-clause-stays : goal.returns-clause-stays

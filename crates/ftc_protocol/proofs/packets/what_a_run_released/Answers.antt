@@ -1,4 +1,4 @@
-use Rattle.ftc_protocol.proofs.Orderly.{whole_released, whole_given, whole_filtered}
+use Rattle.ftc_protocol.proofs.OrderlyStates.{whole_released, whole_given, whole_filtered}
 use Rattle.ftc_protocol.proofs.packets.what_a_run_released.Goals as goal
 
 pub returns-clause-records : goal.returns-clause-records

@@ -1,4 +1,4 @@
-use Rattle.ftc_protocol.proofs.Supposed.{is_setting, few_messages}
+use Rattle.ftc_protocol.proofs.AcceptedSettings.{is_setting, few_messages}
 use Rattle.ftc_protocol.proofs.settings.accepted.Goals as goal
 
 pub returns-clause-setting : goal.returns-clause-setting

@@ -1,5 +1,5 @@
-use Rattle.ftc_protocol.proofs.Stated.{of_state}
-use Rattle.ftc_protocol.proofs.Riding.{riding}
+use Rattle.ftc_protocol.proofs.StatesOfRuns.{of_state}
+use Rattle.ftc_protocol.proofs.LogsRideOnce.{riding}
 use Rattle.ftc_protocol.specs.Orderly.{IsRiding}
 use Rattle.ftc_protocol.proofs.states.logs_ride_once.Goals as goal
 

@@ -1,5 +1,5 @@
-use Rattle.ftc_protocol.proofs.Stated.{of_state}
-use Rattle.ftc_protocol.proofs.Ahead.{ahead}
+use Rattle.ftc_protocol.proofs.StatesOfRuns.{of_state}
+use Rattle.ftc_protocol.proofs.NoOwnLogs.{ahead}
 use Rattle.ftc_protocol.specs.Orderly.{AreAhead}
 use Rattle.ftc_protocol.proofs.states.messages_ahead.Goals as goal
 

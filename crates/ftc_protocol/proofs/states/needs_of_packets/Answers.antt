@@ -1,5 +1,5 @@
-use Rattle.ftc_protocol.proofs.Stated.{of_state}
-use Rattle.ftc_protocol.proofs.Needing.{needing}
+use Rattle.ftc_protocol.proofs.StatesOfRuns.{of_state}
+use Rattle.ftc_protocol.proofs.PacketNeeds.{needing}
 use Rattle.ftc_protocol.specs.Orderly.{IsNeeding}
 use Rattle.ftc_protocol.proofs.states.needs_of_packets.Goals as goal
 

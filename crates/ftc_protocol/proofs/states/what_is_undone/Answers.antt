@@ -1,5 +1,5 @@
-use Rattle.ftc_protocol.proofs.Meant.{undone_means, undone_closed}
-use Rattle.ftc_protocol.proofs.Undoings.{undone_order, undone_once, undone_lost}
+use Rattle.ftc_protocol.proofs.TestMeanings.{undone_means, undone_closed}
+use Rattle.ftc_protocol.proofs.UndoneOnce.{undone_order, undone_once, undone_lost}
 use Rattle.ftc_protocol.proofs.states.what_is_undone.Goals as goal
 
 pub returns-clause-undone : goal.returns-clause-undone

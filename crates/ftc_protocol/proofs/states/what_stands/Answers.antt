@@ -1,5 +1,5 @@
-use Rattle.ftc_protocol.proofs.Stated.{of_state}
-use Rattle.ftc_protocol.proofs.Meant.{stands_means}
+use Rattle.ftc_protocol.proofs.StatesOfRuns.{of_state}
+use Rattle.ftc_protocol.proofs.TestMeanings.{stands_means}
 use Rattle.std.proofs.Common.{ℕ, ◌↔◌}
 use Rattle.ftc_protocol.specs.Orderly.{IsStanding}
 use Rattle.ftc_protocol.specs.Moment.{Stands}

@@ -4,7 +4,7 @@ use Rattle.ftc_serial.specs.declared.step.Step.{Step}
 use Rattle.ftc_serial.specs.Serial.{opening, serial_run}
 use Rattle.ftc_serial.specs.Packets.{bytes_of}
 use Rattle.ftc_protocol.specs.Setting.{setting_of}
-use Rattle.ftc_machine.proofs.Handed.{bytes_count}
+use Rattle.ftc_machine.proofs.RunInputs.{bytes_count}
 use Rattle.ftc_report.proofs.Ended.{has_end}
 use Rattle.ftc_report.proofs.over.report.Goals as goal
 

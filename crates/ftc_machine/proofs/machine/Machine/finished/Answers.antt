@@ -1,17 +1,17 @@
 use Rattle.std.proofs.Common.{sym, subst, ◌∙◌}
 use Rattle.ftc_serial.specs.Packets.{bytes_of}
 use Rattle.ftc_protocol.specs.Setting.{Setting, setting_of}
-use Rattle.ftc_machine.specs.Played.{Played, setting_in, state_of}
+use Rattle.ftc_machine.specs.RunSoFar.{RunSoFar, setting_in, state_of}
 use Rattle.ftc_protocol.specs.Run.{IsFinished}
-use Rattle.ftc_machine.proofs.Playing.{over, not_over}
-use Rattle.ftc_machine.proofs.Handed.{inputs_of}
+use Rattle.ftc_machine.proofs.RunsOnward.{over, not_over}
+use Rattle.ftc_machine.proofs.RunInputs.{inputs_of}
 use Rattle.ftc_machine.proofs.machine.Machine.finished.Goals as goal
 
 pub returns-clause-finished : goal.returns-clause-finished
 returns-clause-finished c is =
     let m = c.self.inside in
     let setting : Setting = setting_of m.spec.now (bytes_of m.packets.now) m.script.now in
-    subst (λ (p : Played). ∥ IsFinished (setting_in p) (state_of p) ∥₁) c.self.view_is
+    subst (λ (p : RunSoFar). ∥ IsFinished (setting_in p) (state_of p) ∥₁) c.self.view_is
     (over setting m.journal.items m.kept m.script.now c.len.result (inputs_of m.spec.now m.packets.now m.script.now c.len.result (sym c.len.ensures.same)) (sym c.is_done.ensures ∙ is) c.self.invariant)
 
 pub returns-clause-unfinished : goal.returns-clause-unfinished
@@ -19,4 +19,4 @@ returns-clause-unfinished c isnt finished =
     let m = c.self.inside in
     let setting : Setting = setting_of m.spec.now (bytes_of m.packets.now) m.script.now in
     not_over setting m.journal.items m.kept m.script.now c.len.result (inputs_of m.spec.now m.packets.now m.script.now c.len.result (sym c.len.ensures.same)) c.finished_run.ensures (sym c.is_done.ensures ∙ isnt) c.self.invariant
-    (subst (λ (p : Played). IsFinished (setting_in p) (state_of p)) (sym c.self.view_is) finished)
+    (subst (λ (p : RunSoFar). IsFinished (setting_in p) (state_of p)) (sym c.self.view_is) finished)

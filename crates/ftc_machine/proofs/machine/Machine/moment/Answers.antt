@@ -2,7 +2,7 @@ use Rattle.std.proofs.Common.{[], sym, subst}
 use Rattle.std.proofs.Math.Logic.{∥∥₁_map₂}
 use Rattle.std.proofs.lemmas.List.{append-nil}
 use Rattle.ftc_protocol.specs.Run.{IsRun}
-use Rattle.ftc_machine.specs.Played.{setting_in}
+use Rattle.ftc_machine.specs.RunSoFar.{setting_in}
 use Rattle.ftc_machine.proofs.machine.Machine.moment.Goals as goal
 
 pub returns : goal.returns

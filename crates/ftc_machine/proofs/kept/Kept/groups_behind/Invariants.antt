@@ -1,8 +1,0 @@
--- the set has those of the groups so far
-use Rattle.std.proofs.Common.{◌≡◌, ◌&&◌, ℕ, nat_lt}
-use Rattle.ftc_base.specs.Sets.{has}
-use Rattle.ftc_machine.specs.Tails.{is_behind}
-use Rattle.ftc_machine.proofs.kept.Kept.groups_behind.Given as goal
-
-abbrev pub invariant-loop-number : goal.invariant-loop-number
-invariant-loop-number l = (group : ℕ) → has l.groups group ≡ (nat_lt group l.number && is_behind l.self.ring group l.server)

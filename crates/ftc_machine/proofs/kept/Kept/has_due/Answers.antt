@@ -1,6 +1,0 @@
-use Rattle.std.proofs.Common.{◌∙◌}
-use Rattle.ftc_machine.specs.Due.{is_due_by}
-use Rattle.ftc_machine.proofs.kept.Kept.has_due.Goals as goal
-
-pub returns : goal.returns
-returns c = c.is_any_due.ensures ∙ c.live.ensures (is_due_by c.args.self.now c.args.reach.now)

@@ -1,6 +1,0 @@
-use Rattle.std.proofs.Common.{◌∙◌}
-use Rattle.ftc_machine.specs.Due.{is_due_before}
-use Rattle.ftc_machine.proofs.kept.Kept.has_due_before.Goals as goal
-
-pub returns : goal.returns
-returns c = c.is_any_due_before.ensures ∙ c.live.ensures (is_due_before c.args.self.now c.args.reach.now c.args.since)

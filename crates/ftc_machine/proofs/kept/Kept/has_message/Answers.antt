@@ -1,6 +1,0 @@
-use Rattle.std.proofs.Common.{◌∙◌, true}
-use Rattle.ftc_machine.specs.declared.message.Message.{Message}
-use Rattle.ftc_machine.proofs.kept.Kept.has_message.Goals as goal
-
-pub returns : goal.returns
-returns c = c.is_any_message.ensures ∙ c.live.ensures (λ (message : Message). true)

@@ -1,6 +1,0 @@
-use Rattle.std.proofs.Common.{◌∙◌}
-use Rattle.ftc_machine.specs.Tests.{is_older}
-use Rattle.ftc_machine.proofs.kept.Kept.has_older.Goals as goal
-
-pub returns : goal.returns
-returns c = c.is_any_older.ensures ∙ c.live.ensures (is_older c.args.link c.args.since)

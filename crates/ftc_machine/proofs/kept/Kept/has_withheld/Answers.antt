@@ -1,6 +1,0 @@
-use Rattle.std.proofs.Common.{◌∙◌, true}
-use Rattle.ftc_machine.specs.declared.message.Withheld.{Withheld}
-use Rattle.ftc_machine.proofs.kept.Kept.has_withheld.Goals as goal
-
-pub returns : goal.returns
-returns c = c.is_any_withheld.ensures ∙ c.live.ensures (λ (withheld : Withheld). true)
