@@ -1,5 +1,5 @@
 -- What a check says of files that are those of one run: nothing but Yes.
-use Rattle.std.proofs.Common.{◌≡◌, ◌∙◌, ◌⊎◌, inl, inr, refl, sym, ap, subst, ℕ, List, [], length, get_or, Some, Result, Ok, Err}
+use Rattle.std.proofs.Common.{◌≡◌, ◌∙◌, ◌⊎◌, inl, inr, refl, sym, ap, subst, ℕ, List, [], length, Some, Result, Ok, Err}
 use Rattle.ftc_outside.specs.Desk.{Files}
 use Rattle.ftc_pcap.specs.Grammar.{Spells, IsFault}
 use Rattle.ftc_pcap.specs.declared.capture.Capture.{Capture}
@@ -19,24 +19,11 @@ use Rattle.ftc_check.specs.declared.verdict.Checked.{Checked}
 use Rattle.ftc_check.specs.declared.verdict.Checked.TheVariants.{Yes}
 use Rattle.ftc.specs.declared.status.Status.{Status}
 use Rattle.ftc.specs.declared.status.Status.TheVariants as status
-use Rattle.ftc.specs.Words.{Named, Words, AreNames}
+use Rattle.ftc_words.specs.Command.{Named}
 use Rattle.ftc.specs.declared.limits.TheConstants.{MOST_RUN_FAILURES}
 use Rattle.ftc.specs.Ending.{HasChain, HasCapture, AreTexts, IsChainFault, IsCaptureFault}
 use Rattle.ftc.specs.Done.{Ends}
 use Rattle.ftc.specs.Checking.{ring_of, IsWrongScript, IsWrongJournal, IsJudged, AreChecked, IsRightRun, Judges, IsYesOrRefused, IsCheckEnd}
-
--- the names in the same words are the same
-pub one_name : (command : List ℕ) (words : Words) (a b : Named) → AreNames command words a → AreNames command words b → a ≡ b
-one_name command words a b one other =
-    let both = sym one ∙ other in
-    λ i. record {
-      chain = ap (λ (texts : List (List ℕ)). get_or texts 1 []) both i;
-      script = ap (λ (texts : List (List ℕ)). get_or texts 2 []) both i;
-      capture = ap (λ (texts : List (List ℕ)). get_or texts 3 []) both i;
-      out = ap (λ (texts : List (List ℕ)). get_or texts 4 []) both i;
-      journal = ap (λ (texts : List (List ℕ)). get_or texts 5 []) both i;
-      report = ap (λ (texts : List (List ℕ)). get_or texts 6 []) both i;
-    }
 
 -- a text is not both right and wrong
 not_both : {A F : Type 0} (told : Result A F) (value : A) (fault : F) → told ≡ Ok value → told ≡ Err fault → ⊥

@@ -30,7 +30,7 @@ use Rattle.ftc_check.specs.Laws.{WholeRunsAreRight}
 use Rattle.ftc_check.specs.Verdict.{IsWhole}
 use Rattle.ftc_check.specs.Visited.{ReleasedVisited}
 use Rattle.ftc.specs.declared.limits.TheConstants.{MOST_RUN_FAILURES}
-use Rattle.ftc.specs.Words.{Named}
+use Rattle.ftc_words.specs.Command.{Named}
 use Rattle.ftc.specs.Output.{MayHold}
 use Rattle.ftc.specs.Plain.{plain_setting, IsWholeRun}
 use Rattle.ftc.specs.Status.{desk_status}

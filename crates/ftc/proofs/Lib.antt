@@ -4,7 +4,6 @@ pub mod Through
 pub mod Members
 pub mod Driving
 pub mod Writable
-pub mod WordLemmas
 pub mod OutLemmas
 pub mod DistinctLemmas
 pub mod EndLemmas

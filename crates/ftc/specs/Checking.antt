@@ -1,5 +1,5 @@
 -- What the check of a run's files says.
-use Rattle.std.specs.Prelude.{◌≡◌, ◌≢◌, ◌⊎◌, ◌<◌, ℕ, List, length, Some, None, Ok, Err, codes}
+use Rattle.std.specs.Prelude.{◌≡◌, ◌≢◌, ◌⊎◌, ◌<◌, ℕ, List, length, Some, None, Ok, Err}
 use Rattle.ftc_outside.specs.Desk.{Files}
 use Rattle.ftc_pcap.specs.declared.capture.Capture.{Capture}
 use Rattle.ftc_ring.specs.Ring.{RingShape}
@@ -22,7 +22,7 @@ use Rattle.ftc_check.specs.declared.verdict.Checked.{Checked}
 use Rattle.ftc_check.specs.declared.verdict.Checked.TheVariants.{Yes}
 use Rattle.ftc.specs.declared.status.Status.{Status}
 use Rattle.ftc.specs.declared.status.Status.TheVariants as status
-use Rattle.ftc.specs.Words.{Named, Words, AreNames}
+use Rattle.ftc_words.specs.Command.{Named}
 use Rattle.ftc.specs.Ending.{HasChain, HasCapture, IsChainFault, IsCaptureFault, IsTextMissing}
 
 -- the ring of a chain
@@ -121,14 +121,6 @@ Judges sound names files (status.Check verdict) = IsJudged names files verdict �
 Judges sound names files status.DeskFault = sound → IsFileMissing names files
 Judges sound names files status.NoMemory = Unit {0}
 
--- How a check with these words ends.
-abbrev pub HasJudged : Type 0 → Words → Files → Status → Type 0
-HasJudged sound words files ending = (names : Named) × AreNames (codes "check") words names × Judges sound names files ending
-
--- The files of these words are those of one run.
-abbrev pub HasRightRun : Words → Files → Type 0
-HasRightRun words files = (names : Named) × AreNames (codes "check") words names × IsRightRun names files
-
 -- what a check may say of such files: Yes, or that the desk failed, or that memory was refused
 abbrev pub IsYesOrRefused : Status → Type 0
 IsYesOrRefused status.Done = Unit {0}
@@ -145,9 +137,6 @@ pub record AreReadable (names : Named) (files : Files) : Type 0 where
   pub journal : List Event
   pub report : List ℕ
   pub checked : AreChecked names files chain capture script out journal report
-
-abbrev pub HasFiles : Words → Files → Type 0
-HasFiles words files = (names : Named) × AreNames (codes "check") words names × AreReadable names files
 
 -- how a check of such files may end where the desk didn't fail
 abbrev pub IsCheckEnd : Status → Type 0

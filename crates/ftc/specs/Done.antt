@@ -1,5 +1,5 @@
 -- What a run leaves: files that a check says Yes of, or some fronts of them.
-use Rattle.std.specs.Prelude.{◌≡◌, ◌⊎◌, ℕ, List, [], Some, codes}
+use Rattle.std.specs.Prelude.{◌≡◌, ◌⊎◌, ℕ, List, [], Some}
 use Rattle.ftc_outside.specs.Desk.{Files, SameFiles}
 use Rattle.ftc_pcap.specs.declared.capture.Capture.{Capture}
 use Rattle.ftc_journal.specs.declared.event.Event.{Event}
@@ -14,7 +14,7 @@ use Rattle.ftc_report.specs.Report.{report_of}
 use Rattle.ftc.specs.declared.limits.TheConstants.{MOST_RUN_FAILURES}
 use Rattle.ftc.specs.declared.status.Status.{Status}
 use Rattle.ftc.specs.declared.status.Status.TheVariants as status
-use Rattle.ftc.specs.Words.{Named, Words, AreNames}
+use Rattle.ftc_words.specs.Command.{Named}
 use Rattle.ftc.specs.Output.{MayHold}
 use Rattle.ftc.specs.Ending.{AreTexts, IsChainFault, IsCaptureFault, IsScriptFault, IsTextMissing, SameButAtThree}
 use Rattle.ftc.specs.Checking.{IsRightRun}
@@ -64,18 +64,3 @@ Ends sound names old new (status.Journal line cause) = ⊥
 Ends sound names old new (status.Check verdict) = ⊥
 Ends sound names old new status.DeskFault = (SameFiles old new × (sound → IsTextMissing MOST_RUN_FAILURES names old)) ⊎ (IsCutShort names old new × (sound → ⊥))
 Ends sound names old new status.NoMemory = SameFiles old new ⊎ IsCutShort names old new
-
--- How a run with these words ends.
-abbrev pub HasEnded : Type 0 → Words → Files → Files → Status → Type 0
-HasEnded sound words old new ending = (names : Named) × AreNames (codes "run") words names × Ends sound names old new ending
-
--- The texts of these words are right.
-abbrev pub HasTexts : Words → Files → Type 0
-HasTexts words files = (names : Named) × AreNames (codes "run") words names × (chain : Chain) × (capture : Capture) × AreTexts names files chain capture
-
--- A run of these names left these files, and was done.
-pub record WasLeft (words : Words) (files : Files) : Type 0 where
-  pub names : Named
-  pub named : AreNames (codes "check") words names
-  pub earlier : Files
-  pub done : IsDone names earlier files

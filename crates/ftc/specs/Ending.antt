@@ -10,7 +10,7 @@ use Rattle.ftc_conf.specs.declared.fault.ChainCause.{ChainCause}
 use Rattle.ftc_script.specs.declared.fault.ScriptCause.{ScriptCause}
 use Rattle.ftc_script.specs.declared.fault.ScriptCause.TheVariants as script
 use Rattle.ftc.specs.declared.limits.TheConstants.{MOST_RUN_FAILURES}
-use Rattle.ftc.specs.Words.{Named}
+use Rattle.ftc_words.specs.Command.{Named}
 
 -- The files spell this chain, of whose servers at most so many may be down at once, and this capture.
 pub record HasChain (most : ℕ) (names : Named) (files : Files) (chain : Chain) : Type 0 where

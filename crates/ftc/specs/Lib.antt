@@ -1,6 +1,6 @@
 pub mod Status
 pub mod Running
-pub mod Words
+pub mod Ended
 pub mod Output
 pub mod Plain
 pub mod Fate

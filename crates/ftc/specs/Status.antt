@@ -1,5 +1,5 @@
 -- What the program says of a status: its exit code and its line.
-use Rattle.std.specs.Prelude.{ℕ, List, [], ◌++◌, decimal, codes}
+use Rattle.std.specs.Prelude.{ℕ, List, [], ◌∷◌, ◌++◌, decimal, codes}
 use Rattle.ftc_base.specs.declared.refusal.Refuse.{Refuse}
 use Rattle.ftc_base.specs.declared.refusal.Refuse.TheVariants as refuse
 use Rattle.ftc_outside.specs.declared.desk.DeskError.{DeskError}
@@ -86,6 +86,15 @@ line_of (status.Journal line cause) = fault_line (codes "journal: line") line (j
 line_of (status.Check verdict) = verdict_line verdict
 line_of status.DeskFault = codes "desk: failed"
 line_of status.NoMemory = codes "memory: refused"
+
+-- a line with its line feed; nothing where there is none
+abbrev pub ended_line : List ℕ → List ℕ
+ended_line [] = []
+ended_line (b ∷ bs) = (b ∷ bs) ++ 10 ∷ []
+
+-- what is said on standard error
+abbrev pub told_of : Status → List ℕ
+told_of status = ended_line (line_of status)
 
 -- how a command ends whose desk or text was refused
 abbrev pub desk_status : DeskError → Status

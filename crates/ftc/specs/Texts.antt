@@ -9,7 +9,7 @@ use Rattle.ftc_pcap.specs.declared.capture.CaptureCause.{CaptureCause}
 use Rattle.ftc_script.specs.Grammar.{script_of}
 use Rattle.ftc_script.specs.declared.fault.ScriptCause.{ScriptCause}
 use Rattle.ftc_script.specs.declared.fault.ScriptCause.TheVariants as script
-use Rattle.ftc.specs.Words.{Named}
+use Rattle.ftc_words.specs.Command.{Named}
 use Rattle.ftc.specs.declared.limits.TheConstants.{MOST_RUN_FAILURES}
 use Rattle.ftc.specs.declared.status.Status.{Status}
 use Rattle.ftc.specs.declared.status.Status.TheVariants as status

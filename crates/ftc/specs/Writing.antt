@@ -1,7 +1,7 @@
 -- What the writing of a run's three files leaves.
 use Rattle.std.specs.Prelude.{◌≡◌, ◌≢◌, ◌⊎◌, ℕ, List, Some}
 use Rattle.ftc_outside.specs.Desk.{Files}
-use Rattle.ftc.specs.Words.{Named}
+use Rattle.ftc_words.specs.Command.{Named}
 use Rattle.ftc.specs.Output.{MayHold}
 use Rattle.ftc.specs.Ending.{SameButAtThree}
 

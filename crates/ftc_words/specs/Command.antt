@@ -144,6 +144,19 @@ watch_form = record { word = codes "watch"; places = number 1 255 ∷ name ∷ n
 abbrev pub forms : List Form
 forms = run_form ∷ check_form ∷ make_form ∷ ports_form ∷ watch_form ∷ []
 
+-- ---- the files of a command
+
+abbrev pub six_of : Named → List (List ℕ)
+six_of names = names.chain ∷ names.script ∷ names.capture ∷ names.out ∷ names.journal ∷ names.report ∷ []
+
+-- the names that a command is given
+abbrev pub files_of : Command → List (List ℕ)
+files_of (run names mode) = names_of mode ++ six_of names
+files_of (make packets seed capture) = capture ∷ []
+files_of (check names) = six_of names
+files_of (ports chain capture journal server) = chain ∷ capture ∷ journal ∷ []
+files_of (watch limit chain capture beats script) = chain ∷ capture ∷ beats ∷ script ∷ []
+
 -- ---- the command that words are
 
 abbrev pub are_distinct : List (List ℕ) → Bool

@@ -1,11 +1,11 @@
 //! The form of each command's words.
 
-ghost use Rattle.std.specs.Prelude.{◌≡◌, ◌++◌, ◌∷◌, Some, None, option_map};
+ghost use Rattle.std.specs.Prelude.{◌≡◌, ◌++◌, ◌∷◌, true, Some, None, IfSome, option_map};
 ghost use Rattle.std.specs.List.{list_any};
 ghost use Rattle.std.specs.Str.{bytes_eq};
 ghost use Rattle.ftc_words.specs.Given.{texts_of};
 ghost use Rattle.ftc_words.specs.Shown.{shown, named_of, move_of as shown_move, mode_of as shown_mode, sorted_of};
-ghost use Rattle.ftc_words.specs.Command.{number_in, named, names_of, move_of, mode_of, are_distinct, of_form, run_form, check_form, make_form, ports_form, watch_form, plain, of_word, forms, spelled};
+ghost use Rattle.ftc_words.specs.Command.{number_in, named, names_of, move_of, mode_of, are_distinct, of_form, run_form, check_form, make_form, ports_form, watch_form, plain, of_word, forms, spelled, six_of, files_of};
 
 use crate::command::{Command, Mode, Move, Names};
 use crate::sorting::{Sorted, sort};
@@ -115,7 +115,8 @@ fn all_differ(mode: &Mode<'_>, names: &[&str]) -> bool
 
 /// The names of six words.
 fn names_in<'a>(words: &[&'a str]) -> Option<Names<'a>>
-    ensures { option_map named_of result ≡ named (texts_of words.now) }
+    ensures named { option_map named_of result ≡ named (texts_of words.now) }
+    ensures all { IfSome result (λ names. six_of (named_of names) ≡ texts_of words.now) }
 {
     match words {
         [chain, script, capture, out, journal, report] => Some(Names {
@@ -131,7 +132,8 @@ fn names_in<'a>(words: &[&'a str]) -> Option<Names<'a>>
 }
 
 fn run_of<'a>(words: &[&'a str], mode: &Mode<'a>) -> Option<Command<'a>>
-    ensures { option_map shown result ≡ of_form run_form (shown_mode mode.now) (texts_of words.now) }
+    ensures command { option_map shown result ≡ of_form run_form (shown_mode mode.now) (texts_of words.now) }
+    ensures distinct { IfSome result (λ command. are_distinct (files_of (shown command)) ≡ true) }
 {
     let names = names_in(words)?;
     if !all_differ(mode, words) {
@@ -142,7 +144,8 @@ fn run_of<'a>(words: &[&'a str], mode: &Mode<'a>) -> Option<Command<'a>>
 }
 
 fn check_of<'a>(words: &[&'a str]) -> Option<Command<'a>>
-    ensures { option_map shown result ≡ of_form check_form plain (texts_of words.now) }
+    ensures command { option_map shown result ≡ of_form check_form plain (texts_of words.now) }
+    ensures distinct { IfSome result (λ command. are_distinct (files_of (shown command)) ≡ true) }
 {
     let names = names_in(words)?;
     if !are_distinct(words) {
@@ -152,7 +155,8 @@ fn check_of<'a>(words: &[&'a str]) -> Option<Command<'a>>
 }
 
 fn make_of<'a>(words: &[&'a str]) -> Option<Command<'a>>
-    ensures { option_map shown result ≡ of_form make_form plain (texts_of words.now) }
+    ensures command { option_map shown result ≡ of_form make_form plain (texts_of words.now) }
+    ensures distinct { IfSome result (λ command. are_distinct (files_of (shown command)) ≡ true) }
 {
     let [packets, seed, capture] = words else {
         return None;
@@ -168,7 +172,8 @@ fn make_of<'a>(words: &[&'a str]) -> Option<Command<'a>>
 }
 
 fn ports_of<'a>(words: &[&'a str]) -> Option<Command<'a>>
-    ensures { option_map shown result ≡ of_form ports_form plain (texts_of words.now) }
+    ensures command { option_map shown result ≡ of_form ports_form plain (texts_of words.now) }
+    ensures distinct { IfSome result (λ command. are_distinct (files_of (shown command)) ≡ true) }
 {
     let [chain, capture, journal, server] = words else {
         return None;
@@ -186,7 +191,8 @@ fn ports_of<'a>(words: &[&'a str]) -> Option<Command<'a>>
 }
 
 fn watch_of<'a>(words: &[&'a str]) -> Option<Command<'a>>
-    ensures { option_map shown result ≡ of_form watch_form plain (texts_of words.now) }
+    ensures command { option_map shown result ≡ of_form watch_form plain (texts_of words.now) }
+    ensures distinct { IfSome result (λ command. are_distinct (files_of (shown command)) ≡ true) }
 {
     let [limit, chain, capture, beats, script] = words else {
         return None;
@@ -206,7 +212,8 @@ fn watch_of<'a>(words: &[&'a str]) -> Option<Command<'a>>
 
 /// The command of that word, with these words besides its options.
 fn of_word<'a>(word: &str, mode: &Mode<'a>, words: &[&'a str]) -> Option<Command<'a>>
-    ensures { option_map shown result ≡ of_word forms word.now (shown_mode mode.now) (texts_of words.now) }
+    ensures command { option_map shown result ≡ of_word forms word.now (shown_mode mode.now) (texts_of words.now) }
+    ensures distinct { IfSome result (λ command. are_distinct (files_of (shown command)) ≡ true) }
 {
     if word == "run" {
         return run_of(words, mode);
@@ -225,7 +232,8 @@ fn of_word<'a>(word: &str, mode: &Mode<'a>, words: &[&'a str]) -> Option<Command
 
 /// The command that the words are, whether it is built or not.
 pub fn spelled<'a>(words: &[&'a str]) -> Option<Command<'a>>
-    ensures { option_map shown result ≡ spelled (texts_of words.now) }
+    ensures command { option_map shown result ≡ spelled (texts_of words.now) }
+    ensures distinct { IfSome result (λ command. are_distinct (files_of (shown command)) ≡ true) }
 {
     let [word, others @ ..] = words else {
         return None;

@@ -12,3 +12,6 @@ pub use reading::{command_of, read_command};
 
 
 
+
+#[cfg(test)]
+mod tests;
