@@ -83,10 +83,10 @@ pub next_is : {A : Type 0} (f : A → List ℕ) (xs : List A) (place : ℕ) (x :
     → before ++ (piece ++ f x) ≡ front ++ flat_map f (take (place + 1) xs)
 next_is f xs place x front before piece is sofar =
     let more : before ++ (piece ++ f x) ≡ front ++ flat_map f (take (suc place) xs) =
-        sym (append_assoc before piece (f x))
-        ∙ (ap (λ (bytes : List ℕ). bytes ++ f x) sofar
-        ∙ (append_assoc front (flat_map f (take place xs)) (f x)
-        ∙ ap (λ (bytes : List ℕ). front ++ bytes) (sym (one_more f xs place x is)))) in
+    sym (append_assoc before piece (f x))
+    ∙ (ap (λ (bytes : List ℕ). bytes ++ f x) sofar
+    ∙ (append_assoc front (flat_map f (take place xs)) (f x)
+    ∙ ap (λ (bytes : List ℕ). front ++ bytes) (sym (one_more f xs place x is)))) in
     rw add-one more
 
 -- a file that has a front of the whole

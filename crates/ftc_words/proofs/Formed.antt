@@ -76,7 +76,7 @@ plain_word : (word : Text) (words : List Text) → Forms words → (worked sched
 plain_word word words more worked scheduled moved plain sorted one two three h =
     let taken : option_and_then (λ next. given_from next words) (if is_name word && nat_lt (length plain) 6 then Some (given_of any worked scheduled moved (plain ++ word ∷ [])) else None) ≡ Some sorted = rw (one, two, three) at h in
     elim (is_name word && nat_lt (length plain) 6) as (λ t. (is_name word && nat_lt (length plain) 6) ≡ t
-        → option_and_then (λ next. given_from next words) (if t then Some (given_of any worked scheduled moved (plain ++ word ∷ [])) else None) ≡ Some sorted → IsFormed any worked scheduled (word ∷ words)) [
+    → option_and_then (λ next. given_from next words) (if t then Some (given_of any worked scheduled moved (plain ++ word ∷ [])) else None) ≡ Some sorted → IsFormed any worked scheduled (word ∷ words)) [
       | true ↦ λ is more_taken. rw (three, one, two, left (is_name word) (nat_lt (length plain) 6) is) (more any worked scheduled moved (plain ++ word ∷ []) sorted more_taken)
       | false ↦ λ _ none. absurd (nothing none)
     ] refl taken

@@ -194,14 +194,14 @@ goes ((b ∷ bs) ∷ words) (ready rows p named) w a is =
     let now : List Row = settled_rows top.rules (pending_of p) rows in
     elim (pick (bytes_eq (b ∷ bs) (codes "--workers")) (bytes_eq (b ∷ bs) (codes "--alone")) w a (not (b == 45)) (is_formed true true a words) (is_formed true w true words) (is_formed false w a words) is) [
       | inl h ↦ let same = (bytes_eq-Decides (b ∷ bs) (codes "--workers")).0 h.0 in
-        subst (λ (word : Text). Good (at rows (pending_of p) (wait named)) (word ∷ words)) (sym same)
-        (step (at rows (pending_of p) (wait named)) (walk_of (await now true)) (word_of true) words (option_passes rows p named true) (option_walks rows p named true) (goes words (await now true) true a h.1))
+          subst (λ (word : Text). Good (at rows (pending_of p) (wait named)) (word ∷ words)) (sym same)
+          (step (at rows (pending_of p) (wait named)) (walk_of (await now true)) (word_of true) words (option_passes rows p named true) (option_walks rows p named true) (goes words (await now true) true a h.1))
       | inr more ↦ elim more [
         | inl h ↦ let same = (bytes_eq-Decides (b ∷ bs) (codes "--alone")).0 h.0 in
-          subst (λ (word : Text). Good (at rows (pending_of p) (wait named)) (word ∷ words)) (sym same)
-          (step (at rows (pending_of p) (wait named)) (walk_of (await now false)) (word_of false) words (option_passes rows p named false) (option_walks rows p named false) (goes words (await now false) w true h.1))
+            subst (λ (word : Text). Good (at rows (pending_of p) (wait named)) (word ∷ words)) (sym same)
+            (step (at rows (pending_of p) (wait named)) (walk_of (await now false)) (word_of false) words (option_passes rows p named false) (option_walks rows p named false) (goes words (await now false) w true h.1))
         | inr h ↦ let differs = not_true (b == 45) h.0 in
-          step (at rows (pending_of p) (wait named)) (walk_of (ready now (Some (of_names, b ∷ bs)) true)) (b ∷ bs) words (name_passes rows p named b bs differs) (name_walks rows p named b bs differs) (goes words (ready now (Some (of_names, b ∷ bs)) true) w a h.1)
+            step (at rows (pending_of p) (wait named)) (walk_of (ready now (Some (of_names, b ∷ bs)) true)) (b ∷ bs) words (name_passes rows p named b bs differs) (name_walks rows p named b bs differs) (goes words (ready now (Some (of_names, b ∷ bs)) true) w a h.1)
       ]
     ]
 

@@ -28,7 +28,9 @@ pub enum Mode<'a> {
     /// As it is where no option says it.
     Plain,
     /// By so many workers.
-    Workers { count: u32 },
+    Workers {
+        count: u32,
+    },
     /// On one thread, by the events of a schedule.
     Alone {
         schedule: &'a str,

@@ -59,7 +59,11 @@ fn mode_of<'a>(sorted: &Sorted<'a>) -> Option<Mode<'a>>
                 let moved = move_of(sorted.moved)?;
                 Some(Mode::Alone { schedule, moved })
             }
-            None => if sorted.moved.is_some() { None } else { Some(Mode::Plain) },
+            None => if sorted.moved.is_some() {
+                None
+            } else {
+                Some(Mode::Plain)
+            },
         },
     }
 }

@@ -10,8 +10,5 @@ mod sorting;
 pub use command::{Command, Mode, Move, Names};
 pub use reading::{command_of, read_command};
 
-
-
-
 #[cfg(test)]
 mod tests;

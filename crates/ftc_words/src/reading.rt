@@ -18,15 +18,16 @@ pub fn command_of<'a>(words: &[&'a str]) -> Option<Command<'a>>
     ensures distinct { IfSome result (λ command. are_distinct (files_of (shown command)) ≡ true) }
 {
     let command = spelled(words)?;
-    if command.is_built() { Some(command) } else { None }
+    if command.is_built() {
+        Some(command)
+    } else {
+        None
+    }
 }
 
 /// The same, after clap has read the words as well, but for `--move` and its values. It refuses a command's words
 /// for want of memory alone.
-pub fn read_command<'a>(
-    alloc: Global,
-    words: &[&'a str],
-) -> Result<Option<Command<'a>>, NoMemory>
+pub fn read_command<'a>(alloc: Global, words: &[&'a str]) -> Result<Option<Command<'a>>, NoMemory>
     ensures command { IfOk result (λ command. option_map shown command ≡ command_of (texts_of words.now)) }
     ensures built { IfOk result (λ command. IfSome command (λ c. is_built (shown c) ≡ true)) }
     ensures distinct { IfOk result (λ command. IfSome command (λ c. are_distinct (files_of (shown c)) ≡ true)) }

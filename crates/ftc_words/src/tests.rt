@@ -20,7 +20,9 @@ fn a_run_is_read(rt: HostRuntime) -> Result<(), Fail> {
 
 #[test]
 fn options_stand_anywhere_behind_the_command(rt: HostRuntime) {
-    let words = ["run", "c", "--move", "15", "f", "s", "p", "o", "j", "--alone", "e", "r"];
+    let words = [
+        "run", "c", "--move", "15", "f", "s", "p", "o", "j", "--alone", "e", "r",
+    ];
     match spelled(&words) {
         Some(Command::Run { names, mode }) => {
             assert_eq!(rt; names.script, "s");
@@ -77,13 +79,41 @@ fn words_of_no_command(rt: HostRuntime) {
         &["run", "c", "s", "p", "o", "j", "r", "--workers=4"],
         &["run", "c", "s", "p", "o", "j", "r", "--workers", "33"],
         &["run", "c", "s", "p", "o", "j", "r", "--workers", "0"],
-        &["run", "c", "s", "p", "o", "j", "r", "--workers", "4", "--workers", "4"],
-        &["run", "c", "s", "p", "o", "j", "r", "--workers", "4", "--alone", "e"],
+        &[
+            "run",
+            "c",
+            "s",
+            "p",
+            "o",
+            "j",
+            "r",
+            "--workers",
+            "4",
+            "--workers",
+            "4",
+        ],
+        &[
+            "run",
+            "c",
+            "s",
+            "p",
+            "o",
+            "j",
+            "r",
+            "--workers",
+            "4",
+            "--alone",
+            "e",
+        ],
         &["run", "c", "s", "p", "o", "j", "r", "--alone", "-e"],
         &["run", "c", "s", "p", "o", "j", "r", "--alone", "c"],
         &["run", "c", "s", "p", "o", "j", "r", "--move", "1", "f"],
-        &["run", "c", "s", "p", "o", "j", "r", "--alone", "e", "--move", "16", "f"],
-        &["run", "c", "s", "p", "o", "j", "r", "--alone", "e", "--move", "1", "e"],
+        &[
+            "run", "c", "s", "p", "o", "j", "r", "--alone", "e", "--move", "16", "f",
+        ],
+        &[
+            "run", "c", "s", "p", "o", "j", "r", "--alone", "e", "--move", "1", "e",
+        ],
         &["--workers", "4", "run", "c", "s", "p", "o", "j", "r"],
         &["check", "c", "s", "p", "o", "j", "r", "--alone", "e"],
         &["make", "0", "0", "p"],
@@ -113,7 +143,20 @@ fn commands_that_are_not_built(rt: HostRuntime) -> Result<(), Fail> {
 /// What clap is handed of words with every option.
 #[test]
 fn clap_takes_what_is_left(rt: HostRuntime) -> Result<(), Fail> {
-    let words = ["run", "c", "--move", "1", "f", "s", "--workers", "4", "p", "--alone", "e", "o"];
+    let words = [
+        "run",
+        "c",
+        "--move",
+        "1",
+        "f",
+        "s",
+        "--workers",
+        "4",
+        "p",
+        "--alone",
+        "e",
+        "o",
+    ];
     let handed = crate::matches::without_move(rt.alloc(), &words)?;
     assert_eq!(rt; handed.len(), 9);
     match crate::matches::matches_of(rt.alloc(), &handed) {
