@@ -11,3 +11,4 @@ pub mod Agreeing
 pub mod Plain
 pub mod Reported
 pub mod Unread
+pub mod Refusing

@@ -9,7 +9,7 @@ use Rattle.ftc_words.specs.Command.{Command, run, check, command_of}
 use Rattle.ftc.specs.declared.status.Status.{Status}
 use Rattle.ftc.specs.declared.status.Status.TheVariants as status
 use Rattle.ftc.specs.Answers.{IsRunAnswer, IsCheckAnswer}
-use Rattle.ftc.specs.Ending.{AreTexts}
+use Rattle.ftc.specs.Texts.{AreTexts}
 use Rattle.ftc.specs.Checking.{Judges, IsRightRun, AreReadable}
 use Rattle.ftc.specs.Done.{Ends, IsDone}
 

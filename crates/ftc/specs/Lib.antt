@@ -4,9 +4,9 @@ pub mod Ended
 pub mod Output
 pub mod Plain
 pub mod Fate
-pub mod Ending
-pub mod Checking
 pub mod Texts
+pub mod Checking
+pub mod Refused
 pub mod Writing
 pub mod Done
 pub mod Answers
