@@ -23,8 +23,10 @@ demo: bin/ftc
 
 test:
 	rt ci
+	$(MAKE) bin/ftc
+	./examples/lines bin/ftc out/lines
 	@if [ -x "$(CASES)/compare" ]; then \
-		$(MAKE) bin/ftc && "$(CASES)/compare" bin/ftc $(addprefix $(CASES)/,$(CASE_SETS)); \
+		"$(CASES)/compare" bin/ftc $(addprefix $(CASES)/,$(CASE_SETS)); \
 	fi
 
 bench: bin/ftc

@@ -1,6 +1,6 @@
 -- What a check says of files that are those of one run: nothing but Yes.
-use Rattle.std.proofs.Common.{◌≡◌, ◌∙◌, ◌⊎◌, inl, inr, refl, sym, ap, subst, ℕ, List, [], length, get_or, Some, Result, Ok, Err}
-use Rattle.ftc_outside.specs.Desk.{Files}
+use Rattle.std.proofs.Common.{◌≡◌, ◌∙◌, ◌⊎◌, inl, inr, refl, sym, ap, subst, ℕ, List, [], length, Some, Result, Ok, Err}
+use Rattle.ftc_outside.specs.Desk.{Files, SameFiles}
 use Rattle.ftc_pcap.specs.Grammar.{Spells, IsFault}
 use Rattle.ftc_pcap.specs.declared.capture.Capture.{Capture}
 use Rattle.ftc_pcap.specs.declared.capture.CaptureFault.{CaptureFault}
@@ -9,6 +9,7 @@ use Rattle.ftc_journal.specs.Reading.{journal_of}
 use Rattle.ftc_mbox.specs.Chain.{Chain}
 use Rattle.ftc_conf.specs.declared.limits.TheConstants.{MOST_FAILURES}
 use Rattle.ftc_conf.specs.Grammar.{chain_within}
+use Rattle.ftc_ring.specs.Ring.{RingShape}
 use Rattle.ftc_script.specs.Script.{ScriptShape}
 use Rattle.ftc_script.specs.Grammar.{script_of}
 use Rattle.ftc_serial.specs.Packets.{bytes_of}
@@ -19,24 +20,12 @@ use Rattle.ftc_check.specs.declared.verdict.Checked.{Checked}
 use Rattle.ftc_check.specs.declared.verdict.Checked.TheVariants.{Yes}
 use Rattle.ftc.specs.declared.status.Status.{Status}
 use Rattle.ftc.specs.declared.status.Status.TheVariants as status
-use Rattle.ftc.specs.Words.{Named, Words, AreNames}
+use Rattle.ftc_words.specs.Command.{Named}
 use Rattle.ftc.specs.declared.limits.TheConstants.{MOST_RUN_FAILURES}
-use Rattle.ftc.specs.Ending.{HasChain, HasCapture, AreTexts, IsChainFault, IsCaptureFault}
+use Rattle.ftc.specs.Texts.{ring_of, HasChain, HasCapture, AreTexts}
+use Rattle.ftc.specs.Refused.{IsTextRefused, IsWrongChain, IsWrongCapture, IsWrongScript, IsSomeScript, IsWrongJournal, IsNeverWrong, IsRunRefused, IsCheckRefused}
 use Rattle.ftc.specs.Done.{Ends}
-use Rattle.ftc.specs.Checking.{ring_of, IsWrongScript, IsWrongJournal, IsJudged, AreChecked, IsRightRun, Judges, IsYesOrRefused, IsCheckEnd}
-
--- the names in the same words are the same
-pub one_name : (command : List ℕ) (words : Words) (a b : Named) → AreNames command words a → AreNames command words b → a ≡ b
-one_name command words a b one other =
-    let both = sym one ∙ other in
-    λ i. record {
-      chain = ap (λ (texts : List (List ℕ)). get_or texts 1 []) both i;
-      script = ap (λ (texts : List (List ℕ)). get_or texts 2 []) both i;
-      capture = ap (λ (texts : List (List ℕ)). get_or texts 3 []) both i;
-      out = ap (λ (texts : List (List ℕ)). get_or texts 4 []) both i;
-      journal = ap (λ (texts : List (List ℕ)). get_or texts 5 []) both i;
-      report = ap (λ (texts : List (List ℕ)). get_or texts 6 []) both i;
-    }
+use Rattle.ftc.specs.Checking.{IsJudged, AreChecked, IsRightRun, Judges, IsYesOrRefused, IsCheckEnd}
 
 -- a text is not both right and wrong
 not_both : {A F : Type 0} (told : Result A F) (value : A) (fault : F) → told ≡ Ok value → told ≡ Err fault → ⊥
@@ -47,6 +36,63 @@ ok_once told one other is also = cc
 
 some_once : {A : Type 0} (one other : A) → Some one ≡ Some other → one ≡ other
 some_once one other same = cc
+
+-- a text that is right is refused for the desk or for memory alone
+not_refused : (sound : Type 0) (files : Files) (name : List ℕ) (IsWrong : List ℕ → Status → Type 0) (ending : Status)
+    → ((text : List ℕ) → files name ≡ Some text → IsWrong text ending → ⊥) → (ending ≡ status.DeskFault → ⊥) → IsTextRefused sound files name IsWrong ending → ending ≡ status.NoMemory
+not_refused sound files name IsWrong status.Done fine no-fault refused = absurd (fine refused.0 refused.1 refused.2)
+not_refused sound files name IsWrong status.Usage fine no-fault refused = absurd (fine refused.0 refused.1 refused.2)
+not_refused sound files name IsWrong (status.Chain line cause) fine no-fault refused = absurd (fine refused.0 refused.1 refused.2)
+not_refused sound files name IsWrong (status.Capture at cause) fine no-fault refused = absurd (fine refused.0 refused.1 refused.2)
+not_refused sound files name IsWrong (status.Script line cause) fine no-fault refused = absurd (fine refused.0 refused.1 refused.2)
+not_refused sound files name IsWrong (status.Journal line cause) fine no-fault refused = absurd (fine refused.0 refused.1 refused.2)
+not_refused sound files name IsWrong (status.Check verdict) fine no-fault refused = absurd (fine refused.0 refused.1 refused.2)
+not_refused sound files name IsWrong status.DeskFault fine no-fault refused = absurd (no-fault refl)
+not_refused sound files name IsWrong status.NoMemory fine no-fault refused = refl
+
+no_chain : (most : ℕ) (text : List ℕ) (chain : Chain) → chain_within most text ≡ Ok chain → (ending : Status) → IsWrongChain most text ending → ⊥
+no_chain most text chain right status.Done wrong = wrong
+no_chain most text chain right status.Usage wrong = wrong
+no_chain most text chain right (status.Chain line cause) wrong = not_both (chain_within most text) chain _ right wrong
+no_chain most text chain right (status.Capture at cause) wrong = wrong
+no_chain most text chain right (status.Script line cause) wrong = wrong
+no_chain most text chain right (status.Journal line cause) wrong = wrong
+no_chain most text chain right (status.Check verdict) wrong = wrong
+no_chain most text chain right status.DeskFault wrong = wrong
+no_chain most text chain right status.NoMemory wrong = wrong
+
+no_script : (ring : RingShape) (packets : ℕ) (text : List ℕ) (script : ScriptShape) → script_of ring packets text ≡ Ok script → (ending : Status) → IsWrongScript ring packets text ending → ⊥
+no_script ring packets text script right status.Done wrong = wrong
+no_script ring packets text script right status.Usage wrong = wrong
+no_script ring packets text script right (status.Chain line cause) wrong = wrong
+no_script ring packets text script right (status.Capture at cause) wrong = wrong
+no_script ring packets text script right (status.Script line cause) wrong = not_both (script_of ring packets text) script _ right wrong
+no_script ring packets text script right (status.Journal line cause) wrong = wrong
+no_script ring packets text script right (status.Check verdict) wrong = wrong
+no_script ring packets text script right status.DeskFault wrong = wrong
+no_script ring packets text script right status.NoMemory wrong = wrong
+
+no_some_script : (text : List ℕ) → text ≡ [] → (ending : Status) → IsSomeScript text ending → ⊥
+no_some_script text empty status.Done wrong = wrong
+no_some_script text empty status.Usage wrong = wrong
+no_some_script text empty (status.Chain line cause) wrong = wrong
+no_some_script text empty (status.Capture at cause) wrong = wrong
+no_some_script text empty (status.Script line cause) wrong = wrong.0 empty
+no_some_script text empty (status.Journal line cause) wrong = wrong
+no_some_script text empty (status.Check verdict) wrong = wrong
+no_some_script text empty status.DeskFault wrong = wrong
+no_some_script text empty status.NoMemory wrong = wrong
+
+no_journal : (text : List ℕ) (journal : List Event) → journal_of text ≡ Ok journal → (ending : Status) → IsWrongJournal text ending → ⊥
+no_journal text journal right status.Done wrong = wrong
+no_journal text journal right status.Usage wrong = wrong
+no_journal text journal right (status.Chain line cause) wrong = wrong
+no_journal text journal right (status.Capture at cause) wrong = wrong
+no_journal text journal right (status.Script line cause) wrong = wrong
+no_journal text journal right (status.Journal line cause) wrong = not_both (journal_of text) journal _ right wrong
+no_journal text journal right (status.Check verdict) wrong = wrong
+no_journal text journal right status.DeskFault wrong = wrong
+no_journal text journal right status.NoMemory wrong = wrong
 
 same_verdict : (other chain : Chain) (taken capture : Capture) (told script : ScriptShape) (some out : List ℕ) (events journal : List Event) (text report : List ℕ) (verdict : Checked)
     → other ≡ chain → taken ≡ capture → told ≡ script → some ≡ out → events ≡ journal → text ≡ report
@@ -59,6 +105,17 @@ pub record Laws : Type 0 where
   pub one_capture : (text : List ℕ) (one other : Capture) → Spells text one → Spells text other → one ≡ other
   pub no_fault : (text : List ℕ) (capture : Capture) (fault : CaptureFault) → Spells text capture → IsFault text fault → ⊥
   pub one_verdict : VerdictsAreOne
+
+no_capture : (laws : Laws) (text : List ℕ) (capture : Capture) → Spells text capture → (ending : Status) → IsWrongCapture text ending → ⊥
+no_capture laws text capture right status.Done wrong = wrong
+no_capture laws text capture right status.Usage wrong = wrong
+no_capture laws text capture right (status.Chain line cause) wrong = wrong
+no_capture laws text capture right (status.Capture at cause) wrong = laws.no_fault text capture _ right wrong
+no_capture laws text capture right (status.Script line cause) wrong = wrong
+no_capture laws text capture right (status.Journal line cause) wrong = wrong
+no_capture laws text capture right (status.Check verdict) wrong = wrong
+no_capture laws text capture right status.DeskFault wrong = wrong
+no_capture laws text capture right status.NoMemory wrong = wrong
 
 module _ (laws : Laws) (names : Named) (files : Files) (chain : Chain) (capture : Capture) (script : ScriptShape) (out : List ℕ) (journal : List Event) (report : List ℕ) (checked : AreChecked names files chain capture script out journal report) where
   -- what else the texts may be said to spell is the same
@@ -89,31 +146,40 @@ module _ (laws : Laws) (names : Named) (files : Files) (chain : Chain) (capture 
       let has = checked.journal_right in
       subst (λ (t : List ℕ). journal_of t ≡ Ok journal) (some_once has.text text (sym has.file ∙ file)) has.right
 
-  -- no text is wrong
-  no_chain_fault : (line : ℕ) (cause : _) → IsChainFault MOST_FAILURES names files line cause → ⊥
-  no_chain_fault line cause fault = not_both (chain_within MOST_FAILURES fault.text) chain _ (chain_reads fault.text fault.file) fault.wrong
-
-  no_capture_fault : (at : ℕ) (cause : _) → IsCaptureFault MOST_FAILURES names files at cause → ⊥
-  no_capture_fault at cause fault = laws.no_fault fault.text capture _ (capture_reads fault.text fault.file) fault.wrong
-
-  no_script_fault : (line : ℕ) (cause : _) → IsWrongScript names files line cause → ⊥
-  no_script_fault line cause fault =
-      not_both (script_of (ring_of fault.chain) (length fault.capture.packets) fault.text) script _
-      (script_reads fault.chain fault.capture fault.text (chain_is fault.chain fault.chain_right) (capture_is fault.capture fault.capture_right) fault.file) fault.wrong
-
-  no_journal_fault : (line : ℕ) (cause : _) → IsWrongJournal names files line cause → ⊥
-  no_journal_fault line cause fault = not_both (journal_of fault.text) journal _ (journal_reads fault.text fault.file) fault.wrong
+  -- none of the six is refused, but for the desk or for memory
+  refused_once : (sound : Type 0) (ending : Status) → (ending ≡ status.DeskFault → ⊥) → IsCheckRefused sound names files ending → ending ≡ status.NoMemory
+  refused_once sound ending no-fault refused =
+      elim refused [
+        | inl first ↦ not_refused sound files names.chain (IsWrongChain MOST_FAILURES) ending (λ text file. no_chain MOST_FAILURES text chain (chain_reads text file) ending) no-fault first
+        | inr behind ↦ let (other, other_right, refused) = behind in elim refused [
+          | inl first ↦ not_refused sound files names.capture IsWrongCapture ending (λ text file. no_capture laws text capture (capture_reads text file) ending) no-fault first
+          | inr behind ↦ let (taken, taken_right, refused) = behind in elim refused [
+            | inl first ↦ not_refused sound files names.script (IsWrongScript (ring_of other) (length taken.packets)) ending
+                (λ text file. no_script (ring_of other) (length taken.packets) text script (script_reads other taken text (chain_is other other_right) (capture_is taken taken_right) file) ending) no-fault first
+            | inr behind ↦ elim behind.2 [
+              | inl first ↦ not_refused sound files names.out IsNeverWrong ending (λ text file wrong. wrong) no-fault first
+              | inr behind ↦ elim behind.2 [
+                | inl first ↦ not_refused sound files names.journal IsWrongJournal ending (λ text file. no_journal text journal (journal_reads text file) ending) no-fault first
+                | inr behind ↦ not_refused sound files names.report IsNeverWrong ending (λ text file wrong. wrong) no-fault behind.2
+              ]
+            ]
+          ]
+        ]
+      ]
 
   -- so a check ends done or says what is wrong, or for want of memory
+  for_memory : (sound : Type 0) (ending : Status) → (ending ≡ status.DeskFault → ⊥) → IsCheckRefused sound names files ending → IsCheckEnd ending
+  for_memory sound ending no-fault refused = subst IsCheckEnd (sym (refused_once sound ending no-fault refused)) tt
+
   pub judges_all : (sound : Type 0) (ending : Status) → Judges sound names files ending → (ending ≡ status.DeskFault → ⊥) → IsCheckEnd ending
   judges_all sound status.Done judged no-fault = tt
-  judges_all sound status.Usage judged no-fault = absurd judged
-  judges_all sound (status.Chain line cause) fault no-fault = absurd (no_chain_fault line cause fault)
-  judges_all sound (status.Capture at cause) fault no-fault = absurd (no_capture_fault at cause fault)
-  judges_all sound (status.Script line cause) fault no-fault = absurd (no_script_fault line cause fault)
-  judges_all sound (status.Journal line cause) fault no-fault = absurd (no_journal_fault line cause fault)
+  judges_all sound status.Usage refused no-fault = for_memory sound status.Usage no-fault refused
+  judges_all sound (status.Chain line cause) refused no-fault = for_memory sound (status.Chain line cause) no-fault refused
+  judges_all sound (status.Capture at cause) refused no-fault = for_memory sound (status.Capture at cause) no-fault refused
+  judges_all sound (status.Script line cause) refused no-fault = for_memory sound (status.Script line cause) no-fault refused
+  judges_all sound (status.Journal line cause) refused no-fault = for_memory sound (status.Journal line cause) no-fault refused
   judges_all sound (status.Check verdict) judged no-fault = tt
-  judges_all sound status.DeskFault judged no-fault = absurd (no-fault refl)
+  judges_all sound status.DeskFault refused no-fault = absurd (no-fault refl)
   judges_all sound status.NoMemory judged no-fault = tt
 
   -- where one verdict is Yes, each is
@@ -137,7 +203,7 @@ module _ (laws : Laws) (names : Named) (files : Files) (right : IsRightRun names
 
   pub agrees : (sound : Type 0) (ending : Status) → Judges sound names files ending → IsYesOrRefused ending
   agrees sound status.Done judged = tt
-  agrees sound status.Usage judged = absurd judged
+  agrees sound status.Usage refused = absurd (wrong sound status.Usage refused (λ same. cc))
   agrees sound (status.Chain line cause) fault = absurd (wrong sound (status.Chain line cause) fault (λ same. cc))
   agrees sound (status.Capture at cause) fault = absurd (wrong sound (status.Capture at cause) fault (λ same. cc))
   agrees sound (status.Script line cause) fault = absurd (wrong sound (status.Script line cause) fault (λ same. cc))
@@ -158,13 +224,26 @@ module _ (laws : Laws) (names : Named) (files : Files) (chain : Chain) (capture 
       let has = texts.capture_right in
       subst (λ (t : List ℕ). Spells t capture) (some_once has.text text (sym has.file ∙ file)) has.right
 
+  run_refused_once : (sound : Type 0) (ending : Status) → (ending ≡ status.DeskFault → ⊥) → IsRunRefused sound names files ending → ending ≡ status.NoMemory
+  run_refused_once sound ending no-fault refused =
+      elim refused [
+        | inl first ↦ not_refused sound files names.chain (IsWrongChain MOST_RUN_FAILURES) ending (λ text file. no_chain MOST_RUN_FAILURES text chain (right_chain text file) ending) no-fault first
+        | inr behind ↦ elim behind.2 [
+          | inl first ↦ not_refused sound files names.capture IsWrongCapture ending (λ text file. no_capture laws text capture (right_capture text file) ending) no-fault first
+          | inr behind ↦ not_refused sound files names.script IsSomeScript ending (λ text file. no_some_script text (some_once text [] (sym file ∙ texts.script_empty)) ending) no-fault behind.2
+        ]
+      ]
+
+  done_or_memory : (sound : Type 0) (new : Files) (ending : Status) → (ending ≡ status.DeskFault → ⊥) → IsRunRefused sound names files ending × SameFiles files new → (ending ≡ status.Done) ⊎ (ending ≡ status.NoMemory)
+  done_or_memory sound new ending no-fault refused = inr (run_refused_once sound ending no-fault refused.0)
+
   pub completes : (sound : Type 0) (new : Files) (ending : Status) → Ends sound names files new ending → (ending ≡ status.DeskFault → ⊥) → (ending ≡ status.Done) ⊎ (ending ≡ status.NoMemory)
   completes sound new status.Done ends no-fault = inl refl
-  completes sound new status.Usage ends no-fault = absurd ends
-  completes sound new (status.Chain line cause) ends no-fault = absurd (not_both (chain_within MOST_RUN_FAILURES ends.0.text) chain _ (right_chain ends.0.text ends.0.file) ends.0.wrong)
-  completes sound new (status.Capture at cause) ends no-fault = absurd (laws.no_fault ends.0.text capture _ (right_capture ends.0.text ends.0.file) ends.0.wrong)
-  completes sound new (status.Script line cause) ends no-fault = absurd (ends.0.wrong (some_once ends.0.text [] (sym ends.0.file ∙ texts.script_empty)))
-  completes sound new (status.Journal line cause) ends no-fault = absurd ends
-  completes sound new (status.Check verdict) ends no-fault = absurd ends
+  completes sound new status.Usage ends no-fault = done_or_memory sound new status.Usage no-fault ends
+  completes sound new (status.Chain line cause) ends no-fault = done_or_memory sound new (status.Chain line cause) no-fault ends
+  completes sound new (status.Capture at cause) ends no-fault = done_or_memory sound new (status.Capture at cause) no-fault ends
+  completes sound new (status.Script line cause) ends no-fault = done_or_memory sound new (status.Script line cause) no-fault ends
+  completes sound new (status.Journal line cause) ends no-fault = done_or_memory sound new (status.Journal line cause) no-fault ends
+  completes sound new (status.Check verdict) ends no-fault = done_or_memory sound new (status.Check verdict) no-fault ends
   completes sound new status.DeskFault ends no-fault = absurd (no-fault refl)
   completes sound new status.NoMemory ends no-fault = inr refl

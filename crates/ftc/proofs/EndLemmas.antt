@@ -30,13 +30,13 @@ use Rattle.ftc_check.specs.Laws.{WholeRunsAreRight}
 use Rattle.ftc_check.specs.Verdict.{IsWhole}
 use Rattle.ftc_protocol.specs.Whole.{ReleasedVisited}
 use Rattle.ftc.specs.declared.limits.TheConstants.{MOST_RUN_FAILURES}
-use Rattle.ftc.specs.Words.{Named}
+use Rattle.ftc_words.specs.Command.{Named}
 use Rattle.ftc.specs.Output.{MayHold}
 use Rattle.ftc.specs.Plain.{plain_setting, IsWholeRun}
 use Rattle.ftc.specs.Status.{desk_status}
 use Rattle.ftc.specs.Writing.{IsUnwritten, AreDifferent, AreWritten, AreCutShort}
-use Rattle.ftc.specs.Ending.{AreTexts}
-use Rattle.ftc.specs.Checking.{ring_of, IsRightRun}
+use Rattle.ftc.specs.Texts.{ring_of, AreTexts}
+use Rattle.ftc.specs.Checking.{IsRightRun}
 use Rattle.ftc.specs.Done.{IsDone, IsCutShort, Ends, report_bytes}
 use Rattle.ftc.proofs.EventBounds.{driven_fit}
 
@@ -105,7 +105,7 @@ module _ (laws : EndLaws) (names : Named) (old : Files) (apart : AreDifferent na
   module _ (new : Files) (written : AreWritten names out (spelling journal) report old new) where
     -- a file that a run only read is as it was
     still : (name : List ℕ) → IsUnwritten names name → new name ≡ old name
-    still name not = written.others name not.out not.journal not.report
+    still name not = written.others name (not.out, (not.journal, (not.report, tt)))
 
     right : IsRightRun names new
     right = record {
@@ -148,7 +148,7 @@ module _ (laws : EndLaws) (names : Named) (old : Files) (apart : AreDifferent na
     out_file = written.out_file;
     journal_file = written.journal_file;
     report_file = written.report_file ∙ ap Some told;
-    others = λ name no-out no-journal no-report. written.others name no-out no-journal no-report ∙ same name;
+    others = λ name other. written.others name other ∙ same name;
   })
 
   -- all that would have been written
@@ -166,7 +166,7 @@ module _ (laws : EndLaws) (names : Named) (old : Files) (apart : AreDifferent na
     out_file = all_out;
     journal_file = all_journal;
     report_file = put_at names.report report (put names.journal (spelling journal) (put names.out out old));
-    others = λ name no-out no-journal no-report. put_other names.report report (put names.journal (spelling journal) (put names.out out old)) name no-report ∙ (put_other names.journal (spelling journal) (put names.out out old) name no-journal ∙ put_other names.out out old name no-out);
+    others = λ name other. put_other names.report report (put names.journal (spelling journal) (put names.out out old)) name other.1.1.0 ∙ (put_other names.journal (spelling journal) (put names.out out old) name other.1.0 ∙ put_other names.out out old name other.0);
   }
 
   cut_short : (new : Files) → AreCutShort names out (spelling journal) report old new → IsCutShort names old new
@@ -187,7 +187,7 @@ module _ (laws : EndLaws) (names : Named) (old : Files) (apart : AreDifferent na
     out_file = rw (← same names.out) cut.out_file;
     journal_file = rw (← same names.journal) cut.journal_file;
     report_file = subst (λ (bytes : List ℕ). MayHold (old names.report) (new names.report) bytes) told (rw (← same names.report) cut.report_file);
-    others = λ name no-out no-journal no-report. cut.others name no-out no-journal no-report ∙ same name;
+    others = λ name other. cut.others name other ∙ same name;
     journal_order = rw (← same names.journal) cut.journal_order;
     report_order = rw (← same names.report) cut.report_order;
   }

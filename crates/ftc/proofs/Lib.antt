@@ -3,8 +3,6 @@ pub mod Coming
 pub mod Through
 pub mod Members
 pub mod Driving
-pub mod Writable
-pub mod WordLemmas
 pub mod OutLemmas
 pub mod DistinctLemmas
 pub mod EndLemmas
@@ -12,3 +10,5 @@ pub mod EventBounds
 pub mod Agreeing
 pub mod Plain
 pub mod Reported
+pub mod Unread
+pub mod Refusing

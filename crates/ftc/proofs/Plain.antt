@@ -7,7 +7,7 @@ use Rattle.ftc_script.specs.Plain.{plain_text, steps_in, loses_in}
 use Rattle.ftc_script.specs.declared.statement.Statement.{Statement}
 use Rattle.ftc_script.specs.declared.limits.TheConstants.{MOST_NUMBER}
 use Rattle.ftc_script.specs.Grammar.{script_of}
-use Rattle.ftc.specs.Checking.{ring_of}
+use Rattle.ftc.specs.Texts.{ring_of}
 use Rattle.ftc_mbox.specs.Chain.{Chain, IsChain}
 use Rattle.ftc_serial.specs.declared.position.Position.{Position}
 use Rattle.ftc_serial.specs.declared.position.Position.TheVariants as position

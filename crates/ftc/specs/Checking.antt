@@ -1,16 +1,10 @@
 -- What the check of a run's files says.
-use Rattle.std.specs.Prelude.{◌≡◌, ◌≢◌, ◌⊎◌, ◌<◌, ℕ, List, length, Some, None, Ok, Err, codes}
+use Rattle.std.specs.Prelude.{◌≡◌, ◌≢◌, ◌<◌, ℕ, List, length, Some}
 use Rattle.ftc_outside.specs.Desk.{Files}
 use Rattle.ftc_pcap.specs.declared.capture.Capture.{Capture}
-use Rattle.ftc_ring.specs.Ring.{RingShape}
 use Rattle.ftc_script.specs.Script.{ScriptShape}
-use Rattle.ftc_script.specs.Grammar.{script_of}
-use Rattle.ftc_script.specs.declared.fault.ScriptCause.{ScriptCause}
-use Rattle.ftc_journal.specs.Reading.{journal_of}
 use Rattle.ftc_journal.specs.declared.event.Event.{Event}
-use Rattle.ftc_journal.specs.declared.fault.JournalCause.{JournalCause}
 use Rattle.ftc_mbox.specs.Chain.{Chain}
-use Rattle.ftc_conf.specs.declared.limits.TheConstants.{MOST_FAILURES}
 use Rattle.ftc_serial.specs.Packets.{bytes_of}
 use Rattle.ftc_protocol.specs.declared.fate.Fate.TheVariants as became
 use Rattle.ftc_protocol.specs.Setting.{setting_of}
@@ -22,62 +16,9 @@ use Rattle.ftc_check.specs.declared.verdict.Checked.{Checked}
 use Rattle.ftc_check.specs.declared.verdict.Checked.TheVariants.{Yes}
 use Rattle.ftc.specs.declared.status.Status.{Status}
 use Rattle.ftc.specs.declared.status.Status.TheVariants as status
-use Rattle.ftc.specs.Words.{Named, Words, AreNames}
-use Rattle.ftc.specs.Ending.{HasChain, HasCapture, IsChainFault, IsCaptureFault, IsTextMissing}
-
--- the ring of a chain
-abbrev pub ring_of : Chain → RingShape
-ring_of chain = record { servers = length chain.rules; failures = chain.failures }
-
--- The files spell this script for a chain and its packets, and this journal.
-pub record HasScript (names : Named) (files : Files) (chain : Chain) (packets : ℕ) (script : ScriptShape) : Type 0 where
-  pub text : List ℕ
-  pub file : files names.script ≡ Some text
-  pub right : script_of (ring_of chain) packets text ≡ Ok script
-
-pub record HasJournal (names : Named) (files : Files) (journal : List Event) : Type 0 where
-  pub text : List ℕ
-  pub file : files names.journal ≡ Some text
-  pub right : journal_of text ≡ Ok journal
-
--- A chain, a capture and a script that are right.
-pub record AreInputs (names : Named) (files : Files) (chain : Chain) (capture : Capture) (script : ScriptShape) : Type 0 where
-  pub chain_right : HasChain MOST_FAILURES names files chain
-  pub capture_right : HasCapture names files capture
-  pub script_right : HasScript names files chain (length capture.packets) script
-
--- The chain and the capture are right, and the script's text has this first fault.
-pub record IsWrongScript (names : Named) (files : Files) (line : ℕ) (cause : ScriptCause) : Type 0 where
-  pub chain : Chain
-  pub chain_right : HasChain MOST_FAILURES names files chain
-  pub capture : Capture
-  pub capture_right : HasCapture names files capture
-  pub text : List ℕ
-  pub file : files names.script ≡ Some text
-  pub wrong : script_of (ring_of chain) (length capture.packets) text ≡ Err (record { line = line; cause = cause })
-
--- All three are right, OUT is there, and the journal's text has this first fault.
-pub record IsWrongJournal (names : Named) (files : Files) (line : ℕ) (cause : JournalCause) : Type 0 where
-  pub chain : Chain
-  pub capture : Capture
-  pub script : ScriptShape
-  pub inputs : AreInputs names files chain capture script
-  pub out : List ℕ
-  pub out_file : files names.out ≡ Some out
-  pub text : List ℕ
-  pub file : files names.journal ≡ Some text
-  pub wrong : journal_of text ≡ Err (record { line = line; cause = cause })
-
--- The three texts are right, and the first of OUT, journal and report that isn't right isn't there.
-pub record IsLaterMissing (names : Named) (files : Files) : Type 0 where
-  pub chain : Chain
-  pub capture : Capture
-  pub script : ScriptShape
-  pub inputs : AreInputs names files chain capture script
-  pub none : (files names.out ≡ None) ⊎ ((files names.journal ≡ None) ⊎ (files names.report ≡ None))
-
-abbrev pub IsFileMissing : Named → Files → Type 0
-IsFileMissing names files = IsTextMissing MOST_FAILURES names files ⊎ IsLaterMissing names files
+use Rattle.ftc_words.specs.Command.{Named}
+use Rattle.ftc.specs.Texts.{HasJournal, AreInputs}
+use Rattle.ftc.specs.Refused.{IsCheckRefused}
 
 -- What is checked: all six files.
 pub record AreChecked (names : Named) (files : Files) (chain : Chain) (capture : Capture) (script : ScriptShape) (out : List ℕ) (journal : List Event) (report : List ℕ) : Type 0 where
@@ -109,25 +50,13 @@ pub record IsRightRun (names : Named) (files : Files) : Type 0 where
   pub visited : ∥ ReleasedVisited (length judged.chain.rules) judged.journal ∥₁
   pub settled : (packet : ℕ) → packet < length judged.capture.packets → (state_of judged.chain judged.capture judged.script judged.journal).fate packet ≢ became.Inside
 
--- How a check with these names ends, which changes no file. Where the desk is sound, it fails only where a file is missing.
+-- How a check with these names ends, which changes no file. Where the desk is sound, it fails only where the first file that isn't
+-- right is missing.
 abbrev pub Judges : Type 0 → Named → Files → Status → Type 0
 Judges sound names files status.Done = IsRightRun names files
-Judges sound names files status.Usage = ⊥
-Judges sound names files (status.Chain line cause) = IsChainFault MOST_FAILURES names files line cause
-Judges sound names files (status.Capture at cause) = IsCaptureFault MOST_FAILURES names files at cause
-Judges sound names files (status.Script line cause) = IsWrongScript names files line cause
-Judges sound names files (status.Journal line cause) = IsWrongJournal names files line cause
 Judges sound names files (status.Check verdict) = IsJudged names files verdict × (verdict ≢ Yes)
-Judges sound names files status.DeskFault = sound → IsFileMissing names files
 Judges sound names files status.NoMemory = Unit {0}
-
--- How a check with these words ends.
-abbrev pub HasJudged : Type 0 → Words → Files → Status → Type 0
-HasJudged sound words files ending = (names : Named) × AreNames (codes "check") words names × Judges sound names files ending
-
--- The files of these words are those of one run.
-abbrev pub HasRightRun : Words → Files → Type 0
-HasRightRun words files = (names : Named) × AreNames (codes "check") words names × IsRightRun names files
+Judges sound names files refused = IsCheckRefused sound names files refused
 
 -- what a check may say of such files: Yes, or that the desk failed, or that memory was refused
 abbrev pub IsYesOrRefused : Status → Type 0
@@ -145,9 +74,6 @@ pub record AreReadable (names : Named) (files : Files) : Type 0 where
   pub journal : List Event
   pub report : List ℕ
   pub checked : AreChecked names files chain capture script out journal report
-
-abbrev pub HasFiles : Words → Files → Type 0
-HasFiles words files = (names : Named) × AreNames (codes "check") words names × AreReadable names files
 
 -- how a check of such files may end where the desk didn't fail
 abbrev pub IsCheckEnd : Status → Type 0

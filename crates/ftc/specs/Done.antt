@@ -1,5 +1,5 @@
 -- What a run leaves: files that a check says Yes of, or some fronts of them.
-use Rattle.std.specs.Prelude.{◌≡◌, ◌⊎◌, ℕ, List, [], Some, codes}
+use Rattle.std.specs.Prelude.{◌≡◌, ◌⊎◌, ℕ, List, [], Some}
 use Rattle.ftc_outside.specs.Desk.{Files, SameFiles}
 use Rattle.ftc_pcap.specs.declared.capture.Capture.{Capture}
 use Rattle.ftc_journal.specs.declared.event.Event.{Event}
@@ -11,12 +11,11 @@ use Rattle.ftc_serial.specs.Packets.{bytes_of}
 use Rattle.ftc_serial.specs.Drive.{IsDriven}
 use Rattle.ftc_protocol.specs.Setting.{setting_of}
 use Rattle.ftc_report.specs.Report.{report_of}
-use Rattle.ftc.specs.declared.limits.TheConstants.{MOST_RUN_FAILURES}
 use Rattle.ftc.specs.declared.status.Status.{Status}
 use Rattle.ftc.specs.declared.status.Status.TheVariants as status
-use Rattle.ftc.specs.Words.{Named, Words, AreNames}
-use Rattle.ftc.specs.Output.{MayHold}
-use Rattle.ftc.specs.Ending.{AreTexts, IsChainFault, IsCaptureFault, IsScriptFault, IsTextMissing, SameButAtThree}
+use Rattle.ftc_words.specs.Command.{Named}
+use Rattle.ftc.specs.Output.{MayHold, SameElsewhere, written_by}
+use Rattle.ftc.specs.Refused.{IsRunRefused}
 use Rattle.ftc.specs.Checking.{IsRightRun}
 
 -- The one part that varies: which of the finished runs a run leaves. As yet it is the one that drives packet after packet on one thread.
@@ -34,7 +33,7 @@ pub record IsDone (names : Named) (old new : Files) : Type 0 where
   pub chosen : IsChosen right.judged.chain right.judged.capture right.judged.journal
   pub journal_file : new names.journal ≡ Some (spelling right.judged.journal)
   pub report_file : new names.report ≡ Some (report_bytes right.judged.chain right.judged.capture right.judged.script right.judged.journal)
-  pub others : SameButAtThree names.out names.journal names.report old new
+  pub others : SameElsewhere (written_by names) old new
 
 -- The file is as it was, or has some front of what it would have.
 abbrev pub IsFrontOf : List ℕ → Files → Files → Files → Type 0
@@ -50,32 +49,12 @@ pub record IsCutShort (names : Named) (old new : Files) : Type 0 where
   pub report_file : IsFrontOf names.report old new whole
   pub journal_order : (new names.journal ≡ old names.journal) ⊎ (new names.out ≡ whole names.out)
   pub report_order : (new names.report ≡ old names.report) ⊎ ((new names.out ≡ whole names.out) × (new names.journal ≡ whole names.journal))
-  pub others : SameButAtThree names.out names.journal names.report old new
+  pub others : SameElsewhere (written_by names) old new
 
 -- How a run with these names ends. A run that fails has changed nothing yet, or was cut short. Where the desk is sound, it fails
 -- only where the first text that is not right is missing.
 abbrev pub Ends : Type 0 → Named → Files → Files → Status → Type 0
 Ends sound names old new status.Done = IsDone names old new
-Ends sound names old new status.Usage = ⊥
-Ends sound names old new (status.Chain line cause) = IsChainFault MOST_RUN_FAILURES names old line cause × SameFiles old new
-Ends sound names old new (status.Capture at cause) = IsCaptureFault MOST_RUN_FAILURES names old at cause × SameFiles old new
-Ends sound names old new (status.Script line cause) = IsScriptFault names old line cause × SameFiles old new
-Ends sound names old new (status.Journal line cause) = ⊥
-Ends sound names old new (status.Check verdict) = ⊥
-Ends sound names old new status.DeskFault = (SameFiles old new × (sound → IsTextMissing MOST_RUN_FAILURES names old)) ⊎ (IsCutShort names old new × (sound → ⊥))
+Ends sound names old new status.DeskFault = (IsRunRefused sound names old status.DeskFault × SameFiles old new) ⊎ (IsCutShort names old new × (sound → ⊥))
 Ends sound names old new status.NoMemory = SameFiles old new ⊎ IsCutShort names old new
-
--- How a run with these words ends.
-abbrev pub HasEnded : Type 0 → Words → Files → Files → Status → Type 0
-HasEnded sound words old new ending = (names : Named) × AreNames (codes "run") words names × Ends sound names old new ending
-
--- The texts of these words are right.
-abbrev pub HasTexts : Words → Files → Type 0
-HasTexts words files = (names : Named) × AreNames (codes "run") words names × (chain : Chain) × (capture : Capture) × AreTexts names files chain capture
-
--- A run of these names left these files, and was done.
-pub record WasLeft (words : Words) (files : Files) : Type 0 where
-  pub names : Named
-  pub named : AreNames (codes "check") words names
-  pub earlier : Files
-  pub done : IsDone names earlier files
+Ends sound names old new refused = IsRunRefused sound names old refused × SameFiles old new

@@ -1,12 +1,12 @@
 pub mod Status
 pub mod Running
-pub mod Words
+pub mod Ended
 pub mod Output
 pub mod Plain
 pub mod Fate
-pub mod Ending
-pub mod Checking
 pub mod Texts
+pub mod Checking
+pub mod Refused
 pub mod Writing
 pub mod Done
 pub mod Answers

@@ -1,5 +1,19 @@
--- What a file may hold where its writing was cut short.
-use Rattle.std.specs.Prelude.{◌≡◌, ◌⊎◌, ℕ, List, ◌++◌, Option, Some}
+-- Which files were written, and what a file may hold where its writing was cut short.
+use Rattle.std.specs.Prelude.{◌≡◌, ◌≢◌, ◌⊎◌, ℕ, List, [], ◌∷◌, ◌++◌, Option, Some}
+use Rattle.ftc_outside.specs.Desk.{Files}
+use Rattle.ftc_words.specs.Command.{Named}
+
+abbrev pub IsNoneOf : List ℕ → List (List ℕ) → Type 0
+IsNoneOf name [] = Unit {0}
+IsNoneOf name (one ∷ more) = (name ≢ one) × IsNoneOf name more
+
+-- no file but those of these names has changed
+abbrev pub SameElsewhere : List (List ℕ) → Files → Files → Type 0
+SameElsewhere names old new = (name : List ℕ) → IsNoneOf name names → new name ≡ old name
+
+-- the names of the files that a run writes
+abbrev pub written_by : Named → List (List ℕ)
+written_by names = names.out ∷ names.journal ∷ names.report ∷ []
 
 -- the bytes stand at the front of the whole
 abbrev pub IsFront : List ℕ → List ℕ → Type 0

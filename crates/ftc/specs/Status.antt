@@ -1,5 +1,5 @@
 -- What the program says of a status: its exit code and its line.
-use Rattle.std.specs.Prelude.{ℕ, List, [], ◌++◌, decimal, codes}
+use Rattle.std.specs.Prelude.{ℕ, List, [], ◌∷◌, ◌++◌, ◌==◌, length, if◌then◌else◌, decimal, codes}
 use Rattle.ftc_base.specs.declared.refusal.Refuse.{Refuse}
 use Rattle.ftc_base.specs.declared.refusal.Refuse.TheVariants as refuse
 use Rattle.ftc_outside.specs.declared.desk.DeskError.{DeskError}
@@ -86,6 +86,10 @@ line_of (status.Journal line cause) = fault_line (codes "journal: line") line (j
 line_of (status.Check verdict) = verdict_line verdict
 line_of status.DeskFault = codes "desk: failed"
 line_of status.NoMemory = codes "memory: refused"
+
+-- what is said on standard error: the line and a line feed, or nothing where it is empty
+abbrev pub told_of : Status → List ℕ
+told_of status = if length (line_of status) == 0 then line_of status else line_of status ++ 10 ∷ []
 
 -- how a command ends whose desk or text was refused
 abbrev pub desk_status : DeskError → Status

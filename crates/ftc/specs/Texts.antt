@@ -1,94 +1,53 @@
--- Why a text that was fetched is refused.
-use Rattle.std.specs.Prelude.{◌≡◌, ◌≢◌, ℕ, List, [], Some, None, Err}
+-- What the texts of a command are, on a desk that tells its files.
+use Rattle.std.specs.Prelude.{◌≡◌, ℕ, List, [], length, Some, Ok}
 use Rattle.ftc_outside.specs.Desk.{Files}
+use Rattle.ftc_pcap.specs.Grammar.{Spells}
+use Rattle.ftc_pcap.specs.declared.capture.Capture.{Capture}
 use Rattle.ftc_mbox.specs.Chain.{Chain}
-use Rattle.ftc_journal.specs.Reading.{journal_of}
-use Rattle.ftc_journal.specs.declared.fault.JournalCause.{JournalCause}
-use Rattle.ftc_pcap.specs.Grammar.{IsFault}
-use Rattle.ftc_pcap.specs.declared.capture.CaptureCause.{CaptureCause}
-use Rattle.ftc_script.specs.Grammar.{script_of}
-use Rattle.ftc_script.specs.declared.fault.ScriptCause.{ScriptCause}
-use Rattle.ftc_script.specs.declared.fault.ScriptCause.TheVariants as script
-use Rattle.ftc.specs.Words.{Named}
-use Rattle.ftc.specs.declared.limits.TheConstants.{MOST_RUN_FAILURES}
-use Rattle.ftc.specs.declared.status.Status.{Status}
-use Rattle.ftc.specs.declared.status.Status.TheVariants as status
-use Rattle.ftc.specs.Ending.{IsChainFault, IsCaptureFault, IsScriptFault, IsTextMissing}
+use Rattle.ftc_conf.specs.Grammar.{chain_within}
 use Rattle.ftc_conf.specs.declared.limits.TheConstants.{MOST_FAILURES}
-use Rattle.ftc.specs.Checking.{ring_of, IsWrongScript, IsWrongJournal, IsFileMissing}
+use Rattle.ftc_ring.specs.Ring.{RingShape}
+use Rattle.ftc_script.specs.Script.{ScriptShape}
+use Rattle.ftc_script.specs.Grammar.{script_of}
+use Rattle.ftc_journal.specs.Reading.{journal_of}
+use Rattle.ftc_journal.specs.declared.event.Event.{Event}
+use Rattle.ftc_words.specs.Command.{Named}
+use Rattle.ftc.specs.declared.limits.TheConstants.{MOST_RUN_FAILURES}
 
--- The chain's text has that first fault, or the desk failed, where it is sound since there is no such file, or memory was refused.
-abbrev pub IsChainRefused : Type 0 → ℕ → Named → Files → Status → Type 0
-IsChainRefused sound most names files (status.Chain line cause) = IsChainFault most names files line cause
-IsChainRefused sound most names files status.DeskFault = sound → files names.chain ≡ None
-IsChainRefused sound most names files status.NoMemory = Unit {0}
-IsChainRefused sound most names files other = ⊥
+-- The files spell this chain, of whose servers at most so many may be down at once, and this capture.
+pub record HasChain (most : ℕ) (names : Named) (files : Files) (chain : Chain) : Type 0 where
+  pub text : List ℕ
+  pub file : files names.chain ≡ Some text
+  pub right : chain_within most text ≡ Ok chain
 
--- the same of the capture's text
-pub record HasCaptureFault (names : Named) (files : Files) (at : ℕ) (cause : CaptureCause) : Type 0 where
+pub record HasCapture (names : Named) (files : Files) (capture : Capture) : Type 0 where
   pub text : List ℕ
   pub file : files names.capture ≡ Some text
-  pub wrong : IsFault text (record { at = at; cause = cause })
+  pub right : Spells text capture
 
-abbrev pub IsCaptureRefused : Type 0 → Named → Files → Status → Type 0
-IsCaptureRefused sound names files (status.Capture at cause) = HasCaptureFault names files at cause
-IsCaptureRefused sound names files status.DeskFault = sound → files names.capture ≡ None
-IsCaptureRefused sound names files status.NoMemory = Unit {0}
-IsCaptureRefused sound names files other = ⊥
+-- What a run is given: as yet a chain whose servers may not be down, and an empty script.
+pub record AreTexts (names : Named) (files : Files) (chain : Chain) (capture : Capture) : Type 0 where
+  pub chain_right : HasChain MOST_RUN_FAILURES names files chain
+  pub capture_right : HasCapture names files capture
+  pub script_empty : files names.script ≡ Some []
 
--- the same of a run's script, which isn't empty
-pub record HasScriptFault (names : Named) (files : Files) (line : ℕ) (cause : ScriptCause) : Type 0 where
+-- the ring of a chain
+abbrev pub ring_of : Chain → RingShape
+ring_of chain = record { servers = length chain.rules; failures = chain.failures }
+
+-- The files spell this script for a chain and its packets, and this journal.
+pub record HasScript (names : Named) (files : Files) (chain : Chain) (packets : ℕ) (script : ScriptShape) : Type 0 where
   pub text : List ℕ
   pub file : files names.script ≡ Some text
-  pub wrong : text ≢ []
-  pub first : line ≡ 1
-  pub word : cause ≡ script.Word
+  pub right : script_of (ring_of chain) packets text ≡ Ok script
 
-abbrev pub IsScriptRefused : Type 0 → Named → Files → Status → Type 0
-IsScriptRefused sound names files (status.Script line cause) = HasScriptFault names files line cause
-IsScriptRefused sound names files status.DeskFault = sound → files names.script ≡ None
-IsScriptRefused sound names files status.NoMemory = Unit {0}
-IsScriptRefused sound names files other = ⊥
-
--- a text of a run is refused, and those before it were accepted
-abbrev pub AreRefused : Type 0 → Named → Files → Status → Type 0
-AreRefused sound names files (status.Chain line cause) = IsChainFault MOST_RUN_FAILURES names files line cause
-AreRefused sound names files (status.Capture at cause) = IsCaptureFault MOST_RUN_FAILURES names files at cause
-AreRefused sound names files (status.Script line cause) = IsScriptFault names files line cause
-AreRefused sound names files status.DeskFault = sound → IsTextMissing MOST_RUN_FAILURES names files
-AreRefused sound names files status.NoMemory = Unit {0}
-AreRefused sound names files other = ⊥
-
--- the script's text has that first fault, for a chain and its packets
-pub record HasWrongScript (names : Named) (files : Files) (chain : Chain) (packets line : ℕ) (cause : ScriptCause) : Type 0 where
-  pub text : List ℕ
-  pub file : files names.script ≡ Some text
-  pub wrong : script_of (ring_of chain) packets text ≡ Err (record { line = line; cause = cause })
-
-abbrev pub IsWholeScriptRefused : Type 0 → Named → Files → Chain → ℕ → Status → Type 0
-IsWholeScriptRefused sound names files chain packets (status.Script line cause) = HasWrongScript names files chain packets line cause
-IsWholeScriptRefused sound names files chain packets status.DeskFault = sound → files names.script ≡ None
-IsWholeScriptRefused sound names files chain packets status.NoMemory = Unit {0}
-IsWholeScriptRefused sound names files chain packets other = ⊥
-
--- the same of the journal's text
-pub record HasWrongJournal (names : Named) (files : Files) (line : ℕ) (cause : JournalCause) : Type 0 where
+pub record HasJournal (names : Named) (files : Files) (journal : List Event) : Type 0 where
   pub text : List ℕ
   pub file : files names.journal ≡ Some text
-  pub wrong : journal_of text ≡ Err (record { line = line; cause = cause })
+  pub right : journal_of text ≡ Ok journal
 
-abbrev pub IsJournalRefused : Type 0 → Named → Files → Status → Type 0
-IsJournalRefused sound names files (status.Journal line cause) = HasWrongJournal names files line cause
-IsJournalRefused sound names files status.DeskFault = sound → files names.journal ≡ None
-IsJournalRefused sound names files status.NoMemory = Unit {0}
-IsJournalRefused sound names files other = ⊥
-
--- a text of a run that is checked is refused, and those before it were accepted
-abbrev pub AreWrong : Type 0 → Named → Files → Status → Type 0
-AreWrong sound names files (status.Chain line cause) = IsChainFault MOST_FAILURES names files line cause
-AreWrong sound names files (status.Capture at cause) = IsCaptureFault MOST_FAILURES names files at cause
-AreWrong sound names files (status.Script line cause) = IsWrongScript names files line cause
-AreWrong sound names files (status.Journal line cause) = IsWrongJournal names files line cause
-AreWrong sound names files status.DeskFault = sound → IsFileMissing names files
-AreWrong sound names files status.NoMemory = Unit {0}
-AreWrong sound names files other = ⊥
+-- A chain, a capture and a script that are right.
+pub record AreInputs (names : Named) (files : Files) (chain : Chain) (capture : Capture) (script : ScriptShape) : Type 0 where
+  pub chain_right : HasChain MOST_FAILURES names files chain
+  pub capture_right : HasCapture names files capture
+  pub script_right : HasScript names files chain (length capture.packets) script

@@ -1,9 +1,8 @@
 -- What the writing of a run's three files leaves.
 use Rattle.std.specs.Prelude.{◌≡◌, ◌≢◌, ◌⊎◌, ℕ, List, Some}
 use Rattle.ftc_outside.specs.Desk.{Files}
-use Rattle.ftc.specs.Words.{Named}
-use Rattle.ftc.specs.Output.{MayHold}
-use Rattle.ftc.specs.Ending.{SameButAtThree}
+use Rattle.ftc_words.specs.Command.{Named}
+use Rattle.ftc.specs.Output.{MayHold, SameElsewhere, written_by}
 
 -- the names of the files that are written are different
 pub record AreApart (names : Named) : Type 0 where
@@ -29,13 +28,13 @@ pub record AreWritten (names : Named) (out journal report : List ℕ) (old new :
   pub out_file : new names.out ≡ Some out
   pub journal_file : new names.journal ≡ Some journal
   pub report_file : new names.report ≡ Some report
-  pub others : SameButAtThree names.out names.journal names.report old new
+  pub others : SameElsewhere (written_by names) old new
 
 -- each file is as it was, or holds some front of it
 pub record AreCutShort (names : Named) (out journal report : List ℕ) (old new : Files) : Type 0 where
   pub out_file : MayHold (old names.out) (new names.out) out
   pub journal_file : MayHold (old names.journal) (new names.journal) journal
   pub report_file : MayHold (old names.report) (new names.report) report
-  pub others : SameButAtThree names.out names.journal names.report old new
+  pub others : SameElsewhere (written_by names) old new
   pub journal_order : (new names.journal ≡ old names.journal) ⊎ (new names.out ≡ Some out)
   pub report_order : (new names.report ≡ old names.report) ⊎ ((new names.out ≡ Some out) × (new names.journal ≡ Some journal))

@@ -16,6 +16,7 @@ use ftc_base::{NoMemory, PacketNo, Refuse, ServerId, WorkerId};
 use ftc_journal::{Event, Journal};
 use ftc_mbox::ChainSpec;
 use ftc_pcap::Packets;
+use ftc_report::released_fit;
 use ftc_serial::Serial;
 use std::alloc::Global;
 
@@ -152,6 +153,7 @@ pub fn drive(alloc: Global, spec: &ChainSpec, packets: &Packets) -> Result<Drive
     ensures writable { IfOk result (λ driven. AreWritable packets.now (state_of driven.serial).released) }
     ensures rules { IfOk result (λ driven. rules_of driven.serial ≡ spec.now.rules) }
 {
+    released_fit(packets);
     let mut serial = Serial::new(alloc, spec, packets)?;
     let mut journal = Journal::new(alloc);
     for packet in 0..packets.len() as PacketNo {

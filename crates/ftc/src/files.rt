@@ -5,13 +5,13 @@ ghost use Rattle.ftc_outside.specs.Desk.{SameFiles, Rose};
 ghost use Rattle.ftc_ring.specs.Ring.{IsRing};
 ghost use Rattle.ftc_script.specs.Script.{IsScript};
 ghost use Rattle.ftc.specs.Answers.{IsCheckAnswer};
-ghost use Rattle.ftc.specs.Words.{shown};
-ghost use Rattle.ftc.specs.Checking.{ring_of, HasScript, HasJournal, AreChecked};
-ghost use Rattle.ftc.specs.Texts.{IsWholeScriptRefused, IsJournalRefused, AreWrong};
+ghost use Rattle.ftc_words.specs.Shown.{named_of};
+ghost use Rattle.ftc.specs.Texts.{ring_of, HasScript, HasJournal};
+ghost use Rattle.ftc.specs.Checking.{AreChecked};
+ghost use Rattle.ftc.specs.Refused.{IsTextRefused, IsWrongScript, IsWrongJournal, IsCheckRefused};
 
 use crate::status::Status;
 use crate::texts::{fetch_capture, fetch_chain};
-use crate::words::Names;
 use ftc_base::Bytes;
 use ftc_conf::limits::MOST_FAILURES;
 use ftc_journal::{Journal, read};
@@ -20,6 +20,7 @@ use ftc_outside::Desk;
 use ftc_pcap::Capture;
 use ftc_ring::Ring;
 use ftc_script::{Script, accepted, read_script};
+use ftc_words::Names;
 use std::alloc::Global;
 
 /// What the files of a run say.
@@ -52,11 +53,11 @@ fn fetch_script<D: Desk>(
     packets: u32,
     desk: &mut D,
 ) -> Result<Script, Status>
-    ensures accepted { D.tells desk.old → IfOk result (HasScript (shown names.entry) (D.file desk.old) spec.now packets) }
+    ensures accepted { D.tells desk.old → IfOk result (HasScript (named_of names.entry) (D.file desk.old) spec.now packets) }
     ensures ring { IfOk result (λ script. script.ring ≡ ring_of spec.now) }
     ensures packets { IfOk result (λ script. script.packets ≡ packets) }
     ensures right { IfOk result IsScript }
-    ensures refused { D.tells desk.old → IfErr result (IsWholeScriptRefused (D.sound desk.old) (shown names.entry) (D.file desk.old) spec.now packets) }
+    ensures refused { D.tells desk.old → IfErr result (IsTextRefused (D.sound desk.old) (D.file desk.old) names.entry.script.now (IsWrongScript (ring_of spec.now) packets)) }
     ensures known { IfErr result (λ ending. ending ≢ Status.Usage) }
     ensures answer { IfErr result IsCheckAnswer }
     ensures files { D.tells desk.old → SameFiles (D.file desk.old) (D.file desk.new) }
@@ -74,8 +75,8 @@ fn fetch_script<D: Desk>(
 
 /// Fetches and reads the journal.
 fn fetch_journal<D: Desk>(alloc: Global, names: Names<'_>, desk: &mut D) -> Result<Journal, Status>
-    ensures accepted { D.tells desk.old → IfOk result (λ journal. HasJournal (shown names.entry) (D.file desk.old) journal.items) }
-    ensures refused { D.tells desk.old → IfErr result (IsJournalRefused (D.sound desk.old) (shown names.entry) (D.file desk.old)) }
+    ensures accepted { D.tells desk.old → IfOk result (λ journal. HasJournal (named_of names.entry) (D.file desk.old) journal.items) }
+    ensures refused { D.tells desk.old → IfErr result (IsTextRefused (D.sound desk.old) (D.file desk.old) names.entry.journal.now IsWrongJournal) }
     ensures known { IfErr result (λ ending. ending ≢ Status.Usage) }
     ensures answer { IfErr result IsCheckAnswer }
     ensures files { D.tells desk.old → SameFiles (D.file desk.old) (D.file desk.new) }
@@ -97,11 +98,11 @@ pub fn read_files<D: Desk>(
     names: Names<'_>,
     desk: &mut D,
 ) -> Result<RunFiles, Status>
-    ensures accepted { D.tells desk.old → IfOk result (λ files. AreChecked (shown names.entry) (D.file desk.old) files.spec files.capture files.script files.out files.journal.items files.report) }
+    ensures accepted { D.tells desk.old → IfOk result (λ files. AreChecked (named_of names.entry) (D.file desk.old) files.spec files.capture files.script files.out files.journal.items files.report) }
     ensures ring { IfOk result (λ files. files.script.ring ≡ ring_of files.spec) }
     ensures packets { IfOk result (λ files. files.script.packets ≡ length files.capture.packets) }
     ensures right { IfOk result (λ files. IsScript files.script) }
-    ensures refused { D.tells desk.old → IfErr result (AreWrong (D.sound desk.old) (shown names.entry) (D.file desk.old)) }
+    ensures refused { D.tells desk.old → IfErr result (IsCheckRefused (D.sound desk.old) (named_of names.entry) (D.file desk.old)) }
     ensures known { IfErr result (λ ending. ending ≢ Status.Usage) }
     ensures answer { IfErr result IsCheckAnswer }
     ensures files { D.tells desk.old → SameFiles (D.file desk.old) (D.file desk.new) }

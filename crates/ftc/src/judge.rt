@@ -3,21 +3,21 @@
 ghost use Rattle.std.specs.Prelude.{◌≡◌, ◌≢◌, ◌≤◌};
 ghost use Rattle.ftc_outside.specs.Desk.{SameFiles, Rose};
 ghost use Rattle.ftc.specs.Answers.{IsCheckAnswer};
-ghost use Rattle.ftc.specs.Words.{shown};
+ghost use Rattle.ftc_words.specs.Shown.{named_of};
 ghost use Rattle.ftc.specs.Checking.{Judges};
 
 use crate::files::{RunFiles, read_files};
 use crate::status::Status;
-use crate::words::Names;
 use ftc_base::NoMemory;
 use ftc_check::{Checked, check, right_runs};
 use ftc_protocol::accepted;
 use ftc_outside::Desk;
+use ftc_words::Names;
 use std::alloc::Global;
 
 /// Says whether the files of these names are those of one run. It changes no file.
 pub fn judge<D: Desk>(alloc: Global, names: Names<'_>, desk: &mut D) -> Status
-    ensures judges { D.tells desk.old → Judges (D.sound desk.old) (shown names.entry) (D.file desk.old) result }
+    ensures judges { D.tells desk.old → Judges (D.sound desk.old) (named_of names.entry) (D.file desk.old) result }
     ensures files { D.tells desk.old → SameFiles (D.file desk.old) (D.file desk.new) }
     ensures known { result ≢ Status.Usage }
     ensures answer { IsCheckAnswer result }

@@ -9,15 +9,16 @@ mod output;
 mod protocol;
 mod report;
 mod status;
+mod telling;
 mod texts;
 mod top;
-mod words;
 
 use ftc_outside::FileDesk;
 use status::Status;
 use std::alloc::{AllocError, Global};
 use std::env;
 use std::process::ExitCode;
+use telling::tell;
 
 /// The texts, lent.
 fn lent<'a>(alloc: Global, texts: &'a [String]) -> Result<Vec<&'a str>, AllocError> {
@@ -43,23 +44,10 @@ fn ended(rt: &HostRuntime) -> Status {
     top::run(rt, &words, &mut desk)
 }
 
-/// Says the status on standard error, as well as it can: the exit code says it too.
-fn say(rt: &HostRuntime, status: Status) {
-    let Ok(line) = status.line(rt.alloc()) else {
-        return;
-    };
-    let Ok(text) = str::from_utf8(line.as_slice()) else {
-        return;
-    };
-    if !text.is_empty() {
-        let _ = rt.eprintln(text);
-    }
-}
-
 fn main(rt: HostRuntime) -> ExitCode {
     let status = ended(&rt);
-    say(&rt, status);
-    ExitCode::from(status.code())
+    let (code, _) = tell(rt.alloc(), status, &mut rt.stderr());
+    code
 }
 
 #[cfg(test)]

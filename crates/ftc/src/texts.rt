@@ -3,19 +3,19 @@
 ghost use Rattle.std.specs.Prelude.{◌≡◌, ◌≢◌, ◌≤◌, [], Some, Err, IfOk, IfErr, OnOk};
 ghost use Rattle.ftc_outside.specs.Desk.{SameFiles, Rose};
 ghost use Rattle.ftc.specs.Answers.{IsRunAnswer};
-ghost use Rattle.ftc.specs.Words.{shown};
+ghost use Rattle.ftc_words.specs.Shown.{named_of};
 ghost use Rattle.ftc.specs.declared.limits.TheConstants.{MOST_RUN_FAILURES};
-ghost use Rattle.ftc.specs.Ending.{HasChain, HasCapture, AreTexts};
-ghost use Rattle.ftc.specs.Texts.{IsChainRefused, IsCaptureRefused, IsScriptRefused, AreRefused};
+ghost use Rattle.ftc.specs.Texts.{HasChain, HasCapture, AreTexts};
+ghost use Rattle.ftc.specs.Refused.{IsTextRefused, IsWrongChain, IsWrongCapture, IsSomeScript, IsRunRefused};
 
 use crate::limits::MOST_RUN_FAILURES;
 use crate::status::Status;
-use crate::words::Names;
 use ftc_conf::{bounded, read_chain_within};
 use ftc_mbox::ChainSpec;
 use ftc_outside::Desk;
 use ftc_pcap::{Capture, read_capture};
 use ftc_script::ScriptCause;
+use ftc_words::Names;
 use std::alloc::Global;
 
 /// What the texts of a run say.
@@ -32,9 +32,9 @@ pub fn fetch_chain<D: Desk>(
     most: u8,
     desk: &mut D,
 ) -> Result<ChainSpec, Status>
-    ensures accepted { D.tells desk.old → IfOk result (HasChain most (shown names.entry) (D.file desk.old)) }
+    ensures accepted { D.tells desk.old → IfOk result (HasChain most (named_of names.entry) (D.file desk.old)) }
     ensures within { IfOk result (λ spec. spec.failures ≤ most) }
-    ensures refused { D.tells desk.old → IfErr result (IsChainRefused (D.sound desk.old) most (shown names.entry) (D.file desk.old)) }
+    ensures refused { D.tells desk.old → IfErr result (IsTextRefused (D.sound desk.old) (D.file desk.old) names.entry.chain.now (IsWrongChain most)) }
     ensures known { IfErr result (λ ending. ending ≢ Status.Usage) }
     ensures answer { IfErr result IsRunAnswer }
     ensures files { D.tells desk.old → SameFiles (D.file desk.old) (D.file desk.new) }
@@ -56,8 +56,8 @@ pub fn fetch_capture<D: Desk>(
     names: Names<'_>,
     desk: &mut D,
 ) -> Result<Capture, Status>
-    ensures accepted { D.tells desk.old → IfOk result (HasCapture (shown names.entry) (D.file desk.old)) }
-    ensures refused { D.tells desk.old → IfErr result (IsCaptureRefused (D.sound desk.old) (shown names.entry) (D.file desk.old)) }
+    ensures accepted { D.tells desk.old → IfOk result (HasCapture (named_of names.entry) (D.file desk.old)) }
+    ensures refused { D.tells desk.old → IfErr result (IsTextRefused (D.sound desk.old) (D.file desk.old) names.entry.capture.now IsWrongCapture) }
     ensures known { IfErr result (λ ending. ending ≢ Status.Usage) }
     ensures answer { IfErr result IsRunAnswer }
     ensures files { D.tells desk.old → SameFiles (D.file desk.old) (D.file desk.new) }
@@ -75,7 +75,7 @@ pub fn fetch_capture<D: Desk>(
 /// Fetches the script. As yet every script that says something is refused.
 fn fetch_script<D: Desk>(alloc: Global, names: Names<'_>, desk: &mut D) -> Result<(), Status>
     ensures accepted { D.tells desk.old → OnOk result (D.file desk.old names.entry.script.now ≡ Some []) }
-    ensures refused { D.tells desk.old → IfErr result (IsScriptRefused (D.sound desk.old) (shown names.entry) (D.file desk.old)) }
+    ensures refused { D.tells desk.old → IfErr result (IsTextRefused (D.sound desk.old) (D.file desk.old) names.entry.script.now IsSomeScript) }
     ensures known { IfErr result (λ ending. ending ≢ Status.Usage) }
     ensures answer { IfErr result IsRunAnswer }
     ensures files { D.tells desk.old → SameFiles (D.file desk.old) (D.file desk.new) }
@@ -95,9 +95,9 @@ fn fetch_script<D: Desk>(alloc: Global, names: Names<'_>, desk: &mut D) -> Resul
 
 /// Fetches and reads chain, capture and script in this order, each before the next.
 pub fn read_texts<D: Desk>(alloc: Global, names: Names<'_>, desk: &mut D) -> Result<Texts, Status>
-    ensures accepted { D.tells desk.old → IfOk result (λ texts. AreTexts (shown names.entry) (D.file desk.old) texts.spec texts.capture) }
+    ensures accepted { D.tells desk.old → IfOk result (λ texts. AreTexts (named_of names.entry) (D.file desk.old) texts.spec texts.capture) }
     ensures plain { IfOk result (λ texts. texts.spec.failures ≡ 0) }
-    ensures refused { D.tells desk.old → IfErr result (AreRefused (D.sound desk.old) (shown names.entry) (D.file desk.old)) }
+    ensures refused { D.tells desk.old → IfErr result (IsRunRefused (D.sound desk.old) (named_of names.entry) (D.file desk.old)) }
     ensures known { IfErr result (λ ending. ending ≢ Status.Usage) }
     ensures answer { IfErr result IsRunAnswer }
     ensures files { D.tells desk.old → SameFiles (D.file desk.old) (D.file desk.new) }

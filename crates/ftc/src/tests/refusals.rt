@@ -96,16 +96,15 @@ fn a_call_that_fails(rt: HostRuntime) -> Result<(), Fail> {
     let bytes = capture.as_slice();
     let events: &[u8] = b"ftc-journal 2\nenter 0\nvisit 0 0 63\npass 0 0\nrelease 0\n";
     // What the files hold where the call of that number fails: three fetch the texts.
-    let cases: [(u64, Option<&[u8]>, Option<&[u8]>, Option<&[u8]>); 9] = [
+    let cases: [(u64, Option<&[u8]>, Option<&[u8]>, Option<&[u8]>); 8] = [
         (0, None, None, None),
         (2, None, None, None),
         (3, None, None, None),
         (4, Some(b""), None, None),
-        (5, Some(&HEADER), None, None),
-        (6, Some(bytes), None, None),
-        (7, Some(bytes), Some(b""), None),
-        (8, Some(bytes), Some(events), None),
-        (9, Some(bytes), Some(events), Some(b"")),
+        (5, Some(bytes), None, None),
+        (6, Some(bytes), Some(b""), None),
+        (7, Some(bytes), Some(events), None),
+        (8, Some(bytes), Some(events), Some(b"")),
     ];
     for (call, out, journal, report) in cases {
         let desk = desk_of(&rt, MONITOR, bytes)?;

@@ -1,6 +1,7 @@
 //! What is said of each status.
 
 use crate::status::Status;
+use crate::telling::tell;
 use ftc_check::Checked;
 use ftc_conf::ChainCause;
 use ftc_journal::JournalCause;
@@ -86,6 +87,25 @@ fn codes_and_lines(rt: HostRuntime) -> Result<(), Fail> {
     for (status, code, line) in cases {
         assert_eq!(rt; status.code(), code);
         assert_eq!(rt; status.line(rt.alloc())?.as_slice(), line);
+    }
+    Ok(())
+}
+
+#[test]
+fn what_is_told(rt: HostRuntime) -> Result<(), Fail> {
+    let event = Status::Check {
+        verdict: Checked::NotRun { event: 21 },
+    };
+    let cases: [(Status, &[u8]); 3] = [
+        (Status::Done, b""),
+        (Status::DeskFault, b"desk: failed\n"),
+        (event, b"check: event 21\n"),
+    ];
+    for (status, line) in cases {
+        let mut said: Vec<u8> = Vec::new(rt.alloc());
+        let (_, all) = tell(rt.alloc(), status, &mut said);
+        assert!(rt; all);
+        assert_eq!(rt; said.as_slice(), line);
     }
     Ok(())
 }

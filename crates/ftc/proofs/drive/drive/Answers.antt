@@ -6,7 +6,6 @@ use Rattle.ftc_serial.specs.Trace.{trace_of}
 use Rattle.ftc_serial.specs.Held.{rules_of, state_of}
 use Rattle.ftc_serial.specs.Packets.{bytes_of}
 use Rattle.ftc.proofs.Driving.{Driving, Drives, driving_start, driving_more, waits_first, driven, released_visited}
-use Rattle.ftc.proofs.Writable.{run_writable}
 use Rattle.ftc.specs.Running.{HasCome}
 use Rattle.ftc.proofs.drive.drive.Goals as goal
 
@@ -56,5 +55,5 @@ pub returns-clause-visited : goal.returns-clause-visited
 returns-clause-visited c = released_visited c.args.spec.now.rules (bytes_of c.args.packets.now) c.loop-packet.packet c.loop-packet.journal.items (state_of c.loop-packet.serial) c.loop-packet.invariant.driving
 
 pub returns-clause-writable : goal.returns-clause-writable
-returns-clause-writable c = run_writable c.args.packets.now c.args.spec.now.rules (trace_of c.loop-packet.journal.items) (state_of c.loop-packet.serial) c.len-packet-end.ensures.bounds.short
+returns-clause-writable c = c.released_fit.ensures c.args.spec.now.rules (trace_of c.loop-packet.journal.items) (state_of c.loop-packet.serial)
     (driven c.args.spec.now.rules (bytes_of c.args.packets.now) c.loop-packet.journal.items (state_of c.loop-packet.serial) (at_end c)).run

@@ -4,7 +4,11 @@ use Rattle.ftc_machine.proofs.RunInputs.{bytes_count}
 use Rattle.ftc_protocol.specs.Setting.{Setting, IsSetting, setting_of}
 use Rattle.ftc_check.specs.Verdict.{IsVerdict}
 use Rattle.ftc_check.specs.declared.verdict.Checked.TheVariants.{Yes}
+use Rattle.ftc.proofs.Refusing.{judges_refused}
 use Rattle.ftc.proofs.judge.judge.Goals as goal
+
+pub returns-in-Err-clause-judges : goal.returns-in-Err-clause-judges
+returns-in-Err-clause-judges g c = λ t. judges_refused _ _ _ c.in-Err.status (c.in-Err.ensures.refused t)
 
 pub returns-in-Ok-Yes-clause-judges : goal.returns-in-Ok-Yes-clause-judges
 returns-in-Ok-Yes-clause-judges g c = λ tells.

@@ -2,7 +2,11 @@ use Rattle.std.proofs.Common.{ap, Err}
 use Rattle.ftc_serial.specs.Held.{state_of}
 use Rattle.ftc.proofs.Plain.{no_lines}
 use Rattle.ftc.proofs.EndLemmas.{EndLaws, IsPlainRun, ended_done, ended_cut}
+use Rattle.ftc.proofs.Refusing.{ends_refused}
 use Rattle.ftc.proofs.top.run_names.Goals as goal
+
+pub returns-in-Err-clause-ends : goal.returns-in-Err-clause-ends
+returns-in-Err-clause-ends g c = λ t. ends_refused _ _ _ _ c.in-Err.status (c.in-Err.ensures.refused t) (c.in-Err.ensures.files t)
 
 pub returns-in-Ok-write_files-clause-ends : goal.returns-in-Ok-write_files-clause-ends
 returns-in-Ok-write_files-clause-ends g c = λ t.

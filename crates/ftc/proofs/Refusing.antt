@@ -1,0 +1,115 @@
+-- A refusal of a command's texts is how the command ends.
+use Rattle.std.proofs.Common.{◌≡◌, ◌∙◌, sym, ℕ, List, length, Some, inl, inr}
+use Rattle.ftc_outside.specs.Desk.{Files, SameFiles}
+use Rattle.ftc_check.specs.declared.verdict.Checked.{Checked}
+use Rattle.ftc_words.specs.Command.{Named}
+use Rattle.ftc.specs.declared.status.Status.{Status}
+use Rattle.ftc.specs.declared.status.Status.TheVariants as status
+use Rattle.ftc_pcap.specs.declared.capture.Capture.{Capture}
+use Rattle.ftc_mbox.specs.Chain.{Chain}
+use Rattle.ftc_conf.specs.declared.limits.TheConstants.{MOST_FAILURES}
+use Rattle.ftc_script.specs.Script.{ScriptShape}
+use Rattle.ftc_journal.specs.declared.event.Event.{Event}
+use Rattle.ftc.specs.declared.limits.TheConstants.{MOST_RUN_FAILURES}
+use Rattle.ftc.specs.Texts.{ring_of, HasChain, HasCapture, HasScript, HasJournal, AreInputs}
+use Rattle.ftc.specs.Refused.{IsTextRefused, IsSomeScript, IsWrongScript, IsWrongJournal, IsNeverWrong, IsRunRefused, IsCheckRefused}
+use Rattle.ftc.specs.Checking.{Judges}
+use Rattle.ftc.specs.Done.{Ends}
+
+run_isnt_done : (sound : Type 0) (names : Named) (files : Files) → IsRunRefused sound names files status.Done → ⊥
+run_isnt_done sound names files refused = elim refused [ inl first ↦ first.2 | inr behind ↦ elim behind.2 [ inl first ↦ first.2 | inr behind ↦ behind.2.2 ] ]
+
+pub ends_refused : (sound : Type 0) (names : Named) (old new : Files) (ending : Status) → IsRunRefused sound names old ending → SameFiles old new → Ends sound names old new ending
+ends_refused sound names old new status.Done refused same = absurd (run_isnt_done sound names old refused)
+ends_refused sound names old new status.Usage refused same = (refused, same)
+ends_refused sound names old new (status.Chain line cause) refused same = (refused, same)
+ends_refused sound names old new (status.Capture at cause) refused same = (refused, same)
+ends_refused sound names old new (status.Script line cause) refused same = (refused, same)
+ends_refused sound names old new (status.Journal line cause) refused same = (refused, same)
+ends_refused sound names old new (status.Check verdict) refused same = (refused, same)
+ends_refused sound names old new status.DeskFault refused same = inl (refused, same)
+ends_refused sound names old new status.NoMemory refused same = inl same
+
+check_isnt_done : (sound : Type 0) (names : Named) (files : Files) → IsCheckRefused sound names files status.Done → ⊥
+check_isnt_done sound names files refused = elim refused [
+  | inl first ↦ first.2
+  | inr behind ↦ elim behind.2 [
+    | inl first ↦ first.2
+    | inr behind ↦ elim behind.2 [
+      | inl first ↦ first.2
+      | inr behind ↦
+          elim behind.2 [ inl first ↦ first.2 | inr behind ↦ elim behind.2 [ inl first ↦ first.2 | inr behind ↦ behind.2.2 ] ]
+    ]
+  ]
+]
+
+check_isnt_judged : (sound : Type 0) (names : Named) (files : Files) (verdict : Checked) → IsCheckRefused sound names files (status.Check verdict) → ⊥
+check_isnt_judged sound names files verdict refused = elim refused [
+  | inl first ↦ first.2
+  | inr behind ↦ elim behind.2 [
+    | inl first ↦ first.2
+    | inr behind ↦ elim behind.2 [
+      | inl first ↦ first.2
+      | inr behind ↦
+          elim behind.2 [ inl first ↦ first.2 | inr behind ↦ elim behind.2 [ inl first ↦ first.2 | inr behind ↦ behind.2.2 ] ]
+    ]
+  ]
+]
+
+pub judges_refused : (sound : Type 0) (names : Named) (files : Files) (ending : Status) → IsCheckRefused sound names files ending → Judges sound names files ending
+judges_refused sound names files status.Done refused = absurd (check_isnt_done sound names files refused)
+judges_refused sound names files status.Usage refused = refused
+judges_refused sound names files (status.Chain line cause) refused = refused
+judges_refused sound names files (status.Capture at cause) refused = refused
+judges_refused sound names files (status.Script line cause) refused = refused
+judges_refused sound names files (status.Journal line cause) refused = refused
+judges_refused sound names files (status.Check verdict) refused = absurd (check_isnt_judged sound names files verdict refused)
+judges_refused sound names files status.DeskFault refused = refused
+judges_refused sound names files status.NoMemory refused = tt
+
+-- ---- what was said of the files as they are now, of the files as they were
+
+pub refused_before : (sound now-sound : Type 0) (old new : Files) (name : List ℕ) (IsWrong : List ℕ → Status → Type 0) (ending : Status) → (sound → now-sound) → SameFiles old new
+    → IsTextRefused now-sound new name IsWrong ending → IsTextRefused sound old name IsWrong ending
+refused_before sound now-sound old new name IsWrong status.Done stays same refused = (refused.0, sym (same name) ∙ refused.1, refused.2)
+refused_before sound now-sound old new name IsWrong status.Usage stays same refused = (refused.0, sym (same name) ∙ refused.1, refused.2)
+refused_before sound now-sound old new name IsWrong (status.Chain line cause) stays same refused = (refused.0, sym (same name) ∙ refused.1, refused.2)
+refused_before sound now-sound old new name IsWrong (status.Capture at cause) stays same refused = (refused.0, sym (same name) ∙ refused.1, refused.2)
+refused_before sound now-sound old new name IsWrong (status.Script line cause) stays same refused = (refused.0, sym (same name) ∙ refused.1, refused.2)
+refused_before sound now-sound old new name IsWrong (status.Journal line cause) stays same refused = (refused.0, sym (same name) ∙ refused.1, refused.2)
+refused_before sound now-sound old new name IsWrong (status.Check verdict) stays same refused = (refused.0, sym (same name) ∙ refused.1, refused.2)
+refused_before sound now-sound old new name IsWrong status.DeskFault stays same refused = λ s. sym (same name) ∙ refused (stays s)
+refused_before sound now-sound old new name IsWrong status.NoMemory stays same refused = tt
+
+pub capture_before : (names : Named) (old new : Files) (capture : Capture) → SameFiles old new → HasCapture names new capture → HasCapture names old capture
+capture_before names old new capture same has = record { text = has.text; file = sym (same names.capture) ∙ has.file; right = has.right }
+
+pub script_before : (names : Named) (old new : Files) (chain : Chain) (packets : ℕ) (script : ScriptShape) → SameFiles old new → HasScript names new chain packets script → HasScript names old chain packets script
+script_before names old new chain packets script same has = record { text = has.text; file = sym (same names.script) ∙ has.file; right = has.right }
+
+pub journal_before : (names : Named) (old new : Files) (journal : List Event) → SameFiles old new → HasJournal names new journal → HasJournal names old journal
+journal_before names old new journal same has = record { text = has.text; file = sym (same names.journal) ∙ has.file; right = has.right }
+
+-- ---- a text behind those that are right
+
+pub script_refused : (sound : Type 0) (names : Named) (files : Files) (chain : Chain) (capture : Capture) (ending : Status) → HasChain MOST_RUN_FAILURES names files chain → HasCapture names files capture
+    → IsTextRefused sound files names.script IsSomeScript ending → IsRunRefused sound names files ending
+script_refused sound names files chain capture ending chain_right capture_right refused = inr (chain, chain_right, inr (capture, capture_right, refused))
+
+pub whole_script_refused : (sound : Type 0) (names : Named) (files : Files) (chain : Chain) (capture : Capture) (ending : Status) → HasChain MOST_FAILURES names files chain → HasCapture names files capture
+    → IsTextRefused sound files names.script (IsWrongScript (ring_of chain) (length capture.packets)) ending → IsCheckRefused sound names files ending
+whole_script_refused sound names files chain capture ending chain_right capture_right refused = inr (chain, chain_right, inr (capture, capture_right, inl refused))
+
+pub out_refused : (sound : Type 0) (names : Named) (files : Files) (chain : Chain) (capture : Capture) (script : ScriptShape) (ending : Status) → AreInputs names files chain capture script
+    → IsTextRefused sound files names.out IsNeverWrong ending → IsCheckRefused sound names files ending
+out_refused sound names files chain capture script ending inputs refused = inr (chain, inputs.chain_right, inr (capture, inputs.capture_right, inr (script, inputs.script_right, inl refused)))
+
+pub journal_refused : (sound : Type 0) (names : Named) (files : Files) (chain : Chain) (capture : Capture) (script : ScriptShape) (out : List ℕ) (ending : Status) → AreInputs names files chain capture script
+    → files names.out ≡ Some out → IsTextRefused sound files names.journal IsWrongJournal ending → IsCheckRefused sound names files ending
+journal_refused sound names files chain capture script out ending inputs out_file refused =
+    inr (chain, inputs.chain_right, inr (capture, inputs.capture_right, inr (script, inputs.script_right, inr (out, out_file, inl refused))))
+
+pub report_refused : (sound : Type 0) (names : Named) (files : Files) (chain : Chain) (capture : Capture) (script : ScriptShape) (out : List ℕ) (journal : List Event) (ending : Status) → AreInputs names files chain capture script
+    → files names.out ≡ Some out → HasJournal names files journal → IsTextRefused sound files names.report IsNeverWrong ending → IsCheckRefused sound names files ending
+report_refused sound names files chain capture script out journal ending inputs out_file journal_right refused =
+    inr (chain, inputs.chain_right, inr (capture, inputs.capture_right, inr (script, inputs.script_right, inr (out, out_file, inr (journal, journal_right, refused)))))

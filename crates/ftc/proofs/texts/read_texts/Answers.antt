@@ -1,0 +1,21 @@
+use Rattle.std.proofs.Common.{◌∙◌, rules, IfErr}
+use Rattle.std.proofs.lemmas.Result.{IfErr-weaker}
+use Rattle.ftc_outside.specs.Desk.{Files, SameFiles}
+use Rattle.ftc_words.specs.Shown.{named_of}
+use Rattle.ftc.specs.Refused.{IsTextRefused, IsSomeScript}
+use Rattle.ftc.proofs.Refusing.{refused_before, capture_before, script_refused}
+use Rattle.ftc.proofs.texts.read_texts.Goals as goal
+
+pub returns-in_err-fetch_script-clause-refused : goal.returns-in_err-fetch_script-clause-refused
+returns-in_err-fetch_script-clause-refused g c = λ t.
+    let old : Files = g.D.Desk.file c.args.desk.now in
+    let first : Files = g.D.Desk.file c.fetch_chain.new.desk in
+    let second : Files = g.D.Desk.file c.fetch_capture.new.desk in
+    let t-first = c.fetch_chain.ensures.tells t in
+    let t-second = c.fetch_capture.ensures.tells t-first in
+    let to_first : SameFiles old first = c.fetch_chain.ensures.files t in
+    let to_second : SameFiles old second = λ name. c.fetch_capture.ensures.files t-first name ∙ to_first name in
+    let refused : IfErr c.from_residual-in_err-fetch_script.result (IsTextRefused (g.D.Desk.sound c.fetch_capture.new.desk) second c.args.names.script.now IsSomeScript) = search (rules, c.fetch_script.ensures.refused t-second) in
+    IfErr-weaker c.from_residual-in_err-fetch_script.result _ _ (λ ending is. script_refused (g.D.Desk.sound c.args.desk.now) (named_of c.args.names) old c.in_ok-spec.spec c.in_ok-capture.capture ending
+    (c.in_ok-spec.ensures.accepted t) (capture_before (named_of c.args.names) old first c.in_ok-capture.capture to_first (c.in_ok-capture.ensures.accepted t-first))
+    (refused_before (g.D.Desk.sound c.args.desk.now) (g.D.Desk.sound c.fetch_capture.new.desk) old second c.args.names.script.now IsSomeScript ending (λ s. c.fetch_capture.ensures.sound (c.fetch_chain.ensures.sound s)) to_second is)) refused

@@ -1,0 +1,53 @@
+use Rattle.std.proofs.Common.{◌≡◌, true, Some, subst}
+use Rattle.ftc_words.specs.declared.command.Command.{Command}
+use Rattle.ftc_words.specs.Command.{are_distinct, files_of}
+use Rattle.ftc_words.specs.Shown.{named_of, mode_of, shown}
+use Rattle.ftc.specs.Ended.{HasTexts, HasFiles, HasRightRun, WasLeft}
+use Rattle.ftc.proofs.Agreeing.{Laws, agrees, completes, judges_all}
+use Rattle.ftc.proofs.DistinctLemmas.{run_differs}
+use Rattle.ftc.proofs.top.run_command.Goals as goal
+
+pub run_names-requires : goal.run_names-requires
+run_names-requires g c = record {
+  apart = run_differs (named_of c.in-Run.names) (mode_of c.in-Run.mode) (subst (λ (command : Command). are_distinct (files_of (shown command)) ≡ true) c.in-Run.is c.requires.distinct);
+}
+
+pub returns-in-Run-clause-complete : goal.returns-in-Run-clause-complete
+returns-in-Run-clause-complete g c = λ tells texts still.
+    let laws : Laws = record {
+      one_capture = c.one_reading.ensures;
+      no_fault = c.one_fault.ensures.none;
+      one_verdict = c.one_verdict.ensures;
+    } in
+    let (chain, capture, are) = subst (λ (command : Command). HasTexts (Some (shown command)) (g.D.Desk.file c.args.desk.now)) c.in-Run.is texts in
+    completes laws _ (g.D.Desk.file c.args.desk.now) chain capture are _ _ c.run_names.result (c.run_names.ensures.ends tells) (λ failed. still (c.run_names.ensures.cause failed))
+
+pub returns-in-Check-clause-complete_check : goal.returns-in-Check-clause-complete_check
+returns-in-Check-clause-complete_check g c = λ tells files still.
+    let laws : Laws = record {
+      one_capture = c.one_reading.ensures;
+      no_fault = c.one_fault.ensures.none;
+      one_verdict = c.one_verdict.ensures;
+    } in
+    let are = subst (λ (command : Command). HasFiles (Some (shown command)) (g.D.Desk.file c.args.desk.now)) c.in-Check.is files in
+    judges_all laws _ (g.D.Desk.file c.args.desk.now) are.chain are.capture are.script are.out are.journal are.report are.checked _ c.judge.result (c.judge.ensures.judges tells) (λ failed. still (c.judge.ensures.cause failed))
+
+pub returns-in-Check-clause-exact : goal.returns-in-Check-clause-exact
+returns-in-Check-clause-exact g c = λ tells files.
+    let laws : Laws = record {
+      one_capture = c.one_reading.ensures;
+      no_fault = c.one_fault.ensures.none;
+      one_verdict = c.one_verdict.ensures;
+    } in
+    let right = subst (λ (command : Command). HasRightRun (Some (shown command)) (g.D.Desk.file c.args.desk.now)) c.in-Check.is files in
+    agrees laws _ (g.D.Desk.file c.args.desk.now) right _ c.judge.result (c.judge.ensures.judges tells)
+
+pub returns-in-Check-clause-agrees : goal.returns-in-Check-clause-agrees
+returns-in-Check-clause-agrees g c = λ tells files.
+    let laws : Laws = record {
+      one_capture = c.one_reading.ensures;
+      no_fault = c.one_fault.ensures.none;
+      one_verdict = c.one_verdict.ensures;
+    } in
+    let left = subst (λ (command : Command). WasLeft (Some (shown command)) (g.D.Desk.file c.args.desk.now)) c.in-Check.is files in
+    agrees laws _ (g.D.Desk.file c.args.desk.now) left.1.right _ c.judge.result (c.judge.ensures.judges tells)

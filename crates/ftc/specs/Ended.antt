@@ -1,0 +1,50 @@
+-- What is so at the end of a command, for each command.
+use Rattle.std.specs.Prelude.{◌≡◌, List, ℕ, Option, Some, None}
+use Rattle.std.specs.Borrow.{Bor}
+use Rattle.ftc_outside.specs.Desk.{Files, SameFiles}
+use Rattle.ftc_pcap.specs.declared.capture.Capture.{Capture}
+use Rattle.ftc_mbox.specs.Chain.{Chain}
+use Rattle.ftc_words.specs.Given.{texts_of}
+use Rattle.ftc_words.specs.Command.{Command, run, check, command_of}
+use Rattle.ftc.specs.declared.status.Status.{Status}
+use Rattle.ftc.specs.declared.status.Status.TheVariants as status
+use Rattle.ftc.specs.Answers.{IsRunAnswer, IsCheckAnswer}
+use Rattle.ftc.specs.Texts.{AreTexts}
+use Rattle.ftc.specs.Checking.{Judges, IsRightRun, AreReadable}
+use Rattle.ftc.specs.Done.{Ends, IsDone}
+
+-- the command that was asked for
+abbrev pub asked : List (Bor (List ℕ)) → Option Command
+asked words = command_of (texts_of words)
+
+-- what it may answer at all, over any desk
+abbrev pub IsAnswer : Option Command → Status → Type 0
+IsAnswer (Some (run names mode)) ending = IsRunAnswer ending
+IsAnswer (Some (check names)) ending = IsCheckAnswer ending
+IsAnswer other ending = Unit {0}
+
+-- what the files are at its end, from what they were; only `run` changes any
+abbrev pub HasEnded : Type 0 → Option Command → Files → Files → Status → Type 0
+HasEnded sound (Some (run names mode)) old new ending = Ends sound names old new ending
+HasEnded sound (Some (check names)) old new ending = Judges sound names old ending × SameFiles old new
+HasEnded sound other old new ending = SameFiles old new
+
+-- a run whose texts are right
+abbrev pub HasTexts : Option Command → Files → Type 0
+HasTexts (Some (run names mode)) files = (chain : Chain) × (capture : Capture) × AreTexts names files chain capture
+HasTexts other files = ⊥
+
+-- a check whose files can all be read
+abbrev pub HasFiles : Option Command → Files → Type 0
+HasFiles (Some (check names)) files = AreReadable names files
+HasFiles other files = ⊥
+
+-- a check whose files are those of one run
+abbrev pub HasRightRun : Option Command → Files → Type 0
+HasRightRun (Some (check names)) files = IsRightRun names files
+HasRightRun other files = ⊥
+
+-- a check whose files were left by a run of the same names that was done
+abbrev pub WasLeft : Option Command → Files → Type 0
+WasLeft (Some (check names)) files = (earlier : Files) × IsDone names earlier files
+WasLeft other files = ⊥

@@ -1,0 +1,3 @@
+pub mod Takes
+pub mod Formed
+pub mod Six

@@ -1,0 +1,76 @@
+-- The words behind a command's own: options with their values, and others.
+use Rattle.std.specs.Prelude.{ℕ, Bool, true, false, not, ◌&&◌, ◌++◌, ◌==◌, List, [], ◌∷◌, length, map, nat_lt, Option, Some, None, is_some, option_and_then, codes, if◌then◌else◌}
+use Rattle.std.specs.Str.{bytes_eq}
+use Rattle.std.specs.Borrow.{Bor}
+
+abbrev pub texts_of : List (Bor (List ℕ)) → List (List ℕ)
+texts_of words = map (λ w. w.now) words
+
+-- not empty, and without a hyphen in front
+abbrev pub is_name : List ℕ → Bool
+is_name [] = false
+is_name (b ∷ bs) = not (b == 45)
+
+-- what the next word is: an option or another word, or a value of an option
+pub data Awaited : Type 0 where
+  any : Awaited
+  workers : Awaited
+  schedule : Awaited
+  server : Awaited
+  file : List ℕ → Awaited
+
+-- what was given so far
+pub record Given : Type 0 where
+  pub awaited : Awaited
+  pub workers : Option (List ℕ)
+  pub schedule : Option (List ℕ)
+  pub moved : Option (List ℕ × List ℕ)
+  pub plain : List (List ℕ)
+
+abbrev pub nothing_given : Given
+nothing_given = record { awaited = any; workers = None; schedule = None; moved = None; plain = [] }
+
+-- no command has more than six words besides its own and its options
+abbrev pub most_plain : ℕ
+most_plain = 6
+
+-- an option, which comes at most once
+abbrev pub option_taken : Bool → Awaited → Given → Option Given
+option_taken before awaited given = if before then None else Some (record given { awaited = awaited })
+
+-- a word where none is awaited as a value
+abbrev pub word_taken : Given → List ℕ → Option Given
+word_taken given w =
+    if bytes_eq w (codes "--workers") then option_taken (is_some given.workers) workers given
+    else (if bytes_eq w (codes "--alone") then option_taken (is_some given.schedule) schedule given
+    else (if bytes_eq w (codes "--move") then option_taken (is_some given.moved) server given
+    else (if is_name w && nat_lt (length given.plain) most_plain then Some (record given { plain = given.plain ++ w ∷ [] }) else None)))
+
+-- a value of an option
+abbrev pub value_taken : Awaited → Given → List ℕ → Given
+value_taken any given w = given
+value_taken workers given w = record given { awaited = any; workers = Some w }
+value_taken schedule given w = record given { awaited = any; schedule = Some w }
+value_taken server given w = record given { awaited = file w }
+value_taken (file number) given w = record given { awaited = any; moved = Some (number, w) }
+
+abbrev pub is_any : Awaited → Bool
+is_any any = true
+is_any other = false
+
+abbrev pub taken : Given → List ℕ → Option Given
+taken given w =
+    if is_any given.awaited then word_taken given w
+    else (if is_name w then Some (value_taken given.awaited given w) else None)
+
+-- what is given then, where a word was taken
+abbrev pub if_taken : Bool → Given → Option Given
+if_taken was given = if was then Some given else None
+
+-- one word after another; in the end no value is awaited
+abbrev pub given_from : Given → List (List ℕ) → Option Given
+given_from given [] = if is_any given.awaited then Some given else None
+given_from given (w ∷ ws) = option_and_then (λ next. given_from next ws) (taken given w)
+
+abbrev pub given_in : List (List ℕ) → Option Given
+given_in words = given_from nothing_given words

@@ -1,0 +1,4 @@
+pub mod Given
+pub mod Command
+pub mod Shown
+pub mod Form

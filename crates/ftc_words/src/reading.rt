@@ -1,0 +1,44 @@
+//! From words to a command.
+
+ghost use Rattle.std.specs.Prelude.{◌≡◌, ◌≢◌, true, None, IfSome, IfOk, IfErr, option_map};
+ghost use Rattle.ftc_words.specs.Given.{texts_of};
+ghost use Rattle.ftc_words.specs.Shown.{shown};
+ghost use Rattle.ftc_words.specs.Command.{command_of, is_built, are_distinct, files_of};
+
+use crate::command::Command;
+use crate::forms::spelled;
+use crate::matches::{matches_of, without_move};
+use ftc_base::NoMemory;
+use std::alloc::Global;
+
+/// The command that the words are, among those that the program has.
+pub fn command_of<'a>(words: &[&'a str]) -> Option<Command<'a>>
+    ensures command { option_map shown result ≡ command_of (texts_of words.now) }
+    ensures built { IfSome result (λ command. is_built (shown command) ≡ true) }
+    ensures distinct { IfSome result (λ command. are_distinct (files_of (shown command)) ≡ true) }
+{
+    let command = spelled(words)?;
+    if command.is_built() {
+        Some(command)
+    } else {
+        None
+    }
+}
+
+/// The same, after clap has read the words as well, but for `--move` and its values. It refuses a command's words
+/// for want of memory alone.
+pub fn read_command<'a>(alloc: Global, words: &[&'a str]) -> Result<Option<Command<'a>>, NoMemory>
+    ensures command { IfOk result (λ command. option_map shown command ≡ command_of (texts_of words.now)) }
+    ensures built { IfOk result (λ command. IfSome command (λ c. is_built (shown c) ≡ true)) }
+    ensures distinct { IfOk result (λ command. IfSome command (λ c. are_distinct (files_of (shown c)) ≡ true)) }
+    ensures memory { IfErr result (λ _. command_of (texts_of words.now) ≢ None) }
+{
+    let Some(command) = command_of(words) else {
+        return Ok(None);
+    };
+    let handed = without_move(alloc, words)?;
+    match matches_of(alloc, &handed) {
+        Ok(_) => Ok(Some(command)),
+        Err(_) => Err(NoMemory),
+    }
+}
