@@ -8,3 +8,4 @@ pub mod Ask
 pub mod Refused
 pub mod Reading
 pub mod Touched
+pub mod Keys

@@ -1,34 +1,35 @@
 -- What a queue knows of the message of a frame.
-use Rattle.std.proofs.Common.{◌≡◌, ℕ, List, [], ◌∷◌, length, get_or, map, Result, Ok, Err, refl, sym, ap, subst, ◌∙◌}
-use Rattle.std.specs.List.{AllByRecursion}
+use Rattle.std.proofs.Common.{◌≡◌, length, Result, Ok, sym, ap, subst, ◌∙◌}
 use Rattle.ftc_message.specs.declared.fault.FrameFault.{FrameFault}
 use Rattle.ftc_message.specs.declared.message.Message.{Message}
+use Rattle.ftc_message.specs.Spelling.{spelling}
 use Rattle.ftc_message.specs.Reading.{message_of}
 use Rattle.ftc_message.proofs.MessageLaws.{is_read}
 use Rattle.ftc_link.specs.declared.queued.Queued.{Queued}
-use Rattle.ftc_link.specs.Queue.{IsFrameOf, IsQueuedAs, IsQueuedRead, IsQueued, Queue}
-use Rattle.ftc_link.specs.Taking.{IsOldest}
+use Rattle.ftc_link.specs.Queue.{message_read, message_in, IsSound, IsQueued}
 
-read_is : (frame : List ℕ) (message : Message) → IsFrameOf frame message → message_of frame ≡ Ok message
-read_is frame message of = ap message_of of.spelled ∙ is_read message of.typed of.right
+abbrev read_as : Message → Result Message FrameFault
+read_as message = Ok message
 
-pub queued_as : (queued : Queued) (message : Message) → IsFrameOf queued.frame message → IsQueued queued → IsQueuedAs queued message
-queued_as queued message of is = subst (IsQueuedRead queued) (read_is queued.frame message of) is
+-- the frame of a sound message is read as that message
+pub message_in-frame : (queued : Queued) (message : Message) → queued.frame ≡ spelling message → IsSound message
+    → message_in queued ≡ message
+unfolding message_in
+message_in-frame queued message spelled sound =
+    ap message_read (ap message_of spelled ∙ is_read message sound.typed sound.right)
 
-pub is_queued : (queued : Queued) (message : Message) → IsQueuedAs queued message → IsQueued queued
-is_queued queued message as_it = subst (IsQueuedRead queued) (sym (read_is queued.frame message as_it.frame)) as_it
+pub is_queued : (queued : Queued) (message : Message) → queued.frame ≡ spelling message → IsSound message
+    → queued.origin ≡ message.origin → queued.logs ≡ length message.logs → IsQueued queued
+is_queued queued message spelled sound origin logs =
+    let same : message_in queued ≡ message = message_in-frame queued message spelled sound in
+    record {
+      read = ap message_of spelled ∙ is_read message sound.typed sound.right ∙ ap read_as (sym same);
+      sound = subst IsSound (sym same) sound;
+      origin = origin ∙ ap (λ (m : Message). m.origin) (sym same);
+      logs = logs ∙ ap (λ (m : Message). length m.logs) (sym same);
+    }
 
-frame_moved : (a b : List ℕ) (message : Message) → a ≡ b → IsFrameOf b message → IsFrameOf a message
-frame_moved a b message same of = record { spelled = same ∙ of.spelled; typed = of.typed; right = of.right }
-
-abbrev first_of : List (List ℕ) → List ℕ
-first_of [] = []
-first_of (frame ∷ frames) = frame
-
-pub oldest_is : (items : List Queued) (queued : Queued) (message : Message) (link : Queue) → link.frames ≡ map (λ q. q.frame) items → AllByRecursion IsQueued items → queued ≡ get_or items 0 queued → IsOldest message link → IsQueuedAs queued message
-oldest_is [] queued message link frames each first oldest =
-    let clash : oldest.frame ∷ oldest.rest ≡ [] = sym oldest.first ∙ frames in
-    absurd cc
-oldest_is (x ∷ items) queued message link frames each first oldest =
-    let same : x.frame ≡ oldest.frame = ap first_of (sym frames ∙ oldest.first) in
-    subst (λ (q : Queued). IsQueuedAs q message) (sym first) (queued_as x message (frame_moved x.frame oldest.frame message same oldest.of) each.0)
+-- what is read from a frame is its message
+pub read_message : (queued : Queued) (message : Message) → message_of queued.frame ≡ Ok message → message ≡ message_in queued
+unfolding message_in
+read_message queued message told = sym (ap message_read told)

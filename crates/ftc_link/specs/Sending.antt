@@ -1,7 +1,6 @@
 -- What sending does.
-use Rattle.std.specs.Prelude.{ℕ, Bool, true, false, List, [], ◌∷◌, ◌++◌, Option, Some, None}
+use Rattle.std.specs.Prelude.{ℕ, Bool, true, false, [], ◌∷◌, ◌++◌, Option, Some, None}
 use Rattle.ftc_message.specs.declared.message.Message.{Message}
-use Rattle.ftc_message.specs.Spelling.{spelling}
 use Rattle.ftc_link.specs.declared.link.Sent.{Sent}
 use Rattle.ftc_link.specs.declared.link.Sent.TheVariants as sent
 use Rattle.ftc_link.specs.Queue.{Queue}
@@ -14,6 +13,6 @@ answer_of None false = sent.Down
 
 -- a message that is sent is queued at the end, and every other leaves a gap
 abbrev pub after_answer : Sent → Message → Queue → Queue
-after_answer sent.Sent message link = record link { frames = link.frames ++ spelling message ∷ [] }
+after_answer sent.Sent message link = record link { messages = link.messages ++ message ∷ [] }
 after_answer (sent.Lost line) message link = record link { gap = true }
 after_answer sent.Down message link = record link { gap = true }

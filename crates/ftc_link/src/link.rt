@@ -1,10 +1,11 @@
 //! The link from one server to the next on the ring.
 
-ghost use Rattle.std.specs.Prelude.{◌≡◌, ◌∷◌, [], ℕ, false, List, length, Some, IsOk, IfOk, IfNone, IfSome, OnOk, OnErr, IsNone, ◌↔◌, IsTrue};
-ghost use Rattle.ftc_message.specs.declared.message.Message.{Message};
+ghost use Rattle.std.specs.Prelude.{◌≡◌, [], ℕ, false, length, Some, IsOk, IfOk, OnErr};
+ghost use Rattle.std.specs.Option.{option_map};
 ghost use Rattle.ftc_message.specs.WellFormed.{IsWellFormed};
 ghost use Rattle.ftc_link.specs.declared.link.Sent.TheVariants as sent;
-ghost use Rattle.ftc_link.specs.Taking.{IsTaken, IsOldest};
+ghost use Rattle.ftc_link.specs.Queue.{IsSound, oldest_of};
+ghost use Rattle.ftc_link.specs.Taking.{IsTaken};
 ghost use Rattle.ftc_link.specs.Sending.{answer_of, after_answer};
 
 use crate::queued::Queued;
@@ -25,8 +26,8 @@ pub enum Sent {
     Down,
 }
 
-/// The messages on their way from a server to the next one. A contract sees the sender, the frames of
-/// the queued messages, the oldest first, and whether there is a gap: whether a message may have been
+/// The messages on their way from a server to the next one, each as its frame. A contract sees the
+/// sender, the messages, the oldest first, and whether there is a gap: whether a message may have been
 /// lost since the receiver last pulled.
 #[derive(Drop)]
 pub struct Link {
@@ -38,11 +39,11 @@ pub struct Link {
 impl Model for Link {
     ghost use Rattle.std.specs.Prelude.{map};
     ghost use Rattle.std.specs.List.{AllByRecursion};
-    ghost use Rattle.ftc_link.specs.Queue.{Queue, IsQueued};
+    ghost use Rattle.ftc_link.specs.Queue.{Queue, IsQueued, message_in};
 
     ghost Value = { Queue };
 
-    ghost view = { λ link. record { from = link.from; frames = map (λ queued. queued.frame) link.queue.items; gap = link.gap } };
+    ghost view = { λ link. record { from = link.from; messages = map message_in link.queue.items; gap = link.gap } };
 
     ghost invariant = { λ link. AllByRecursion IsQueued link.queue.items };
 }
@@ -50,7 +51,7 @@ impl Model for Link {
 impl Link {
     /// The link from a server. Nothing is queued, and there is no gap.
     pub fn new(alloc: Global, from: ServerId) -> Link
-        ensures { result ≡ record { from = from; frames = []; gap = false } }
+        ensures { result ≡ record { from = from; messages = []; gap = false } }
     {
         Link {
             from,
@@ -78,6 +79,7 @@ impl Link {
         requires { IsWellFormed message.now }
         ensures answer { IfOk result (λ sent. sent ≡ answer_of lost up) }
         ensures after { IfOk result (λ sent. self.new ≡ after_answer sent message.now self.old) }
+        ensures sound { result ≡ Ok sent.Sent → IsSound message.now }
         ensures refused { OnErr result (self.new ≡ self.old) }
         // Memory is wanted only to queue the message.
         ensures lost { (line : ℕ) → lost ≡ Some line → IsOk result }
@@ -96,18 +98,16 @@ impl Link {
         Ok(Sent::Sent)
     }
 
-    /// The origin of the oldest message. None exactly where nothing is queued.
+    /// The origin of the oldest message.
     pub fn oldest(&self) -> Option<PacketNo>
-        ensures none { IsNone result ↔ (self.now.frames ≡ []) }
-        ensures origin { IfSome result (λ origin. (message : Message) → IsOldest message self.now → origin ≡ message.origin) }
+        ensures { result ≡ option_map (λ message. message.origin) (oldest_of self.now.messages) }
     {
         Some(self.queue.front()?.origin)
     }
 
-    /// How many logs the oldest message has. None exactly where nothing is queued.
+    /// How many logs the oldest message has.
     pub fn logs(&self) -> Option<usize>
-        ensures none { IsNone result ↔ (self.now.frames ≡ []) }
-        ensures count { IfSome result (λ count. (message : Message) → IsOldest message self.now → count ≡ length message.logs) }
+        ensures { result ≡ option_map (λ message. length message.logs) (oldest_of self.now.messages) }
     {
         Some(self.queue.front()?.logs)
     }
@@ -116,7 +116,7 @@ impl Link {
     pub fn take(&mut self, alloc: Global) -> Result<Option<Message>, NoMemory>
         ensures taken { IfOk result (IsTaken self.old self.new) }
         ensures refused { OnErr result (self.new ≡ self.old) }
-        ensures empty { self.old.frames ≡ [] → IsOk result }
+        ensures empty { self.old.messages ≡ [] → IsOk result }
     {
         let Some(oldest) = self.queue.front() else {
             return Ok(None);
@@ -128,7 +128,7 @@ impl Link {
 
     /// Drops all that is queued.
     pub fn clear(&mut self)
-        ensures { self.new ≡ record self.old { frames = [] } }
+        ensures { self.new ≡ record self.old { messages = [] } }
     {
         self.queue.clear();
     }

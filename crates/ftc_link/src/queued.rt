@@ -2,7 +2,7 @@
 
 ghost use Rattle.std.specs.Prelude.{◌≡◌, IfOk};
 ghost use Rattle.ftc_message.specs.WellFormed.{IsWellFormed};
-ghost use Rattle.ftc_link.specs.Queue.{IsFrameOf, IsQueued};
+ghost use Rattle.ftc_link.specs.Queue.{message_in, IsSound, IsQueued};
 
 use ftc_base::{Bytes, NoMemory, PacketNo, Refuse};
 use ftc_message::{Message, decode, encode};
@@ -20,7 +20,7 @@ impl Queued {
     /// The message's frame.
     pub fn make(alloc: Global, message: &Message) -> Result<Queued, NoMemory>
         requires { IsWellFormed message.now }
-        ensures frame { IfOk result (λ queued. IsFrameOf queued.frame message.now) }
+        ensures message { IfOk result (λ queued. message_in queued ≡ message.now) }
         ensures queued { IfOk result IsQueued }
     {
         Ok(Queued {
@@ -33,7 +33,8 @@ impl Queued {
     /// The message.
     pub fn read(&self, alloc: Global) -> Result<Message, NoMemory>
         requires { IsQueued self.now }
-        ensures { IfOk result (IsFrameOf self.now.frame) }
+        ensures message { IfOk result (λ message. message ≡ message_in self.now) }
+        ensures sound { IfOk result IsSound }
     {
         match decode(alloc, self.frame.as_slice()) {
             Ok(message) => Ok(message),

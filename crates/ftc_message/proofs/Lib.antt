@@ -12,3 +12,4 @@ pub mod NeedLaws
 pub mod CommitLaws
 pub mod MessageLaws
 pub mod Members
+pub mod InOrder

@@ -6,3 +6,4 @@ pub mod WellFormed
 pub mod Fields
 pub mod Reading
 pub mod Front
+pub mod Ordered

@@ -1,13 +1,14 @@
 //! What holds of messages and their frames.
 
-ghost use Rattle.std.specs.Prelude.{◌≡◌, ◌≤◌, ◌<◌, ◌^◌, ◌++◌, ℕ, true, List, [], length, Option, Ok, Err, slice_index};
+ghost use Rattle.std.specs.Prelude.{◌≡◌, ◌≤◌, ◌<◌, ◌+◌, ◌^◌, ◌++◌, ℕ, Bool, true, List, [], length, filter, count_by, Option, Ok, Err, slice_index};
 ghost use Rattle.std.specs.List.{AllByRecursion};
 ghost use Rattle.ftc_message.specs.Logged.{Logged, log_follows};
 ghost use Rattle.ftc_message.specs.Numbers.{number_bytes, number_of};
-ghost use Rattle.ftc_message.specs.Bounds.{IsLog, AreNeeds, AreCommits, MarksSome};
+ghost use Rattle.ftc_message.specs.Bounds.{IsLog, AreLogs, IsNeed, AreNeeds, AreCommits, MarksSome};
 ghost use Rattle.ftc_message.specs.WellFormed.{IsTyped, IsWellFormed};
 ghost use Rattle.ftc_message.specs.Spelling.{spelling, log_bytes, needs_bytes, commits_bytes};
 ghost use Rattle.ftc_message.specs.Reading.{log_at, needs_at, commits_at, message_of};
+ghost use Rattle.ftc_message.specs.Ordered.{with_item, with_items, is_earlier, HasNone, AreApart, is_lower, HasNoNeed, AreOfOthers};
 
 use crate::fault::FrameFault;
 use crate::message::Message;
@@ -44,4 +45,27 @@ pub fn read_again()
         needs_at most 0 (needs_bytes needs ++ rest) ≡ Ok (needs, rest) }
     ensures commits { (commits : List (List ℕ)) (rest : List ℕ) → AreCommits commits →
         commits_at (commits_bytes commits ++ rest) ≡ Ok (commits, rest) }
+{}
+
+/// Logs rise where one or many are put at their places and where any are left out, and of each kind
+/// there are afterwards as many as there were in both lists.
+pub fn logs_in_order()
+    ensures one { (log : Logged) (logs : List Logged) → IsLog log → AreLogs logs → HasNone log logs →
+        AreLogs (with_item is_earlier log logs) }
+    ensures many { (logs others : List Logged) → AreLogs logs → AreLogs others → AreApart logs others →
+        AreLogs (with_items is_earlier logs others) }
+    ensures fewer { (test : Logged → Bool) (logs : List Logged) → AreLogs logs → AreLogs (filter test logs) }
+    ensures count { (test : Logged → Bool) (logs others : List Logged) →
+        count_by test (with_items is_earlier logs others) ≡ count_by test logs + count_by test others }
+{}
+
+/// The same of needs.
+pub fn needs_in_order()
+    ensures one { (need : Need) (needs : List Need) → IsNeed need → AreNeeds needs → HasNoNeed need needs →
+        AreNeeds (with_item is_lower need needs) }
+    ensures many { (needs others : List Need) → AreNeeds needs → AreNeeds others → AreOfOthers needs others →
+        AreNeeds (with_items is_lower needs others) }
+    ensures fewer { (test : Need → Bool) (needs : List Need) → AreNeeds needs → AreNeeds (filter test needs) }
+    ensures count { (test : Need → Bool) (needs others : List Need) →
+        count_by test (with_items is_lower needs others) ≡ count_by test needs + count_by test others }
 {}

@@ -1,11 +1,14 @@
 //! Lists of logs.
 
-ghost use Rattle.std.specs.Prelude.{◌≡◌, ◌<◌, ◌++◌, ◌==◌, [], ◌∷◌, true, length, Some, None, slice_get, OnOk, OnErr};
+ghost use Rattle.std.specs.Prelude.{◌≡◌, ◌<◌, ◌≤◌, ◌+◌, ◌++◌, ◌==◌, [], ◌∷◌, true, length, vec_len, vec_capacity, Some, None, slice_get, IfOk, OnOk, OnErr};
+ghost use Rattle.std.specs.List.{AllByRecursion, find, prefix_len};
+ghost use Rattle.std.specs.Option.{option_copied};
 ghost use Rattle.ftc_message.specs.Logged.{logs_rise};
-ghost use Rattle.ftc_message.specs.Bounds.{AreLogs};
+ghost use Rattle.ftc_message.specs.Bounds.{IsLog, AreLogs};
+ghost use Rattle.ftc_message.specs.Ordered.{with_item, with_items, is_earlier, is_log_of, HasNone, AreApart, logs_without};
 
 use crate::log::Log;
-use ftc_base::{Items, NoMemory};
+use ftc_base::{Items, NoMemory, PacketNo, ServerId, ServerSet};
 use std::alloc::Global;
 use std::marker::Model;
 
@@ -28,6 +31,59 @@ impl Model for Logs {
     ghost view = { λ logs. logs.list.items };
 
     ghost invariant = { λ logs. AreLogs logs.list.items };
+}
+
+/// Whether the first log stands before the second.
+fn is_earlier(log: &Log, other: &Log) -> bool
+    ensures { result ≡ is_earlier log.now other.now }
+{
+    log.origin() < other.origin()
+        || (log.origin() == other.origin() && log.group().number() < other.group().number())
+}
+
+/// How many of the logs stand before this one, up to the first that doesn't.
+fn place_of(logs: &[Log], log: &Log) -> usize
+    ensures place { result ≡ prefix_len (λ other. is_earlier other log.now) logs.now }
+    ensures within { result ≤ length logs.now }
+{
+    for (place, other) in logs.iter().enumerate() {
+        if !is_earlier(other, log) {
+            return place;
+        }
+    }
+    logs.len()
+}
+
+/// Puts a log at its place. There is room for it.
+fn put(list: &mut Vec<Log>, log: Log)
+    requires { vec_len list.old < vec_capacity list.old }
+    ensures items { list.new.items ≡ with_item is_earlier log list.old.items }
+    ensures len { vec_len list.new ≡ vec_len list.old + 1 }
+    ensures capacity { vec_capacity list.old ≤ vec_capacity list.new }
+{
+    let place = place_of(list.as_slice(), &log);
+    let put: Result<_, _> = list.insert(place, log);
+    put.unwrap();
+}
+
+/// Puts each log at its place. There is room for them.
+fn put_all(list: &mut Vec<Log>, logs: Vec<Log>)
+    requires { vec_len list.old + vec_len logs ≤ vec_capacity list.old }
+    ensures { list.new.items ≡ with_items is_earlier logs.items list.old.items }
+{
+    let mut rest = logs;
+    while let Some(log) = rest.pop() {
+        put(list, log);
+    }
+}
+
+/// Every log holds what its type does.
+fn are_logs(logs: &[Log])
+    ensures { AllByRecursion IsLog logs.now }
+{
+    for log in logs {
+        let _ = log.group();
+    }
 }
 
 impl Logs {
@@ -79,5 +135,73 @@ impl Logs {
         let _ = log.group();
         self.list.push(log)?;
         Ok(())
+    }
+
+    /// Puts a log at its place among the others, of which none is of its packet and group.
+    pub fn insert(&mut self, log: Log) -> Result<(), NoMemory>
+        requires { HasNone log self.old }
+        ensures ok { OnOk result (self.new ≡ with_item is_earlier log self.old) }
+        ensures err { OnErr result (self.new ≡ self.old) }
+    {
+        let _ = log.group();
+        self.list.reserve(1)?;
+        put(&mut self.list, log);
+        Ok(())
+    }
+
+    /// Puts the other logs among these, each at its place. No log is in both lists.
+    pub fn merge(&mut self, other: Logs) -> Result<(), NoMemory>
+        requires { AreApart other self.old }
+        ensures ok { OnOk result (self.new ≡ with_items is_earlier other self.old) }
+        ensures err { OnErr result (self.new ≡ self.old) }
+    {
+        let others = other.into_vec();
+        self.list.reserve(others.len())?;
+        put_all(&mut self.list, others);
+        Ok(())
+    }
+
+    /// Drops the logs of these groups.
+    pub fn drop_groups(&mut self, groups: ServerSet)
+        ensures { self.new ≡ logs_without groups self.old }
+    {
+        self.list.retain(|log| !groups.has(log.group().number()));
+    }
+
+    /// The log of that packet and group.
+    pub fn find(&self, origin: PacketNo, group: ServerId) -> Option<&Log>
+        ensures { option_copied result ≡ find (is_log_of origin group) self.now }
+    {
+        self.list
+            .iter()
+            .find(|log| log.origin() == origin && log.group() == group)
+    }
+
+    /// The same logs once more.
+    pub fn copy(&self, alloc: Global) -> Result<Logs, NoMemory>
+        ensures { IfOk result (λ copy. copy ≡ self.now) }
+    {
+        let mut list = Vec::new(alloc);
+        for log in self.list.as_slice() {
+            list.push(log.copy())?;
+        }
+        Ok(Logs { list })
+    }
+
+    /// The logs of a vector, which are not copied.
+    pub fn from_vec(list: Vec<Log>) -> Logs
+        requires { logs_rise None list.items ≡ true }
+        ensures { result ≡ list.items }
+    {
+        are_logs(list.as_slice());
+        Logs { list }
+    }
+
+    /// The logs as a vector. They are not copied.
+    pub fn into_vec(self) -> Vec<Log>
+        ensures items { result.items ≡ self }
+        ensures bounds { AreLogs self }
+    {
+        self.list
     }
 }

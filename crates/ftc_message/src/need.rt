@@ -1,10 +1,13 @@
 //! What has to be known of a tail before a packet may be released.
 
-ghost use Rattle.std.specs.Prelude.{◌≡◌, ◌<◌, ◌++◌, ◌==◌, [], ◌∷◌, true, length, Some, None, slice_get, OnOk, OnErr};
+ghost use Rattle.std.specs.Prelude.{◌≡◌, ◌<◌, ◌≤◌, ◌+◌, ◌++◌, ◌==◌, [], ◌∷◌, true, length, vec_len, vec_capacity, Some, None, slice_get, IfOk, OnOk, OnErr};
+ghost use Rattle.std.specs.List.{AllByRecursion, find, prefix_len};
+ghost use Rattle.std.specs.Option.{option_copied};
 ghost use Rattle.ftc_message.specs.Logged.{needs_rise};
-ghost use Rattle.ftc_message.specs.Bounds.{AreNeeds};
+ghost use Rattle.ftc_message.specs.Bounds.{IsNeed, AreNeeds};
+ghost use Rattle.ftc_message.specs.Ordered.{with_item, with_items, is_lower, is_need_of, HasNoNeed, AreOfOthers, needs_without};
 
-use ftc_base::{NoMemory, ServerId};
+use ftc_base::{NoMemory, ServerId, ServerSet};
 use ftc_vector::Marks;
 use std::alloc::Global;
 use std::marker::Model;
@@ -32,6 +35,52 @@ impl Model for Needs {
     ghost view = { λ needs. needs.list.items };
 
     ghost invariant = { λ needs. AreNeeds needs.list.items };
+}
+
+/// How many of the needs stand before this one, up to the first that doesn't.
+fn place_of(needs: &[Need], need: &Need) -> usize
+    ensures place { result ≡ prefix_len (λ other. is_lower other need.now) needs.now }
+    ensures within { result ≤ length needs.now }
+{
+    for (place, other) in needs.iter().enumerate() {
+        if other.group.number() >= need.group.number() {
+            return place;
+        }
+    }
+    needs.len()
+}
+
+/// Puts a need at its place. There is room for it.
+fn put(list: &mut Vec<Need>, need: Need)
+    requires { vec_len list.old < vec_capacity list.old }
+    ensures items { list.new.items ≡ with_item is_lower need list.old.items }
+    ensures len { vec_len list.new ≡ vec_len list.old + 1 }
+    ensures capacity { vec_capacity list.old ≤ vec_capacity list.new }
+{
+    let place = place_of(list.as_slice(), &need);
+    let put: Result<_, _> = list.insert(place, need);
+    put.unwrap();
+}
+
+/// Puts each need at its place. There is room for them.
+fn put_all(list: &mut Vec<Need>, needs: Vec<Need>)
+    requires { vec_len list.old + vec_len needs ≤ vec_capacity list.old }
+    ensures { list.new.items ≡ with_items is_lower needs.items list.old.items }
+{
+    let mut rest = needs;
+    while let Some(need) = rest.pop() {
+        put(list, need);
+    }
+}
+
+/// Every need holds what its type does.
+fn are_needs(needs: &[Need])
+    ensures { AllByRecursion IsNeed needs.now }
+{
+    for need in needs {
+        // The contracts of these calls tell the bounds of the parts.
+        let _ = (need.group.number(), need.marks.at(0));
+    }
 }
 
 impl Needs {
@@ -84,5 +133,72 @@ impl Needs {
         let _ = (need.group.number(), need.marks.at(0));
         self.list.push(need)?;
         Ok(())
+    }
+
+    /// Puts a need at its place among the others, of which none is of its group.
+    pub fn insert(&mut self, need: Need) -> Result<(), NoMemory>
+        requires { HasNoNeed need self.old }
+        ensures ok { OnOk result (self.new ≡ with_item is_lower need self.old) }
+        ensures err { OnErr result (self.new ≡ self.old) }
+    {
+        // The contracts of these calls tell the bounds of the parts.
+        let _ = (need.group.number(), need.marks.at(0));
+        self.list.reserve(1)?;
+        put(&mut self.list, need);
+        Ok(())
+    }
+
+    /// Puts the other needs among these, each at its place. No group is in both lists.
+    pub fn merge(&mut self, other: Needs) -> Result<(), NoMemory>
+        requires { AreOfOthers other self.old }
+        ensures ok { OnOk result (self.new ≡ with_items is_lower other self.old) }
+        ensures err { OnErr result (self.new ≡ self.old) }
+    {
+        let others = other.into_vec();
+        self.list.reserve(others.len())?;
+        put_all(&mut self.list, others);
+        Ok(())
+    }
+
+    /// Drops the needs of these groups.
+    pub fn drop_groups(&mut self, groups: ServerSet)
+        ensures { self.new ≡ needs_without groups self.old }
+    {
+        self.list.retain(|need| !groups.has(need.group.number()));
+    }
+
+    /// The need of that group.
+    pub fn find(&self, group: ServerId) -> Option<&Need>
+        ensures { option_copied result ≡ find (is_need_of group) self.now }
+    {
+        self.list.iter().find(|need| need.group == group)
+    }
+
+    /// The same needs once more.
+    pub fn copy(&self, alloc: Global) -> Result<Needs, NoMemory>
+        ensures { IfOk result (λ copy. copy ≡ self.now) }
+    {
+        let mut list = Vec::new(alloc);
+        for need in self.list.as_slice() {
+            list.push(*need)?;
+        }
+        Ok(Needs { list })
+    }
+
+    /// The needs of a vector, which are not copied.
+    pub fn from_vec(list: Vec<Need>) -> Needs
+        requires { needs_rise 0 list.items ≡ true }
+        ensures { result ≡ list.items }
+    {
+        are_needs(list.as_slice());
+        Needs { list }
+    }
+
+    /// The needs as a vector. They are not copied.
+    pub fn into_vec(self) -> Vec<Need>
+        ensures items { result.items ≡ self }
+        ensures bounds { AreNeeds self }
+    {
+        self.list
     }
 }

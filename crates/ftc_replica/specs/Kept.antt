@@ -1,23 +1,14 @@
 -- Which kept logs a vector covers.
-use Rattle.std.specs.Prelude.{ℕ, Bool, true, not, nat_le, List, filter, Option, Some, None}
-use Rattle.std.specs.List.{list_all, range_with_len}
-use Rattle.ftc_base.specs.declared.limits.TheConstants.{MOST_PARTITIONS}
-use Rattle.ftc_vector.specs.Vector.{number_at, mark_at, need_of}
+use Rattle.std.specs.Prelude.{ℕ, Bool, not, List, filter}
+use Rattle.ftc_vector.specs.Vector.{need_of}
+pub use Rattle.ftc_vector.specs.Order.{reaches}
+unfoldable pub use Rattle.ftc_vector.specs.Order.{covers}
 use Rattle.ftc_message.specs.Logged.{Logged}
 
 -- the logs in the order of keeping, and how many more there is room for
 pub record KeptLogs : Type 0 where
   pub items : List Logged
   pub spare : ℕ
-
--- the number has reached what is needed, where something is
-abbrev pub reaches : ℕ → Option ℕ → Bool
-reaches number None = true
-reaches number (Some least) = nat_le least number
-
--- the vector has reached the need in each partition that the need marks
-unfoldable pub covers : List ℕ → List (Option ℕ) → Bool
-covers vector need = list_all (λ partition. reaches (number_at vector partition) (mark_at need partition)) (range_with_len 0 MOST_PARTITIONS)
 
 -- the vector covers the log
 abbrev pub covers_log : List ℕ → Logged → Bool

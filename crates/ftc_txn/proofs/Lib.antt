@@ -5,3 +5,4 @@ pub mod ReadSlots
 pub mod Serially
 pub mod Writing
 pub mod StayedHoldings
+pub mod CommitLogs

@@ -41,6 +41,14 @@ wounded_of (Some running) = running.wounded
 abbrev pub wounded_at : List (Option Running) → ℕ → Option ℕ
 wounded_at slots worker = wounded_of (slot_at slots worker)
 
+-- the packet that a slot runs for, where it isn't idle
+abbrev pub packet_of : Option Running → Option ℕ
+packet_of None = None
+packet_of (Some running) = Some running.packet
+
+abbrev pub packet_at : List (Option Running) → ℕ → Option ℕ
+packet_at slots worker = packet_of (slot_at slots worker)
+
 -- how a slot stands
 abbrev pub IsTurn : Option Running → Turn → Type 0
 IsTurn slot Idle = slot ≡ None

@@ -3,7 +3,7 @@
 ghost use Rattle.std.specs.Prelude.{◌≡◌, ◌<◌, ◌≤◌, ℕ, true, Some, None, IsNone, IfSome, ◌↔◌, length};
 ghost use Rattle.ftc_locks.specs.Locks.{HoldsNothing, IsLockTable};
 ghost use Rattle.ftc_vector.specs.Vector.{number_at};
-ghost use Rattle.ftc_txn.specs.Slots.{Running, slot_at, wounded_at};
+ghost use Rattle.ftc_txn.specs.Slots.{Running, slot_at, packet_at, wounded_at};
 ghost use Rattle.ftc_txn.specs.Touched.{is_changed};
 ghost use Rattle.ftc_txn.specs.Head.{ages_left, next_age, RunsUnwounded, AreItsWrites, IsHead};
 ghost use Rattle.ftc_txn.specs.Steps.{begins, Reads, Commits, HasQuit};
@@ -102,6 +102,13 @@ impl Head {
             answers.now.items ≡ running.answers)) }
     {
         self.slots.answers(worker)
+    }
+
+    /// The packet that a slot runs for. None where it is idle.
+    pub fn packet(&self, worker: WorkerId) -> Option<PacketNo>
+        ensures { result ≡ packet_at self.now.slots worker }
+    {
+        self.slots.packet(worker)
     }
 
     /// The worker that the next read or commit of a slot names as the one that wounded it.

@@ -1,12 +1,22 @@
 //! What holds of single calls and of whole lists of calls.
 
-ghost use Rattle.std.specs.Prelude.{◌≡◌, ◌≢◌, ℕ, Bool, true, List, Option};
+ghost use Rattle.std.specs.Prelude.{◌≡◌, ◌≢◌, ◌≤◌, ℕ, Bool, true, List, [], Option};
+ghost use Rattle.ftc_base.specs.declared.ask.Answer.{Answer};
+ghost use Rattle.ftc_base.specs.declared.ask.Write.{Write};
 ghost use Rattle.ftc_base.specs.Partition.{partition_of};
+ghost use Rattle.ftc_vector.specs.Vector.{raised, need_of};
+ghost use Rattle.ftc_vector.specs.Order.{IsReady, IsCovered};
 ghost use Rattle.ftc_locks.specs.Locks.{holds_exclusively, SameHoldings};
+ghost use Rattle.ftc_message.specs.Logged.{Logged};
+ghost use Rattle.ftc_message.specs.Bounds.{MarksSome};
 ghost use Rattle.ftc_txn.specs.Slots.{Running};
+ghost use Rattle.ftc_txn.specs.Touched.{vector_after};
 ghost use Rattle.ftc_txn.specs.Head.{HeadState, RunsUnwounded};
+ghost use Rattle.ftc_txn.specs.Logs.{IsLogOf};
 ghost use Rattle.ftc_txn.specs.Steps.{HasRead};
 ghost use Rattle.ftc_txn.specs.Runs.{Call, caller, Step, Run, IsSerial, visits_of};
+
+use ftc_base::limits::MOST_PARTITIONS;
 
 /// What a slot that isn't wounded runs and holds stays, whatever the other slots call. A read keeps what
 /// its slot holds exclusively, and holds its key's partition so where it may write there.
@@ -29,4 +39,19 @@ pub fn holdings()
 pub fn transactions()
     ensures { (old new : HeadState) (calls : List Call) → Run old calls new →
         IsSerial old.group old.partitions old.content old.vector (visits_of old.slots) calls new.content new.vector }
+{}
+
+/// A commit's log may be applied where the vector was, and raises it as the commit did. From then on the
+/// vector covers it. Where anything was read, it marks a partition.
+pub fn logs()
+    ensures ready { (group partitions : ℕ) (vector : List ℕ) (packet : ℕ) (answers : List Answer) (writes : List Write) (log : Logged) →
+        IsLogOf group partitions vector packet answers writes log → IsReady vector log.before log.changed }
+    ensures raised { (group partitions : ℕ) (vector : List ℕ) (packet : ℕ) (answers : List Answer) (writes : List Write) (log : Logged) →
+        IsLogOf group partitions vector packet answers writes log → vector_after partitions writes vector ≡ raised vector log.changed }
+    ensures covered { (group partitions : ℕ) (vector : List ℕ) (packet : ℕ) (answers : List Answer) (writes : List Write) (log : Logged) →
+        IsLogOf group partitions vector packet answers writes log →
+        IsCovered (vector_after partitions writes vector) (need_of log.before log.changed) }
+    ensures marks { (group partitions : ℕ) (vector : List ℕ) (packet : ℕ) (answers : List Answer) (writes : List Write) (log : Logged) →
+        IsLogOf group partitions vector packet answers writes log → 1 ≤ partitions → partitions ≤ MOST_PARTITIONS →
+        answers ≢ [] → MarksSome log.before }
 {}

@@ -12,7 +12,7 @@ mod turn;
 
 pub use answers::{HeadCommit, ReadAnswer};
 pub use head::Head;
-pub use laws::{holdings, transactions};
+pub use laws::{holdings, logs, transactions};
 
 #[cfg(test)]
 mod tests;

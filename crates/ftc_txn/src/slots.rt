@@ -4,7 +4,7 @@ ghost use Rattle.std.specs.Prelude.{◌≡◌, ◌<◌, ℕ, true, false, Some, 
 ghost use Rattle.std.specs.List.{list_any};
 ghost use Rattle.std.specs.Option.{ForSome};
 ghost use Rattle.ftc_base.specs.Sets.{has};
-ghost use Rattle.ftc_txn.specs.Slots.{slot_at, wounded_at, begun, restarted, answered, wounded_by, IsTurn};
+ghost use Rattle.ftc_txn.specs.Slots.{slot_at, packet_at, wounded_at, begun, restarted, answered, wounded_by, IsTurn};
 
 use crate::transaction::Transaction;
 use crate::turn::Turn;
@@ -161,6 +161,16 @@ impl Slots {
         match &self.running[usize::from(worker.number())] {
             None => None,
             Some(transaction) => Some(transaction.answers()),
+        }
+    }
+
+    /// The packet that a slot runs for.
+    pub(crate) fn packet(&self, worker: WorkerId) -> Option<PacketNo>
+        ensures { result ≡ packet_at self.now worker }
+    {
+        match &self.running[usize::from(worker.number())] {
+            None => None,
+            Some(transaction) => Some(transaction.packet()),
         }
     }
 

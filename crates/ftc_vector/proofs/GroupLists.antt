@@ -1,5 +1,6 @@
 -- Lists that have a vector for each group.
-use Rattle.std.proofs.Common.{◌≡◌, ◌≢◌, ◌<◌, ℕ, List, [], length, get_or, refl, zero-add, get_or-set_other, get_or-set_same}
+use Rattle.std.proofs.Common.{◌≡◌, ◌≢◌, ◌<◌, ℕ, List, [], length, get_or, refl, sym, ◌∙◌, arith, zero-add, get_or-set_other, get_or-set_same}
+use Rattle.std.proofs.lemmas.List.{ext_get_or}
 use Rattle.std.proofs.lemmas.List.FromFn.{get_or-map-range_with_len, fill_by_all}
 use Rattle.ftc_base.specs.declared.limits.TheConstants.{MOST_SERVERS}
 use Rattle.ftc_vector.specs.Vector.{merged}
@@ -19,3 +20,7 @@ vector_of-raised commits group vector within = get_or-set_same commits group _ [
 
 pub vector_of-other : (commits : List (List ℕ)) (group other : ℕ) (vector : List ℕ) → other ≢ group → vector_of (group_raised commits group vector) other ≡ vector_of commits other
 vector_of-other commits group other vector differs = rw get_or-set_other refl
+
+pub same_groups : (a b : List (List ℕ)) → length a ≡ MOST_SERVERS → length b ≡ MOST_SERVERS
+    → ((group : ℕ) → group < MOST_SERVERS → vector_of a group ≡ vector_of b group) → a ≡ b
+same_groups a b size other alike = ext_get_or [] a b (size ∙ sym other) (λ k within. alike k (omega (arith, within, size)))

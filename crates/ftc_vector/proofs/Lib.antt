@@ -2,3 +2,4 @@ pub mod Partitions
 pub mod Bounds
 pub mod Needs
 pub mod GroupLists
+pub mod OrderTests

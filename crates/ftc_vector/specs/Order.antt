@@ -1,5 +1,6 @@
 -- How the numbers of a vector stand to those of a log, of a need and of another vector.
-use Rattle.std.specs.Prelude.{◌≡◌, ◌<◌, ◌≤◌, ℕ, true, false, List, Option, Some}
+use Rattle.std.specs.Prelude.{◌≡◌, ◌<◌, ◌≤◌, ◌==◌, ℕ, Bool, true, false, nat_le, List, Option, Some, None, if◌then◌else◌}
+use Rattle.std.specs.List.{list_all, range_with_len}
 use Rattle.ftc_base.specs.Sets.{has}
 use Rattle.ftc_base.specs.declared.limits.TheConstants.{MOST_PARTITIONS}
 use Rattle.ftc_vector.specs.Vector.{number_at, mark_at}
@@ -17,3 +18,26 @@ pub record IsCovered (vector : List ℕ) (need : List (Option ℕ)) : Type 0 whe
 -- no number of a is greater than that of b
 pub record IsBelow (a b : List ℕ) : Type 0 where
   pub each : (partition : ℕ) → partition < MOST_PARTITIONS → number_at a partition ≤ number_at b partition
+
+-- The same two as tests that compute.
+
+-- a log that carries this number may be applied to a vector with that one
+abbrev pub allows : ℕ → Option ℕ → Bool → Bool
+allows number None changed = true
+allows number (Some carried) changed = if changed then number == carried else nat_le carried number
+
+-- the log may be applied to the vector
+unfoldable pub is_ready : List ℕ → List (Option ℕ) → ℕ → Bool
+is_ready vector before changed =
+    list_all (λ partition. allows (number_at vector partition) (mark_at before partition) (has changed partition))
+    (range_with_len 0 MOST_PARTITIONS)
+
+-- the number has reached what is needed, where something is
+abbrev pub reaches : ℕ → Option ℕ → Bool
+reaches number None = true
+reaches number (Some least) = nat_le least number
+
+-- the vector has reached the need
+unfoldable pub covers : List ℕ → List (Option ℕ) → Bool
+covers vector need =
+    list_all (λ partition. reaches (number_at vector partition) (mark_at need partition)) (range_with_len 0 MOST_PARTITIONS)

@@ -1,9 +1,9 @@
 //! Laws about vectors, needs and merging, which every caller may rest on.
 
-ghost use Rattle.std.specs.Prelude.{◌≡◌, ◌≢◌, ◌<◌, ◌+◌, ℕ, List, Option, Some, None, true, max, length, if◌then◌else◌};
+ghost use Rattle.std.specs.Prelude.{◌≡◌, ◌≢◌, ◌<◌, ◌+◌, ◌↔◌, ℕ, List, Option, Some, None, true, max, length, if◌then◌else◌};
 ghost use Rattle.ftc_base.specs.Sets.{has};
 ghost use Rattle.ftc_vector.specs.Vector.{by_partition, number_at, mark_at, merged, raised, marks_of, need_at, need_of};
-ghost use Rattle.ftc_vector.specs.Order.{IsReady, IsCovered, IsBelow};
+ghost use Rattle.ftc_vector.specs.Order.{IsReady, IsCovered, IsBelow, is_ready, covers};
 ghost use Rattle.ftc_vector.specs.Commits.{vector_of, all_merged, group_raised};
 
 use ftc_base::limits::{MOST_PARTITIONS, MOST_SERVERS};
@@ -52,7 +52,14 @@ pub fn covering()
         IsCovered a need → IsCovered (raised a changed) need }
 {}
 
-/// What stands for each group.
+/// The tests of order say what the relations do.
+pub fn order_tests()
+    ensures ready { (a : List ℕ) (before : List (Option ℕ)) (changed : ℕ) →
+        (is_ready a before changed ≡ true) ↔ IsReady a before changed }
+    ensures covers { (a : List ℕ) (need : List (Option ℕ)) → (covers a need ≡ true) ↔ IsCovered a need }
+{}
+
+/// What stands for each group, and that nothing else is in the commits.
 pub fn groups()
     ensures merged { (a b : List (List ℕ)) (g : ℕ) → g < MOST_SERVERS →
         vector_of (all_merged a b) g ≡ merged (vector_of a g) (vector_of b g) }
@@ -60,4 +67,6 @@ pub fn groups()
         vector_of (group_raised commits g vector) g ≡ merged (vector_of commits g) vector }
     ensures others { (commits : List (List ℕ)) (g other : ℕ) (vector : List ℕ) → other ≢ g →
         vector_of (group_raised commits g vector) other ≡ vector_of commits other }
+    ensures same { (a b : List (List ℕ)) → length a ≡ MOST_SERVERS → length b ≡ MOST_SERVERS →
+        ((g : ℕ) → g < MOST_SERVERS → vector_of a g ≡ vector_of b g) → a ≡ b }
 {}

@@ -11,7 +11,7 @@ mod vector;
 
 pub use advance::bump;
 pub use commits::Commits;
-pub use laws::{applying, covering, groups, merging, numbers};
+pub use laws::{applying, covering, groups, merging, numbers, order_tests};
 pub use marks::{Marks, need_of};
 pub use order::{covers, ready};
 pub use vector::{Vector, merge};
