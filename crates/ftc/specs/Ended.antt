@@ -1,5 +1,5 @@
 -- What is so at the end of a command, for each command.
-use Rattle.std.specs.Prelude.{◌≡◌, List, ℕ, Option, Some, None}
+use Rattle.std.specs.Prelude.{List, ℕ, Option, Some}
 use Rattle.std.specs.Borrow.{Bor}
 use Rattle.ftc_outside.specs.Desk.{Files, SameFiles}
 use Rattle.ftc_pcap.specs.declared.capture.Capture.{Capture}
@@ -7,7 +7,6 @@ use Rattle.ftc_mbox.specs.Chain.{Chain}
 use Rattle.ftc_words.specs.Given.{texts_of}
 use Rattle.ftc_words.specs.Command.{Command, run, check, command_of}
 use Rattle.ftc.specs.declared.status.Status.{Status}
-use Rattle.ftc.specs.declared.status.Status.TheVariants as status
 use Rattle.ftc.specs.Answers.{IsRunAnswer, IsCheckAnswer}
 use Rattle.ftc.specs.Texts.{AreTexts}
 use Rattle.ftc.specs.Checking.{Judges, IsRightRun, AreReadable}

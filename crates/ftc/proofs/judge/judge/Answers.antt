@@ -1,4 +1,4 @@
-use Rattle.std.proofs.Common.{◌≡◌, ◌∙◌, sym, List}
+use Rattle.std.proofs.Common.{◌∙◌, sym}
 use Rattle.ftc_serial.specs.Packets.{bytes_of}
 use Rattle.ftc_machine.proofs.RunInputs.{bytes_count}
 use Rattle.ftc_protocol.specs.Setting.{Setting, IsSetting, setting_of}

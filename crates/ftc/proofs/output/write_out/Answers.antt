@@ -1,8 +1,8 @@
-use Rattle.std.proofs.Common.{◌≡◌, ◌++◌, ◌∙◌, List, ℕ, refl, length, rules, drop, ap}
+use Rattle.std.proofs.Common.{◌++◌, ◌∙◌, List, ℕ, refl, length, rules, drop, ap}
 use Rattle.std.specs.List.{flat_map}
 use Rattle.std.proofs.lemmas.Option.{slice_get_read}
 use Rattle.std.proofs.lemmas.Result.{on_err_weaker}
-use Rattle.ftc_report.specs.Output.{released_record, out_bytes}
+use Rattle.ftc_report.specs.Output.{released_record}
 use Rattle.ftc.proofs.OutLemmas.{may_hold, whole_is, has_front, next_is, on_err}
 use Rattle.ftc.proofs.output.write_out.Goals as goal
 
