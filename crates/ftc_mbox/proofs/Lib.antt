@@ -1,3 +1,4 @@
 pub mod Following
 pub mod Same
 pub mod Visits
+pub mod InTurn

@@ -5,3 +5,4 @@ pub mod Change
 pub mod Monitor
 pub mod Plan
 pub mod Visit
+pub mod InTurn

@@ -11,7 +11,7 @@ mod spec;
 
 pub use asking::ask;
 pub use change::change_packet;
-pub use laws::law_of_visits;
+pub use laws::{law_of_turns, law_of_visits};
 pub use plan::Plan;
 pub use rule::{Rule, Rules, copy_rules};
 pub use spec::ChainSpec;

@@ -1,7 +1,9 @@
 -- Lists in order stay so where items are put at their places and where items are left out.
 use Rattle.std.proofs.Common.{◌≡◌, ◌≤◌, ◌<◌, ℕ, ◌+◌, Bool, true, false, List, [], ◌∷◌, ◌++◌, suc, take, drop, Option, Some, None, refl, sym, ap, ◌∙◌, arith, if◌then◌else◌, cond}
-use Rattle.std.specs.Prelude.{nat_le, nat_lt, ◌==◌, filter, count_by, insert}
-use Rattle.std.specs.List.{AllByRecursion, prefix_len}
+use Rattle.std.specs.Prelude.{nat_le, nat_lt, ◌==◌, filter, count_by, insert, is_some}
+use Rattle.std.specs.Borrow.{Bor}
+use Rattle.std.specs.List.{AllByRecursion, find, prefix_len}
+use Rattle.std.specs.Option.{option_copied}
 use Rattle.std.proofs.lemmas.List.Sums.{sum_by-cons}
 use Rattle.std.proofs.lemmas.Bool.{and_parts, and_from}
 use Rattle.std.proofs.lemmas.Bool.Decides.{nat_tests}
@@ -270,3 +272,16 @@ pub put_next : {A : Type 0} (is_before : A → A → Bool) (item : A) (rest left
 put_next {A} is_before item rest left others now all popped put whole =
     ap (with_items is_before left) put ∙ sym (with_items-push is_before left others item)
     ∙ ap (λ (more : List A). with_items is_before more others) (sym popped) ∙ whole
+
+find_none : {A : Type 0} (test : A → Bool) (items : List A) → find test items ≡ None → AllByRecursion (λ item. test item ≡ false) items
+find_none test [] none = tt
+find_none {A} test (item ∷ items) none =
+    elim (test item) as (λ t. test item ≡ t → cond t (Some item) (find test items) ≡ None → AllByRecursion (λ x. test x ≡ false) (item ∷ items)) [
+      | true ↦ λ is found. absurd cc
+      | false ↦ λ is later. (is, find_none test items later)
+    ] refl none
+
+pub none_found : {A : Type 0} (found : Option (Bor A)) (test : A → Bool) (items : List A) (b : Bool)
+    → option_copied found ≡ find test items → b ≡ is_some found → b ≡ false → AllByRecursion (λ item. test item ≡ false) items
+none_found None test items b same is isnt = find_none test items (sym same)
+none_found (Some item) test items b same is isnt = absurd (let clash = sym isnt ∙ is in cc)

@@ -1,6 +1,6 @@
 //! Lists of logs.
 
-ghost use Rattle.std.specs.Prelude.{◌≡◌, ◌<◌, ◌≤◌, ◌+◌, ◌++◌, ◌==◌, [], ◌∷◌, true, length, vec_len, vec_capacity, Some, None, slice_get, IfOk, OnOk, OnErr};
+ghost use Rattle.std.specs.Prelude.{◌≡◌, ◌<◌, ◌≤◌, ◌+◌, ◌++◌, ◌==◌, [], ◌∷◌, true, false, is_some, length, vec_len, vec_capacity, Some, None, slice_get, IfOk, OnOk, OnErr};
 ghost use Rattle.std.specs.List.{AllByRecursion, find, prefix_len};
 ghost use Rattle.std.specs.Option.{option_copied};
 ghost use Rattle.ftc_message.specs.Logged.{logs_rise};
@@ -175,6 +175,14 @@ impl Logs {
         self.list
             .iter()
             .find(|log| log.origin() == origin && log.group() == group)
+    }
+
+    /// Whether there is a log of that packet and group.
+    pub fn has(&self, origin: PacketNo, group: ServerId) -> bool
+        ensures found { result ≡ is_some (find (is_log_of origin group) self.now) }
+        ensures none { result ≡ false → AllByRecursion (λ log. is_log_of origin group log ≡ false) self.now }
+    {
+        self.find(origin, group).is_some()
     }
 
     /// The same logs once more.

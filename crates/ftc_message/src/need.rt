@@ -1,6 +1,6 @@
 //! What has to be known of a tail before a packet may be released.
 
-ghost use Rattle.std.specs.Prelude.{◌≡◌, ◌<◌, ◌≤◌, ◌+◌, ◌++◌, ◌==◌, [], ◌∷◌, true, length, vec_len, vec_capacity, Some, None, slice_get, IfOk, OnOk, OnErr};
+ghost use Rattle.std.specs.Prelude.{◌≡◌, ◌<◌, ◌≤◌, ◌+◌, ◌++◌, ◌==◌, [], ◌∷◌, true, false, is_some, length, vec_len, vec_capacity, Some, None, slice_get, IfOk, OnOk, OnErr};
 ghost use Rattle.std.specs.List.{AllByRecursion, find, prefix_len};
 ghost use Rattle.std.specs.Option.{option_copied};
 ghost use Rattle.ftc_message.specs.Logged.{needs_rise};
@@ -172,6 +172,14 @@ impl Needs {
         ensures { option_copied result ≡ find (is_need_of group) self.now }
     {
         self.list.iter().find(|need| need.group == group)
+    }
+
+    /// Whether there is a need of that group.
+    pub fn has(&self, group: ServerId) -> bool
+        ensures found { result ≡ is_some (find (is_need_of group) self.now) }
+        ensures none { result ≡ false → AllByRecursion (λ need. is_need_of group need ≡ false) self.now }
+    {
+        self.find(group).is_some()
     }
 
     /// The same needs once more.

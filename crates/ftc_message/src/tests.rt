@@ -4,8 +4,13 @@ ghost use Rattle.ftc_vector.specs.Vector.{mark_at};
 ghost use Rattle.ftc_message.specs.Bounds.{MarksSome};
 ghost use Rattle.ftc_message.specs.WellFormed.{IsWellFormed};
 
-use crate::{FrameCause, Log, Logs, Message, Need, Needs, decode, encode};
-use ftc_base::{Bytes, Key, NoMemory, PartSet, Refuse, ServerId, Value, Write, Writes};
+use crate::{
+    FrameCause, Log, Logs, Message, Need, Needs, append_commits, append_log, append_needs,
+    commits_at, decode, encode, log_at, needs_at,
+};
+use ftc_base::{
+    Bytes, Key, NoMemory, PacketNo, PartSet, Refuse, ServerId, ServerSet, Value, Write, Writes,
+};
 use ftc_vector::{Commits, Marks, Vector};
 use std::alloc::Global;
 use std::process::Abort;
@@ -221,5 +226,61 @@ fn more_than_a_thousand_changed_frames(rt: HostRuntime) -> Result<(), Fail> {
             "{place} bytes"
         );
     }
+    Ok(())
+}
+
+/// A log without writes.
+fn log_of(origin: PacketNo, group: ServerId) -> Log {
+    Log::new(group, origin, Marks::new(), PartSet::new(), Writes::new())
+}
+
+/// Puts a log where there is none of its packet and group.
+fn put(logs: &mut Logs, log: Log) -> Result<(), NoMemory> {
+    if logs.has(log.origin(), log.group()) {
+        return Ok(());
+    }
+    logs.insert(log)
+}
+
+#[test]
+fn logs_are_put_in_order(rt: HostRuntime) -> Result<(), Fail> {
+    let (one, two) = (
+        ServerId::new(1).ok_or("one")?,
+        ServerId::new(2).ok_or("two")?,
+    );
+    let mut logs = Logs::new(rt.alloc());
+    put(&mut logs, log_of(7, one))?;
+    put(&mut logs, log_of(4, two))?;
+    put(&mut logs, log_of(4, one))?;
+    put(&mut logs, log_of(7, one))?;
+    assert_eq!(rt; logs.len(), 3);
+    let first = logs.as_slice().first().ok_or("a first log")?;
+    assert_eq!(rt; (first.origin(), first.group()), (4, one));
+    assert!(rt; logs.find(4, two).is_some() && logs.find(7, two).is_none());
+    let copy = logs.copy(rt.alloc())?;
+    logs.drop_groups(ServerSet::new().with(one.number()));
+    assert_eq!(rt; (logs.len(), copy.len()), (1, 3));
+    assert_eq!(rt; copy.into_vec().len(), 3);
+    Ok(())
+}
+
+#[test]
+fn parts_of_a_frame_both_ways(rt: HostRuntime) -> Result<(), Fail> {
+    let mut out = Bytes::new(rt.alloc());
+    append_log(&log(), &mut out)?;
+    append_needs(&Needs::new(rt.alloc()), &mut out)?;
+    append_commits(&commits(), &mut out)?;
+    let Ok((log, rest)) = log_at(&None, out.as_slice()) else {
+        panic!(rt; "a log");
+    };
+    assert_eq!(rt; log.origin(), 4);
+    let Ok((needs, rest)) = needs_at(rt.alloc(), 16, 0, rest) else {
+        panic!(rt; "needs");
+    };
+    assert!(rt; needs.is_empty());
+    let Ok((read, rest)) = commits_at(rt.alloc(), rest) else {
+        panic!(rt; "commits");
+    };
+    assert!(rt; read == commits() && rest.is_empty());
     Ok(())
 }

@@ -26,6 +26,7 @@ enum End {
 pub fn set_source(bytes: &mut [u8], address: u32, port: u16)
     requires { IsFlow bytes.old }
     ensures same { bytes.new ≡ with_source bytes.old address port }
+    ensures length { length bytes.new ≡ length bytes.old }
     ensures flow { IsFlow bytes.new }
     ensures named { flow_in bytes.new ≡
         record (flow_in bytes.old) { source = address; source_port = port } }
@@ -42,6 +43,7 @@ pub fn set_source(bytes: &mut [u8], address: u32, port: u16)
 pub fn set_destination(bytes: &mut [u8], address: u32, port: u16)
     requires { IsFlow bytes.old }
     ensures same { bytes.new ≡ with_destination bytes.old address port }
+    ensures length { length bytes.new ≡ length bytes.old }
     ensures flow { IsFlow bytes.new }
     ensures named { flow_in bytes.new ≡
         record (flow_in bytes.old) { destination = address; destination_port = port } }
