@@ -10,8 +10,8 @@ use crate::files::{RunFiles, read_files};
 use crate::status::Status;
 use ftc_base::NoMemory;
 use ftc_check::{Checked, check, right_runs};
-use ftc_protocol::accepted;
 use ftc_outside::Desk;
+use ftc_protocol::accepted;
 use ftc_words::Names;
 use std::alloc::Global;
 

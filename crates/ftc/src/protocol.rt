@@ -7,8 +7,8 @@ ghost use Rattle.ftc_serial.specs.Serial.{State};
 ghost use Rattle.ftc.specs.Fate.{fate_at};
 ghost use Rattle.ftc.specs.Plain.{IsWholeRun, state_at_end};
 
-use ftc_protocol::{plain_fates, plain_run, quiet_links};
 use ftc_mbox::ChainSpec;
+use ftc_protocol::{plain_fates, plain_run, quiet_links};
 
 /// Packets that are driven through a chain without replicas make a whole run of the protocol, and the
 /// serial run's end says what becomes of each of them.
