@@ -1,9 +1,9 @@
 -- Words that could be sorted have, without `--move` and its values, the form that clap takes.
-use Rattle.std.proofs.Common.{◌≡◌, ◌≢◌, ◌∙◌, refl, sym, ap, ℕ, Bool, true, false, not, ◌&&◌, ◌==◌, List, [], ◌∷◌, Option, Some, None, codes, subst, if◌then◌else◌, length}
+use Rattle.std.proofs.Common.{◌≡◌, ◌≢◌, refl, sym, ap, ℕ, Bool, true, false, not, ◌&&◌, ◌==◌, List, [], ◌∷◌, Option, Some, None, codes, subst, if◌then◌else◌, length}
 use Rattle.std.specs.Prelude.{option_and_then, nat_lt, ◌++◌, is_some}
 use Rattle.std.specs.Str.{bytes_eq}
 use Rattle.std.proofs.lemmas.Slice.Eq.{bytes_eq-Decides}
-use Rattle.ftc_words.specs.Given.{Awaited, any, workers, schedule, server, file, Given, is_name, taken, given_from, given_in}
+use Rattle.ftc_words.specs.Given.{Awaited, any, workers, schedule, server, file, Given, is_name, given_from, given_in}
 use Rattle.ftc_words.specs.Form.{has_form, is_formed, others_from, handed}
 use Rattle.ftc_words.specs.Command.{command_of}
 

@@ -1,5 +1,5 @@
 -- The commands, the form of the words of each, and the command that words are.
-use Rattle.std.specs.Prelude.{ℕ, Bool, true, false, not, ◌&&◌, ◌||◌, ◌++◌, List, [], ◌∷◌, Option, Some, None, Ok, Err, codes, if◌then◌else◌, is_some, option_and_then, option_map, nat_le, find}
+use Rattle.std.specs.Prelude.{ℕ, Bool, true, false, not, ◌&&◌, ◌||◌, ◌++◌, List, [], ◌∷◌, Option, Some, None, Ok, Err, codes, if◌then◌else◌, option_and_then, option_map, nat_le}
 use Rattle.std.specs.List.{list_any}
 use Rattle.std.specs.Str.{bytes_eq}
 use Rattle.ftc_base.specs.Number.{number_of}

@@ -1,5 +1,5 @@
 -- What the program's own types say of words.
-use Rattle.std.specs.Prelude.{List, ℕ, Option, option_map, map}
+use Rattle.std.specs.Prelude.{List, ℕ, option_map, map}
 use Rattle.ftc_words.specs.Given.{Awaited, Given}
 use Rattle.ftc_words.specs.Given as given
 use Rattle.ftc_words.specs.Command.{Named, Mode, Command}
