@@ -1,9 +1,11 @@
 -- The commands, the form of the words of each, and the command that words are.
-use Rattle.std.specs.Prelude.{ℕ, Bool, true, false, not, ◌&&◌, ◌||◌, ◌++◌, List, [], ◌∷◌, Option, Some, None, Ok, Err, codes, if◌then◌else◌, option_and_then, option_map, nat_le}
+use Rattle.std.specs.Prelude.{ℕ, ◌-◌, Bool, true, false, not, ◌&&◌, ◌||◌, ◌++◌, List, [], ◌∷◌, Option, Some, None, Ok, Err, codes, if◌then◌else◌, option_and_then, option_map, nat_le}
 use Rattle.std.specs.List.{list_any}
 use Rattle.std.specs.Str.{bytes_eq}
 use Rattle.ftc_base.specs.Number.{number_of}
+use Rattle.ftc_base.specs.declared.limits.TheConstants.{MOST_RECORDS, MOST_SERVERS, MOST_THREADS}
 use Rattle.ftc_words.specs.Given.{Given, given_in}
+use Rattle.ftc_words.specs.declared.limits.TheConstants.{MOST_MISSED}
 
 -- the names of the files of a run
 pub record Named : Type 0 where
@@ -57,17 +59,17 @@ read_at (number least most ∷ ps) (w ∷ ws) = option_and_then (λ n. option_ma
 
 -- ---- the options
 
--- a move is planned for servers 0 to 15
+-- a move is planned for a server that a chain may have
 abbrev pub move_of : Option (List ℕ × List ℕ) → Option (Option (ℕ × List ℕ))
 move_of None = Some None
-move_of (Some (k, file)) = option_map (λ server. Some (server, file)) (number_in 0 15 k)
+move_of (Some (k, file)) = option_map (λ server. Some (server, file)) (number_in 0 (MOST_SERVERS - 1) k)
 
--- of `--workers` and `--alone` there is at most one, and `--move` stands beside `--alone` alone; there are 1 to 32 workers
+-- of `--workers` and `--alone` there is at most one, and `--move` stands beside `--alone` alone; there is at least one worker
 abbrev pub mode_from : Option (List ℕ) → Option (List ℕ) → Option (List ℕ × List ℕ) → Option Mode
 mode_from None None None = Some plain
 mode_from None None (Some moved) = None
 mode_from None (Some schedule) moved = option_map (alone schedule) (move_of moved)
-mode_from (Some count) None None = option_map workers (number_in 1 32 count)
+mode_from (Some count) None None = option_map workers (number_in 1 MOST_THREADS count)
 mode_from (Some count) None (Some moved) = None
 mode_from (Some count) (Some schedule) moved = None
 
@@ -131,15 +133,15 @@ check_form = record { word = codes "check"; places = six_names; has_options = fa
 
 -- make N SEED CAPTURE
 abbrev pub make_form : Form
-make_form = record { word = codes "make"; places = number 1 100000 ∷ number 0 4294967295 ∷ name ∷ []; has_options = false; made = make_made }
+make_form = record { word = codes "make"; places = number 1 MOST_RECORDS ∷ number 0 4294967295 ∷ name ∷ []; has_options = false; made = make_made }
 
 -- ports CHAIN CAPTURE JOURNAL K
 abbrev pub ports_form : Form
-ports_form = record { word = codes "ports"; places = name ∷ name ∷ name ∷ number 0 15 ∷ []; has_options = false; made = ports_made }
+ports_form = record { word = codes "ports"; places = name ∷ name ∷ name ∷ number 0 (MOST_SERVERS - 1) ∷ []; has_options = false; made = ports_made }
 
 -- watch LIMIT CHAIN CAPTURE BEATS SCRIPT
 abbrev pub watch_form : Form
-watch_form = record { word = codes "watch"; places = number 1 255 ∷ name ∷ name ∷ name ∷ name ∷ []; has_options = false; made = watch_made }
+watch_form = record { word = codes "watch"; places = number 1 MOST_MISSED ∷ name ∷ name ∷ name ∷ name ∷ []; has_options = false; made = watch_made }
 
 abbrev pub forms : List Form
 forms = run_form ∷ check_form ∷ make_form ∷ ports_form ∷ watch_form ∷ []

@@ -1,6 +1,6 @@
 //! The form of each command's words.
 
-ghost use Rattle.std.specs.Prelude.{◌≡◌, ◌++◌, ◌∷◌, true, Some, None, IfSome, option_map};
+ghost use Rattle.std.specs.Prelude.{◌≡◌, ◌-◌, ◌++◌, ◌∷◌, true, Some, None, IfSome, option_map};
 ghost use Rattle.std.specs.List.{list_any};
 ghost use Rattle.std.specs.Str.{bytes_eq};
 ghost use Rattle.ftc_words.specs.Given.{texts_of};
@@ -8,7 +8,9 @@ ghost use Rattle.ftc_words.specs.Shown.{shown, named_of, move_of as shown_move, 
 ghost use Rattle.ftc_words.specs.Command.{number_in, named, names_of, move_of, mode_of, are_distinct, of_form, run_form, check_form, make_form, ports_form, watch_form, plain, of_word, forms, spelled, six_of, files_of};
 
 use crate::command::{Command, Mode, Move, Names};
+use crate::limits::MOST_MISSED;
 use crate::sorting::{Sorted, sort};
+use ftc_base::limits::{MOST_RECORDS, MOST_SERVERS, MOST_THREADS};
 use ftc_base::number;
 
 /// The number that the word spells, where it lies there.
@@ -23,9 +25,9 @@ fn number_in(word: &str, least: u32, most: u32) -> Option<u32>
 
 /// The number of the server that the word names.
 fn server_in(word: &str) -> Option<u8>
-    ensures { result ≡ number_in 0 15 word.now }
+    ensures { result ≡ number_in 0 (MOST_SERVERS - 1) word.now }
 {
-    let server = number_in(word, 0, 15)?;
+    let server = number_in(word, 0, u32::from(MOST_SERVERS - 1))?;
     Some(server as u8)
 }
 
@@ -51,7 +53,7 @@ fn mode_of<'a>(sorted: &Sorted<'a>) -> Option<Mode<'a>>
             if sorted.schedule.is_some() || sorted.moved.is_some() {
                 return None;
             }
-            let count = number_in(count, 1, 32)?;
+            let count = number_in(count, 1, u32::from(MOST_THREADS))?;
             Some(Mode::Workers { count })
         }
         None => match sorted.schedule {
@@ -165,7 +167,7 @@ fn make_of<'a>(words: &[&'a str]) -> Option<Command<'a>>
     let [packets, seed, capture] = words else {
         return None;
     };
-    let packets = number_in(*packets, 1, 100_000)?;
+    let packets = number_in(*packets, 1, MOST_RECORDS as u32)?;
     let seed = number_in(*seed, 0, u32::MAX)?;
     let capture = *capture;
     Some(Command::Make {
@@ -201,7 +203,7 @@ fn watch_of<'a>(words: &[&'a str]) -> Option<Command<'a>>
     let [limit, chain, capture, beats, script] = words else {
         return None;
     };
-    let limit = number_in(*limit, 1, 255)?;
+    let limit = number_in(*limit, 1, MOST_MISSED)?;
     if !are_distinct(&[*chain, *capture, *beats, *script]) {
         return None;
     }

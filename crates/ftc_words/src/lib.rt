@@ -3,6 +3,7 @@
 
 mod command;
 mod forms;
+pub mod limits;
 mod matches;
 mod reading;
 mod sorting;
