@@ -59,6 +59,10 @@ not_inside : (fate : Fate) → (fate ≡ became.Released) ⊎ ((server : ℕ) ×
 not_inside fate (inl is) inside = cc
 not_inside fate (inr (server, is)) inside = cc
 
+not_lost : (fate : Fate) (number : ℕ) → (fate ≡ became.Released) ⊎ ((server : ℕ) × (fate ≡ became.Filtered server)) → fate ≢ became.Lost number
+not_lost fate number (inl is) lost = cc
+not_lost fate number (inr (server, is)) lost = cc
+
 -- the laws of the crates below
 pub record EndLaws : Type 0 where
   pub wider : (most more : ℕ) (text : List ℕ) (chain : Chain) → most ≤ more → chain_within most text ≡ Ok chain → chain_within more text ≡ Ok chain
@@ -130,6 +134,8 @@ module _ (laws : EndLaws) (names : Named) (old : Files) (apart : AreDifferent na
       };
       visited = ∣ run.visited ∣₁;
       settled = λ packet below. not_inside _ (run.whole.done packet (rw (bytes_count capture.packets) below));
+      causes = λ packet number below lost.
+          absurd (not_lost _ number (run.whole.done packet (rw (bytes_count capture.packets) below)) lost);
     }
 
     done : IsDone names old new

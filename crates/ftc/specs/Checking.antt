@@ -10,6 +10,7 @@ use Rattle.ftc_protocol.specs.declared.fate.Fate.TheVariants as became
 use Rattle.ftc_protocol.specs.Setting.{setting_of}
 use Rattle.ftc_protocol.specs.State.{ChainState, opening}
 use Rattle.ftc_protocol.specs.Run.{state_after}
+use Rattle.ftc_protocol.specs.Orderly.{IsLostAt}
 use Rattle.ftc_check.specs.Verdict.{IsVerdict}
 use Rattle.ftc_protocol.specs.Whole.{ReleasedVisited}
 use Rattle.ftc_check.specs.declared.verdict.Checked.{Checked}
@@ -43,12 +44,17 @@ pub record IsJudged (names : Named) (files : Files) (verdict : Checked) : Type 0
   pub checked : AreChecked names files chain capture script out journal report
   pub verdict_right : IsVerdict (setting_of chain (bytes_of capture.packets) script) capture out journal report verdict
 
--- The files are those of one run. Each released packet has visited all middleboxes, and none of these visits was undone; and
--- each packet was released, filtered or lost.
+-- The files are those of one run. Each released packet has visited all middleboxes, and none of these visits was undone;
+-- each packet was released, filtered or lost; and one that is lost went away by the event of its fate's number, which
+-- could lose something where it stands.
 pub record IsRightRun (names : Named) (files : Files) : Type 0 where
   pub judged : IsJudged names files Yes
   pub visited : ∥ ReleasedVisited (length judged.chain.rules) judged.journal ∥₁
-  pub settled : (packet : ℕ) → packet < length judged.capture.packets → (state_of judged.chain judged.capture judged.script judged.journal).fate packet ≢ became.Inside
+  pub settled : (packet : ℕ) → packet < length judged.capture.packets →
+      (state_of judged.chain judged.capture judged.script judged.journal).fate packet ≢ became.Inside
+  pub causes : (packet number : ℕ) → packet < length judged.capture.packets →
+      (state_of judged.chain judged.capture judged.script judged.journal).fate packet ≡ became.Lost number →
+      IsLostAt (setting_of judged.chain (bytes_of judged.capture.packets) judged.script) judged.journal number
 
 -- How a check with these names ends, which changes no file. Where the desk is sound, it fails only where the first file that isn't
 -- right is missing.

@@ -32,4 +32,5 @@ returns-in-Ok-Yes-clause-judges g c = λ tells.
       };
       visited = c.right_runs.ensures.visited setting is files.capture files.out files.journal.items files.report verdict;
       settled = λ packet below. c.right_runs.ensures.settled setting is files.capture files.out files.journal.items files.report verdict packet (rw (bytes_count files.capture.packets) below);
+      causes = λ packet number below. c.losses.ensures.place setting files.journal.items packet number;
     }
