@@ -24,16 +24,16 @@ named_of names = record {
   report = names.report.now;
 }
 
-abbrev pub move_of : Move → ℕ × List ℕ
-move_of moved = (moved.server, moved.file.now)
+abbrev pub shown_move : Move → ℕ × List ℕ
+shown_move moved = (moved.server, moved.file.now)
 
-abbrev pub mode_of : ReadMode → Mode
-mode_of mode.Plain = command.plain
-mode_of (mode.Workers count) = command.workers count
-mode_of (mode.Alone schedule moved) = command.alone schedule.now (option_map move_of moved)
+abbrev pub shown_mode : ReadMode → Mode
+shown_mode mode.Plain = command.plain
+shown_mode (mode.Workers count) = command.workers count
+shown_mode (mode.Alone schedule moved) = command.alone schedule.now (option_map shown_move moved)
 
 abbrev pub shown : ReadCommand → Command
-shown (read.Run names mode) = command.run (named_of names) (mode_of mode)
+shown (read.Run names mode) = command.run (named_of names) (shown_mode mode)
 shown (read.Make packets seed capture) = command.make packets seed capture.now
 shown (read.Check names) = command.check (named_of names)
 shown (read.Ports chain capture journal server) = command.ports chain.now capture.now journal.now server

@@ -4,7 +4,7 @@ ghost use Rattle.std.specs.Prelude.{◌≡◌, ◌-◌, ◌++◌, ◌∷◌, tru
 ghost use Rattle.std.specs.List.{list_any};
 ghost use Rattle.std.specs.Str.{bytes_eq};
 ghost use Rattle.ftc_words.specs.Given.{texts_of};
-ghost use Rattle.ftc_words.specs.Shown.{shown, named_of, move_of as shown_move, mode_of as shown_mode, sorted_of};
+ghost use Rattle.ftc_words.specs.Shown.{shown, named_of, shown_move, shown_mode, sorted_of};
 ghost use Rattle.ftc_words.specs.Command.{number_in, named, names_of, move_of, mode_of, are_distinct, of_form, run_form, check_form, make_form, ports_form, watch_form, plain, of_word, forms, spelled, six_of, files_of};
 
 use crate::command::{Command, Mode, Move, Names};

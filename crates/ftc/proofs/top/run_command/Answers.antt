@@ -1,7 +1,7 @@
 use Rattle.std.proofs.Common.{◌≡◌, true, Some, subst}
 use Rattle.ftc_words.specs.declared.command.Command.{Command}
 use Rattle.ftc_words.specs.Command.{are_distinct, files_of}
-use Rattle.ftc_words.specs.Shown.{named_of, mode_of, shown}
+use Rattle.ftc_words.specs.Shown.{named_of, shown_mode, shown}
 use Rattle.ftc.specs.Ended.{HasTexts, HasFiles, HasRightRun, WasLeft}
 use Rattle.ftc.proofs.Agreeing.{Laws, agrees, completes, judges_all}
 use Rattle.ftc.proofs.DistinctLemmas.{run_differs}
@@ -9,7 +9,7 @@ use Rattle.ftc.proofs.top.run_command.Goals as goal
 
 pub run_names-requires : goal.run_names-requires
 run_names-requires g c = record {
-  apart = run_differs (named_of c.in-Run.names) (mode_of c.in-Run.mode) (subst (λ (command : Command). are_distinct (files_of (shown command)) ≡ true) c.in-Run.is c.requires.distinct);
+  apart = run_differs (named_of c.in-Run.names) (shown_mode c.in-Run.mode) (subst (λ (command : Command). are_distinct (files_of (shown command)) ≡ true) c.in-Run.is c.requires.distinct);
 }
 
 pub returns-in-Run-clause-complete : goal.returns-in-Run-clause-complete
