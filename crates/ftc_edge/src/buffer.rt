@@ -40,7 +40,10 @@ impl Model for Buffer {
 
     ghost Value = { WithheldPackets };
 
-    ghost view = { λ buffer. record { items = buffer.held.items; spare = vec_capacity buffer.held - vec_len buffer.held } };
+    ghost view = { λ buffer. record {
+      items = buffer.held.items;
+      spare = vec_capacity buffer.held - vec_len buffer.held;
+    } };
 }
 
 /// The place of the first packet that is due.
@@ -82,7 +85,8 @@ impl Buffer {
     /// Withholds a packet, behind the others. There is room for it, so no memory is taken.
     pub fn withhold(&mut self, packet: PacketNo, bytes: Bytes, needs: Needs)
         requires { 1 ≤ self.old.spare }
-        ensures items { self.new.items ≡ self.old.items ++ record { packet = packet; bytes = bytes; needs = needs } ∷ [] }
+        ensures items { self.new.items ≡
+            self.old.items ++ record { packet = packet; bytes = bytes; needs = needs } ∷ [] }
         ensures spare { self.old.spare ≤ self.new.spare + 1 }
     {
         self.held.push_reserved(Withheld {

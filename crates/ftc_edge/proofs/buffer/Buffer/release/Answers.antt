@@ -8,13 +8,17 @@ use Rattle.ftc_edge.proofs.buffer.Buffer.release.Goals as goal
 
 pub returns-in_err-place-clause-freed : goal.returns-in_err-place-clause-freed
 returns-in_err-place-clause-freed c =
-    let at = ap (λ (items : List Withheld). position (is_due c.args.commits.now) items) (sym c.as_slice.ensures.value) ∙ sym c.in_err-place.ensures in
-    c.from_residual.ensures
-    ∙ ap (option_map freed) (sym (none_found (is_due c.args.commits.now) c.self.inside.held.items at)
-    ∙ ap (λ (packets : WithheldPackets). first_due c.args.commits.now packets.items) c.self.view_is)
+    let due = is_due c.args.commits.now in
+    let seen = ap (λ (items : List Withheld). position due items) c.as_slice.ensures.value in
+    let none = none_found due c.self.inside.held.items (sym seen ∙ sym c.in_err-place.ensures) in
+    let same = ap (λ (held : WithheldPackets). first_due c.args.commits.now held.items) c.self.view_is in
+    c.from_residual.ensures ∙ ap (option_map freed) (sym none ∙ same)
 
 pub returns-clause-freed : goal.returns-clause-freed
 returns-clause-freed c =
-    let at = ap (λ (items : List Withheld). position (is_due c.args.commits.now) items) (sym c.as_slice.ensures.value) ∙ sym c.in_ok-place.ensures in
-    ap (option_map freed) (sym (found_at (is_due c.args.commits.now) c.self.inside.held.items c.in_ok-place.place c.remove-packet.result at c.remove-packet.ensures.value)
-    ∙ ap (λ (packets : WithheldPackets). first_due c.args.commits.now packets.items) c.self.view_is)
+    let due = is_due c.args.commits.now in
+    let seen = ap (λ (items : List Withheld). position due items) c.as_slice.ensures.value in
+    let found = found_at due c.self.inside.held.items c.in_ok-place.place c.remove-packet.result
+    (sym seen ∙ sym c.in_ok-place.ensures) c.remove-packet.ensures.value in
+    let same = ap (λ (held : WithheldPackets). first_due c.args.commits.now held.items) c.self.view_is in
+    ap (option_map freed) (sym found ∙ same)
