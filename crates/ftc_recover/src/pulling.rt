@@ -39,6 +39,9 @@ pub fn pull_one(
     ensures refused { OnErr result (to.new ≡ to.old) }
 {
     let logs = kept.missing_after(alloc, to.vector())?;
+    if logs.is_empty() {
+        return Ok(0);
+    }
     // The logs are applied to a copy, so that a refusal leaves the replica as it was.
     let mut replica = fetch_one(alloc, to.store(), to.vector(), to.kept())?;
     apply_all(logs.as_slice(), &mut replica)?;

@@ -1,5 +1,5 @@
 -- the logs so far were ready in turn and are applied
-use Rattle.std.proofs.Common.{◌≡◌, ◌-◌, take}
+use Rattle.std.proofs.Common.{◌≡◌, take}
 use Rattle.ftc_recover.specs.Pulled.{applied_all, AreReadyInTurn}
 use Rattle.ftc_recover.proofs.tests.vector_after.Given as goal
 
