@@ -1,5 +1,6 @@
 -- Logs that are applied one after another.
-use Rattle.std.proofs.Common.{◌≡◌, ◌<◌, ◌≤◌, ◌∙◌, ℕ, zero, suc, List, [], ◌∷◌, ◌++◌, ◌+◌, length, take, get_or, refl, sym, ap, subst, arith}
+use Rattle.std.proofs.Common.{◌≡◌, ◌<◌, ◌≤◌, ◌∙◌, ℕ, zero, suc, List, [], ◌∷◌, ◌++◌, ◌+◌, length, take, get_or}
+use Rattle.std.proofs.Common.{refl, sym, ap, subst, arith}
 use Rattle.ftc_base.specs.declared.ask.Write.{Write}
 use Rattle.ftc_base.specs.declared.limits.TheConstants.{MOST_PARTITIONS}
 use Rattle.ftc_store.specs.Store.{Content, written, changed}
@@ -15,7 +16,8 @@ pub record MayFollow (most : ℕ) (vector : List ℕ) (log : Logged) : Type 0 wh
   pub bound : (partition : ℕ) → partition < MOST_PARTITIONS → number_at vector partition ≤ most
 
 pub turn_at : (most : ℕ) (logs : List Logged) (held : Held) (place : ℕ) (d : Logged) → place < length logs
-    → AreReadyInTurn most held.vector logs → MayFollow most (applied_all (take place logs) held).vector (get_or logs place d)
+    → AreReadyInTurn most held.vector logs
+    → MayFollow most (applied_all (take place logs) held).vector (get_or logs place d)
 turn_at most [] held place d within turn = absurd (omega arith)
 turn_at most (log ∷ logs) held zero d within turn = record { ready = turn.0; bound = turn.1 }
 turn_at most (log ∷ logs) held (suc place) d within turn =
