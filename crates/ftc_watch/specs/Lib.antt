@@ -1,0 +1,5 @@
+pub mod Members
+pub mod Beats
+pub mod Grammar
+pub mod Watch
+pub mod Lines

@@ -1,0 +1,25 @@
+//! Heartbeats make a script: a server that is silent too long is fenced where the ring can spare it,
+//! and is replaced at the next tick.
+#![tactic(auto)]
+
+mod beats;
+mod fault;
+mod held;
+pub mod limits;
+mod members;
+mod printer;
+mod reader;
+mod tick;
+mod watch;
+mod watcher;
+mod words;
+
+pub use beats::Beats;
+pub use fault::{BeatsCause, BeatsFault};
+pub use held::Held;
+pub use reader::read_beats;
+pub use tick::Tick;
+pub use watch::{Watched, watch};
+
+#[cfg(test)]
+mod tests;
