@@ -2,4 +2,5 @@ pub mod Members
 pub mod Beats
 pub mod Grammar
 pub mod Watch
+pub mod Watcher
 pub mod Lines

@@ -10,8 +10,8 @@ mod members;
 mod printer;
 mod reader;
 mod tick;
-mod watch;
 mod watcher;
+mod watching;
 mod words;
 
 pub use beats::Beats;
@@ -19,7 +19,7 @@ pub use fault::{BeatsCause, BeatsFault};
 pub use held::Held;
 pub use reader::read_beats;
 pub use tick::Tick;
-pub use watch::{Watched, watch};
+pub use watching::{Watched, watch};
 
 #[cfg(test)]
 mod tests;

@@ -1,6 +1,6 @@
 //! The beats of a text.
 
-ghost use Rattle.std.specs.Prelude.{◌≡◌, ◌+◌, ◌≤◌, length};
+ghost use Rattle.std.specs.Prelude.{◌≡◌, ◌+◌, ◌≤◌, length, IfOk};
 ghost use Rattle.ftc_base.specs.declared.refusal.Refuse.TheVariants as refuse;
 ghost use Rattle.ftc_base.specs.Refused.{IsReading};
 ghost use Rattle.ftc_watch.specs.declared.limits.TheConstants.{MOST_BEATS};

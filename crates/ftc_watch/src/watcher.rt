@@ -5,7 +5,8 @@ ghost use Rattle.ftc_base.specs.declared.limits.TheConstants.{MOST_SERVERS};
 ghost use Rattle.ftc_base.specs.Sets.{has};
 ghost use Rattle.ftc_ring.specs.Live.{is_live, gone_of};
 ghost use Rattle.ftc_script.specs.Steps.{with_at};
-ghost use Rattle.ftc_watch.specs.Watch.{Watching, at_start, missed_of, recover_at, count_at, fence_at, judge_at};
+ghost use Rattle.ftc_watch.specs.Watcher.{known};
+ghost use Rattle.ftc_watch.specs.Watch.{at_start, missed_of, recover_at, count_at, fence_at, judge_at};
 
 use crate::held::Held;
 use ftc_base::{Items, NoMemory, PacketNo, ServerId, ServerSet};
@@ -14,8 +15,7 @@ use ftc_script::Statement;
 use std::alloc::Global;
 use std::marker::Model;
 
-/// Which servers are down, how many ticks each has missed, and the lines so far. A contract sees the
-/// first two as functions of the servers.
+/// Which servers are down, how many ticks each has missed, and the lines so far.
 #[derive(Debug, Drop)]
 pub struct Watcher {
     down: ServerSet,
@@ -25,13 +25,12 @@ pub struct Watcher {
 }
 
 impl Model for Watcher {
-    ghost use Rattle.std.specs.Prelude.{◌≡◌, length, slice_index};
-    ghost use Rattle.ftc_ring.specs.Live.{is_live};
-    ghost use Rattle.ftc_watch.specs.Watch.{Watching};
+    ghost use Rattle.std.specs.Prelude.{◌≡◌, length};
+    ghost use Rattle.ftc_watch.specs.Watcher.{Kept};
 
-    ghost Value = { Watching };
+    ghost Value = { Kept };
 
-    ghost view = { λ w. record { live = is_live w.down; missed = λ server. slice_index w.missed server; script = w.script; held = w.held } };
+    ghost view = { λ w. record { down = w.down; missed = w.missed; script = w.script; held = w.held } };
 
     ghost invariant = { λ w. length w.missed ≡ 16 };
 }
@@ -79,7 +78,7 @@ fn missed_of(limit: u8, beat: bool, missed: u8) -> u8
 impl Watcher {
     /// All servers are up and have missed no tick.
     pub fn new(alloc: Global) -> Watcher
-        ensures { result ≡ at_start }
+        ensures { known result ≡ at_start }
     {
         Watcher {
             down: ServerSet::new(),
@@ -92,7 +91,7 @@ impl Watcher {
     /// The server recovers, if it is down.
     pub fn recovered(self, at: PacketNo, server: u8) -> Result<Watcher, NoMemory>
         requires { server < MOST_SERVERS }
-        ensures { IfOk result (λ next. next ≡ recover_at at self server) }
+        ensures { IfOk result (λ next. known next ≡ recover_at at (known self) server) }
     {
         if !self.down.has(server) {
             return Ok(self);
@@ -113,7 +112,7 @@ impl Watcher {
     /// The server has beaten or missed a tick.
     pub fn counted(self, limit: u8, beaten: ServerSet, server: u8) -> Watcher
         requires { server < MOST_SERVERS }
-        ensures { result ≡ count_at limit beaten self server }
+        ensures { known result ≡ count_at limit beaten (known self) server }
     {
         let before = self.missed[usize::from(server)];
         let missed = missed_of(limit, beaten.has(server), before);
@@ -128,16 +127,17 @@ impl Watcher {
     /// The server is fenced.
     fn fenced(self, at: PacketNo, server: u8) -> Result<Watcher, NoMemory>
         requires { server < MOST_SERVERS }
-        ensures { IfOk result (λ next. next ≡ fence_at at self server None) }
+        ensures { IfOk result (λ next. known next ≡ fence_at at (known self) server None) }
     {
         let mut script = self.script;
         script.push(Statement::Crash {
             at,
             server: u32::from(server),
         })?;
+        let missed = self.missed;
         Ok(Watcher {
             down: with_down(self.down, server),
-            missed: self.missed,
+            missed,
             script,
             held: self.held,
         })
@@ -145,13 +145,14 @@ impl Watcher {
 
     /// The server is held for a group.
     fn held(self, at: PacketNo, server: ServerId, group: ServerId) -> Result<Watcher, NoMemory>
-        ensures { IfOk result (λ next. next ≡ fence_at at self server (Some group)) }
+        ensures { IfOk result (λ next. known next ≡ fence_at at (known self) server (Some group)) }
     {
         let mut held = self.held;
         held.push(Held { at, server, group })?;
+        let missed = self.missed;
         Ok(Watcher {
             down: self.down,
-            missed: self.missed,
+            missed,
             script: self.script,
             held,
         })
@@ -165,7 +166,7 @@ impl Watcher {
         at: PacketNo,
         server: ServerId,
     ) -> Result<Watcher, NoMemory>
-        ensures { IfOk result (λ next. next ≡ judge_at ring.now limit at self server) }
+        ensures { IfOk result (λ next. known next ≡ judge_at ring.now limit at (known self) server) }
     {
         let number = server.number();
         if self.missed[usize::from(number)] != limit {

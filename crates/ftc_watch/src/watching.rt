@@ -4,6 +4,7 @@ ghost use Rattle.std.specs.Prelude.{◌≡◌, ◌≤◌, ◌<◌, length, IfOk}
 ghost use Rattle.ftc_base.specs.declared.limits.TheConstants.{MOST_SERVERS};
 ghost use Rattle.ftc_script.specs.Plain.{plain_text};
 ghost use Rattle.ftc_watch.specs.Watch.{recover_all, count_all, judge_all, tick_on, ticks_on, watch_of, at_start};
+ghost use Rattle.ftc_watch.specs.Watcher.{known};
 ghost use Rattle.ftc_watch.specs.Lines.{is_crash, held_text, crashes_in};
 
 use crate::beats::Beats;
@@ -41,7 +42,7 @@ fn server_of(number: u8) -> ServerId
 
 /// Each down server recovers.
 fn recover_all(ring: &Ring, at: PacketNo, watcher: Watcher) -> Result<Watcher, NoMemory>
-    ensures { IfOk result (λ next. next ≡ recover_all ring.now at watcher) }
+    ensures { IfOk result (λ next. known next ≡ recover_all ring.now at (known watcher)) }
 {
     let mut watcher = watcher;
     for server in 0..ring.servers() {
@@ -52,7 +53,7 @@ fn recover_all(ring: &Ring, at: PacketNo, watcher: Watcher) -> Result<Watcher, N
 
 /// Each server has beaten or missed the tick.
 fn count_all(ring: &Ring, limit: u8, beaten: ServerSet, watcher: Watcher) -> Watcher
-    ensures { result ≡ count_all ring.now limit beaten watcher }
+    ensures { known result ≡ count_all ring.now limit beaten (known watcher) }
 {
     let mut watcher = watcher;
     for server in 0..ring.servers() {
@@ -63,7 +64,7 @@ fn count_all(ring: &Ring, limit: u8, beaten: ServerSet, watcher: Watcher) -> Wat
 
 /// Each server that has missed enough ticks is fenced or held.
 fn judge_all(ring: &Ring, limit: u8, at: PacketNo, watcher: Watcher) -> Result<Watcher, NoMemory>
-    ensures { IfOk result (λ next. next ≡ judge_all ring.now limit at watcher) }
+    ensures { IfOk result (λ next. known next ≡ judge_all ring.now limit at (known watcher)) }
 {
     let mut watcher = watcher;
     for server in 0..ring.servers() {
@@ -74,7 +75,7 @@ fn judge_all(ring: &Ring, limit: u8, at: PacketNo, watcher: Watcher) -> Result<W
 
 /// What comes of one more tick.
 fn tick_on(ring: &Ring, limit: u8, watcher: Watcher, tick: &Tick) -> Result<Watcher, NoMemory>
-    ensures { IfOk result (λ next. next ≡ tick_on ring.now limit watcher tick.now) }
+    ensures { IfOk result (λ next. known next ≡ tick_on ring.now limit (known watcher) tick.now) }
 {
     let watcher = recover_all(ring, tick.at, watcher)?;
     let watcher = count_all(ring, limit, tick.servers, watcher);
@@ -83,7 +84,7 @@ fn tick_on(ring: &Ring, limit: u8, watcher: Watcher, tick: &Tick) -> Result<Watc
 
 /// What comes of some ticks.
 fn ticks_on(alloc: Global, ring: &Ring, limit: u8, ticks: &[Tick]) -> Result<Watcher, NoMemory>
-    ensures { IfOk result (λ next. next ≡ ticks_on ring.now limit at_start ticks.now) }
+    ensures { IfOk result (λ next. known next ≡ ticks_on ring.now limit at_start ticks.now) }
 {
     let mut watcher = Watcher::new(alloc);
     for tick in ticks {
@@ -106,13 +107,7 @@ fn crashes_in(script: &[Statement]) -> usize
     ensures value { result ≡ crashes_in script.now }
     ensures few { result ≤ length script.now }
 {
-    let mut count = 0;
-    for statement in script {
-        if is_crash(statement) {
-            count += 1;
-        }
-    }
-    count
+    script.iter().filter(|statement| is_crash(statement)).count()
 }
 
 /// What comes of beats for their ring and their count of packets, where a server is silent that has

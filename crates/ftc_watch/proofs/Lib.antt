@@ -1,0 +1,5 @@
+pub mod Sets
+pub mod Ticks
+pub mod Lines
+pub mod Steps
+pub mod Reading
