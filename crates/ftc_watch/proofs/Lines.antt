@@ -22,12 +22,12 @@ held_more (first ∷ lines) line =
     ap (λ (rest : List ℕ). join_with_byte 32 (held_words first) ++ 10 ∷ rest) (held_more lines line)
     ∙ sym (append_assoc (join_with_byte 32 (held_words first)) (10 ∷ held_text lines) (join_with_byte 32 (held_words line) ++ 10 ∷ []))
 
-pub script_next : (out next line : List ℕ) (lines : List Statement) (i : ℕ) (statement : Statement) → i < length lines → statement ≡ get_or lines i statement → out ≡ plain_text (take i lines) → next ≡ out ++ line → line ≡ join_with_byte 32 (words_in statement) ++ 10 ∷ []
+pub script_next : (out next line : List ℕ) (lines : List Statement) (i : ℕ) (d : Statement) → i < length lines → out ≡ plain_text (take i lines) → next ≡ out ++ line → line ≡ join_with_byte 32 (words_in (get_or lines i d)) ++ 10 ∷ []
     → next ≡ plain_text (take (i + 1) lines)
-script_next out next line lines i statement inside here so_far more is =
+script_next out next line lines i d inside so_far more is =
     more ∙ ap (λ (o : List ℕ). o ++ line) so_far ∙ ap (λ (l : List ℕ). plain_text (take i lines) ++ l) is
-    ∙ sym (plain_more (take i lines) statement)
-    ∙ ap plain_text (ap (λ (s : Statement). take i lines ++ s ∷ []) here ∙ sym (take_more lines i statement inside))
+    ∙ sym (plain_more (take i lines) (get_or lines i d))
+    ∙ ap plain_text (sym (take_more lines i d inside))
 
 pub held_next : (out next line : List ℕ) (lines : List Held) (i : ℕ) (held : Held) → i < length lines → held ≡ get_or lines i held → out ≡ held_text (take i lines) → next ≡ out ++ line → line ≡ join_with_byte 32 (held_words held) ++ 10 ∷ []
     → next ≡ held_text (take (i + 1) lines)

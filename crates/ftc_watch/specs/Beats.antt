@@ -10,17 +10,17 @@ pub record BeatsShape : Type 0 where
   pub packets : ℕ
   pub ticks : List Tick
 
--- a tick of servers of the ring, not before the last one, when no more packets have entered than there are
-pub record IsTick (ring : RingShape) (packets last : ℕ) (tick : Tick) : Type 0 where
+-- a tick of servers of so many, not before the last one, when no more packets have entered than there are
+pub record IsTick (servers packets last : ℕ) (tick : Tick) : Type 0 where
   pub ordered : last ≤ tick.at
   pub entered : tick.at ≤ packets
-  pub within : (server : ℕ) → has tick.servers server ≡ true → server < ring.servers
+  pub within : (server : ℕ) → has tick.servers server ≡ true → server < servers
 
-abbrev pub AreTicks : RingShape → ℕ → ℕ → List Tick → Type 0
-AreTicks ring packets last [] = Unit {0}
-AreTicks ring packets last (tick ∷ ticks) = IsTick ring packets last tick × AreTicks ring packets tick.at ticks
+abbrev pub AreTicks : ℕ → ℕ → ℕ → List Tick → Type 0
+AreTicks servers packets last [] = Unit {0}
+AreTicks servers packets last (tick ∷ ticks) = IsTick servers packets last tick × AreTicks servers packets tick.at ticks
 
 pub record IsBeats (beats : BeatsShape) : Type 0 where
   pub ring : IsRing beats.ring
   pub few : length beats.ticks ≤ MOST_BEATS
-  pub ticks : AreTicks beats.ring beats.packets 0 beats.ticks
+  pub ticks : AreTicks beats.ring.servers beats.packets 0 beats.ticks

@@ -31,17 +31,17 @@ abbrev pub numbers_from : List ℕ → List (List ℕ) → Result (List ℕ) Bea
 numbers_from numbers [] = Ok numbers
 numbers_from numbers (word ∷ words) = number_word word >>= λ number. numbers_from (numbers ++ number ∷ []) words
 
--- the tick of a number of packets and of servers of the ring, which rise
-abbrev pub tick_in : RingShape → ℕ → ℕ → List ℕ → Result Tick BeatsCause
-tick_in ring packets last [] = Err Word
-tick_in ring packets last (at ∷ servers) =
-    unless (are_below ring.servers servers) Range >> unless (nat_le at packets) Past >> unless (nat_le last at && rises_from 0 servers) Order >> Ok (record { at = at; servers = set_of servers })
+-- the tick of a number of packets and of the numbers of servers, of which there are so many
+abbrev pub tick_in : ℕ → ℕ → ℕ → List ℕ → Result Tick BeatsCause
+tick_in servers packets last [] = Err Word
+tick_in servers packets last (at ∷ numbers) =
+    unless (are_below servers numbers) Range >> unless (nat_le at packets) Past >> unless (nat_le last at && rises_from 0 numbers) Order >> Ok (record { at = at; servers = set_of numbers })
 
 -- the words of a line: `tick`, and numbers
-abbrev pub tick_of : RingShape → ℕ → ℕ → List (List ℕ) → Result Tick BeatsCause
-tick_of ring packets last [] = Err Word
-tick_of ring packets last (first ∷ words) =
-    unless (bytes_eq first (codes "tick")) Word >> numbers_from [] words >>= λ numbers. tick_in ring packets last numbers
+abbrev pub tick_of : ℕ → ℕ → ℕ → List (List ℕ) → Result Tick BeatsCause
+tick_of servers packets last [] = Err Word
+tick_of servers packets last (first ∷ words) =
+    unless (bytes_eq first (codes "tick")) Word >> numbers_from [] words >>= λ numbers. tick_in servers packets last numbers
 
 -- the number of the last tick, or the one given where there is none
 abbrev pub last_of : ℕ → List Tick → ℕ
@@ -53,9 +53,9 @@ abbrev pub room : List Tick → Result (Unit {0}) BeatsCause
 room ticks = unless (nat_lt (length ticks) MOST_BEATS) TooMany
 
 -- the ticks with that of one more line
-abbrev pub with_line : RingShape → ℕ → List Tick → List ℕ → Result (List Tick) BeatsCause
-with_line ring packets ticks line =
-    room ticks >> tick_of ring packets (last_of 0 ticks) (parts_of 32 line) >>= λ tick. Ok (ticks ++ tick ∷ [])
+abbrev pub with_line : ℕ → ℕ → List Tick → List ℕ → Result (List Tick) BeatsCause
+with_line servers packets ticks line =
+    room ticks >> tick_of servers packets (last_of 0 ticks) (parts_of 32 line) >>= λ tick. Ok (ticks ++ tick ∷ [])
 
 -- a last line that isn't empty has no line feed
 abbrev pub ended : List Tick → List ℕ → Result (List Tick) BeatsCause
@@ -68,22 +68,22 @@ placed line (Ok value) = Ok value
 placed line (Err cause) = Err (record { line = line; cause = cause })
 
 -- the ticks so far with those of what stands round the line feeds; the ticks have a line each, behind the first line
-abbrev pub ticks_from : RingShape → ℕ → Result (List Tick) BeatsFault → List (List ℕ) → Result (List Tick) BeatsFault
-ticks_from ring packets (Err fault) lines = Err fault
-ticks_from ring packets (Ok ticks) [] = Ok ticks
-ticks_from ring packets (Ok ticks) (last ∷ []) = placed (2 + length ticks) (ended ticks last)
-ticks_from ring packets (Ok ticks) (line ∷ next ∷ lines) = ticks_from ring packets (placed (2 + length ticks) (with_line ring packets ticks line)) (next ∷ lines)
+abbrev pub ticks_from : ℕ → ℕ → Result (List Tick) BeatsFault → List (List ℕ) → Result (List Tick) BeatsFault
+ticks_from servers packets (Err fault) lines = Err fault
+ticks_from servers packets (Ok ticks) [] = Ok ticks
+ticks_from servers packets (Ok ticks) (last ∷ []) = placed (2 + length ticks) (ended ticks last)
+ticks_from servers packets (Ok ticks) (line ∷ next ∷ lines) = ticks_from servers packets (placed (2 + length ticks) (with_line servers packets ticks line)) (next ∷ lines)
 
 -- the first line has a line feed
-abbrev pub ticks_in : RingShape → ℕ → List (List ℕ) → Result (List Tick) BeatsFault
-ticks_in ring packets [] = placed 1 (Err Header)
-ticks_in ring packets (first ∷ []) = placed 1 (Err Header)
-ticks_in ring packets (first ∷ next ∷ lines) = placed 1 (unless (bytes_eq first header) Header) >> ticks_from ring packets (Ok []) (next ∷ lines)
+abbrev pub ticks_in : ℕ → ℕ → List (List ℕ) → Result (List Tick) BeatsFault
+ticks_in servers packets [] = placed 1 (Err Header)
+ticks_in servers packets (first ∷ []) = placed 1 (Err Header)
+ticks_in servers packets (first ∷ next ∷ lines) = placed 1 (unless (bytes_eq first header) Header) >> ticks_from servers packets (Ok []) (next ∷ lines)
 
 -- the ticks that a text spells, or its first fault
-abbrev pub ticks_of : RingShape → ℕ → List ℕ → Result (List Tick) BeatsFault
-ticks_of ring packets text = ticks_in ring packets (parts_of 10 text)
+abbrev pub ticks_of : ℕ → ℕ → List ℕ → Result (List Tick) BeatsFault
+ticks_of servers packets text = ticks_in servers packets (parts_of 10 text)
 
 -- the beats that a text spells, or its first fault
 abbrev pub beats_of : RingShape → ℕ → List ℕ → Result BeatsShape BeatsFault
-beats_of ring packets text = ticks_of ring packets text >>= λ ticks. Ok (record { ring = ring; packets = packets; ticks = ticks })
+beats_of ring packets text = ticks_of ring.servers packets text >>= λ ticks. Ok (record { ring = ring; packets = packets; ticks = ticks })

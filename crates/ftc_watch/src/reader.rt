@@ -3,6 +3,7 @@
 ghost use Rattle.std.specs.Prelude.{◌≡◌, ◌+◌, ◌≤◌, length, IfOk};
 ghost use Rattle.ftc_base.specs.declared.refusal.Refuse.TheVariants as refuse;
 ghost use Rattle.ftc_base.specs.Refused.{IsReading};
+ghost use Rattle.ftc_base.specs.declared.limits.TheConstants.{MOST_SERVERS};
 ghost use Rattle.ftc_watch.specs.declared.limits.TheConstants.{MOST_BEATS};
 ghost use Rattle.ftc_watch.specs.Grammar.{last_of, with_line, ended, placed, beats_of};
 
@@ -25,13 +26,14 @@ fn fault_at(line: u32, cause: BeatsCause) -> Refuse<BeatsFault>
 /// The ticks with that of one more line.
 fn with_line(
     alloc: Global,
-    ring: &Ring,
+    servers: u8,
     packets: u32,
     ticks: Items<Tick>,
     line: &[u8],
 ) -> Result<Items<Tick>, Refuse<BeatsFault>>
-    requires { length ticks ≤ MOST_BEATS }
-    ensures value { IsReading result (placed (2 + length ticks) (with_line ring.now packets ticks line.now)) }
+    requires servers { servers ≤ MOST_SERVERS }
+    requires ticks { length ticks ≤ MOST_BEATS }
+    ensures value { IsReading result (placed (2 + length ticks) (with_line servers packets ticks line.now)) }
     ensures few { IfOk result (λ next. length next ≤ MOST_BEATS) }
 {
     let place = 2 + ticks.len() as u32;
@@ -39,7 +41,7 @@ fn with_line(
         return Err(fault_at(place, BeatsCause::TooMany));
     }
     let mut ticks = ticks;
-    match tick_of(alloc, ring, packets, last_of(ticks.as_slice()), line) {
+    match tick_of(alloc, servers, packets, last_of(ticks.as_slice()), line) {
         Ok(tick) => {
             ticks.push(tick)?;
             Ok(ticks)
@@ -75,10 +77,11 @@ pub fn read_beats(
     if !is_header(header) {
         return Err(fault_at(1, BeatsCause::Header));
     }
+    let servers = ring.servers();
     let mut ticks = Items::new(alloc);
     let mut rest = lines;
     while let Some((line, behind)) = split_part(rest, b'\n') {
-        ticks = with_line(alloc, ring, packets, ticks, line)?;
+        ticks = with_line(alloc, servers, packets, ticks, line)?;
         rest = behind;
     }
     if rest.is_empty() {

@@ -107,7 +107,10 @@ fn crashes_in(script: &[Statement]) -> usize
     ensures value { result ≡ crashes_in script.now }
     ensures few { result ≤ length script.now }
 {
-    script.iter().filter(|statement| is_crash(statement)).count()
+    script
+        .iter()
+        .filter(|statement| is_crash(statement))
+        .count()
 }
 
 /// What comes of beats for their ring and their count of packets, where a server is silent that has

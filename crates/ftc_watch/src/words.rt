@@ -1,17 +1,16 @@
 //! The words of a tick line.
 
-ghost use Rattle.std.specs.Prelude.{◌≡◌, [], ◌∷◌, codes};
+ghost use Rattle.std.specs.Prelude.{◌≡◌, ◌≤◌, [], ◌∷◌, codes};
 ghost use Rattle.std.specs.Str.{bytes_eq};
 ghost use Rattle.ftc_base.specs.Refused.{IsReading};
 ghost use Rattle.ftc_base.specs.Endpoint.{parts_of};
-ghost use Rattle.ftc_ring.specs.Ring.{IsRing};
+ghost use Rattle.ftc_base.specs.declared.limits.TheConstants.{MOST_SERVERS};
 ghost use Rattle.ftc_watch.specs.Grammar.{header, number_word, numbers_from, tick_in, tick_of};
 
 use crate::fault::BeatsCause;
 use crate::members::{are_below, rises, set_of};
 use crate::tick::Tick;
 use ftc_base::{Items, PacketNo, Refuse, number, split_part};
-use ftc_ring::Ring;
 use ftc_script::limits::MOST_NUMBER;
 use std::alloc::Global;
 
@@ -53,34 +52,36 @@ fn numbers_of(alloc: Global, words: &[u8]) -> Result<Items<u32>, Refuse<BeatsCau
     Ok(held)
 }
 
-/// The tick of a number of packets and of some servers.
+/// The tick of a number of packets and of the numbers of some servers.
 fn tick_at(
-    ring: &Ring,
+    servers: u8,
     packets: u32,
     last: PacketNo,
     at: PacketNo,
-    servers: &[u32],
+    numbers: &[u32],
 ) -> Result<Tick, BeatsCause>
-    ensures { result ≡ tick_in ring.now packets last (at ∷ servers.now) }
+    requires { servers ≤ MOST_SERVERS }
+    ensures { result ≡ tick_in servers packets last (at ∷ numbers.now) }
 {
-    if !are_below(ring.servers(), servers) {
+    if !are_below(servers, numbers) {
         Err(BeatsCause::Range)
     } else if at > packets {
         Err(BeatsCause::Past)
-    } else if at < last || !rises(servers) {
+    } else if at < last || !rises(numbers) {
         Err(BeatsCause::Order)
     } else {
-        let servers = set_of(servers);
+        let servers = set_of(numbers);
         Ok(Tick { at, servers })
     }
 }
 
 /// The tick of some numbers, of which the first is that of the packets.
-fn tick_in(ring: &Ring, packets: u32, last: PacketNo, numbers: &[u32]) -> Result<Tick, BeatsCause>
-    ensures { result ≡ tick_in ring.now packets last numbers.now }
+fn tick_in(servers: u8, packets: u32, last: PacketNo, numbers: &[u32]) -> Result<Tick, BeatsCause>
+    requires { servers ≤ MOST_SERVERS }
+    ensures { result ≡ tick_in servers packets last numbers.now }
 {
     match numbers {
-        [at, servers @ ..] => tick_at(ring, packets, last, *at, servers),
+        [at, behind @ ..] => tick_at(servers, packets, last, *at, behind),
         [] => Err(BeatsCause::Word),
     }
 }
@@ -88,12 +89,13 @@ fn tick_in(ring: &Ring, packets: u32, last: PacketNo, numbers: &[u32]) -> Result
 /// The tick of a line, which stands behind a tick at the number `last`.
 pub fn tick_of(
     alloc: Global,
-    ring: &Ring,
+    servers: u8,
     packets: u32,
     last: PacketNo,
     line: &[u8],
 ) -> Result<Tick, Refuse<BeatsCause>>
-    ensures { IsReading result (tick_of ring.now packets last (parts_of 32 line.now)) }
+    requires { servers ≤ MOST_SERVERS }
+    ensures { IsReading result (tick_of servers packets last (parts_of 32 line.now)) }
 {
     let Some((first, words)) = split_part(line, b' ') else {
         return Err(Refuse::Bad(BeatsCause::Word));
@@ -102,6 +104,6 @@ pub fn tick_of(
         return Err(Refuse::Bad(BeatsCause::Word));
     }
     let numbers = numbers_of(alloc, words)?;
-    let tick = tick_in(ring, packets, last, numbers.as_slice())?;
+    let tick = tick_in(servers, packets, last, numbers.as_slice())?;
     Ok(tick)
 }

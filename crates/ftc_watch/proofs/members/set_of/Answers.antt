@@ -15,6 +15,6 @@ loop-number-preserved c =
     let small = next.0 in
     record {
       told = set_next c.args.numbers.now c.loop-number.number-index c.loop-number.set c.with-set.result _ (c.loop-number-test.true) c.loop-number.invariant.told
-      (one_member c.with-set.result c.loop-number.set _ (omega arith) c.with-set.ensures);
+          (one_member c.with-set.result c.loop-number.set _ (omega arith) c.with-set.ensures);
       within = next.1;
     }

@@ -7,7 +7,7 @@ use Rattle.ftc_watch.proofs.reader.read_beats.Given as goal
 
 abbrev pub invariant-loop-line : goal.invariant-loop-line
 invariant-loop-line l = record {
-  told : ticks_from l.ring l.packets (Ok l.ticks) (parts_of 10 l.rest) ≡ ticks_of l.ring l.packets l.text;
+  told : ticks_from l.servers l.packets (Ok l.ticks) (parts_of 10 l.rest) ≡ ticks_of l.servers l.packets l.text;
   few : length l.ticks ≤ MOST_BEATS;
 }
 
