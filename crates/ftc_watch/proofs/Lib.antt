@@ -3,5 +3,7 @@ pub mod Ticks
 pub mod Lines
 pub mod Steps
 pub mod Sizes
+pub mod Sound
+pub mod Making
 pub mod Acceptance
 pub mod Reading

@@ -58,7 +58,7 @@ ticks_few ring limit w (tick ∷ ticks) small =
     let later = ticks_few ring limit (tick_on ring limit w tick) ticks small in
     omega (arith, one, later)
 
-watch_few : (ring : RingShape) (limit packets : ℕ) (ticks : List Tick) → ring.servers ≤ 16 → length ticks ≤ 1000 → length (watch_of ring limit packets ticks).script + length (watch_of ring limit packets ticks).held ≤ 32016
+pub watch_few : (ring : RingShape) (limit packets : ℕ) (ticks : List Tick) → ring.servers ≤ 16 → length ticks ≤ 1000 → length (watch_of ring limit packets ticks).script + length (watch_of ring limit packets ticks).held ≤ 32016
 watch_few ring limit packets ticks small few =
     let on : Watching = ticks_on ring limit at_start ticks in
     let one : lines_in on ≤ lines_in at_start + 32 * length ticks = ticks_few ring limit at_start ticks small in

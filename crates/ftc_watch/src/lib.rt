@@ -5,6 +5,7 @@
 mod beats;
 mod fault;
 mod held;
+mod laws;
 pub mod limits;
 mod members;
 mod printer;
@@ -17,6 +18,7 @@ mod words;
 pub use beats::Beats;
 pub use fault::{BeatsCause, BeatsFault};
 pub use held::Held;
+pub use laws::{accepted, makes_a_script};
 pub use reader::read_beats;
 pub use tick::Tick;
 pub use watching::{Watched, watch};
