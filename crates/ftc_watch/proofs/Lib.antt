@@ -5,5 +5,7 @@ pub mod Steps
 pub mod Sizes
 pub mod Sound
 pub mod Making
+pub mod Clean
+pub mod Rows
 pub mod Acceptance
 pub mod Reading

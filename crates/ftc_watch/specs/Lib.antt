@@ -3,4 +3,5 @@ pub mod Beats
 pub mod Grammar
 pub mod Watch
 pub mod Watcher
+pub mod Fenced
 pub mod Lines

@@ -1,14 +1,19 @@
 //! What beats are, and what a watch makes of them.
 
-ghost use Rattle.std.specs.Prelude.{◌≡◌, ◌≤◌, ℕ, List, [], Ok};
+ghost use Rattle.std.specs.Prelude.{◌≡◌, ◌≤◌, ◌<◌, ℕ, true, List, [], Ok};
+ghost use Rattle.std.specs.List.{AllByRecursion};
+ghost use Rattle.ftc_base.specs.Sets.{has};
 ghost use Rattle.ftc_ring.specs.Ring.{RingShape, IsRing};
+ghost use Rattle.ftc_ring.specs.Live.{IsDown};
 ghost use Rattle.ftc_script.specs.declared.limits.TheConstants.{MOST_NUMBER};
 ghost use Rattle.ftc_script.specs.Script.{ScriptShape, IsScript};
 ghost use Rattle.ftc_script.specs.Grammar.{script_of};
 ghost use Rattle.ftc_script.specs.Plain.{plain_text, steps_in};
+ghost use Rattle.ftc_watch.specs.declared.tick.Tick.{Tick};
 ghost use Rattle.ftc_watch.specs.Beats.{BeatsShape, IsBeats};
 ghost use Rattle.ftc_watch.specs.Grammar.{beats_of};
-ghost use Rattle.ftc_watch.specs.Watch.{watch_of};
+ghost use Rattle.ftc_watch.specs.Watch.{at_start, ticks_on, watch_of};
+ghost use Rattle.ftc_watch.specs.Fenced.{IsNoCrashOf, row_from};
 
 /// A text that is accepted spells beats for its ring and its packets.
 pub fn accepted()
@@ -26,4 +31,19 @@ pub fn makes_a_script()
         ≡ Ok (record { ring = beats.ring; packets = beats.packets; steps = steps_in (watch_of beats.ring limit beats.packets beats.ticks).script; loses = [] }) }
     ensures is { (beats : BeatsShape) (limit : ℕ) → IsBeats beats → beats.packets ≤ MOST_NUMBER →
         IsScript (record { ring = beats.ring; packets = beats.packets; steps = steps_in (watch_of beats.ring limit beats.packets beats.ticks).script; loses = [] }) }
+{}
+
+/// A server that beats at each tick is never fenced.
+pub fn beating()
+    ensures { (ring : RingShape) (limit packets : ℕ) (ticks : List Tick) (server : ℕ) → 1 ≤ limit →
+        AllByRecursion (λ tick. has tick.servers server ≡ true) ticks →
+        AllByRecursion (IsNoCrashOf server) (watch_of ring limit packets ticks).script }
+{}
+
+/// Where a server is down behind some ticks, it hasn't beaten at as many of them in a row as the limit, up
+/// to the last one.
+pub fn silent_in_a_row()
+    ensures { (ring : RingShape) (limit server : ℕ) (ticks : List Tick) → server < ring.servers →
+        IsDown (ticks_on ring limit at_start ticks).live server →
+        limit ≤ row_from server 0 ticks }
 {}

@@ -18,7 +18,7 @@ mod words;
 pub use beats::Beats;
 pub use fault::{BeatsCause, BeatsFault};
 pub use held::Held;
-pub use laws::{accepted, makes_a_script};
+pub use laws::{accepted, beating, makes_a_script, silent_in_a_row};
 pub use reader::read_beats;
 pub use tick::Tick;
 pub use watching::{Watched, watch};
