@@ -9,3 +9,6 @@ pub mod Clean
 pub mod Rows
 pub mod Acceptance
 pub mod Reading
+pub mod Exact
+pub mod TickLines
+pub mod Again

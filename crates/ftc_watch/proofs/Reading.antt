@@ -18,7 +18,7 @@ use Rattle.ftc_watch.specs.Grammar.{header, with_line, placed, ticks_from, ticks
 pub one_line : (servers packets : ℕ) (ticks : List Tick) (line behind : List ℕ) → ticks_from servers packets (Ok ticks) (line ∷ parts_of 10 behind) ≡ ticks_from servers packets (placed (2 + length ticks) (with_line servers packets ticks line)) (parts_of 10 behind)
 one_line servers packets ticks line behind = let more = some_part 10 behind in rw more.2 refl
 
-begun : (servers packets : ℕ) (first behind : List ℕ) → bytes_eq first header ≡ true → ticks_in servers packets (first ∷ parts_of 10 behind) ≡ ticks_from servers packets (Ok []) (parts_of 10 behind)
+pub begun : (servers packets : ℕ) (first behind : List ℕ) → bytes_eq first header ≡ true → ticks_in servers packets (first ∷ parts_of 10 behind) ≡ ticks_from servers packets (Ok []) (parts_of 10 behind)
 begun servers packets first behind is = let more = some_part 10 behind in rw (more.2, is) refl
 
 pub begins : (servers packets : ℕ) (text first lines : List ℕ) (ticks : List Tick) → parts_of 10 text ≡ first ∷ parts_of 10 lines → bytes_eq first header ≡ true → ticks ≡ [] → ticks_from servers packets (Ok ticks) (parts_of 10 lines) ≡ ticks_of servers packets text

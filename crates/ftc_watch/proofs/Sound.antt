@@ -110,7 +110,7 @@ stays_live at w server k up = elim (w.live server) as (λ t. IsLive (if t then w
   | false ↦ elim (k == server) as (λ t. (if t then true else w.live k) ≡ true) [ true ↦ refl | false ↦ up ]
 ]
 
-same_server : (k : ℕ) → (k == k) ≡ true
+pub same_server : (k : ℕ) → (k == k) ≡ true
 same_server k = grind (arith, nat_tests)
 
 comes_back : (at : ℕ) (w : Watching) (server : ℕ) → IsLive (recover_at at w server).live server
@@ -138,7 +138,7 @@ pub count_live : (limit beaten : ℕ) (w : Watching) (servers : List ℕ) → (a
 count_live limit beaten w [] = refl
 count_live limit beaten w (server ∷ servers) = count_live limit beaten (count_at limit beaten w server) servers
 
-count_script : (limit beaten : ℕ) (w : Watching) (servers : List ℕ) → (at_each (count_at limit beaten) w servers).script ≡ w.script
+pub count_script : (limit beaten : ℕ) (w : Watching) (servers : List ℕ) → (at_each (count_at limit beaten) w servers).script ≡ w.script
 count_script limit beaten w [] = refl
 count_script limit beaten w (server ∷ servers) = count_script limit beaten (count_at limit beaten w server) servers
 

@@ -1,5 +1,5 @@
 -- When a server is fenced.
-use Rattle.std.specs.Prelude.{◌≢◌, ℕ, ◌+◌, Bool, true, nat_lt, List, [], ◌∷◌, if◌then◌else◌}
+use Rattle.std.specs.Prelude.{◌≢◌, ℕ, ◌+◌, Bool, true, not, nat_lt, filter, List, [], ◌∷◌, if◌then◌else◌}
 use Rattle.ftc_base.specs.Sets.{has}
 use Rattle.ftc_script.specs.declared.statement.Statement.{Statement}
 use Rattle.ftc_script.specs.declared.statement.Statement.TheVariants.{Nothing, Crash, Recover, Lose}
@@ -23,3 +23,7 @@ row_from server row (tick ∷ ticks) = row_from server (row_after server row tic
 -- which servers are live where, of those that are down, only the ones below a server are
 abbrev pub earlier : ℕ → (ℕ → Bool) → ℕ → Bool
 earlier server live other = if nat_lt other server then live other else true
+
+-- the servers of a list that are down
+abbrev pub downs_in : (ℕ → Bool) → List ℕ → List ℕ
+downs_in live servers = filter (λ server. not (live server)) servers

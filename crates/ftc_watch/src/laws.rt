@@ -1,19 +1,22 @@
 //! What beats are, and what a watch makes of them.
 
-ghost use Rattle.std.specs.Prelude.{◌≡◌, ◌≤◌, ◌<◌, ℕ, true, List, [], Ok};
+ghost use Rattle.std.specs.Prelude.{◌≡◌, ◌≤◌, ◌<◌, ◌↔◌, ◌++◌, ℕ, true, false, List, [], map, Ok};
 ghost use Rattle.std.specs.List.{AllByRecursion};
 ghost use Rattle.ftc_base.specs.Sets.{has};
 ghost use Rattle.ftc_ring.specs.Ring.{RingShape, IsRing};
-ghost use Rattle.ftc_ring.specs.Live.{IsDown};
+ghost use Rattle.ftc_ring.specs.Live.{IsDown, IsAdmissible};
 ghost use Rattle.ftc_script.specs.declared.limits.TheConstants.{MOST_NUMBER};
+ghost use Rattle.ftc_script.specs.declared.statement.Statement.TheVariants.{Crash, Recover};
+ghost use Rattle.ftc_script.specs.Steps.{with_at};
 ghost use Rattle.ftc_script.specs.Script.{ScriptShape, IsScript};
 ghost use Rattle.ftc_script.specs.Grammar.{script_of};
 ghost use Rattle.ftc_script.specs.Plain.{plain_text, steps_in};
 ghost use Rattle.ftc_watch.specs.declared.tick.Tick.{Tick};
 ghost use Rattle.ftc_watch.specs.Beats.{BeatsShape, IsBeats};
 ghost use Rattle.ftc_watch.specs.Grammar.{beats_of};
-ghost use Rattle.ftc_watch.specs.Watch.{at_start, ticks_on, watch_of};
-ghost use Rattle.ftc_watch.specs.Fenced.{IsNoCrashOf, row_from};
+ghost use Rattle.ftc_watch.specs.Plain.{beats_text};
+ghost use Rattle.ftc_watch.specs.Watch.{Watching, at_start, servers_of, tick_on, ticks_on, watch_of};
+ghost use Rattle.ftc_watch.specs.Fenced.{IsNoCrashOf, row_from, earlier, downs_in};
 
 /// A text that is accepted spells beats for its ring and its packets.
 pub fn accepted()
@@ -46,4 +49,29 @@ pub fn silent_in_a_row()
     ensures { (ring : RingShape) (limit server : ℕ) (ticks : List Tick) → server < ring.servers →
         IsDown (ticks_on ring limit at_start ticks).live server →
         limit ≤ row_from server 0 ticks }
+{}
+
+/// A server is down behind a tick exactly where it has missed as many ticks as the limit, and each group
+/// has a live member without it and without those of smaller number that are down then.
+pub fn fenced_exactly()
+    ensures { (ring : RingShape) (limit : ℕ) (before : Watching) (tick : Tick) (server : ℕ) → IsRing ring →
+        server < ring.servers →
+        IsDown (tick_on ring limit before tick).live server
+        ↔ (((tick_on ring limit before tick).missed server ≡ limit)
+        × IsAdmissible ring (with_at (earlier server (tick_on ring limit before tick).live) server false)) }
+{}
+
+/// The lines that a tick adds: a recovery of each server that was down before it, and then a crash of each
+/// that is down behind it, both in rising order.
+pub fn lines_of_a_tick()
+    ensures { (ring : RingShape) (limit : ℕ) (before : Watching) (tick : Tick) →
+        (tick_on ring limit before tick).script
+        ≡ before.script ++ map (Recover tick.at) (downs_in before.live (servers_of ring))
+        ++ map (Crash tick.at) (downs_in (tick_on ring limit before tick).live (servers_of ring)) }
+{}
+
+/// All beats have a plain text, and it reads as exactly those beats.
+pub fn reads_back()
+    ensures { (beats : BeatsShape) → IsBeats beats → beats.packets ≤ MOST_NUMBER →
+        beats_of beats.ring beats.packets (beats_text beats) ≡ Ok beats }
 {}

@@ -18,7 +18,9 @@ mod words;
 pub use beats::Beats;
 pub use fault::{BeatsCause, BeatsFault};
 pub use held::Held;
-pub use laws::{accepted, beating, makes_a_script, silent_in_a_row};
+pub use laws::{
+    accepted, beating, fenced_exactly, lines_of_a_tick, makes_a_script, reads_back, silent_in_a_row,
+};
 pub use reader::read_beats;
 pub use tick::Tick;
 pub use watching::{Watched, watch};
