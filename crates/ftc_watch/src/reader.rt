@@ -69,7 +69,9 @@ pub fn read_beats(
     ring: &Ring,
     packets: u32,
 ) -> Result<Beats, Refuse<BeatsFault>>
-    ensures { IsReading result (beats_of ring.now packets text.now) }
+    ensures value { IsReading result (beats_of ring.now packets text.now) }
+    ensures ring { IfOk result (λ beats. beats.ring ≡ ring.now) }
+    ensures packets { IfOk result (λ beats. beats.packets ≡ packets) }
 {
     let Some((header, lines)) = split_part(text, b'\n') else {
         return Err(fault_at(1, BeatsCause::Header));

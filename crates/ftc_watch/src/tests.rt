@@ -1,11 +1,10 @@
 //! Beats with what has to come of them.
 
-use crate::{Beats, BeatsFault, read_beats, watch};
+use crate::{Beats, BeatsFault, Watched, read_beats, watch};
 use ftc_base::Refuse;
 use ftc_ring::Ring;
 use std::alloc::Global;
 use std::process::Abort;
-use std::test::Fail;
 
 /// A text for so many servers, of which so many may be down, and so many packets, and what is wrong with
 /// it: the line and the number of the cause.
@@ -193,19 +192,24 @@ const WATCHINGS: [Watching; 11] = [
     ),
 ];
 
+/// What comes of a text that is right, with a limit of at least 1.
+fn watched(alloc: Global, text: &str, ring: &Ring, packets: u32, limit: u8) -> Option<Watched> {
+    if limit == 0 {
+        return None;
+    }
+    match read_beats(alloc, text.as_bytes(), ring, packets) {
+        Ok(beats) => watch(alloc, &beats, ring, limit, packets).ok(),
+        Err(_) => None,
+    }
+}
+
 #[test]
-fn beats_make_the_script_and_the_held_lines(rt: HostRuntime) -> Result<(), Fail> {
+fn beats_make_the_script_and_the_held_lines(rt: HostRuntime) {
     for (text, (servers, failures, packets, limit), script, held, (fenced, refused)) in WATCHINGS {
         let ring = Ring::new(servers, failures).expect(&rt, "a ring");
-        let Ok(beats) = read_beats(rt.alloc(), text.as_bytes(), &ring, packets) else {
-            return Err(Fail::new("refused"));
-        };
-        let Ok(watched) = watch(rt.alloc(), &beats, &ring, limit, packets) else {
-            return Err(Fail::new("refused"));
-        };
-        assert!(rt; watched.script.as_slice() == script.as_bytes());
-        assert!(rt; watched.held.as_slice() == held.as_bytes());
-        assert_eq!(rt; (watched.fenced, watched.refused), (fenced, refused));
+        let told = watched(rt.alloc(), text, &ring, packets, limit).expect(&rt, "right beats");
+        assert!(rt; told.script.as_slice() == script.as_bytes());
+        assert!(rt; told.held.as_slice() == held.as_bytes());
+        assert_eq!(rt; (told.fenced, told.refused), (fenced, refused));
     }
-    Ok(())
 }

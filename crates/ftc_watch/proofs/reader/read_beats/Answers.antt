@@ -22,8 +22,8 @@ loop-line-preserved c = record {
   few = c.in_ok-ticks.ensures.few;
 }
 
-pub returns-in_err-ticks : goal.returns-in_err-ticks
-returns-in_err-ticks c =
+pub returns-in_err-ticks-clause-value : goal.returns-in_err-ticks-clause-value
+returns-in_err-ticks-clause-value c =
     refused c.args.ring.now c.servers-servers.result c.args.packets c.loop-line.ticks c.args.text.now c.loop-line.rest.now c.in-Some-split_part.line.now c.in-Some-split_part.behind.now c.from_residual.result c.in_err-ticks.field-0.0 c.servers-servers.ensures.same c.loop-line.invariant.told c.in-Some-split_part.ensures.part c.from_residual.ensures.1 c.in_err-ticks.ensures.value
 
 pub new-requires : goal.new-requires
