@@ -1,6 +1,6 @@
 -- The plain text of beats reads as those beats.
-use Rattle.std.proofs.Common.{◌≡◌, ℕ, zero, suc, ◌+◌, ◌≤◌, ◌<◌, Bool, true, false, List, [], ◌∷◌, ◌++◌, length, Result, Ok, inl, inr, refl, sym, ap, subst, ◌∙◌, arith, rules, length-append, append-nil, append_assoc}
-use Rattle.std.specs.Prelude.{◌==◌, ◌&&◌, ◌||◌, nat_le, nat_lt, codes, decimal, map, filter, if◌then◌else◌}
+use Rattle.std.proofs.Common.{◌≡◌, ℕ, zero, suc, ◌+◌, ◌≤◌, ◌<◌, Bool, true, false, List, [], ◌∷◌, ◌++◌, length, Result, Ok, inl, refl, sym, ap, subst, ◌∙◌, arith, rules, length-append, append-nil, append_assoc}
+use Rattle.std.specs.Prelude.{◌&&◌, ◌||◌, nat_le, nat_lt, codes, decimal, map, filter}
 use Rattle.std.specs.List.{AllByRecursion, join_with_byte, range_with_len}
 use Rattle.std.proofs.lemmas.Bool.Decides.{nat_tests}
 use Rattle.ftc_base.specs.Reading.{◌>>=◌, ◌>>◌, unless}
@@ -9,13 +9,11 @@ use Rattle.ftc_base.specs.Sets.{has}
 use Rattle.ftc_base.proofs.Members.{has-zero, same}
 use Rattle.ftc_base.proofs.Separated.{Without, written, parts_of-part, parts_of-join, without-join}
 use Rattle.ftc_base.proofs.Decimals.{number_of-decimal, without_decimal}
-use Rattle.ftc_ring.specs.Ring.{RingShape, IsRing}
 use Rattle.ftc_script.specs.declared.limits.TheConstants.{MOST_NUMBER}
 use Rattle.ftc_watch.specs.declared.limits.TheConstants.{MOST_BEATS}
 use Rattle.ftc_watch.specs.declared.tick.Tick.{Tick}
 use Rattle.ftc_watch.specs.declared.fault.BeatsCause.{BeatsCause}
 use Rattle.ftc_watch.specs.declared.fault.BeatsCause.TheVariants.{TooMany}
-use Rattle.ftc_watch.specs.declared.fault.BeatsFault.{BeatsFault}
 use Rattle.ftc_watch.specs.Members.{are_below, rises_from, with_member, with_members, set_of}
 use Rattle.ftc_watch.specs.Beats.{BeatsShape, IsTick, AreTicks, IsBeats}
 use Rattle.ftc_watch.specs.Plain.{members_of, tick_words, ticks_text, beats_text}

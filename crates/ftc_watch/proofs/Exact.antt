@@ -1,5 +1,5 @@
 -- A server is fenced exactly where it has missed enough ticks and the ring can spare it.
-use Rattle.std.proofs.Common.{◌≡◌, ℕ, zero, suc, ◌+◌, ◌≤◌, ◌<◌, Bool, true, false, Option, Some, None, List, [], ◌∷◌, ◌++◌, inl, inr, refl, sym, ap, subst, ◌∙◌, arith}
+use Rattle.std.proofs.Common.{◌≡◌, ℕ, zero, suc, ◌+◌, ◌≤◌, ◌<◌, Bool, true, false, Option, Some, None, inl, inr, refl, sym, ap, subst, ◌∙◌, arith}
 use Rattle.std.specs.Prelude.{◌==◌, ◌↔◌, nat_lt, if◌then◌else◌}
 use Rattle.std.specs.List.{range_with_len}
 use Rattle.std.proofs.Math.Nat.{eq-or-lt_of_le}
@@ -10,7 +10,7 @@ use Rattle.ftc_ring.proofs.Nearest.{gone_none, more_live}
 use Rattle.ftc_script.specs.Steps.{with_at}
 use Rattle.ftc_watch.specs.declared.tick.Tick.{Tick}
 use Rattle.ftc_watch.specs.Fenced.{earlier}
-use Rattle.ftc_watch.specs.Watch.{Watching, fence_at, judge_at, at_each, recover_all, count_all, judge_all, tick_on}
+use Rattle.ftc_watch.specs.Watch.{Watching, fence_at, judge_at, at_each, recover_all, count_all, tick_on}
 use Rattle.ftc_watch.proofs.Sound.{same_server, all_up, count_live, judge_others}
 use Rattle.ftc_watch.proofs.Rows.{judges_missed}
 

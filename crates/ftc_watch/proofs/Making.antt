@@ -1,21 +1,19 @@
 -- The script of a watch is accepted.
-use Rattle.std.proofs.Common.{◌≡◌, ℕ, ◌+◌, ◌*◌, ◌≤◌, ◌<◌, ◌^◌, List, [], ◌∷◌, ◌++◌, length, Ok, refl, sym, ap, subst, ◌∙◌, arith, length-append}
+use Rattle.std.proofs.Common.{◌≡◌, ℕ, ◌+◌, ◌*◌, ◌≤◌, ◌<◌, List, [], ◌∷◌, ◌++◌, length, Ok, refl, sym, ap, subst, ◌∙◌, arith, length-append}
 use Rattle.std.specs.Prelude.{codes, decimal}
 use Rattle.std.specs.List.{AllByRecursion, join_with_byte}
 use Rattle.std.proofs.lemmas.Fmt.{length-decimal-le}
 use Rattle.ftc_ring.specs.Ring.{RingShape, IsRing}
-use Rattle.ftc_ring.specs.Live.{IsLive}
 use Rattle.ftc_script.specs.declared.line.LoseLine.{LoseLine}
 use Rattle.ftc_script.specs.declared.statement.Statement.{Statement}
 use Rattle.ftc_script.specs.declared.statement.Statement.TheVariants.{Nothing, Crash, Recover, Lose}
-use Rattle.ftc_script.specs.Steps.{all_live, live_after_all}
 use Rattle.ftc_script.specs.Script.{ScriptShape, IsScript}
 use Rattle.ftc_script.specs.Grammar.{script_of}
 use Rattle.ftc_script.specs.Plain.{words_in, plain_text, steps_in, loses_in}
 use Rattle.ftc_script.proofs.ReadAgain.{reads_back}
 use Rattle.ftc_watch.specs.declared.tick.Tick.{Tick}
 use Rattle.ftc_watch.specs.Beats.{BeatsShape, IsBeats}
-use Rattle.ftc_watch.specs.Watch.{Watching, at_start, ticks_on, watch_of}
+use Rattle.ftc_watch.specs.Watch.{at_start, ticks_on, watch_of}
 use Rattle.ftc_watch.proofs.Sizes.{watch_few}
 use Rattle.ftc_watch.proofs.Sound.{IsMove, Sound, all_up, watch_sound}
 

@@ -1,10 +1,9 @@
 -- What stands round the line feeds of a beats text.
-use Rattle.std.proofs.Common.{◌≡◌, ℕ, ◌+◌, ◌==◌, true, List, [], ◌∷◌, length, Result, Ok, Err, refl, sym, subst, ap, ◌∙◌}
+use Rattle.std.proofs.Common.{◌≡◌, ℕ, ◌+◌, true, List, [], ◌∷◌, length, Result, Ok, Err, refl, sym, subst, ap, ◌∙◌}
 use Rattle.std.specs.Str.{bytes_eq}
 use Rattle.std.specs.Result.{IsErrAnd}
 use Rattle.ftc_base.specs.Endpoint.{parts_of}
 use Rattle.ftc_base.specs.Refused.{IsReading}
-use Rattle.ftc_base.specs.Reading.{◌>>=◌}
 use Rattle.ftc_base.specs.declared.refusal.Refuse.{Refuse}
 use Rattle.ftc_base.specs.declared.refusal.Refuse.TheVariants.{Bad, NoMemory}
 use Rattle.ftc_base.proofs.Parts.{some_part}

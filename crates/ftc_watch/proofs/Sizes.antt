@@ -1,12 +1,10 @@
 -- How many lines come of some ticks.
-use Rattle.std.proofs.Common.{◌≡◌, ℕ, ◌+◌, ◌*◌, ◌≤◌, Bool, true, false, Option, Some, None, List, [], ◌∷◌, ◌++◌, length, refl, sym, ap, subst, ◌∙◌, arith, length-append}
+use Rattle.std.proofs.Common.{◌≡◌, ℕ, ◌+◌, ◌*◌, ◌≤◌, true, false, Option, Some, None, List, [], ◌∷◌, ◌++◌, length, sym, ap, subst, ◌∙◌, arith, length-append}
 use Rattle.std.specs.Prelude.{◌==◌, if◌then◌else◌}
-use Rattle.std.specs.List.{range_with_len}
 use Rattle.std.proofs.lemmas.List.FromFn.{length-range_with_len}
 use Rattle.ftc_ring.specs.Ring.{RingShape}
 use Rattle.ftc_ring.specs.Live.{gone_of}
 use Rattle.ftc_script.specs.Steps.{with_at}
-use Rattle.ftc_script.specs.declared.statement.Statement.{Statement}
 use Rattle.ftc_script.specs.declared.statement.Statement.TheVariants.{Crash, Recover}
 use Rattle.ftc_watch.specs.declared.held.Held.{Held}
 use Rattle.ftc_watch.specs.declared.tick.Tick.{Tick}

@@ -1,8 +1,7 @@
-use Rattle.std.proofs.Common.{◌≡◌, ◌≤◌, ◌∙◌, [], true, length, Ok, sym, ap, rules, arith}
+use Rattle.std.proofs.Common.{◌≡◌, true, length, rules, arith}
 use Rattle.std.proofs.lemmas.Grind.{common_steps}
 use Rattle.std.specs.Str.{bytes_eq}
 use Rattle.ftc_base.proofs.FirstParts.{empty}
-use Rattle.ftc_watch.specs.declared.limits.TheConstants.{MOST_BEATS}
 use Rattle.ftc_watch.specs.Grammar.{header}
 use Rattle.ftc_watch.proofs.Acceptance.{ticks_accepts}
 use Rattle.ftc_watch.proofs.Reading.{begins, goes_on, refused, ended_well}

@@ -1,7 +1,5 @@
-use Rattle.std.proofs.Common.{sym, ◌∙◌, ap}
-use Rattle.std.specs.List.{range_with_len}
 use Rattle.ftc_watch.specs.Watcher.{known}
-use Rattle.ftc_watch.specs.Watch.{Watching, count_at, at_each}
+use Rattle.ftc_watch.specs.Watch.{count_at}
 use Rattle.ftc_watch.proofs.Steps.{next_told}
 use Rattle.ftc_watch.proofs.watching.count_all.Goals as goal
 
