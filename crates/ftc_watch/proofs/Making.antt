@@ -63,9 +63,16 @@ text_short (line ∷ lines) all =
 
 -- the script that a watch makes
 abbrev pub script_made : RingShape → ℕ → ℕ → List Tick → ScriptShape
-script_made ring limit packets ticks = record { ring = ring; packets = packets; steps = steps_in (watch_of ring limit packets ticks).script; loses = [] }
+script_made ring limit packets ticks = record {
+  ring = ring;
+  packets = packets;
+  steps = steps_in
+      (watch_of ring limit packets ticks).script;
+  loses = [];
+}
 
-is_script : (ring : RingShape) (limit packets : ℕ) (ticks : List Tick) → IsRing ring → length ticks ≤ 1000 → Sound ring packets packets (watch_of ring limit packets ticks) → IsScript (script_made ring limit packets ticks)
+is_script : (ring : RingShape) (limit packets : ℕ) (ticks : List Tick) → IsRing ring → length ticks ≤ 1000
+    → Sound ring packets packets (watch_of ring limit packets ticks) → IsScript (script_made ring limit packets ticks)
 is_script ring limit packets ticks shape size is =
     let few = few_steps (watch_of ring limit packets ticks).script in
     let small = shape.servers in
@@ -74,16 +81,20 @@ is_script ring limit packets ticks shape size is =
       ring = shape;
       few = omega (arith, few, all);
       steps = is.steps;
-      all_live = λ server within. ap (λ (l : ℕ → _). l server) (sym is.alike) ∙ all_up ring packets (ticks_on ring limit at_start ticks) server within;
+      all_live = λ server within. ap (λ (l : ℕ → _). l server) (sym is.alike)
+          ∙ all_up ring packets (ticks_on ring limit at_start ticks) server within;
       loses = tt;
     }
 
-pub made_is_script : (beats : BeatsShape) (limit : ℕ) → IsBeats beats → beats.packets ≤ 4294967295 → IsScript (script_made beats.ring limit beats.packets beats.ticks)
+pub made_is_script : (beats : BeatsShape) (limit : ℕ) → IsBeats beats → beats.packets ≤ 4294967295
+    → IsScript (script_made beats.ring limit beats.packets beats.ticks)
 made_is_script beats limit is few =
-    is_script beats.ring limit beats.packets beats.ticks is.ring is.few (watch_sound beats.ring limit beats.packets beats.ticks is.ring few is.ticks)
+    is_script beats.ring limit beats.packets beats.ticks is.ring is.few
+    (watch_sound beats.ring limit beats.packets beats.ticks is.ring few is.ticks)
 
 pub made_reads : (beats : BeatsShape) (limit : ℕ) → IsBeats beats → beats.packets ≤ 4294967295
-    → script_of beats.ring beats.packets (plain_text (watch_of beats.ring limit beats.packets beats.ticks).script) ≡ Ok (script_made beats.ring limit beats.packets beats.ticks)
+    → script_of beats.ring beats.packets (plain_text (watch_of beats.ring limit beats.packets beats.ticks).script)
+    ≡ Ok (script_made beats.ring limit beats.packets beats.ticks)
 made_reads beats limit is few =
     let ring = beats.ring in
     let lines : List Statement = (watch_of beats.ring limit beats.packets beats.ticks).script in
@@ -93,6 +104,8 @@ made_reads beats limit is few =
     let short = text_short lines sound.moves in
     let small = is.ring.servers in
     let all = watch_few ring limit beats.packets beats.ticks small is.few in
-    let told : (loses : List LoseLine) → ScriptShape = λ (loses : List LoseLine). record { ring = ring; packets = beats.packets; steps = steps_in lines; loses = loses } in
-    reads_back ring beats.packets lines (subst (λ (loses : List LoseLine). IsScript (told loses)) (sym none) made) few (omega (arith, short, all))
+    let told : (loses : List LoseLine) → ScriptShape = λ (loses : List LoseLine).
+    record { ring = ring; packets = beats.packets; steps = steps_in lines; loses = loses } in
+    reads_back ring beats.packets lines (subst (λ (loses : List LoseLine). IsScript (told loses)) (sym none) made) few
+    (omega (arith, short, all))
     ∙ ap (λ (loses : List LoseLine). Ok (told loses)) none

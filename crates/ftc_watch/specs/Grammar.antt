@@ -35,13 +35,17 @@ numbers_from numbers (word ∷ words) = number_word word >>= λ number. numbers_
 abbrev pub tick_in : ℕ → ℕ → ℕ → List ℕ → Result Tick BeatsCause
 tick_in servers packets last [] = Err Word
 tick_in servers packets last (at ∷ numbers) =
-    unless (are_below servers numbers) Range >> unless (nat_le at packets) Past >> unless (nat_le last at && rises_from 0 numbers) Order >> Ok (record { at = at; servers = set_of numbers })
+    unless (are_below servers numbers) Range
+    >> unless (nat_le at packets) Past
+    >> unless (nat_le last at && rises_from 0 numbers) Order
+    >> Ok (record { at = at; servers = set_of numbers })
 
 -- the words of a line: `tick`, and numbers
 abbrev pub tick_of : ℕ → ℕ → ℕ → List (List ℕ) → Result Tick BeatsCause
 tick_of servers packets last [] = Err Word
 tick_of servers packets last (first ∷ words) =
-    unless (bytes_eq first (codes "tick")) Word >> numbers_from [] words >>= λ numbers. tick_in servers packets last numbers
+    unless (bytes_eq first (codes "tick")) Word >> numbers_from [] words
+    >>= λ numbers. tick_in servers packets last numbers
 
 -- the number of the last tick, or the one given where there is none
 abbrev pub last_of : ℕ → List Tick → ℕ
@@ -72,13 +76,15 @@ abbrev pub ticks_from : ℕ → ℕ → Result (List Tick) BeatsFault → List (
 ticks_from servers packets (Err fault) lines = Err fault
 ticks_from servers packets (Ok ticks) [] = Ok ticks
 ticks_from servers packets (Ok ticks) (last ∷ []) = placed (2 + length ticks) (ended ticks last)
-ticks_from servers packets (Ok ticks) (line ∷ next ∷ lines) = ticks_from servers packets (placed (2 + length ticks) (with_line servers packets ticks line)) (next ∷ lines)
+ticks_from servers packets (Ok ticks) (line ∷ next ∷ lines) =
+    ticks_from servers packets (placed (2 + length ticks) (with_line servers packets ticks line)) (next ∷ lines)
 
 -- the first line has a line feed
 abbrev pub ticks_in : ℕ → ℕ → List (List ℕ) → Result (List Tick) BeatsFault
 ticks_in servers packets [] = placed 1 (Err Header)
 ticks_in servers packets (first ∷ []) = placed 1 (Err Header)
-ticks_in servers packets (first ∷ next ∷ lines) = placed 1 (unless (bytes_eq first header) Header) >> ticks_from servers packets (Ok []) (next ∷ lines)
+ticks_in servers packets (first ∷ next ∷ lines) =
+    placed 1 (unless (bytes_eq first header) Header) >> ticks_from servers packets (Ok []) (next ∷ lines)
 
 -- the ticks that a text spells, or its first fault
 abbrev pub ticks_of : ℕ → ℕ → List ℕ → Result (List Tick) BeatsFault
@@ -86,4 +92,5 @@ ticks_of servers packets text = ticks_in servers packets (parts_of 10 text)
 
 -- the beats that a text spells, or its first fault
 abbrev pub beats_of : RingShape → ℕ → List ℕ → Result BeatsShape BeatsFault
-beats_of ring packets text = ticks_of ring.servers packets text >>= λ ticks. Ok (record { ring = ring; packets = packets; ticks = ticks })
+beats_of ring packets text =
+    ticks_of ring.servers packets text >>= λ ticks. Ok (record { ring = ring; packets = packets; ticks = ticks })

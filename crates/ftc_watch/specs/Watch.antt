@@ -25,7 +25,12 @@ at_start = record { live = all_live; missed = λ server. 0; script = []; held = 
 abbrev pub recover_at : ℕ → Watching → ℕ → Watching
 recover_at at w server =
     if w.live server then w else
-    record { live = with_at w.live server true; missed = with_at w.missed server 0; script = w.script ++ Recover at server ∷ []; held = w.held }
+    record {
+      live = with_at w.live server true;
+      missed = with_at w.missed server 0;
+      script = w.script ++ Recover at server ∷ [];
+      held = w.held;
+    }
 
 -- a server that beat has missed none, and another one more, up to the limit
 abbrev pub missed_of : ℕ → Bool → ℕ → ℕ
@@ -33,14 +38,29 @@ missed_of limit beat missed = if beat then 0 else min (missed + 1) limit
 
 abbrev pub count_at : ℕ → ℕ → Watching → ℕ → Watching
 count_at limit beaten w server =
-    record { live = w.live; missed = with_at w.missed server (missed_of limit (has beaten server) (w.missed server)); script = w.script; held = w.held }
+    record {
+      live = w.live;
+      missed = with_at w.missed server (missed_of limit (has beaten server) (w.missed server));
+      script = w.script;
+      held = w.held;
+    }
 
 -- a server goes down where each group keeps a live member, and is held where one doesn't
 abbrev pub fence_at : ℕ → Watching → ℕ → Option ℕ → Watching
 fence_at at w server None =
-    record { live = with_at w.live server false; missed = w.missed; script = w.script ++ Crash at server ∷ []; held = w.held }
+    record {
+      live = with_at w.live server false;
+      missed = w.missed;
+      script = w.script ++ Crash at server ∷ [];
+      held = w.held;
+    }
 fence_at at w server (Some group) =
-    record { live = w.live; missed = w.missed; script = w.script; held = w.held ++ record { at = at; server = server; group = group } ∷ [] }
+    record {
+      live = w.live;
+      missed = w.missed;
+      script = w.script;
+      held = w.held ++ record { at = at; server = server; group = group } ∷ [];
+    }
 
 -- a server that has missed as many ticks as the limit
 abbrev pub judge_at : RingShape → ℕ → ℕ → Watching → ℕ → Watching
@@ -67,7 +87,8 @@ judge_all ring limit at w = at_each (judge_at ring limit at) w (servers_of ring)
 
 -- at a tick the down servers recover, then the beats count, then the silent servers are fenced or held
 abbrev pub tick_on : RingShape → ℕ → Watching → Tick → Watching
-tick_on ring limit w tick = judge_all ring limit tick.at (count_all ring limit tick.servers (recover_all ring tick.at w))
+tick_on ring limit w tick =
+    judge_all ring limit tick.at (count_all ring limit tick.servers (recover_all ring tick.at w))
 
 abbrev pub ticks_on : RingShape → ℕ → Watching → List Tick → Watching
 ticks_on ring limit w [] = w

@@ -14,4 +14,10 @@ pub record Kept : Type 0 where
 
 -- the same as functions of the servers
 abbrev pub known : Kept → Watching
-known kept = record { live = is_live kept.down; missed = λ server. slice_index kept.missed server; script = kept.script; held = kept.held }
+known kept = record {
+  live = is_live kept.down;
+  missed = λ server. slice_index kept.missed server;
+  script =
+      kept.script;
+  held = kept.held;
+}

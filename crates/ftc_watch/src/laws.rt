@@ -31,9 +31,19 @@ pub fn accepted()
 pub fn makes_a_script()
     ensures reads { (beats : BeatsShape) (limit : ℕ) → IsBeats beats → beats.packets ≤ MOST_NUMBER →
         script_of beats.ring beats.packets (plain_text (watch_of beats.ring limit beats.packets beats.ticks).script)
-        ≡ Ok (record { ring = beats.ring; packets = beats.packets; steps = steps_in (watch_of beats.ring limit beats.packets beats.ticks).script; loses = [] }) }
+        ≡ Ok (record {
+          ring = beats.ring;
+          packets = beats.packets;
+          steps = steps_in (watch_of beats.ring limit beats.packets beats.ticks).script;
+          loses = [];
+        }) }
     ensures is { (beats : BeatsShape) (limit : ℕ) → IsBeats beats → beats.packets ≤ MOST_NUMBER →
-        IsScript (record { ring = beats.ring; packets = beats.packets; steps = steps_in (watch_of beats.ring limit beats.packets beats.ticks).script; loses = [] }) }
+        IsScript (record {
+          ring = beats.ring;
+          packets = beats.packets;
+          steps = steps_in (watch_of beats.ring limit beats.packets beats.ticks).script;
+          loses = [];
+        }) }
 {}
 
 /// A server that beats at each tick is never fenced.

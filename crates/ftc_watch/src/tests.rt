@@ -184,11 +184,11 @@ const WATCHINGS: [Watching; 11] = [
         (3, 0),
     ),
     (
-        "ftc-beats 1\ntick 1 0 3 4 7 8 10 11 13 14\n",
-        (16, 5, 5, 1),
-        "at 1 crash 1\nat 1 crash 2\nat 1 crash 5\nat 1 crash 6\nat 1 crash 9\nat 1 crash 12\nat 1 crash 15\nat 5 recover 1\nat 5 recover 2\nat 5 recover 5\nat 5 recover 6\nat 5 recover 9\nat 5 recover 12\nat 5 recover 15\n",
+        "ftc-beats 1\ntick 1 0 2 4\n",
+        (6, 1, 5, 1),
+        "at 1 crash 1\nat 1 crash 3\nat 1 crash 5\nat 5 recover 1\nat 5 recover 3\nat 5 recover 5\n",
         "",
-        (7, 0),
+        (3, 0),
     ),
 ];
 

@@ -1,9 +1,8 @@
 //! What a watch knows of the servers, and the lines so far.
 
-ghost use Rattle.std.specs.Prelude.{◌≡◌, ◌≤◌, ◌<◌, ◌==◌, ℕ, Bool, true, false, List, length, min, IfOk, Some, None, slice_index};
+ghost use Rattle.std.specs.Prelude.{◌≡◌, ◌<◌, ℕ, true, false, length, IfOk, Some, None, slice_index};
 ghost use Rattle.ftc_base.specs.declared.limits.TheConstants.{MOST_SERVERS};
-ghost use Rattle.ftc_base.specs.Sets.{has};
-ghost use Rattle.ftc_ring.specs.Live.{is_live, gone_of};
+ghost use Rattle.ftc_ring.specs.Live.{is_live};
 ghost use Rattle.ftc_script.specs.Steps.{with_at};
 ghost use Rattle.ftc_watch.specs.Watcher.{known};
 ghost use Rattle.ftc_watch.specs.Watch.{at_start, missed_of, recover_at, count_at, fence_at, judge_at};

@@ -127,10 +127,13 @@ pub fn watch(
     requires ring { beats.now.ring ≡ ring.now }
     requires packets { beats.now.packets ≡ packets }
     requires limit { 1 ≤ limit }
-    ensures script { IfOk result (λ told. told.script ≡ plain_text (watch_of ring.now limit packets beats.now.ticks).script) }
+    ensures script { IfOk result (λ told.
+        told.script ≡ plain_text (watch_of ring.now limit packets beats.now.ticks).script) }
     ensures held { IfOk result (λ told. told.held ≡ held_text (watch_of ring.now limit packets beats.now.ticks).held) }
-    ensures fenced { IfOk result (λ told. told.fenced ≡ crashes_in (watch_of ring.now limit packets beats.now.ticks).script) }
-    ensures refused { IfOk result (λ told. told.refused ≡ length (watch_of ring.now limit packets beats.now.ticks).held) }
+    ensures fenced { IfOk result (λ told.
+        told.fenced ≡ crashes_in (watch_of ring.now limit packets beats.now.ticks).script) }
+    ensures refused { IfOk result (λ told.
+        told.refused ≡ length (watch_of ring.now limit packets beats.now.ticks).held) }
 {
     let watcher = ticks_on(alloc, ring, limit, beats.ticks())?;
     let watcher = recover_all(ring, packets, watcher)?;

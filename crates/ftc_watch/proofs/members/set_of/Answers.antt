@@ -11,10 +11,12 @@ loop-number-init c = record {
 
 pub loop-number-preserved : goal.loop-number-preserved
 loop-number-preserved c =
-    let next = below_next 16 c.args.numbers.now c.loop-number.number-index (c.loop-number-test.true) c.loop-number.invariant.within in
+    let next = below_next 16 c.args.numbers.now c.loop-number.number-index
+    (c.loop-number-test.true) c.loop-number.invariant.within in
     let small = next.0 in
     record {
-      told = set_next c.args.numbers.now c.loop-number.number-index c.loop-number.set c.with-set.result _ (c.loop-number-test.true) c.loop-number.invariant.told
+      told = set_next c.args.numbers.now c.loop-number.number-index c.loop-number.set c.with-set.result _
+          (c.loop-number-test.true) c.loop-number.invariant.told
           (one_member c.with-set.result c.loop-number.set _ (omega arith) c.with-set.ensures);
       within = next.1;
     }

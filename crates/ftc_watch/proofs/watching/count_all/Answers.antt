@@ -5,6 +5,8 @@ use Rattle.ftc_watch.proofs.watching.count_all.Goals as goal
 
 pub loop-server-preserved : goal.loop-server-preserved
 loop-server-preserved c = record {
-  told = next_told (count_at c.args.limit c.args.beaten) (known c.loop-server.watcher) (known c.counted-watcher.result) _ c.loop-server.server c.servers-server-end.result c.loop-server-test.true c.loop-server.invariant.told c.counted-watcher.ensures;
+  told = next_told (count_at c.args.limit c.args.beaten) (known c.loop-server.watcher)
+      (known c.counted-watcher.result) _ c.loop-server.server c.servers-server-end.result c.loop-server-test.true
+      c.loop-server.invariant.told c.counted-watcher.ensures;
   few = c.loop-server.invariant.few;
 }

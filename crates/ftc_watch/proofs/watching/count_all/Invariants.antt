@@ -8,6 +8,7 @@ use Rattle.ftc_watch.proofs.watching.count_all.Given as goal
 
 abbrev pub invariant-loop-server : goal.invariant-loop-server
 invariant-loop-server l = record {
-  told : at_each (count_at l.limit l.beaten) (known l.watcher) (range_with_len l.server (l.server-end - l.server)) ≡ count_all l.ring l.limit l.beaten (known l.fn.watcher);
+  told : at_each (count_at l.limit l.beaten) (known l.watcher) (range_with_len l.server (l.server-end - l.server))
+      ≡ count_all l.ring l.limit l.beaten (known l.fn.watcher);
   few : l.server-end ≤ MOST_SERVERS;
 }

@@ -8,6 +8,7 @@ use Rattle.ftc_watch.proofs.watching.recover_all.Given as goal
 
 abbrev pub invariant-loop-server : goal.invariant-loop-server
 invariant-loop-server l = record {
-  told : at_each (recover_at l.at) (known l.watcher) (range_with_len l.server (l.server-end - l.server)) ≡ recover_all l.ring l.at (known l.fn.watcher);
+  told : at_each (recover_at l.at) (known l.watcher) (range_with_len l.server (l.server-end - l.server))
+      ≡ recover_all l.ring l.at (known l.fn.watcher);
   few : l.server-end ≤ MOST_SERVERS;
 }

@@ -5,4 +5,5 @@ use Rattle.ftc_watch.specs.Watch.{at_start, ticks_on}
 use Rattle.ftc_watch.proofs.watching.ticks_on.Given as goal
 
 abbrev pub invariant-loop-tick : goal.invariant-loop-tick
-invariant-loop-tick l = ticks_on l.ring l.limit (known l.watcher) (drop l.tick-index l.ticks) ≡ ticks_on l.ring l.limit at_start l.ticks
+invariant-loop-tick l = ticks_on l.ring l.limit (known l.watcher) (drop l.tick-index l.ticks)
+    ≡ ticks_on l.ring l.limit at_start l.ticks
