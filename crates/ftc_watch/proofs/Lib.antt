@@ -9,6 +9,7 @@ pub mod Clean
 pub mod Rows
 pub mod Acceptance
 pub mod Reading
+pub mod Missed
 pub mod Exact
 pub mod TickLines
 pub mod Again

@@ -52,7 +52,7 @@ counts_before limit beaten w low (suc more) k below =
     counts_before limit beaten (count_at limit beaten w low) (low + 1) more k (omega arith)
     ∙ count_other limit beaten w low k other
 
-counts_own : (limit beaten : ℕ) (w : Watching) (low more k : ℕ) → low ≤ k → k < low + more
+pub counts_own : (limit beaten : ℕ) (w : Watching) (low more k : ℕ) → low ≤ k → k < low + more
     → (at_each (count_at limit beaten) w (range_with_len low more)).missed k ≡ missed_of limit (has beaten k)
     (w.missed k)
 counts_own limit beaten w low zero k above below = absurd (omega arith)

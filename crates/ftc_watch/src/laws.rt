@@ -1,6 +1,6 @@
 //! What beats are, and what a watch makes of them.
 
-ghost use Rattle.std.specs.Prelude.{◌≡◌, ◌≤◌, ◌<◌, ◌↔◌, ◌++◌, ℕ, true, false, List, [], map, Ok};
+ghost use Rattle.std.specs.Prelude.{◌≡◌, ◌≤◌, ◌<◌, ◌↔◌, ◌++◌, ℕ, true, false, List, [], map, if◌then◌else◌, Ok};
 ghost use Rattle.std.specs.List.{AllByRecursion};
 ghost use Rattle.ftc_base.specs.Sets.{has};
 ghost use Rattle.ftc_ring.specs.Ring.{RingShape, IsRing};
@@ -15,7 +15,7 @@ ghost use Rattle.ftc_watch.specs.declared.tick.Tick.{Tick};
 ghost use Rattle.ftc_watch.specs.Beats.{BeatsShape, IsBeats};
 ghost use Rattle.ftc_watch.specs.Grammar.{beats_of};
 ghost use Rattle.ftc_watch.specs.Plain.{beats_text};
-ghost use Rattle.ftc_watch.specs.Watch.{Watching, at_start, servers_of, tick_on, ticks_on, watch_of};
+ghost use Rattle.ftc_watch.specs.Watch.{Watching, at_start, missed_of, servers_of, tick_on, ticks_on, watch_of};
 ghost use Rattle.ftc_watch.specs.Fenced.{IsNoCrashOf, row_from, earlier, downs_in};
 
 /// A text that is accepted spells beats for its ring and its packets.
@@ -59,6 +59,14 @@ pub fn silent_in_a_row()
     ensures { (ring : RingShape) (limit server : ℕ) (ticks : List Tick) → server < ring.servers →
         IsDown (ticks_on ring limit at_start ticks).live server →
         limit ≤ row_from server 0 ticks }
+{}
+
+/// How many ticks a server has missed behind a tick: none where it beat, and else one more than before, up
+/// to the limit, where a server that was down before counts anew.
+pub fn missed_at_a_tick()
+    ensures { (ring : RingShape) (limit : ℕ) (before : Watching) (tick : Tick) (server : ℕ) → server < ring.servers →
+        (tick_on ring limit before tick).missed server
+        ≡ missed_of limit (has tick.servers server) (if before.live server then before.missed server else 0) }
 {}
 
 /// A server is down behind a tick exactly where it has missed as many ticks as the limit, and each group
