@@ -53,7 +53,7 @@ goes_down ring limit at w server full none =
     rw test fenced
 
 -- the live servers, where the ones that are judged later count as live
-alike_at : (live final : ℕ → Bool) (low j : ℕ) → (j < low → final j ≡ live j) → (low ≤ j → live j ≡ true)
+pub alike_at : (live final : ℕ → Bool) (low j : ℕ) → (j < low → final j ≡ live j) → (low ≤ j → live j ≡ true)
     → with_at live low false j ≡ with_at (earlier low final) low false j
 alike_at live final low j before up = elim (j == low) as (λ t. (if t then false else live j) ≡
     (if t then false else earlier low final j)) [

@@ -13,3 +13,4 @@ pub mod Missed
 pub mod Exact
 pub mod TickLines
 pub mod Again
+pub mod HeldLines

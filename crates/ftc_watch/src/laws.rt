@@ -16,7 +16,7 @@ ghost use Rattle.ftc_watch.specs.Beats.{BeatsShape, IsBeats};
 ghost use Rattle.ftc_watch.specs.Grammar.{beats_of};
 ghost use Rattle.ftc_watch.specs.Plain.{beats_text};
 ghost use Rattle.ftc_watch.specs.Watch.{Watching, at_start, missed_of, servers_of, tick_on, ticks_on, watch_of};
-ghost use Rattle.ftc_watch.specs.Fenced.{IsNoCrashOf, row_from, earlier, downs_in};
+ghost use Rattle.ftc_watch.specs.Fenced.{IsNoCrashOf, row_from, earlier, downs_in, held_in};
 
 /// A text that is accepted spells beats for its ring and its packets.
 pub fn accepted()
@@ -86,6 +86,13 @@ pub fn lines_of_a_tick()
         (tick_on ring limit before tick).script
         ≡ before.script ++ map (Recover tick.at) (downs_in before.live (servers_of ring))
         ++ map (Crash tick.at) (downs_in (tick_on ring limit before tick).live (servers_of ring)) }
+{}
+
+/// The held lines that a tick adds, in rising order of the servers.
+pub fn held_lines_of_a_tick()
+    ensures { (ring : RingShape) (limit : ℕ) (before : Watching) (tick : Tick) → IsRing ring →
+        (tick_on ring limit before tick).held
+        ≡ before.held ++ held_in ring limit tick.at (tick_on ring limit before tick) (servers_of ring) }
 {}
 
 /// All beats have a plain text, and it reads as exactly those beats.

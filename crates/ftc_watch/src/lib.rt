@@ -19,8 +19,8 @@ pub use beats::Beats;
 pub use fault::{BeatsCause, BeatsFault};
 pub use held::Held;
 pub use laws::{
-    accepted, beating, fenced_exactly, lines_of_a_tick, makes_a_script, missed_at_a_tick,
-    reads_back, silent_in_a_row,
+    accepted, beating, fenced_exactly, held_lines_of_a_tick, lines_of_a_tick, makes_a_script,
+    missed_at_a_tick, reads_back, silent_in_a_row,
 };
 pub use reader::read_beats;
 pub use tick::Tick;
