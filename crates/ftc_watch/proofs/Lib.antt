@@ -1,0 +1,16 @@
+pub mod Sets
+pub mod Ticks
+pub mod Lines
+pub mod Steps
+pub mod Sizes
+pub mod Sound
+pub mod Making
+pub mod Clean
+pub mod Rows
+pub mod Acceptance
+pub mod Reading
+pub mod Missed
+pub mod Exact
+pub mod TickLines
+pub mod Again
+pub mod HeldLines
