@@ -27,8 +27,7 @@ recover_clean k at w server is =
     else record {
       live = with_at w.live server true;
       missed = with_at w.missed server 0;
-      script = w.script
-          ++ Recover at server ∷ [];
+      script = w.script ++ Recover at server ∷ [];
       held = w.held;
     })) [
       | true ↦ is

@@ -88,8 +88,7 @@ recover_held at w server =
     else record {
       live = with_at w.live server true;
       missed = with_at w.missed server 0;
-      script = w.script
-          ++ Recover at server ∷ [];
+      script = w.script ++ Recover at server ∷ [];
       held = w.held;
     }).held ≡ w.held) [
       | true ↦ refl

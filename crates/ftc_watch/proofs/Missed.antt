@@ -24,8 +24,7 @@ other_missed at w server k other =
     else record {
       live = with_at w.live server true;
       missed = with_at w.missed server 0;
-      script = w.script
-          ++ Recover at server ∷ [];
+      script = w.script ++ Recover at server ∷ [];
       held = w.held;
     }).missed k ≡ w.missed k) [
       | true ↦ refl
@@ -38,8 +37,7 @@ other_live at w server k other =
     else record {
       live = with_at w.live server true;
       missed = with_at w.missed server 0;
-      script = w.script
-          ++ Recover at server ∷ [];
+      script = w.script ++ Recover at server ∷ [];
       held = w.held;
     }).live k ≡ w.live k) [
       | true ↦ refl
@@ -52,8 +50,7 @@ own_missed at w server =
     else record {
       live = with_at w.live server true;
       missed = with_at w.missed server 0;
-      script = w.script
-          ++ Recover at server ∷ [];
+      script = w.script ++ Recover at server ∷ [];
       held = w.held;
     }).missed server ≡ (if t then w.missed server else 0)) [
       | true ↦ refl

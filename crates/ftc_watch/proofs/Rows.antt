@@ -21,8 +21,7 @@ recover_missed at w server k row few =
     else record {
       live = with_at w.live server true;
       missed = with_at w.missed server 0;
-      script = w.script
-          ++ Recover at server ∷ [];
+      script = w.script ++ Recover at server ∷ [];
       held = w.held;
     }).missed k ≤ row) [
       | true ↦ few

@@ -101,8 +101,7 @@ recover_sound ring packets at w server shape few entered within is =
     else record {
       live = with_at w.live server true;
       missed = with_at w.missed server 0;
-      script = w.script
-          ++ Recover at server ∷ [];
+      script = w.script ++ Recover at server ∷ [];
       held = w.held;
     })) [
       | true ↦ λ up. is
@@ -167,8 +166,7 @@ comes_back at w server = elim (w.live server) as (λ t. w.live server ≡ t
     → IsLive (if t then w else record {
       live = with_at w.live server true;
       missed = with_at w.missed server 0;
-      script
-          = w.script ++ Recover at server ∷ [];
+      script = w.script ++ Recover at server ∷ [];
       held = w.held;
     }).live server) [
       | true ↦ λ up. up

@@ -34,8 +34,7 @@ recover_down : (at : ℕ) (w : Watching) (server : ℕ) → w.live server ≡ fa
     → recover_at at w server ≡ record {
       live = with_at w.live server true;
       missed = with_at w.missed server 0;
-      script
-          = w.script ++ Recover at server ∷ [];
+      script = w.script ++ Recover at server ∷ [];
       held = w.held;
     }
 recover_down at w server e = rw e refl

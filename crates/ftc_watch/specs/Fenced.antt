@@ -43,6 +43,7 @@ held_line at server (Some group) = record { at = at; server = server; group = gr
 abbrev pub held_in : RingShape → ℕ → ℕ → Watching → List ℕ → List Held
 held_in ring limit at w [] = []
 held_in ring limit at w (server ∷ servers) =
-    (if w.missed server == limit then held_line at server (gone_of ring
-    (with_at (earlier server w.live) server false)) else [])
+    (if w.missed server == limit
+    then held_line at server (gone_of ring (with_at (earlier server w.live) server false))
+    else [])
     ++ held_in ring limit at w servers

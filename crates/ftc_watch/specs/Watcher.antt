@@ -17,7 +17,6 @@ abbrev pub known : Kept → Watching
 known kept = record {
   live = is_live kept.down;
   missed = λ server. slice_index kept.missed server;
-  script =
-      kept.script;
+  script = kept.script;
   held = kept.held;
 }
