@@ -6,3 +6,4 @@ pub mod PlainWords
 pub mod Decimals
 pub mod Members
 pub mod Parts
+pub mod Firsts

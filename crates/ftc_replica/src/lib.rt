@@ -6,10 +6,12 @@ mod coverage;
 mod kept;
 mod laws;
 mod replica;
+mod waits;
 
 pub use kept::Kept;
 pub use laws::covering;
 pub use replica::Replica;
+pub use waits::{Wait, Waits};
 
 #[cfg(test)]
 mod tests;

@@ -14,7 +14,7 @@ use ftc_base::NoMemory;
 use ftc_base::limits::MOST_PARTITIONS;
 use ftc_message::Log;
 use ftc_store::Store;
-use ftc_vector::{Vector, bump, ready};
+use ftc_vector::{Vector, ready};
 use std::alloc::Global;
 use std::marker::Model;
 
@@ -123,7 +123,7 @@ impl Replica {
         self.store.reserve(log.writes().len())?;
         self.kept.add(log.copy())?;
         self.store.apply(log.writes());
-        bump(&mut self.vector, log.changed(), log.changed());
+        self.vector.raise(log.changed());
         Ok(())
     }
 

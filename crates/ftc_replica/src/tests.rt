@@ -2,7 +2,7 @@ ghost use Rattle.std.specs.Prelude.{◌≡◌, ◌<◌, ℕ, true, IsSome};
 ghost use Rattle.ftc_base.specs.Sets.{has};
 ghost use Rattle.ftc_vector.specs.Vector.{mark_at};
 
-use crate::Replica;
+use crate::{Replica, Wait, Waits};
 use ftc_base::limits::MOST_PARTITIONS;
 use ftc_base::{Key, NoMemory, PartSet, ServerId, Value, Write, Writes};
 use ftc_message::Log;
@@ -110,5 +110,36 @@ fn what_the_tail_has_is_dropped(rt: HostRuntime) -> Result<(), Fail> {
         1
     );
     assert_eq!(rt; again.vector().at(1), 2);
+    Ok(())
+}
+
+/// The wait of a packet's log for a number of partition 1 of group 0.
+fn wait(group: ServerId, number: u64, origin: u32, packet: u32) -> Wait {
+    Wait {
+        group,
+        partition: 1,
+        number,
+        origin,
+        packet,
+    }
+}
+
+#[test]
+fn waits_are_woken_in_order(rt: HostRuntime) -> Result<(), Fail> {
+    let group = ServerId::new(0).ok_or("a server")?;
+    let (first, second, third) = (
+        wait(group, 5, 10, 7),
+        wait(group, 6, 11, 8),
+        wait(group, 5, 12, 9),
+    );
+    let mut waits = Waits::new(rt.alloc());
+    waits.reserve(2)?;
+    waits.add(first)?;
+    waits.add(second)?;
+    waits.add(third)?;
+    assert_eq!(rt; waits.wake(group, 1, 5), Some(first));
+    assert_eq!(rt; waits.wake(group, 1, 5), Some(third));
+    assert_eq!(rt; waits.wake(group, 1, 5), None);
+    assert!(rt; waits.len() == 1 && !waits.is_empty());
     Ok(())
 }

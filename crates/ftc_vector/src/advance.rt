@@ -10,7 +10,7 @@ use ftc_base::PartSet;
 use ftc_base::limits::MOST_PARTITIONS;
 
 /// The numbers of the touched partitions.
-fn numbers_at(vector: &Vector, touched: PartSet) -> Marks
+pub fn numbers_at(vector: &Vector, touched: PartSet) -> Marks
     ensures { result ≡ marks_of vector.now touched }
 {
     let mut marks = Marks::new();

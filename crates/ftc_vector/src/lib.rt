@@ -9,7 +9,7 @@ mod marks;
 mod order;
 mod vector;
 
-pub use advance::bump;
+pub use advance::{bump, numbers_at};
 pub use commits::Commits;
 pub use laws::{applying, covering, groups, merging, numbers, order_tests};
 pub use marks::{Marks, need_of};

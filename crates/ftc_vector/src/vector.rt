@@ -58,7 +58,7 @@ impl Vector {
     }
 
     /// Raises the number of each changed partition by 1.
-    pub(crate) fn raise(&mut self, changed: PartSet)
+    pub fn raise(&mut self, changed: PartSet)
         requires { (partition : ℕ) → partition < MOST_PARTITIONS → has changed partition ≡ true →
             number_at self.old partition < u64.MAX }
         ensures { self.new ≡ raised self.old changed }

@@ -1,7 +1,7 @@
 use Rattle.std.proofs.Common.{refl}
 use Rattle.std.specs.List.{before_first, after_first}
 use Rattle.ftc_edge.specs.Due.{is_due}
-use Rattle.ftc_edge.proofs.Firsts.{test_of_found, around_found, none_before, none_passes, all_stay}
+use Rattle.ftc_base.proofs.Firsts.{test_of_found, around_found, none_before, none_passes, all_stay}
 use Rattle.ftc_edge.proofs.laws.released_packets.Goals as goal
 
 pub returns-clause-first : goal.returns-clause-first

@@ -3,7 +3,7 @@ use Rattle.std.specs.List.{position}
 use Rattle.std.specs.Option.{option_map}
 use Rattle.ftc_edge.specs.declared.buffer.Withheld.{Withheld}
 use Rattle.ftc_edge.specs.Due.{is_due, freed, WithheldPackets, first_due}
-use Rattle.ftc_edge.proofs.Firsts.{found_at, none_found}
+use Rattle.ftc_base.proofs.Firsts.{found_at, none_found}
 use Rattle.ftc_edge.proofs.buffer.Buffer.release.Goals as goal
 
 pub returns-in_err-place-clause-freed : goal.returns-in_err-place-clause-freed
