@@ -6,3 +6,4 @@ pub mod Serially
 pub mod Writing
 pub mod StayedHoldings
 pub mod CommitLogs
+pub mod Foreseen

@@ -65,6 +65,14 @@ pub record HasCommitted (old new : HeadState) (worker : ℕ) (running : Running)
   pub slots : new.slots ≡ slice_set old.slots worker None
   pub rest : new ≡ record old { content = new.content; vector = new.vector; locks = new.locks; slots = new.slots }
 
+-- what a commit of the writes would log now: where the slot runs unwounded what has answers, its log, and else none
+pub record WouldLog (head : HeadState) (worker : ℕ) (writes : List Write) (log : Option Logged) : Type 0 where
+  pub no_log : (running : Running) → RunsUnwounded head worker running → IsNone log ↔ (running.answers ≡ [])
+  pub logged : (running : Running) → RunsUnwounded head worker running →
+      IfSome log (IsLogOf head.group head.partitions head.vector running.packet running.answers writes)
+  pub idle : slot_at head.slots worker ≡ None → log ≡ None
+  pub wounded : (running : Running) (by : ℕ) → RunsWounded head worker running by → log ≡ None
+
 -- the slot is idle and has no lock, and nothing else differs
 pub record HasQuit (old new : HeadState) (worker : ℕ) : Type 0 where
   pub locks : IsFreed old.locks new.locks worker

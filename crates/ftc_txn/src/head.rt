@@ -6,15 +6,16 @@ ghost use Rattle.ftc_vector.specs.Vector.{number_at};
 ghost use Rattle.ftc_txn.specs.Slots.{Running, slot_at, packet_at, wounded_at};
 ghost use Rattle.ftc_txn.specs.Touched.{is_changed};
 ghost use Rattle.ftc_txn.specs.Head.{ages_left, next_age, RunsUnwounded, AreItsWrites, IsHead};
-ghost use Rattle.ftc_txn.specs.Steps.{begins, Reads, Commits, HasQuit};
+ghost use Rattle.ftc_txn.specs.Steps.{begins, Reads, Commits, HasQuit, WouldLog};
 
 use crate::answers::{HeadCommit, ReadAnswer};
-use crate::logged::log_writes;
+use crate::logged::{log_of, raise};
 use crate::slots::Slots;
 use crate::turn::Turn;
 use ftc_base::limits::{MOST_PARTITIONS, MOST_READS};
 use ftc_base::{Answers, Key, PacketNo, ServerId, WorkerId, Writes, partition_of};
 use ftc_locks::{Acquired, LockTable};
+use ftc_message::Log;
 use ftc_store::Store;
 use ftc_vector::Vector;
 use std::marker::Model;
@@ -118,6 +119,26 @@ impl Head {
         self.slots.wounded(worker)
     }
 
+    /// The log that a commit of these writes would make now, so that room for it can be made before. None
+    /// where the slot is idle or wounded, or has read nothing.
+    pub fn log_of(&self, worker: WorkerId, writes: &Writes) -> Option<Log>
+        requires { (running : Running) → RunsUnwounded self.now worker running →
+            AreItsWrites self.now worker running writes.now.items }
+        ensures { WouldLog self.now worker writes.now.items result }
+    {
+        let transaction = self.slots.at(worker)?;
+        if transaction.wounded().is_some() {
+            return None;
+        }
+        log_of(
+            self.group,
+            transaction,
+            self.partitions,
+            &self.vector,
+            writes,
+        )
+    }
+
     /// An idle slot begins a transaction for a packet. The answer is its age: 0 where no slot runs
     /// anything, else one more than the last one drawn.
     pub fn begin(&mut self, worker: WorkerId, packet: PacketNo) -> u64
@@ -209,13 +230,14 @@ impl Head {
             return HeadCommit::NoMemory;
         }
         let transaction = self.slots.finish(worker);
-        let log = log_writes(
+        let log = log_of(
             self.group,
             &transaction,
             self.partitions,
-            &mut self.vector,
+            &self.vector,
             writes,
         );
+        raise(&mut self.vector, self.partitions, writes);
         self.store.apply(writes);
         self.locks.free_all(worker);
         HeadCommit::Done(log)

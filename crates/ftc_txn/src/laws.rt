@@ -13,7 +13,8 @@ ghost use Rattle.ftc_txn.specs.Slots.{Running};
 ghost use Rattle.ftc_txn.specs.Touched.{vector_after};
 ghost use Rattle.ftc_txn.specs.Head.{HeadState, RunsUnwounded};
 ghost use Rattle.ftc_txn.specs.Logs.{IsLogOf};
-ghost use Rattle.ftc_txn.specs.Steps.{HasRead};
+ghost use Rattle.ftc_txn.specs.Steps.{HasRead, Commits, WouldLog};
+ghost use Rattle.ftc_txn.specs.declared.answers.HeadCommit.TheVariants.{Done};
 ghost use Rattle.ftc_txn.specs.Runs.{Call, caller, Step, Run, IsSerial, visits_of};
 
 use ftc_base::limits::MOST_PARTITIONS;
@@ -54,4 +55,10 @@ pub fn logs()
     ensures marks { (group partitions : ℕ) (vector : List ℕ) (packet : ℕ) (answers : List Answer) (writes : List Write) (log : Logged) →
         IsLogOf group partitions vector packet answers writes log → 1 ≤ partitions → partitions ≤ MOST_PARTITIONS →
         answers ≢ [] → MarksSome log.before }
+{}
+
+/// A commit that comes next logs what was foreseen.
+pub fn foreseen_logs()
+    ensures { (old new : HeadState) (worker : ℕ) (writes : List Write) (foreseen made : Option Logged) →
+        WouldLog old worker writes foreseen → Commits old new worker writes (Done made) → made ≡ foreseen }
 {}

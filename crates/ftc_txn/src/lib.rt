@@ -12,7 +12,7 @@ mod turn;
 
 pub use answers::{HeadCommit, ReadAnswer};
 pub use head::Head;
-pub use laws::{holdings, logs, transactions};
+pub use laws::{foreseen_logs, holdings, logs, transactions};
 
 #[cfg(test)]
 mod tests;

@@ -13,7 +13,7 @@ use crate::transaction::Transaction;
 use ftc_base::limits::MOST_PARTITIONS;
 use ftc_base::{ServerId, Writes};
 use ftc_message::Log;
-use ftc_vector::{Vector, bump};
+use ftc_vector::{Vector, numbers_at};
 
 /// The same writes once more.
 fn copy_of(writes: &Writes) -> Writes
@@ -22,38 +22,44 @@ fn copy_of(writes: &Writes) -> Writes
     Writes::try_from(writes.as_slice()).unwrap()
 }
 
-/// Raises the numbers of the partitions that the writes change. The answer is the log, where the
-/// transaction read anything.
-pub(crate) fn log_writes(
+/// The log of a transaction that makes these writes where the vector is. None where it read nothing.
+pub(crate) fn log_of(
     group: ServerId,
     transaction: &Transaction,
     partitions: u8,
-    vector: &mut Vector,
+    vector: &Vector,
     writes: &Writes,
 ) -> Option<Log>
     requires some { 1 ≤ partitions }
     requires within { partitions ≤ MOST_PARTITIONS }
     requires rising { keys_rise None writes.now.items ≡ true }
     requires were_read { AllByRecursion (λ write. IsAnswered write.key transaction.now.answers) writes.now.items }
-    requires numbers { (partition : ℕ) → partition < MOST_PARTITIONS →
-        is_changed partitions writes.now.items partition ≡ true → number_at vector.old partition < u64.MAX }
-    ensures vector { vector.new ≡ vector_after partitions writes.now.items vector.old }
     ensures no_log { IsNone result ↔ (transaction.now.answers ≡ []) }
-    ensures log { IfSome result (IsLogOf group partitions vector.old transaction.now.packet
+    ensures log { IfSome result (IsLogOf group partitions vector.now transaction.now.packet
         transaction.now.answers writes.now.items) }
 {
     let answers = transaction.answers();
     let touched = touched_by(answers, partitions);
     let changed = changed_by(writes, partitions);
-    let before = bump(vector, touched, changed);
     if answers.is_empty() {
         return None;
     }
     Some(Log::new(
         group,
         transaction.packet(),
-        before,
+        numbers_at(vector, touched),
         changed,
         copy_of(writes),
     ))
+}
+
+/// Raises the numbers of the partitions that the writes change.
+pub(crate) fn raise(vector: &mut Vector, partitions: u8, writes: &Writes)
+    requires some { 1 ≤ partitions }
+    requires within { partitions ≤ MOST_PARTITIONS }
+    requires numbers { (partition : ℕ) → partition < MOST_PARTITIONS →
+        is_changed partitions writes.now.items partition ≡ true → number_at vector.old partition < u64.MAX }
+    ensures { vector.new ≡ vector_after partitions writes.now.items vector.old }
+{
+    vector.raise(changed_by(writes, partitions));
 }

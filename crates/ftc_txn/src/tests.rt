@@ -5,6 +5,7 @@ ghost use Rattle.ftc_txn.specs.Head.{RunsUnwounded, AreItsWrites};
 use crate::{Head, HeadCommit, ReadAnswer};
 use ftc_base::limits::MOST_READS;
 use ftc_base::{Key, PacketNo, ServerId, Value, WorkerId, Write, Writes, partition_of};
+use ftc_message::Log;
 use ftc_store::Store;
 use ftc_vector::Vector;
 use std::alloc::Global;
@@ -57,6 +58,11 @@ fn read(head: &mut Head, worker: WorkerId, key: &Key, change: bool) -> ReadAnswe
 /// Commits without writes.
 fn finish(head: &mut Head, worker: WorkerId) -> HeadCommit {
     head.commit(worker, &Writes::new())
+}
+
+/// The log that a commit without writes would make.
+fn foreseen(head: &Head, worker: WorkerId) -> Option<Log> {
+    head.log_of(worker, &Writes::new())
 }
 
 /// Commits one write, of a key that was read with leave to change it.
@@ -168,7 +174,11 @@ fn readers_share_a_partition(rt: HostRuntime) {
         read(&mut head, second, &key, false),
         ReadAnswer::Value(None)
     );
+    assert_eq!(rt; head.packet(second), Some(11));
+    assert_eq!(rt; foreseen(&head, second).map(|log| log.origin()), Some(11));
     assert_eq!(rt; logged(&finish(&mut head, second), 2), Some(0));
+    assert_eq!(rt; head.packet(second), None);
+    assert!(rt; foreseen(&head, second).is_none());
     assert_eq!(rt; logged(&finish(&mut head, first), 2), Some(0));
     assert_eq!(rt; head.vector().at(2), 0);
 }

@@ -6,8 +6,8 @@ use Rattle.ftc_txn.specs.contracts.head.Head.{the_view}
 use Rattle.ftc_txn.proofs.KeptByCalls.{some_of, commit_keeps, answers_current}
 use Rattle.ftc_txn.proofs.head.Head.commit_unwounded.Goals as goal
 
-pub log_writes-log-requires-clause-were_read : goal.log_writes-log-requires-clause-were_read
-log_writes-log-requires-clause-were_read c =
+pub log_of-log-requires-clause-were_read : goal.log_of-log-requires-clause-were_read
+log_of-log-requires-clause-were_read c =
     let runs = rw (← c.self.view_is) at c.requires.writes in
     let same : runs.0 ≡ c.finish-transaction.result = some_of _ runs.0 c.finish-transaction.result runs.1.slot c.finish-transaction.ensures.finished in
     (subst (λ (r : Running). AreItsWrites (the_view c.self.inside) c.args.worker r c.args.writes.now.items) same runs.2).were_read
@@ -35,9 +35,9 @@ returns c =
       record {
         current = answers_current (the_view c.self.inside) c.args.worker c.finish-transaction.result c.self.invariant.2 ran;
         content = c.apply.ensures.content ∙ ap (written c.args.writes.now.items) c.reserve.ensures.content;
-        vector = c.log_writes-log.ensures.vector;
-        no_log = c.log_writes-log.ensures.no_log;
-        logged = c.log_writes-log.ensures.log;
+        vector = c.raise.ensures;
+        no_log = c.log_of-log.ensures.no_log;
+        logged = c.log_of-log.ensures.log;
         locks = record { nothing = c.free_all.ensures.freed; others = c.free_all.ensures.others; partitions = c.free_all.ensures.partitions };
         slots = c.finish-transaction.ensures.idle;
         rest = refl;
