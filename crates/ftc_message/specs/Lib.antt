@@ -7,3 +7,5 @@ pub mod Fields
 pub mod Reading
 pub mod Front
 pub mod Ordered
+pub mod Same
+pub mod SameLaws

@@ -1,6 +1,6 @@
 //! What holds of messages and their frames.
 
-ghost use Rattle.std.specs.Prelude.{◌≡◌, ◌≤◌, ◌<◌, ◌+◌, ◌^◌, ◌++◌, ℕ, Bool, true, List, [], length, filter, count_by, Option, Ok, Err, slice_index};
+ghost use Rattle.std.specs.Prelude.{◌≡◌, ◌↔◌, ◌≤◌, ◌<◌, ◌+◌, ◌^◌, ◌++◌, ℕ, Bool, true, List, [], length, filter, count_by, Option, Ok, Err, slice_index};
 ghost use Rattle.std.specs.List.{AllByRecursion};
 ghost use Rattle.ftc_message.specs.Logged.{Logged, log_follows};
 ghost use Rattle.ftc_message.specs.Numbers.{number_bytes, number_of};
@@ -9,6 +9,8 @@ ghost use Rattle.ftc_message.specs.WellFormed.{IsTyped, IsWellFormed};
 ghost use Rattle.ftc_message.specs.Spelling.{spelling, log_bytes, needs_bytes, commits_bytes};
 ghost use Rattle.ftc_message.specs.Reading.{log_at, needs_at, commits_at, message_of};
 ghost use Rattle.ftc_message.specs.Ordered.{with_item, with_items, is_earlier, HasNone, AreApart, is_lower, HasNoNeed, AreOfOthers};
+ghost use Rattle.std.specs.Cmp.Lexicographic.{pointwise};
+ghost use Rattle.ftc_message.specs.Same.{same_log, same_need, same_message};
 
 use crate::fault::FrameFault;
 use crate::message::Message;
@@ -68,4 +70,12 @@ pub fn needs_in_order()
     ensures fewer { (test : Need → Bool) (needs : List Need) → AreNeeds needs → AreNeeds (filter test needs) }
     ensures count { (test : Need → Bool) (needs others : List Need) →
         count_by test (with_items is_lower needs others) ≡ count_by test needs + count_by test others }
+{}
+
+/// What `==` tests is that the two are equal.
+pub fn sameness()
+    ensures logs { (one other : Logged) → (same_log one other ≡ true) ↔ (one ≡ other) }
+    ensures log_lists { (one other : List Logged) → (pointwise same_log one other ≡ true) ↔ (one ≡ other) }
+    ensures need_lists { (one other : List Need) → (pointwise same_need one other ≡ true) ↔ (one ≡ other) }
+    ensures messages { (one other : Message) → (same_message one other ≡ true) ↔ (one ≡ other) }
 {}

@@ -24,7 +24,7 @@ pub use commits_bytes::{append_commits, commits_at};
 pub use decoding::decode;
 pub use encoding::encode;
 pub use fault::{FieldFault, FrameCause, FrameFault};
-pub use laws::{logs_in_order, needs_in_order, numbers, one_spelling, read_again};
+pub use laws::{logs_in_order, needs_in_order, numbers, one_spelling, read_again, sameness};
 pub use log::Log;
 pub use log_bytes::{LogPlace, append_log, log_at};
 pub use logs::{LogList, Logs};

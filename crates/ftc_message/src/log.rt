@@ -6,6 +6,9 @@ ghost use Rattle.ftc_base.specs.Sets.{has};
 ghost use Rattle.ftc_vector.specs.Vector.{mark_at};
 ghost use Rattle.ftc_message.specs.Logged.{keys_rise};
 ghost use Rattle.ftc_message.specs.Bounds.{IsLog, IsWrite};
+ghost use Rattle.ftc_message.specs.Same.{same_log};
+ghost use Rattle.ftc_message.specs.SameLaws.{log_equivalence};
+ghost use Rattle.std.specs.Cmp.{partial_equiv_from_equiv};
 
 use ftc_base::limits::MOST_WRITES;
 use ftc_base::{PacketNo, PartSet, ServerId, Write, Writes};
@@ -132,4 +135,22 @@ impl Log {
             writes,
         }
     }
+}
+
+impl PartialEq for Log {
+    ghost eq = { same_log };
+
+    ghost laws = { partial_equiv_from_equiv log_equivalence };
+
+    fn eq(&self, other: &Log) -> bool {
+        self.group == other.group
+            && self.origin == other.origin
+            && self.before == other.before
+            && self.changed == other.changed
+            && self.writes.as_slice() == other.writes.as_slice()
+    }
+}
+
+impl Eq for Log {
+    ghost laws = { log_equivalence };
 }

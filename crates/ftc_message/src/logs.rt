@@ -5,6 +5,10 @@ ghost use Rattle.std.specs.List.{AllByRecursion, find, prefix_len};
 ghost use Rattle.std.specs.Option.{option_copied};
 ghost use Rattle.ftc_message.specs.Logged.{logs_rise};
 ghost use Rattle.ftc_message.specs.Bounds.{IsLog, AreLogs};
+ghost use Rattle.ftc_message.specs.Same.{same_log};
+ghost use Rattle.ftc_message.specs.SameLaws.{log_list_equivalence};
+ghost use Rattle.std.specs.Cmp.{partial_equiv_from_equiv};
+ghost use Rattle.std.specs.Cmp.Lexicographic.{pointwise};
 ghost use Rattle.ftc_message.specs.Ordered.{with_item, with_items, is_earlier, is_log_of, HasNone, AreApart, logs_without};
 
 use crate::log::Log;
@@ -212,4 +216,18 @@ impl Logs {
     {
         self.list
     }
+}
+
+impl PartialEq for Logs {
+    ghost eq = { pointwise same_log };
+
+    ghost laws = { partial_equiv_from_equiv log_list_equivalence };
+
+    fn eq(&self, other: &Logs) -> bool {
+        self.as_slice() == other.as_slice()
+    }
+}
+
+impl Eq for Logs {
+    ghost laws = { log_list_equivalence };
 }

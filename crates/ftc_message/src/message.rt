@@ -1,5 +1,9 @@
 //! What one server sends to the next.
 
+ghost use Rattle.std.specs.Cmp.{partial_equiv_from_equiv};
+ghost use Rattle.ftc_message.specs.Same.{same_message};
+ghost use Rattle.ftc_message.specs.SameLaws.{message_equivalence};
+
 use crate::logs::Logs;
 use crate::need::Needs;
 use ftc_base::{Bytes, PacketNo};
@@ -18,4 +22,22 @@ pub struct Message {
     pub needs: Needs,
     /// What the sender knew of the tails.
     pub commits: Commits,
+}
+
+impl PartialEq for Message {
+    ghost eq = { same_message };
+
+    ghost laws = { partial_equiv_from_equiv message_equivalence };
+
+    fn eq(&self, other: &Message) -> bool {
+        self.origin == other.origin
+            && self.packet == other.packet
+            && self.logs == other.logs
+            && self.needs == other.needs
+            && self.commits == other.commits
+    }
+}
+
+impl Eq for Message {
+    ghost laws = { message_equivalence };
 }

@@ -5,6 +5,10 @@ ghost use Rattle.std.specs.List.{AllByRecursion, find, prefix_len};
 ghost use Rattle.std.specs.Option.{option_copied};
 ghost use Rattle.ftc_message.specs.Logged.{needs_rise};
 ghost use Rattle.ftc_message.specs.Bounds.{IsNeed, AreNeeds};
+ghost use Rattle.ftc_message.specs.Same.{same_need};
+ghost use Rattle.ftc_message.specs.SameLaws.{need_list_equivalence};
+ghost use Rattle.std.specs.Cmp.{partial_equiv_from_equiv};
+ghost use Rattle.std.specs.Cmp.Lexicographic.{pointwise};
 ghost use Rattle.ftc_message.specs.Ordered.{with_item, with_items, is_lower, is_need_of, HasNoNeed, AreOfOthers, needs_without};
 
 use ftc_base::{NoMemory, ServerId, ServerSet};
@@ -209,4 +213,18 @@ impl Needs {
     {
         self.list
     }
+}
+
+impl PartialEq for Needs {
+    ghost eq = { pointwise same_need };
+
+    ghost laws = { partial_equiv_from_equiv need_list_equivalence };
+
+    fn eq(&self, other: &Needs) -> bool {
+        self.as_slice() == other.as_slice()
+    }
+}
+
+impl Eq for Needs {
+    ghost laws = { need_list_equivalence };
 }

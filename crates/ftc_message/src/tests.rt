@@ -99,6 +99,11 @@ fn one_frame_both_ways(rt: HostRuntime) -> Result<(), Fail> {
     let frame = encode(rt.alloc(), &message(rt.alloc())?)?;
     assert_eq!(rt; frame.as_slice(), FRAME.as_slice());
     let read = decode(rt.alloc(), &FRAME).ok().ok_or("a frame")?;
+    let other = Message {
+        origin: 5,
+        ..message(rt.alloc())?
+    };
+    assert!(rt; read == message(rt.alloc())? && read != other);
     assert_eq!(rt; read.origin, 4);
     assert_eq!(rt;
         read.packet.ok_or("a packet")?.as_slice(),
