@@ -3,3 +3,4 @@ pub mod Bounds
 pub mod Needs
 pub mod GroupLists
 pub mod OrderTests
+pub mod Zeros

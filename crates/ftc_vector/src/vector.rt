@@ -1,6 +1,7 @@
 //! A number for each partition.
 
-ghost use Rattle.std.specs.Prelude.{◌≡◌, ◌<◌, ℕ, true, slice_set};
+ghost use Rattle.std.specs.Prelude.{◌≡◌, ◌<◌, ◌==◌, ℕ, true, slice_set};
+ghost use Rattle.std.specs.List.{list_all};
 ghost use Rattle.ftc_base.specs.Sets.{has};
 ghost use Rattle.ftc_vector.specs.Vector.{by_partition, number_at, merged, raised, IsVector};
 
@@ -55,6 +56,18 @@ impl Vector {
         ensures bounds { IsVector self.now }
     {
         self.numbers[usize::from(partition)]
+    }
+
+    /// Whether it has 0 in each partition.
+    pub fn is_zero(&self) -> bool
+        ensures { result ≡ list_all (λ number. number == 0) self.now }
+    {
+        // All 64 are read, since a loop with no way out of its middle is the faster one.
+        let mut bits = 0;
+        for number in &self.numbers {
+            bits |= *number;
+        }
+        bits == 0
     }
 
     /// Raises the number of each changed partition by 1.
