@@ -1,7 +1,7 @@
 -- Commits, which are written as needs: what is read is spelled so, and what is spelled so is read.
-use Rattle.std.proofs.Common.{◌≡◌, ℕ, zero, suc, ◌+◌, ◌-◌, ◌^◌, ◌<◌, ◌≤◌, ◌==◌, leb, max, Bool, true, false, List, [], ◌∷◌, ◌++◌, length, get_or, drop, Option, Some, None, Ok, refl, sym, ap, subst, ◌∙◌, inl, inr, append_assoc, arith, if◌then◌else◌}
-use Rattle.std.specs.Prelude.{is_some, slice_set, replicate, unwrap_or}
-use Rattle.std.specs.List.{AllByRecursion, list_any}
+use Rattle.std.proofs.Common.{◌≡◌, ◌≢◌, ℕ, zero, suc, ◌+◌, ◌-◌, ◌^◌, ◌<◌, ◌≤◌, ◌==◌, leb, max, Bool, true, false, List, [], ◌∷◌, ◌++◌, length, get_or, drop, Option, Some, None, Ok, refl, sym, ap, subst, ◌∙◌, inl, inr, append_assoc, arith, if◌then◌else◌}
+use Rattle.std.specs.Prelude.{not, is_some, slice_set, replicate, unwrap_or}
+use Rattle.std.specs.List.{AllByRecursion, list_all, list_any}
 use Rattle.std.proofs.lemmas.Bool.{cases_lt, leb-true, le-leb, and_parts, and_from, eq-eqb, ne_eqb}
 use Rattle.std.proofs.lemmas.List.{ext_get_or, drop_more, set_at, get_or_at, get_or_past, length-append, length-replicate, length-map}
 use Rattle.ftc_base.specs.declared.limits.TheConstants.{MOST_SERVERS, MOST_PARTITIONS}
@@ -11,7 +11,9 @@ use Rattle.ftc_vector.proofs.Partitions.{by_partition-from, length-by_partition,
 use Rattle.ftc_message.specs.declared.need.Need.{Need}
 use Rattle.ftc_message.specs.Logged.{needs_rise}
 use Rattle.ftc_message.specs.Bounds.{AreCommits}
-use Rattle.ftc_message.specs.Spelling.{marked, needs_bytes, not_zero, known_from, commits_bytes}
+use Rattle.ftc_message.specs.Spelling.{marked, marks_from, needs_bytes, not_zero, known_from, commits_bytes}
+use Rattle.ftc_message.specs.Numbers.{number_bytes}
+use Rattle.ftc_message.proofs.Partitions.{count_small}
 use Rattle.ftc_message.specs.Reading.{needs_at, no_commits, numbers_in, with_known, commits_at}
 use Rattle.ftc_message.proofs.Fields.{IsBytes, Takes, bind_ok, ok_is}
 use Rattle.ftc_message.proofs.Blanks.{split_at, length_before, replace}
@@ -32,7 +34,7 @@ number_back : (n : ℕ) → unwrap_or (if n == 0 then None else Some n) 0 ≡ n
 number_back zero = refl
 number_back (suc n) = rw (ne_eqb (suc n) 0 (λ is. omega arith)) refl
 
-length-not_zero : (vector : List ℕ) → length (not_zero vector) ≡ length vector
+pub length-not_zero : (vector : List ℕ) → length (not_zero vector) ≡ length vector
 length-not_zero vector = length-map vector (λ number. if number == 0 then None else Some number)
 
 -- what was written of a vector gives that vector, where nothing was known before
@@ -288,16 +290,6 @@ zero_number k =
       | inr past ↦ get_or_past {X = ℕ} (by_partition (λ _. 0)) k 0 (omega (arith, length-by_partition {A = ℕ} (λ _. 0)))
     ]
 
-pub none_mark : (k : ℕ) → get_or {A = Option ℕ} (by_partition (λ _. None)) k None ≡ None
-none_mark k =
-    elim (cases_lt k MOST_PARTITIONS) [
-      | inl within ↦ get_or-by_partition (λ _. None) k None within
-      | inr past ↦ get_or_past (by_partition (λ _. None)) k None (omega (arith, length-by_partition {A = Option ℕ} (λ _. None)))
-    ]
-
-pub not_zero-from : (vector : List ℕ) (marks : List (Option ℕ)) → length vector ≡ MOST_PARTITIONS → length marks ≡ MOST_PARTITIONS → ((k : ℕ) → k < MOST_PARTITIONS → get_or marks k None ≡ (if get_or vector k 0 == 0 then None else Some (get_or vector k 0))) → marks ≡ not_zero vector
-not_zero-from vector marks long size each = ext_get_or None marks (not_zero vector) (size ∙ sym (length-not_zero vector ∙ long)) (λ k within. each k (omega arith) ∙ sym (get_or-not_zero vector k))
-
 pub commits_read : (bytes rest : List ℕ) (ns : List Need) → IsBytes bytes → needs_at MOST_SERVERS 1 bytes ≡ Ok (ns, rest) → bytes ≡ commits_bytes (with_known ns no_commits) ++ rest
 unfolding commits_at
 commits_read bytes rest ns fits is = (commits_at_takes bytes (with_known ns no_commits, rest) fits (rw is refl)).0.parts
@@ -305,16 +297,75 @@ commits_read bytes rest ns fits is = (commits_at_takes bytes (with_known ns no_c
 known_place : (commits : List (List ℕ)) (group : ℕ) → group < length commits → drop group commits ≡ get_or commits group [] ∷ drop (group + 1) commits
 known_place commits group within = drop_more commits group [] within
 
-no_some : (marks : List (Option ℕ)) → marked marks ≡ 0 → list_any is_some marks ≡ false
-no_some [] none = refl
-no_some (None ∷ marks) none = no_some marks none
-no_some (Some number ∷ marks) none = absurd (omega arith)
-
 -- a group that has a number, and one that has none
-pub known_here : (commits : List (List ℕ)) (group : ℕ) → group < length commits → 1 ≤ marked (not_zero (get_or commits group [])) → known_from group (drop group commits) ≡ record { group = group; marks = not_zero (get_or commits group []) } ∷ known_from (group + 1) (drop (group + 1) commits)
-known_here commits group within some =
-    ap (known_from group) (known_place commits group within) ∙ rw (any_some (not_zero (get_or commits group [])) some) refl
+pub known_here : (commits : List (List ℕ)) (group : ℕ) → group < length commits
+    → list_any is_some (not_zero (get_or commits group [])) ≡ true
+    → known_from group (drop group commits)
+    ≡ record { group = group; marks = not_zero (get_or commits group []) } ∷ known_from (group + 1) (drop (group + 1) commits)
+known_here commits group within some = ap (known_from group) (known_place commits group within) ∙ rw some refl
 
-pub unknown_here : (commits : List (List ℕ)) (group : ℕ) → group < length commits → marked (not_zero (get_or commits group [])) ≡ 0 → known_from group (drop group commits) ≡ known_from (group + 1) (drop (group + 1) commits)
-unknown_here commits group within none =
-    ap (known_from group) (known_place commits group within) ∙ rw (no_some (not_zero (get_or commits group [])) none) refl
+pub unknown_here : (commits : List (List ℕ)) (group : ℕ) → group < length commits
+    → list_any is_some (not_zero (get_or commits group [])) ≡ false
+    → known_from group (drop group commits) ≡ known_from (group + 1) (drop (group + 1) commits)
+unknown_here commits group within none = ap (known_from group) (known_place commits group within) ∙ rw none refl
+
+-- ---- the numbers of one vector, one after another
+
+-- some number isn't 0 where not all are
+pub any_known : (vector : List ℕ) → not (list_all (λ number. number == 0) vector) ≡ list_any is_some (not_zero vector)
+any_known [] = refl
+any_known (zero ∷ vector) = any_known vector
+any_known (suc n ∷ vector) = rw (ne_eqb (suc n) 0 (λ is. omega arith)) refl
+
+mark_there : (vector : List ℕ) (p : ℕ) → p < length vector
+    → drop p (not_zero vector)
+    ≡ (if get_or vector p 0 == 0 then None else Some (get_or vector p 0)) ∷ drop (p + 1) (not_zero vector)
+mark_there vector p within =
+    drop_more (not_zero vector) p None (omega (arith, length-not_zero vector))
+    ∙ ap (λ (mark : Option ℕ). mark ∷ drop (p + 1) (not_zero vector)) (get_or-not_zero vector p)
+
+pub zero_there : (vector : List ℕ) (p : ℕ) → p < length vector → get_or vector p 0 ≡ 0
+    → drop p (not_zero vector) ≡ None ∷ drop (p + 1) (not_zero vector)
+zero_there vector p within is =
+    mark_there vector p within
+    ∙ ap (λ (t : Bool). (if t then None else Some (get_or vector p 0)) ∷ drop (p + 1) (not_zero vector))
+    (eq-eqb (get_or vector p 0) 0 is)
+
+pub number_there : (vector : List ℕ) (p : ℕ) → p < length vector → get_or vector p 0 ≢ 0
+    → drop p (not_zero vector) ≡ Some (get_or vector p 0) ∷ drop (p + 1) (not_zero vector)
+number_there vector p within isnt =
+    mark_there vector p within
+    ∙ ap (λ (t : Bool). (if t then None else Some (get_or vector p 0)) ∷ drop (p + 1) (not_zero vector))
+    (ne_eqb (get_or vector p 0) 0 isnt)
+
+-- what is left of the numbers, where one is passed over and where one is added
+pub zero_passed : (vector : List ℕ) (p : ℕ) (out whole : List ℕ) → p < length vector → get_or vector p 0 ≡ 0
+    → out ++ marks_from p (drop p (not_zero vector)) ≡ whole
+    → out ++ marks_from (p + 1) (drop (p + 1) (not_zero vector)) ≡ whole
+zero_passed vector p out whole within is left =
+    ap (λ (marks : List (Option ℕ)). out ++ marks_from p marks) (sym (zero_there vector p within is)) ∙ left
+
+pub number_added : (vector : List ℕ) (p : ℕ) (out after last whole : List ℕ) → p < length vector → get_or vector p 0 ≢ 0
+    → after ≡ out ++ p ∷ [] → last ≡ after ++ number_bytes 8 (get_or vector p 0)
+    → out ++ marks_from p (drop p (not_zero vector)) ≡ whole
+    → last ++ marks_from (p + 1) (drop (p + 1) (not_zero vector)) ≡ whole
+number_added vector p out after last whole within isnt first second left =
+    let rest = marks_from (p + 1) (drop (p + 1) (not_zero vector)) in
+    let bytes = number_bytes 8 (get_or vector p 0) in
+    ap (λ (xs : List ℕ). xs ++ rest) (second ∙ ap (λ (xs : List ℕ). xs ++ bytes) first)
+    ∙ append_assoc (out ++ p ∷ []) bytes rest ∙ append_assoc out (p ∷ []) (bytes ++ rest)
+    ∙ ap (λ (marks : List (Option ℕ)). out ++ marks_from p marks) (sym (number_there vector p within isnt)) ∙ left
+
+pub zero_counted : (vector : List ℕ) (p count whole : ℕ) → p < length vector → get_or vector p 0 ≡ 0
+    → count + marked (drop p (not_zero vector)) ≡ whole → count + marked (drop (p + 1) (not_zero vector)) ≡ whole
+zero_counted vector p count whole within is left =
+    omega (arith, ap marked (zero_there vector p within is), left)
+
+pub number_counted : (vector : List ℕ) (p count whole : ℕ) → p < length vector → get_or vector p 0 ≢ 0
+    → count + marked (drop p (not_zero vector)) ≡ whole → count + 1 + marked (drop (p + 1) (not_zero vector)) ≡ whole
+number_counted vector p count whole within isnt left =
+    omega (arith, ap marked (number_there vector p within isnt), left)
+
+pub few_counted : (vector : List ℕ) (p count : ℕ) → count + marked (drop p (not_zero vector)) ≡ marked (not_zero vector)
+    → count ≤ length vector
+few_counted vector p count left = omega (arith, count_small (not_zero vector) p count left, length-not_zero vector)

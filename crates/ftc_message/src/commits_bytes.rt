@@ -1,17 +1,18 @@
 //! The bytes of what is known of the tails, which is written as needs whose numbers are not 0.
 
-ghost use Rattle.std.specs.Prelude.{◌≡◌, ◌<◌, ◌+◌, ◌++◌, ◌∷◌, length, drop, OnOk, OnErr, IfOk, IfSome, IfNone};
+ghost use Rattle.std.specs.Prelude.{◌≡◌, ◌<◌, ◌++◌, length, is_some, OnOk, OnErr, IfOk};
+ghost use Rattle.std.specs.List.{list_any};
 ghost use Rattle.ftc_vector.specs.Vector.{IsVector};
 ghost use Rattle.ftc_vector.specs.Commits.{vector_of};
 ghost use Rattle.ftc_message.specs.Bounds.{AreCommits};
-ghost use Rattle.ftc_message.specs.Spelling.{not_zero, known_from, commits_bytes};
+ghost use Rattle.ftc_message.specs.Spelling.{not_zero, marked, marks_from, need_bytes, known_from, commits_bytes};
 ghost use Rattle.ftc_message.specs.Reading.{numbers_in, no_commits, with_known, commits_at};
 ghost use Rattle.ftc_message.specs.Front.{IsFront};
 
+use crate::bytes::append_number;
 use crate::fault::FieldFault;
-use crate::need::{Need, Needs};
-use crate::need_bytes::{append_need, needs_at};
-use crate::part_bytes::marked;
+use crate::need::Needs;
+use crate::need_bytes::needs_at;
 use ftc_base::limits::{MOST_PARTITIONS, MOST_SERVERS};
 use ftc_base::{Bytes, NoMemory, Refuse, ServerId};
 use ftc_vector::{Commits, Marks, Vector};
@@ -53,64 +54,92 @@ pub fn commits_at(alloc: Global, bytes: &[u8]) -> Result<(Commits, &[u8]), Refus
     }
 }
 
-/// The numbers of a vector that are not 0.
-fn not_zero(vector: &Vector) -> Marks
-    ensures marks { result ≡ not_zero vector.now }
+/// Whether what is known of the group of that number has a number that isn't 0.
+fn is_known(commits: &Commits, place: u8) -> bool
+    requires { place < MOST_SERVERS }
+    ensures { result ≡ list_any is_some (not_zero (vector_of commits.now place)) }
+{
+    let group = ServerId::new(place).unwrap();
+    !commits.of(group).is_zero()
+}
+
+/// How many numbers of a vector aren't 0.
+fn count_not_zero(vector: &Vector) -> u8
+    ensures count { result ≡ marked (not_zero vector.now) }
     ensures bounds { IsVector vector.now }
 {
     // The contract of this call tells how many partitions there are.
     let _ = vector.at(0);
-    let mut marks = Marks::new();
-    for partition in 0..MOST_PARTITIONS {
-        let number = vector.at(partition);
-        if number != 0 {
-            marks.set(partition, number);
-        }
-    }
-    marks
-}
-
-/// What is known of the group of that number, where it has a number that is not 0.
-fn known_in(commits: &Commits, place: u8) -> Option<Need>
-    requires { place < MOST_SERVERS }
-    ensures some { IfSome result (λ need.
-        known_from place (drop place commits.now) ≡ need ∷ known_from (place + 1) (drop (place + 1) commits.now)) }
-    ensures none { IfNone result
-        (known_from place (drop place commits.now) ≡ known_from (place + 1) (drop (place + 1) commits.now)) }
-    ensures bounds { IsVector (vector_of commits.now place) }
-    ensures size { length commits.now ≡ MOST_SERVERS }
-{
-    let group = ServerId::new(place).unwrap();
-    let marks = not_zero(commits.of(group));
-    if marked(&marks) == 0 {
-        return None;
-    }
-    Some(Need { group, marks })
-}
-
-/// How many groups have a number that is not 0.
-fn count_known(commits: &Commits) -> u8
-    ensures count { result ≡ length (known_from 0 commits.now) }
-    ensures bounds { AreCommits commits.now }
-{
     let mut count = 0;
-    for place in 0..MOST_SERVERS {
-        if let Some(_) = known_in(commits, place) {
+    for partition in 0..MOST_PARTITIONS {
+        if vector.at(partition) != 0 {
             count += 1;
         }
     }
     count
 }
 
+/// Adds the numbers of a vector that aren't 0, each behind its partition.
+fn append_numbers(vector: &Vector, out: &mut Bytes) -> Result<(), NoMemory>
+    ensures { OnOk result (out.new ≡ out.old ++ marks_from 0 (not_zero vector.now)) }
+{
+    // The contract of this call tells how many partitions there are.
+    let _ = vector.at(0);
+    for partition in 0..MOST_PARTITIONS {
+        let number = vector.at(partition);
+        if number != 0 {
+            out.append(&[partition])?;
+            append_number(number, out)?;
+        }
+    }
+    Ok(())
+}
+
+/// How many groups have a number that is not 0.
+fn count_known(commits: &Commits) -> u8
+    ensures count { result ≡ length (known_from 0 commits.now) }
+    ensures size { length commits.now ≡ MOST_SERVERS }
+{
+    let _ = commits.of(ServerId::new(0).unwrap());
+    let mut count = 0;
+    for place in 0..MOST_SERVERS {
+        if is_known(commits, place) {
+            count += 1;
+        }
+    }
+    count
+}
+
+/// Every group's vector has its bounds.
+fn are_commits(commits: &Commits)
+    ensures { AreCommits commits.now }
+{
+    for place in 0..MOST_SERVERS {
+        let _ = commits.of(ServerId::new(place).unwrap()).at(0);
+    }
+}
+
+/// Adds what is known of the group of that number.
+fn append_known(commits: &Commits, place: u8, out: &mut Bytes) -> Result<(), NoMemory>
+    requires { place < MOST_SERVERS }
+    ensures { OnOk result (out.new ≡ out.old
+        ++ need_bytes (record { group = place; marks = not_zero (vector_of commits.now place) })) }
+{
+    let vector = commits.of(ServerId::new(place).unwrap());
+    out.append(&[place, count_not_zero(vector)])?;
+    append_numbers(vector, out)
+}
+
 /// Adds the commits' bytes at the end. Where memory is refused, some of them may have been added.
 pub(crate) fn add_commits(commits: &Commits, out: &mut Bytes) -> Result<(), NoMemory>
     ensures added { OnOk result (out.new ≡ out.old ++ commits_bytes commits.now) }
-    ensures bounds { OnOk result (AreCommits commits.now) }
+    ensures bounds { AreCommits commits.now }
 {
+    are_commits(commits);
     out.append(&[count_known(commits)])?;
     for place in 0..MOST_SERVERS {
-        if let Some(need) = known_in(commits, place) {
-            append_need(&need, out)?;
+        if is_known(commits, place) {
+            append_known(commits, place, out)?;
         }
     }
     Ok(())

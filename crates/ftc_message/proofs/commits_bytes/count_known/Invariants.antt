@@ -1,8 +1,5 @@
 -- the groups so far are counted
-use Rattle.std.proofs.Common.{◌≡◌, ◌+◌, ◌<◌, ◌≤◌, ℕ, length, drop}
-use Rattle.ftc_base.specs.declared.limits.TheConstants.{MOST_SERVERS}
-use Rattle.ftc_vector.specs.Vector.{IsVector}
-use Rattle.ftc_vector.specs.Commits.{vector_of}
+use Rattle.std.proofs.Common.{◌≡◌, ◌+◌, ◌≤◌, length, drop}
 use Rattle.ftc_message.specs.Spelling.{known_from}
 use Rattle.ftc_message.proofs.commits_bytes.count_known.Given as goal
 
@@ -10,6 +7,4 @@ abbrev pub invariant-loop-place : goal.invariant-loop-place
 invariant-loop-place l = record {
   count : l.count + length (known_from l.place (drop l.place l.commits)) ≡ length (known_from 0 l.commits);
   few : l.count ≤ l.place;
-  size : 1 ≤ l.place → length l.commits ≡ MOST_SERVERS;
-  each : (group : ℕ) → group < l.place → IsVector (vector_of l.commits group);
 }
