@@ -1,7 +1,7 @@
 //! What the tails of the groups are known to have.
 
-ghost use Rattle.std.specs.Prelude.{◌≡◌, length};
-ghost use Rattle.ftc_vector.specs.Vector.{by_partition};
+ghost use Rattle.std.specs.Prelude.{◌≡◌, ◌<◌, ℕ, length};
+ghost use Rattle.ftc_vector.specs.Vector.{by_partition, IsVector};
 ghost use Rattle.ftc_vector.specs.Commits.{by_group, vector_of, all_merged, group_raised};
 
 use crate::vector::{Vector, merge};
@@ -48,6 +48,16 @@ impl Commits {
         ensures size { length self.now ≡ MOST_SERVERS }
     {
         &self.vectors[usize::from(group.number())]
+    }
+
+    /// Does nothing. Its contract says which bounds the numbers have.
+    pub fn bounds(&self)
+        ensures size { length self.now ≡ MOST_SERVERS }
+        ensures each { (group : ℕ) → group < MOST_SERVERS → IsVector (vector_of self.now group) }
+    {
+        for vector in &self.vectors {
+            let _ = vector.at(0);
+        }
     }
 
     /// Merges each group's vectors.
