@@ -8,3 +8,4 @@ pub mod Histories
 pub mod Runs
 pub mod More
 pub mod Written
+pub mod TakenInTurn

@@ -2,11 +2,17 @@
 
 ghost use Rattle.std.specs.Prelude.{◌≡◌, ℕ, List, Some};
 ghost use Rattle.std.specs.List.{AllByRecursion};
+ghost use Rattle.std.specs.FinMap.{get};
+ghost use Rattle.ftc_base.specs.declared.ask.Answer.{Answer as AnAnswer};
+ghost use Rattle.ftc_base.specs.declared.ask.Ask.TheVariants.{Finish};
+ghost use Rattle.ftc_base.specs.declared.ask.Finish.{Finish as AnEnd};
 ghost use Rattle.ftc_base.specs.declared.ask.Write.{Write as AWrite};
 ghost use Rattle.ftc_store.specs.Store.{Content};
 ghost use Rattle.ftc_serial.specs.Reads.{IsRead};
-ghost use Rattle.ftc_serial.specs.Take.{taken};
+ghost use Rattle.ftc_serial.specs.Take.{taken, packet_after};
 ghost use Rattle.ftc_mbox.specs.declared.rule.Rule.{Rule as ARule};
+ghost use Rattle.ftc_mbox.specs.Ask.{ask};
+ghost use Rattle.ftc_mbox.specs.InTurn.{InTurn};
 ghost use Rattle.ftc_serial.specs.declared.step.Step.{Step as AStep};
 ghost use Rattle.ftc_serial.specs.Serial.{State, Entry, serial_run};
 ghost use Rattle.ftc_serial.specs.Entries.{entries};
@@ -33,4 +39,15 @@ pub fn what_it_reads()
     ensures { (rule : ARule) (packet : List ℕ) (content : Content) →
         AllByRecursion (λ (write : AWrite). IsRead (taken rule packet content).answers write.key)
         (taken rule packet content).writes }
+{}
+
+/// Answers to what the rule asked in turn, each of which is what the store has, and after which the rule
+/// finishes, make the outcome of the visit over this store.
+pub fn what_is_taken_in_turn()
+    ensures { (rule : ARule) (packet : List ℕ) (content : Content) (end : AnEnd) (answers : List AnAnswer) →
+        InTurn rule packet answers →
+        AllByRecursion (λ answer. get content answer.key ≡ answer.value) answers →
+        ask rule packet answers ≡ Finish end →
+        taken rule packet content
+        ≡ record { answers = answers; writes = end.writes.items; packet = packet_after packet end.verdict } }
 {}
