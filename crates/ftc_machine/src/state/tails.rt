@@ -1,11 +1,11 @@
 //! What a server knows to be at the tails of the groups.
 
 ghost use Rattle.std.specs.Prelude.{◌≡◌, ◌<◌};
+ghost use Rattle.ftc_vector.specs.Commits.{vector_of};
 
 use crate::state::MachineState;
-use crate::state::restriction::part;
-use ftc_base::{ServerId, ServerSet};
-use ftc_vector::Commits;
+use ftc_base::ServerId;
+use ftc_vector::{Commits, Vector, merge};
 
 impl MachineState {
     ghost use Rattle.ftc_machine.specs.Tails.{group_ending, known_at};
@@ -29,9 +29,25 @@ impl MachineState {
         ensures { result ≡ known_at self.now server }
     {
         let place = usize::from(server.number());
-        let ending = ServerSet::new().with(self.group_ending(server).number());
+        let ending = self.group_ending(server);
         let mut known = self.known[place];
-        known.merge(&part(&self.lists[place], ending));
+        known.bounds();
+        known.raise(ending, self.lists[place].of(ending));
+        known
+    }
+
+    /// How far reaches what a server knows of one group.
+    pub fn knows_of(&self, server: ServerId, group: ServerId) -> Vector
+        requires { server < self.now.ring.servers }
+        ensures { result ≡ vector_of (known_at self.now server) group }
+    {
+        let place = usize::from(server.number());
+        let mut known = *self.known[place].of(group);
+        // The contracts of these calls tell how many partitions and how many groups there are.
+        let _ = (known.at(0), group.number());
+        if group == self.group_ending(server) {
+            merge(&mut known, self.lists[place].of(group));
+        }
         known
     }
 }
