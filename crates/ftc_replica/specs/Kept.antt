@@ -1,5 +1,6 @@
 -- Which kept logs a vector covers.
-use Rattle.std.specs.Prelude.{ℕ, Bool, not, List, filter}
+use Rattle.std.specs.Prelude.{◌≡◌, ℕ, Bool, false, not, List, filter}
+use Rattle.std.specs.List.{AllByRecursion}
 use Rattle.ftc_vector.specs.Vector.{need_of}
 pub use Rattle.ftc_vector.specs.Order.{reaches}
 unfoldable pub use Rattle.ftc_vector.specs.Order.{covers}
@@ -17,3 +18,7 @@ covers_log vector log = covers vector (need_of log.before log.changed)
 -- the logs that the vector doesn't cover, in their order
 abbrev pub missing : List ℕ → List Logged → List Logged
 missing vector logs = filter (λ log. not (covers_log vector log)) logs
+
+-- the vector covers none of the logs
+abbrev pub LacksAll : List ℕ → List Logged → Type 0
+LacksAll vector logs = AllByRecursion (λ log. covers_log vector log ≡ false) logs

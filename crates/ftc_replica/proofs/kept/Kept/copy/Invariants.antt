@@ -2,5 +2,5 @@
 use Rattle.std.proofs.Common.{◌≡◌, take}
 use Rattle.ftc_replica.proofs.kept.Kept.copy.Given as goal
 
-abbrev pub invariant-loop-log : goal.invariant-loop-log
-invariant-loop-log l = l.logs.items ≡ take l.log-index l.log-items
+abbrev pub invariant-loop-place : goal.invariant-loop-place
+invariant-loop-place l = l.logs.items ≡ take l.place l.self.items
