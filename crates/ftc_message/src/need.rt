@@ -139,6 +139,14 @@ impl Needs {
         Ok(())
     }
 
+    /// Makes room for so many more needs, so that adding them moves none.
+    pub(crate) fn make_room(&mut self, count: usize) -> Result<(), NoMemory>
+        ensures { self.new ≡ self.old }
+    {
+        self.list.reserve(count)?;
+        Ok(())
+    }
+
     /// Puts a need at its place among the others, of which none is of its group.
     pub fn insert(&mut self, need: Need) -> Result<(), NoMemory>
         requires { HasNoNeed need self.old }

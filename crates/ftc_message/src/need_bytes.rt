@@ -49,6 +49,7 @@ pub fn needs_at(
     let mut rest = after;
     let mut from = 0;
     let mut needs = Needs::new(alloc);
+    needs.make_room(usize::from(count))?;
     for _ in 0..count {
         match need_at(least, from, rest) {
             Ok((need, behind)) => {
