@@ -31,8 +31,15 @@ test:
 lines: bin/ftc
 	./examples/lines bin/ftc out/lines
 
-bench: bin/ftc
+# The times of the calls on which each hop of a packet stands, and of whole runs and checks.
+bench: bin/ftc bin/ftc_bench
+	bin/ftc_bench bench
 	./examples/bench bin/ftc out/bench
+
+bin/ftc_bench: $(SOURCES)
+	mkdir -p bin
+	cd crates/ftc_bench && rt run
+	cp crates/ftc_bench/out/ftc_bench bin/ftc_bench
 
 clean:
 	rm -rf bin out crates/*/out
