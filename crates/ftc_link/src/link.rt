@@ -98,6 +98,13 @@ impl Link {
         Ok(Sent::Sent)
     }
 
+    /// How many messages are queued.
+    pub fn len(&self) -> usize
+        ensures { result ≡ length self.now.messages }
+    {
+        self.queue.len()
+    }
+
     /// The origin of the oldest message.
     pub fn oldest(&self) -> Option<PacketNo>
         ensures { result ≡ option_map (λ message. message.origin) (oldest_of self.now.messages) }

@@ -26,11 +26,7 @@ use Rattle.ftc_protocol.proofs.Premises.{IsGood, ticked}
 use Rattle.ftc_protocol.proofs.LiveHolders.{kept_drop}
 use Rattle.ftc_protocol.proofs.Invariant.{Inv, each_message}
 use Rattle.ftc_protocol.proofs.ArrivalOrder.{IsTimed}
-
--- it came by the ring link, or is on it
-abbrev pub IsPast : ℕ → Where → Type 0
-IsPast n (Held k visited by_ring) = by_ring ≡ true
-IsPast n (Queued l) = l + 1 ≡ n
+pub use Rattle.ftc_protocol.specs.Orderly.{IsPast}
 
 -- What a packet's fate says: inside and entered, it is carried by a message or held in the buffer; filtered, a visit of the trace
 -- dropped it; released, the trace has its release.

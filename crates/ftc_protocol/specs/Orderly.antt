@@ -1,5 +1,5 @@
 -- What else holds of every state of a run: who may have what, and where messages are.
-use Rattle.std.specs.Prelude.{ℕ, ◌≡◌, ◌≢◌, ◌<◌, ◌≤◌, ◌+◌, ◌-◌, ◌⊎◌, true, false, Some, List, [], ◌∷◌, ◌++◌, length}
+use Rattle.std.specs.Prelude.{ℕ, ◌≡◌, ◌≢◌, ◌<◌, ◌≤◌, ◌+◌, ◌-◌, ◌⊎◌, true, false, Some, None, List, [], ◌∷◌, ◌++◌, length}
 use Rattle.ftc_journal.specs.declared.event.Event.{Event}
 use Rattle.ftc_journal.specs.declared.event.Event.TheVariants as event
 use Rattle.ftc_script.specs.declared.line.ScriptLine.{ScriptLine}
@@ -88,6 +88,20 @@ pub record IsNeeding (state : ChainState) : Type 0 where
       IsTouching state.trace group origin × ((bytes : List ℕ) × (message.packet ≡ Some bytes))
   pub withheld : (packet group : ℕ) (withheld : Withheld) → state.withheld packet ≡ Some withheld →
       withheld.needs group ≡ true → IsTouching state.trace group packet
+
+-- the message is behind the last server: on the ring link, or held by one that took it from there
+abbrev pub IsPast : ℕ → Where → Type 0
+IsPast size (Held server visited by_ring) = by_ring ≡ true
+IsPast size (Queued link) = link + 1 ≡ size
+
+-- A withheld packet came by an earlier event, and its message, if there still is one, is behind the last server and has
+-- no packet.
+pub record IsBuffered (setting : Setting) (state : ChainState) : Type 0 where
+  pub clock : (packet : ℕ) (withheld : Withheld) → state.withheld packet ≡ Some withheld → withheld.since < state.events
+  pub past : (packet : ℕ) (withheld : Withheld) (message : Message) → state.withheld packet ≡ Some withheld →
+      state.message packet ≡ Some message → IsPast (servers setting) message.place
+  pub bare : (packet : ℕ) (withheld : Withheld) (message : Message) → state.withheld packet ≡ Some withheld →
+      state.message packet ≡ Some message → message.packet ≡ None
 
 -- the message is still to be visited at the server at which it is, or to which it is queued
 abbrev pub IsUnvisited : Where → Type 0

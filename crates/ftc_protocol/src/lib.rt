@@ -27,5 +27,5 @@ pub use packets::{
 pub use settings::accepted;
 pub use states::{
     every_moment, fronts_of_a_state, logs_ride_once, messages_ahead, needs_of_packets,
-    order_of_a_state, what_is_undone, what_stands,
+    order_of_a_state, what_is_undone, what_stands, withheld_packets,
 };

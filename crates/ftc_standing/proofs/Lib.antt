@@ -1,0 +1,15 @@
+pub mod Arriving
+pub mod SamePlaces
+pub mod Lasting
+pub mod Movements
+pub mod Gaining
+pub mod Leaving
+pub mod Events
+pub mod Visiting
+pub mod Buffering
+pub mod Fresh
+pub mod WholeServers
+pub mod Firm
+pub mod OpeningParts
+pub mod Reviving
+pub mod Pulling
