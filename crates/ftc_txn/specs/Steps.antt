@@ -65,6 +65,12 @@ pub record HasCommitted (old new : HeadState) (worker : ℕ) (running : Running)
   pub slots : new.slots ≡ slice_set old.slots worker None
   pub rest : new ≡ record old { content = new.content; vector = new.vector; locks = new.locks; slots = new.slots }
 
+-- what the slot runs would leave this log: the one of its packet, its answers and these writes, where there are answers
+abbrev pub IsLogLeft : HeadState → Option Running → List Write → Option Logged → Type 0
+IsLogLeft head None writes log = log ≡ None
+IsLogLeft head (Some running) writes log =
+    (IsNone log ↔ (running.answers ≡ [])) × IfSome log (IsLogOf head.group head.partitions head.vector running.packet running.answers writes)
+
 -- the slot is idle and has no lock, and nothing else differs
 pub record HasQuit (old new : HeadState) (worker : ℕ) : Type 0 where
   pub locks : IsFreed old.locks new.locks worker

@@ -6,7 +6,7 @@ ghost use Rattle.ftc_vector.specs.Vector.{number_at};
 ghost use Rattle.ftc_txn.specs.Slots.{Running, slot_at, packet_at, wounded_at};
 ghost use Rattle.ftc_txn.specs.Touched.{is_changed};
 ghost use Rattle.ftc_txn.specs.Head.{ages_left, next_age, RunsUnwounded, AreItsWrites, IsHead};
-ghost use Rattle.ftc_txn.specs.Steps.{begins, Reads, Commits, HasQuit};
+ghost use Rattle.ftc_txn.specs.Steps.{begins, Reads, Commits, HasQuit, IsLogLeft};
 
 use crate::answers::{HeadCommit, ReadAnswer};
 use crate::logged::log_writes;
@@ -15,6 +15,7 @@ use crate::turn::Turn;
 use ftc_base::limits::{MOST_PARTITIONS, MOST_READS};
 use ftc_base::{Answers, Key, PacketNo, ServerId, WorkerId, Writes, partition_of};
 use ftc_locks::{Acquired, LockTable};
+use ftc_message::Log;
 use ftc_store::Store;
 use ftc_vector::Vector;
 use std::marker::Model;
@@ -109,6 +110,26 @@ impl Head {
         ensures { result ≡ packet_at self.now.slots worker }
     {
         self.slots.packet(worker)
+    }
+
+    /// The log that a slot's commit of these writes would leave, where it read anything.
+    pub fn log(&self, worker: WorkerId, writes: &Writes) -> Option<Log>
+        requires writes { (running : Running) → RunsUnwounded self.now worker running →
+            AreItsWrites self.now worker running writes.now.items }
+        requires unwounded { wounded_at self.now.slots worker ≡ None }
+        requires numbers { (partition : ℕ) → partition < MOST_PARTITIONS →
+            is_changed self.now.partitions writes.now.items partition ≡ true → number_at self.now.vector partition < u64.MAX }
+        ensures { IsLogLeft self.now (slot_at self.now.slots worker) writes.now.items result }
+    {
+        let transaction = self.slots.at(worker)?;
+        let mut vector = self.vector;
+        log_writes(
+            self.group,
+            transaction,
+            self.partitions,
+            &mut vector,
+            writes,
+        )
     }
 
     /// The worker that the next read or commit of a slot names as the one that wounded it.
