@@ -104,7 +104,7 @@ turn_at asks (first ∷ earlier) later answer turn = turn_at (λ more. asks (fir
 key_of : (one other : List ℕ) (change : Bool) → Read one change ≡ Read other true → one ≡ other
 key_of one other change same = cc
 
-is_below : (a b : ℕ) → a < b → nat_lt a b ≡ true
+pub is_below : (a b : ℕ) → a < b → nat_lt a b ≡ true
 is_below a b less = grind (arith, nat_tests, less)
 
 below_is : (a b : ℕ) → nat_lt a b ≡ true → a < b

@@ -4,3 +4,4 @@ pub mod Working
 pub mod Lent
 pub mod Apart
 pub mod Installing
+pub mod Numbers

@@ -7,7 +7,7 @@ ghost use Rattle.ftc_server.specs.State.{state_of};
 ghost use Rattle.ftc_server.specs.Looks.{log_in, may_apply_in};
 ghost use Rattle.ftc_server.specs.Steps.{HasApplied};
 
-use crate::replicas::{apply, replica_of};
+use crate::replicas::{apply, is_allowed, replica_of};
 use crate::server::Server;
 use crate::standing::learn;
 use ftc_base::{NoMemory, PacketNo, ServerId};
@@ -33,6 +33,20 @@ fn learn_from(
 }
 
 impl Server {
+    /// Whether a held message has the log of that group and packet, and it may be applied to the replica of its
+    /// group.
+    pub fn may_apply(&self, origin: PacketNo, group: ServerId, packet: PacketNo) -> bool
+        ensures { result ≡ may_apply_in self.now origin group packet }
+    {
+        let Some(held) = self.held.get(origin) else {
+            return false;
+        };
+        match held.message.logs.find(packet, group) {
+            Some(log) => is_allowed(self.others.as_slice(), log),
+            None => false,
+        }
+    }
+
     /// Applies the log of that group and packet, which a held message has and which may be applied, to the
     /// replica of its group.
     pub fn apply(

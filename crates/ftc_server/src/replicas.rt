@@ -58,17 +58,21 @@ fn may_apply_to(replica: &Replica, log: &Log) -> bool
     replica.ready(log)
 }
 
-/// Whether a log writes something and may be applied to the replica of its group.
-pub fn may_apply(replicas: &[Option<Replica>], log: &Log) -> bool
-    ensures { result ≡ may_apply replicas.now log.now }
+/// Whether a log may be applied to the replica of its group.
+pub fn is_allowed(replicas: &[Option<Replica>], log: &Log) -> bool
+    ensures { result ≡ may_apply_to (replica_at replicas.now log.now.group) log.now }
 {
-    if log.writes().is_empty() {
-        return false;
-    }
     match replica_of(replicas, log.group()) {
         Some(replica) => may_apply_to(replica, log),
         None => false,
     }
+}
+
+/// Whether a log writes something and may be applied to the replica of its group.
+pub fn may_apply(replicas: &[Option<Replica>], log: &Log) -> bool
+    ensures { result ≡ may_apply replicas.now log.now }
+{
+    !log.writes().is_empty() && is_allowed(replicas, log)
 }
 
 /// Applies a log to a replica.
