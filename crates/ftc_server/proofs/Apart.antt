@@ -1,0 +1,16 @@
+-- Lists of logs without a common one.
+use Rattle.std.proofs.Common.{◌≡◌, ◌∙◌, ◌&&◌, not, ℕ, Bool, true, false, List, [], ◌∷◌, refl}
+use Rattle.std.specs.List.{list_all, AllByRecursion}
+use Rattle.ftc_message.specs.Logged.{Logged}
+use Rattle.ftc_message.specs.Ordered.{HasNone, AreApart, is_log_of}
+use Rattle.ftc_server.specs.Looks.{are_apart}
+use Rattle.ftc_server.proofs.Lent.{each_of, not_so}
+
+pub apart_is : (logs others : List Logged) → are_apart logs others ≡ true → AreApart logs others
+apart_is logs others apart =
+    each_of (λ (log : Logged). HasNone log others)
+    (λ (log : Logged). list_all (λ (other : Logged). not (is_log_of log.origin log.group other)) others) logs
+    (λ log is.
+    each_of (λ (other : Logged). is_log_of log.origin log.group other ≡ false)
+    (λ (other : Logged). not (is_log_of log.origin log.group other)) others
+    (λ other isnt. not_so (is_log_of log.origin log.group other) isnt) is) apart

@@ -1,0 +1,38 @@
+use Rattle.std.proofs.Common.{◌≡◌, ◌∙◌, Some, List, ap, sym, subst, true}
+use Rattle.std.proofs.Math.Logic.{∥∥₁_map}
+use Rattle.std.specs.List.{list_all}
+use Rattle.ftc_server.specs.declared.held.HeldMessage.{HeldMessage}
+use Rattle.ftc_server.specs.declared.work.Work.TheVariants.{Carry}
+use Rattle.ftc_server.specs.Holding.{found}
+use Rattle.ftc_server.specs.Slots.{AreSlots, is_open}
+use Rattle.ftc_server.proofs.Finding.{all_without}
+use Rattle.ftc_server.proofs.Slotting.{slots_without}
+use Rattle.ftc_server.proofs.Working.{held_with, carries}
+use Rattle.ftc_server.proofs.server.Server.carry.Goals as goal
+use Rattle.ftc_server.specs.Looks.{are_apart, onward_in, onward_apart}
+use Rattle.ftc_server.proofs.Apart.{apart_is}
+use Rattle.ftc_message.specs.Logged.{Logged}
+use Rattle.ftc_message.specs.Ordered.{AreApart}
+use Rattle.std.specs.Prelude.{Option}
+
+pub carry-requires : goal.carry-requires
+carry-requires c =
+    let server = c.args.self.now in
+    let apart : are_apart (onward_in server c.in-Some.held.now) server.forwarder ≡ true =
+    ap (onward_apart server server.forwarder) c.in-Some.ensures ∙ c.requires.apart in
+    subst (λ (logs : List Logged). AreApart logs server.forwarder) (sym c.in_ok-logs.ensures)
+    (apart_is (onward_in server c.in-Some.held.now) server.forwarder apart)
+
+pub invariant_of-self-2-clause-open : goal.invariant_of-self-2-clause-open
+invariant_of-self-2-clause-open c =
+    let server = c.args.self.now in
+    subst (λ (items : List HeldMessage). list_all (is_open server.id) items ≡ true) (sym c.take_out.ensures.others)
+    (all_without (is_open server.id) c.args.origin server.held.items server.«open»)
+
+pub invariant_of-self-2-clause-slots : goal.invariant_of-self-2-clause-slots
+invariant_of-self-2-clause-slots c =
+    let server = c.args.self.now in
+    let work = held_with server.others.items (found c.args.origin server.held.items) Carry c.requires.work in
+    subst (λ (items : List HeldMessage). ∥ AreSlots server.rule server.head items ∥₁) (sym c.take_out.ensures.others)
+    (∥∥₁_map server.slots (slots_without server.rule server.head server.held.items c.args.origin work.held work.there
+    (carries server.others.items work.held work.works)))

@@ -1,0 +1,39 @@
+use Rattle.std.proofs.Common.{◌≡◌, List, sym, subst, true}
+use Rattle.std.proofs.Math.Logic.{∥∥₁_map}
+use Rattle.std.specs.List.{list_all}
+use Rattle.ftc_server.specs.declared.held.HeldMessage.{HeldMessage}
+use Rattle.ftc_server.specs.declared.work.Work.TheVariants.{Send}
+use Rattle.ftc_server.specs.Holding.{found}
+use Rattle.ftc_server.specs.Slots.{AreSlots, is_open}
+use Rattle.ftc_server.proofs.Finding.{all_without}
+use Rattle.ftc_server.proofs.Slotting.{slots_without}
+use Rattle.ftc_server.proofs.Working.{held_with, sends}
+use Rattle.ftc_server.proofs.server.Server.pass.Goals as goal
+
+pub invariant_of-self-then-is_last-clause-open : goal.invariant_of-self-then-is_last-clause-open
+invariant_of-self-then-is_last-clause-open c =
+    let server = c.args.self.now in
+    subst (λ (items : List HeldMessage). list_all (is_open server.id) items ≡ true) (sym c.take_out.ensures.others)
+    (all_without (is_open server.id) c.args.origin server.held.items server.«open»)
+
+pub invariant_of-self-then-is_last-clause-slots : goal.invariant_of-self-then-is_last-clause-slots
+invariant_of-self-then-is_last-clause-slots c =
+    let server = c.args.self.now in
+    let work = held_with server.others.items (found c.args.origin server.held.items) Send c.requires.work in
+    subst (λ (items : List HeldMessage). ∥ AreSlots server.rule server.head items ∥₁) (sym c.take_out.ensures.others)
+    (∥∥₁_map server.slots (slots_without server.rule server.head server.held.items c.args.origin work.held work.there
+    (sends server.others.items work.held work.works)))
+
+pub invariant_of-self-else-is_last-clause-open : goal.invariant_of-self-else-is_last-clause-open
+invariant_of-self-else-is_last-clause-open c =
+    let server = c.args.self.now in
+    subst (λ (items : List HeldMessage). list_all (is_open server.id) items ≡ true) (sym c.take_out.ensures.others)
+    (all_without (is_open server.id) c.args.origin server.held.items server.«open»)
+
+pub invariant_of-self-else-is_last-clause-slots : goal.invariant_of-self-else-is_last-clause-slots
+invariant_of-self-else-is_last-clause-slots c =
+    let server = c.args.self.now in
+    let work = held_with server.others.items (found c.args.origin server.held.items) Send c.requires.work in
+    subst (λ (items : List HeldMessage). ∥ AreSlots server.rule server.head items ∥₁) (sym c.take_out.ensures.others)
+    (∥∥₁_map server.slots (slots_without server.rule server.head server.held.items c.args.origin work.held work.there
+    (sends server.others.items work.held work.works)))

@@ -1,0 +1,10 @@
+pub mod Holding
+pub mod Replicas
+pub mod Standing
+pub mod Work
+pub mod Slots
+pub mod Visited
+pub mod State
+pub mod Looks
+pub mod Steps
+pub mod Prepared

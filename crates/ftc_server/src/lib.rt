@@ -1,0 +1,32 @@
+//! One server of a chain: the head of its own group, its replicas of the groups before it, what it knows
+//! of the tails, the messages that it holds, and, at the two ends of the chain, buffer and forwarder.
+#![tactic(auto)]
+
+mod answers;
+mod applying;
+mod committing;
+mod held;
+mod laws;
+mod looking;
+mod opening;
+mod passing;
+mod reading;
+mod recovering;
+mod replicas;
+mod server;
+mod standing;
+mod taking;
+mod visited;
+mod work;
+
+pub use answers::CommitAnswer;
+pub use ftc_txn::ReadAnswer;
+pub use held::{HeldMessage, HeldMessages};
+pub use laws::rising;
+pub use standing::ends;
+pub use recovering::{GroupReplica, GroupReplicas};
+pub use server::Server;
+pub use work::Work;
+
+#[cfg(test)]
+mod tests;

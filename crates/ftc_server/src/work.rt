@@ -1,0 +1,102 @@
+//! What is to be done with a held message.
+
+ghost use Rattle.std.specs.Prelude.{◌≡◌, Some, None, is_some, option_map};
+ghost use Rattle.std.specs.Option.{option_copied};
+ghost use Rattle.ftc_server.specs.Work.{next_log, last_work, work_for, has_work};
+ghost use Rattle.ftc_server.specs.Looks.{work_in, first_work_in};
+
+use crate::held::HeldMessage;
+use crate::replicas::{are_had, is_had, may_apply};
+use crate::server::Server;
+use ftc_base::{PacketNo, ServerId};
+use ftc_message::Log;
+use ftc_replica::Replica;
+
+/// The work of a held message.
+#[derive(Clone, Copy, Debug, PartialEq, Eq)]
+pub enum Work {
+    /// This log of it is applied.
+    Apply { group: ServerId, packet: PacketNo },
+    /// Its packet visits the middlebox.
+    Visit,
+    /// It is sent on.
+    Send,
+    /// The forwarder takes its logs.
+    Carry,
+}
+
+/// The first log that is lacking and may be applied, where no lacking log of its packet stands before it.
+fn next_log<'a>(replicas: &[Option<Replica>], logs: &'a [Log]) -> Option<&'a Log>
+    ensures { option_copied result ≡ next_log replicas.now None logs.now }
+{
+    let mut waiting: Option<PacketNo> = None;
+    for log in logs {
+        if is_had(replicas, log) || waiting == Some(log.origin()) {
+            continue;
+        }
+        if may_apply(replicas, log) {
+            return Some(log);
+        }
+        waiting = Some(log.origin());
+    }
+    None
+}
+
+/// What comes when all logs of a held message are had.
+fn last_work(held: &HeldMessage) -> Work
+    ensures { result ≡ last_work held.now }
+{
+    if !held.visited && held.message.packet.is_some() {
+        Work::Visit
+    } else if held.by_ring {
+        Work::Carry
+    } else {
+        Work::Send
+    }
+}
+
+/// The work of a held message.
+pub fn work_for(replicas: &[Option<Replica>], held: &HeldMessage) -> Option<Work>
+    ensures { result ≡ work_for replicas.now held.now }
+{
+    let logs = held.message.logs.as_slice();
+    match next_log(replicas, logs) {
+        Some(log) => Some(Work::Apply {
+            group: log.group(),
+            packet: log.origin(),
+        }),
+        None if are_had(replicas, logs) => Some(last_work(held)),
+        None => None,
+    }
+}
+
+/// Whether a held message has work.
+fn has_work(replicas: &[Option<Replica>], held: &HeldMessage) -> bool
+    ensures { result ≡ has_work replicas.now held.now }
+{
+    work_for(replicas, held).is_some()
+}
+
+impl Server {
+    /// The work of the held message of that origin. None where it isn't held, or lacks a log and no log of
+    /// it can be applied yet.
+    pub fn work_of(&self, origin: PacketNo) -> Option<Work>
+        ensures { result ≡ work_in self.now origin }
+    {
+        let held = self.held.get(origin)?;
+        work_for(self.others.as_slice(), held)
+    }
+
+    /// The first held message, in the order of taking, that has work.
+    pub fn first_work(&self) -> Option<PacketNo>
+        ensures { result ≡ first_work_in self.now }
+    {
+        let replicas = self.others.as_slice();
+        let held = self
+            .held
+            .as_slice()
+            .iter()
+            .find(|held| has_work(replicas, held))?;
+        Some(held.message.origin)
+    }
+}
