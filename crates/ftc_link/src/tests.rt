@@ -33,7 +33,10 @@ fn sent_and_taken_in_order(rt: HostRuntime) -> Result<(), Fail> {
     assert_eq!(rt; link.send(rt.alloc(), &four, None, true)?, Sent::Sent);
     assert_eq!(rt; link.send(rt.alloc(), &five, None, true)?, Sent::Sent);
     assert!(rt; !link.gap());
-    assert_eq!(rt; (link.oldest(), link.logs(), link.len()), (Some(4), Some(0), 2));
+    assert_eq!(rt;
+        (link.oldest(), link.logs(), link.len()),
+        (Some(4), Some(0), 2)
+    );
     assert_eq!(rt; link.take(rt.alloc())?.ok_or("the first")?.origin, 4);
     let taken = link.take(rt.alloc())?.ok_or("the second")?;
     assert_eq!(rt; taken.origin, 5);
