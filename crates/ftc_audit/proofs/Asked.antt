@@ -24,11 +24,11 @@ module _ (rule : Rule) (packet : List ℕ) (content : Content) where
 
   pub ends_after_one : (key : List ℕ) (change : Bool) (end : End) → ask rule packet [] ≡ Read key change
       → ask rule packet (answer_at content key ∷ []) ≡ Finish end → asked rule packet content ≡ ended
-          (answer_at content key ∷ []) end
+      (answer_at content key ∷ []) end
   unfolding asked
   ends_after_one key change end reads is =
       read_more rule packet content 7 [] key change reads ∙ read_end rule packet content 6
-          (answer_at content key ∷ []) end is
+      (answer_at content key ∷ []) end is
 
   pub ends_after_two : (key next : List ℕ) (change leave : Bool) (end : End) → ask rule packet [] ≡ Read key change
       → ask rule packet (answer_at content key ∷ []) ≡ Read next leave
@@ -46,11 +46,11 @@ module _ (rule : Rule) (packet : List ℕ) (content : Content) where
       → ask rule packet (answer_at content key ∷ answer_at content next ∷ []) ≡ Read last also
       → ask rule packet (answer_at content key ∷ answer_at content next ∷ answer_at content last ∷ []) ≡ Finish end
       → asked rule packet content ≡ ended
-          (answer_at content key ∷ answer_at content next ∷ answer_at content last ∷ []) end
+      (answer_at content key ∷ answer_at content next ∷ answer_at content last ∷ []) end
   unfolding asked
   ends_after_three key next last change leave also end reads more again is =
       read_more rule packet content 7 [] key change reads
       ∙ (read_more rule packet content 6 (answer_at content key ∷ []) next leave more
       ∙ (read_more rule packet content 5 (answer_at content key ∷ answer_at content next ∷ []) last also again
       ∙ read_end rule packet content 4
-          (answer_at content key ∷ answer_at content next ∷ answer_at content last ∷ []) end is))
+      (answer_at content key ∷ answer_at content next ∷ answer_at content last ∷ []) end is))

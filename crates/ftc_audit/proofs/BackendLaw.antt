@@ -30,7 +30,7 @@ some_once one other same = cc
 pub one_backend : (rules : List Rule) (packets : List (List ℕ)) (steps : List Step) (server : ℕ) (rule : BalanceRule)
     (one other : ClientLine) → AllByRecursion IsRule rules → slice_get rules server ≡ Some (Balance rule)
     → GaveBackend rule server (visits rules (opening packets) steps) one
-        → GaveBackend rule server (visits rules (opening packets) steps) other
+    → GaveBackend rule server (visits rules (opening packets) steps) other
     → SameClient one other → one.backend ≡ other.backend
 one_backend rules packets steps server rule one other all known gave given same =
     let fits : IsBalanceRule rule = rule_at rules server (Balance rule) all known in
@@ -38,7 +38,7 @@ one_backend rules packets steps server rule one other all known gave given same 
     let start = opening packets in
     let content : Content = (end_of rules start steps).maps server in
     let has : HasBackend content one = ends_given (Balance rule)
-        (line_of rule) Holds HasBackend kept rules server known one start steps tt gave in
+    (line_of rule) Holds HasBackend kept rules server known one start steps tt gave in
     let too : HasBackend content other = ends_given (Balance rule)
-        (line_of rule) Holds HasBackend kept rules server known other start steps tt given in
+    (line_of rule) Holds HasBackend kept rules server known other start steps tt given in
     some_once one.backend other.backend (sym has ∙ (ap (backend_at content) (same_key one other same) ∙ too))

@@ -58,7 +58,7 @@ shown : (packet : List ℕ) (flow : Flow) (address port : ℕ) → flow_found pa
     → destination (flow_found (with_destination packet address port)) ≡ address
 shown packet flow address port found =
     let is = subst (λ (o : Option Flow). MatchOption o (¬ IsFlow packet) (λ f. IsFlow packet
-        × (f ≡ flow_in packet))) found (flows_are_found packet) in
+    × (f ≡ flow_in packet))) found (flows_are_found packet) in
     ap destination (flow_found-some (with_destination packet address port) (IsFlow-with_end packet _ address port is.0))
     ∙ ap (λ (f : Flow). f.destination) (flow_in-with_destination packet address port is.0)
 
@@ -110,7 +110,7 @@ module _ (rule : BalanceRule) where
     line_is : (server : ℕ) (line : ClientLine) (flow : Flow) (backend : ℕ) → flow_found packet ≡ Some flow
         → comes flow ≡ true
         → outcome.packet ≡ Some (with_destination packet backend flow.destination_port)
-            → line_of rule (seen server) ≡ Some line
+        → line_of rule (seen server) ≡ Some line
         → record { backend = backend; protocol = flow.protocol; address = flow.source; port = flow.source_port } ≡ line
     line_is server line flow backend found goes is told =
         let same : Some (record {
@@ -132,20 +132,26 @@ module _ (rule : BalanceRule) where
     of_none found =
         let end : End = record { writes = record { items = [] }; verdict = Forward Keep } in
         let told = ends_at_once (Balance rule) packet content end (of_flow (Balance rule) packet None [] found) in
-        record { nothing = writes_of (ended [] end) told; had = λ server line is. absurd
-            (no_line server line found is) }
+        record {
+          nothing = writes_of (ended [] end) told;
+          had = λ server line is. absurd
+              (no_line server line found is);
+        }
 
     -- a client goes on to the backend that it has
     of_known : (flow : Flow) (backend : ℕ) → flow_found packet ≡ Some flow → comes flow ≡ true
         → backend_at content (key_of flow) ≡ Some backend → IsQuiet
     of_known flow backend found goes has =
-        let end : End = record { writes = record { items = [] }; verdict = Forward
-            (Destination backend flow.destination_port) } in
+        let end : End = record {
+          writes = record { items = [] };
+          verdict = Forward
+              (Destination backend flow.destination_port);
+        } in
         let first = answer_at content (key_of flow) in
         let reads : balance_ask rule flow [] ≡ Read (key_of flow) true = rw goes refl in
         let ends : balance_ask rule flow (first ∷ []) ≡ Finish end = rw (goes, has) refl in
         let told = ends_after_one (Balance rule) packet content (key_of flow) true end (asks flow found []
-            ∙ reads) (asks flow found (first ∷ []) ∙ ends) in
+        ∙ reads) (asks flow found (first ∷ []) ∙ ends) in
         record {
           nothing = writes_of (ended (first ∷ []) end) told;
           had = λ server line is.
@@ -173,7 +179,7 @@ module _ (rule : BalanceRule) where
         let ends : balance_ask rule flow (first ∷ next ∷ []) ≡ Finish end = rw (goes, none) refl in
         let told = ends_after_two (Balance rule) packet content (key_of flow) turn_key true true end
         (asks flow found [] ∙ reads) (asks flow found (first ∷ []) ∙ more) (asks flow found (first ∷ next ∷ [])
-            ∙ ends) in
+        ∙ ends) in
         record {
           flow = flow;
           backend = backend;
@@ -188,19 +194,19 @@ module _ (rule : BalanceRule) where
     -- the end that a value of a backend gives a reply
     reply_end : (flow : Flow) (value : Option ℕ)
         → (verdict : Verdict) × (replied rule flow value ≡ Finish
-            (record { writes = record { items = [] }; verdict = verdict }))
+        (record { writes = record { items = [] }; verdict = verdict }))
     reply_end flow None = (Forward Keep, refl)
     reply_end flow (Some backend) =
         elim (backend == flow.source) as (λ t. (verdict : Verdict) × ((if t then forward_changed []
-            (Source rule.address rule.port) else forward []) ≡ Finish
-            (record { writes = record { items = [] }; verdict = verdict }))) [
+        (Source rule.address rule.port) else forward []) ≡ Finish
+        (record { writes = record { items = [] }; verdict = verdict }))) [
           | true ↦ (Forward (Source rule.address rule.port), refl)
           | false ↦ (Forward Keep, refl)
         ]
 
     reply_quiet : (flow : Flow) → flow_found packet ≡ Some flow → comes flow ≡ false
         → (list_any (λ backend. backend == flow.source) rule.backends && flow.source_port == rule.port) ≡ true
-            → outcome.writes ≡ []
+        → outcome.writes ≡ []
     reply_quiet flow found other back =
         let key = client_key flow.protocol flow.destination flow.destination_port in
         let first = answer_at content key in
@@ -209,7 +215,7 @@ module _ (rule : BalanceRule) where
         let reads : balance_ask rule flow [] ≡ Read key false = rw (other, back) refl in
         let ends : balance_ask rule flow (first ∷ []) ≡ Finish end = rw (other, back) quiet.1 in
         writes_of (ended (first ∷ []) end) (ends_after_one (Balance rule) packet content key false end
-            (asks flow found [] ∙ reads) (asks flow found (first ∷ []) ∙ ends))
+        (asks flow found [] ∙ reads) (asks flow found (first ∷ []) ∙ ends))
 
     -- what else goes through writes nothing
     of_other : (flow : Flow) → flow_found packet ≡ Some flow → comes flow ≡ false → IsQuiet
@@ -217,19 +223,19 @@ module _ (rule : BalanceRule) where
       nothing = elim (list_any (λ backend. backend == flow.source) rule.backends && flow.source_port == rule.port) as
           (λ t. (list_any (λ backend. backend == flow.source) rule.backends && flow.source_port == rule.port) ≡ t
           → outcome.writes ≡ []) [
-        | true ↦ λ back. reply_quiet flow found other back
-        | false ↦ λ away.
-            let end : End = record { writes = record { items = [] }; verdict = Forward Keep } in
-            let ends : balance_ask rule flow [] ≡ Finish end = rw (other, away) refl in
-            writes_of (ended [] end) (ends_at_once (Balance rule) packet content end (asks flow found [] ∙ ends))
-      ] refl;
+            | true ↦ λ back. reply_quiet flow found other back
+            | false ↦ λ away.
+                let end : End = record { writes = record { items = [] }; verdict = Forward Keep } in
+                let ends : balance_ask rule flow [] ≡ Finish end = rw (other, away) refl in
+                writes_of (ended [] end) (ends_at_once (Balance rule) packet content end (asks flow found [] ∙ ends))
+          ] refl;
       had = λ server line is. absurd (other_line server line flow found other outcome.packet refl is);
     }
 
     of_client : (flow : Flow) → flow_found packet ≡ Some flow → comes flow ≡ true → IsQuiet ⊎ IsNew
     of_client flow found goes =
         elim (backend_at content (key_of flow)) as (λ (o : Option ℕ). backend_at content (key_of flow) ≡ o → IsQuiet
-            ⊎ IsNew) [
+        ⊎ IsNew) [
           | Some backend ↦ λ has. inl (of_known flow backend found goes has)
           | None ↦ λ none. inr (of_new flow found goes none)
         ] refl
@@ -263,16 +269,16 @@ module _ (rule : BalanceRule) where
       own_now : backend_at with_turn own ≡ Some is.backend
       own_now =
           ap (number_in w32) (off_put with_own turn_key is.turn own (λ same. absurd (cc))
-              ∙ at_put content own (to_be_bytes w32 is.backend))
+          ∙ at_put content own (to_be_bytes w32 is.backend))
           ∙ ap Some (from_be_bytes-to_be_bytes_4 is.backend (omega (arith, is.within fits)))
 
       new_has : (line : ClientLine) → HasBackend content line → HasBackend with_turn line
       new_has line has =
           let key = client_key line.protocol line.address line.port in
           let apart : key ≢ own = λ same. (let none : Some line.backend ≡ None = sym has
-              ∙ (ap (backend_at content) same ∙ is.none) in absurd (cc)) in
+          ∙ (ap (backend_at content) same ∙ is.none) in absurd (cc)) in
           ap (number_in w32) (off_put with_own turn_key is.turn key (λ same. absurd (cc))
-              ∙ off_put content own (to_be_bytes w32 is.backend) key apart) ∙ has
+          ∙ off_put content own (to_be_bytes w32 is.backend) key apart) ∙ has
 
   -- what a visit leaves of the store
   pub balancing : IsBalanceRule rule → IsKept (Balance rule) (line_of rule) Holds HasBackend
@@ -288,6 +294,6 @@ module _ (rule : BalanceRule) where
           (quiet.had server line told)
       | inr new ↦ subst (λ (c : Content). HasBackend c line) (sym (written_is packet content fits new))
           (subst (λ (l : ClientLine). HasBackend (with_turn packet content fits new) l) (new.gave server line told)
-              (own_now packet content fits new))
+          (own_now packet content fits new))
     ];
   }

@@ -130,7 +130,7 @@ position_fits : (servers server : ℕ) (packet : Option (List ℕ)) → IsValue 
 position_fits servers server None is = no_bytes
 position_fits servers server (Some bytes) is =
     elim (server + 1 == servers) as (λ t. IsPlace (Some (if t then position.Passed bytes else position.Waiting
-        (server + 1) bytes))) [
+    (server + 1) bytes))) [
       | true ↦ no_bytes
       | false ↦ is
     ]
@@ -150,13 +150,13 @@ module _ (rules : List Rule) (all : AllByRecursion IsRule rules) where
       record {
         kept = λ other. with_at_cases IsKept state.maps server (written outcome.writes content) other
             (λ _. subst (λ (o : Outcome). IsKept (written o.writes content)) (sym legal.is)
-                (content_fits legal.rule rule legal.bytes bytes content (is.kept server)))
+            (content_fits legal.rule rule legal.bytes bytes content (is.kept server)))
             (λ _. is.kept other);
         places = λ other. with_at_cases IsPlace state.place packet (Some (position_after
             (length rules) server outcome.packet)) other
             (λ _. position_fits (length rules) server outcome.packet
             (subst (λ (o : Outcome). IsValue o.packet) (sym legal.is)
-                (packet_fits legal.rule rule legal.bytes bytes content (is.kept server))))
+            (packet_fits legal.rule rule legal.bytes bytes content (is.kept server))))
             (λ _. is.places other);
       }
   state_on state (Given packet bytes) fair is = record {
@@ -181,7 +181,7 @@ module _ (rules : List Rule) (all : AllByRecursion IsRule rules) where
         | None ↦ λ _. tt
         | Some entry ↦ λ told. both_fit (seen_at state entry) _ (seen_fits state entry is)
             (run_fits (after (length rules) state entry) steps (state_on state entry
-                (told_legal rules state step entry told).0 is))
+            (told_legal rules state step entry told).0 is))
       ] refl
 
 opening_place : (packets : List (List ℕ)) (packet : ℕ) → AllByRecursion AreBytes packets

@@ -59,12 +59,12 @@ address_checksum_fits : (checksum : ℕ) (bytes : List ℕ) (at address : ℕ) �
     → updated_for_address checksum bytes at address ≤ 65535
 address_checksum_fits checksum bytes at address few =
     updated_checksum_most _ (word_at bytes (at + 2)) (address % 65536) (updated_checksum_most checksum
-        (word_at bytes at) (address / 65536) few)
+    (word_at bytes at) (address / 65536) few)
 
 written_fits : (protocol before after : ℕ) → after ≤ 65535 → written_checksum protocol before after ≤ 65535
 written_fits protocol before after few =
     elim (protocol == 17 && before == 0) as (λ t.
-        (if t then 0 else if protocol == 17 && after == 0 then 0xffff else after) ≤ 65535) [
+    (if t then 0 else if protocol == 17 && after == 0 then 0xffff else after) ≤ 65535) [
       | true ↦ omega arith
       | false ↦ elim (protocol == 17 && after == 0) as (λ t.
           (if t then 0xffff else after) ≤ 65535) [ true ↦ omega arith | false ↦ few ]
@@ -85,7 +85,7 @@ transport_checksum_fits bytes end address port are =
     let ported = word_at bytes (transport_start bytes + port_place end) in
     written_fits (protocol_of bytes) before (updated_checksum addressed ported port)
     (updated_checksum_most addressed ported port (address_checksum_fits before bytes (address_place end) address
-        (word_fits bytes at are)))
+    (word_fits bytes at are)))
 
 -- a packet with another end
 pub end_set : (bytes : List ℕ) (end : _) (address port : ℕ) → address ≤ 4294967295 → port ≤ 65535 → AreBytes bytes
@@ -162,7 +162,7 @@ number_2 (Some (a ∷ b ∷ [])) is = omega (arith, is 0, is 1)
 number_2 (Some (a ∷ b ∷ c ∷ more)) is =
     let long = a ∷ b ∷ c ∷ more in
     elim (length long == 2) as (λ t. (length long == 2) ≡ t → IfSome (if t then Some
-        (from_be_bytes w16 long) else None) (λ n. n ≤ 65535)) [
+    (from_be_bytes w16 long) else None) (λ n. n ≤ 65535)) [
       | true ↦ λ same. absurd (omega (arith, eqb-true (length long) 2 same))
       | false ↦ λ _. tt
     ] refl
@@ -177,7 +177,7 @@ number_4 (Some (a ∷ b ∷ c ∷ d ∷ [])) is = omega (arith, is 0, is 1, is 2
 number_4 (Some (a ∷ b ∷ c ∷ d ∷ e ∷ more)) is =
     let long = a ∷ b ∷ c ∷ d ∷ e ∷ more in
     elim (length long == 4) as (λ t. (length long == 4) ≡ t → IfSome (if t then Some
-        (from_be_bytes w32 long) else None) (λ n. n ≤ 4294967295)) [
+    (from_be_bytes w32 long) else None) (λ n. n ≤ 4294967295)) [
       | true ↦ λ same. absurd (omega (arith, eqb-true (length long) 4 same))
       | false ↦ λ _. tt
     ] refl
@@ -199,7 +199,7 @@ unknown_fits rule is flow [] = tt
 unknown_fits rule is flow (next ∷ answers) =
     let port = unwrap_or (number_in w32 next.value) rule.first in
     elim (nat_lt rule.last port) as (λ t. nat_lt rule.last port ≡ t → FitsAsk
-        (if t then filter_out else drawing rule flow port answers)) [
+    (if t then filter_out else drawing rule flow port answers)) [
       | true ↦ λ _. (tt, tt)
       | false ↦ λ room. drawing_fits rule is flow port answers (below_last rule is port room)
     ] refl
@@ -224,8 +224,14 @@ inside_fits (Some (a ∷ b ∷ [])) is = (tt, tt)
 inside_fits (Some (a ∷ b ∷ c ∷ [])) is = (tt, tt)
 inside_fits (Some (a ∷ b ∷ c ∷ d ∷ [])) is = (tt, tt)
 inside_fits (Some (a ∷ b ∷ c ∷ d ∷ e ∷ [])) is = (tt, tt)
-inside_fits (Some (a ∷ b ∷ c ∷ d ∷ e ∷ f ∷ [])) is = ((omega (arith, is 0, is 1, is 2, is 3), omega
-    (arith, is 4, is 5)), tt)
+inside_fits (Some (a ∷ b ∷ c ∷ d ∷ e ∷ f ∷ [])) is = (
+  (
+    omega (arith, is 0, is 1, is 2, is 3),
+    omega
+        (arith, is 4, is 5),
+  ),
+  tt,
+)
 inside_fits (Some (a ∷ b ∷ c ∷ d ∷ e ∷ f ∷ g ∷ more)) is =
     let long = a ∷ b ∷ c ∷ d ∷ e ∷ f ∷ g ∷ more in
     elim (length long == 6) as (λ t. (length long == 6) ≡ t → FitsAsk (if t
@@ -286,9 +292,9 @@ balance_fits : (rule : BalanceRule) → IsBalanceRule rule → (flow : Flow) →
     → FitsAsk (balance_ask rule flow answers)
 balance_fits rule is flow port answers are =
     either (flow.destination == rule.address && flow.destination_port == rule.port) _ _
-        (from_client_fits rule is flow port answers are)
+    (from_client_fits rule is flow port answers are)
     (either (list_any (λ backend. backend == flow.source) rule.backends && flow.source_port == rule.port) _ _
-        (from_backend_fits rule is flow answers) (tt, tt))
+    (from_backend_fits rule is flow answers) (tt, tt))
 
 -- ---- monitors and firewalls
 
@@ -328,7 +334,7 @@ ask_fits rule is packet bytes answers are =
       | None ↦ λ _. (tt, tt)
       | Some flow ↦ λ found.
           let told = subst (λ (o : Option Flow). MatchOption o (¬ IsFlow packet) (λ f. IsFlow packet
-              × (f ≡ flow_in packet))) found (flows_are_found packet) in
+          × (f ≡ flow_in packet))) found (flows_are_found packet) in
           let same = ap (λ (f : Flow). f.destination_port) told.1 in
           flow_ask_fits rule is flow (omega (arith, same, port_fits packet bytes)) answers are
     ] refl

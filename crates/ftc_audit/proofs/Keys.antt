@@ -17,7 +17,7 @@ pub at_put : (content : Content) (key value : List ℕ) → get (insert content 
 at_put content key value =
     get-insert nat_list_cmp_total content key value key
     ∙ ap (λ (same : Bool). cond same (Some value) (get content key)) (is_same key key
-        ∙ (bytes_eq-Decides key key).1 refl)
+    ∙ (bytes_eq-Decides key key).1 refl)
 
 pub off_put : (content : Content) (key value q : List ℕ) → q ≢ key → get (insert content key value) q ≡ get content q
 off_put content key value q differs =

@@ -41,7 +41,7 @@ record IsPortLine (line : PortLine) : Type 0 where
 flow_fits : (rule : NatRule) (bytes : List ℕ) (after : Option (List ℕ)) (line : PortLine) (flow : Flow)
     → AreBytes bytes → flow ≡ flow_in bytes
     → line_of_flow rule after flow ≡ Some line → (line.address ≡ (flow_in bytes).source)
-        × (line.port ≡ (flow_in bytes).source_port)
+    × (line.port ≡ (flow_in bytes).source_port)
 flow_fits rule bytes None line flow are is told = absurd (cc)
 flow_fits rule bytes (Some after) line flow are is told =
     elim (leaves rule flow) as (λ t. (if t then Some (record {
@@ -51,10 +51,17 @@ flow_fits rule bytes (Some after) line flow are is told =
       port = flow.source_port;
     }) else None) ≡ Some line → (line.address ≡ (flow_in bytes).source) × (line.port ≡ (flow_in bytes).source_port)) [
       | true ↦ λ some.
-          let same : record { outside = source_port
-              (flow_found after); protocol = flow.protocol; address = flow.source; port = flow.source_port } ≡ line = cc in
-          (sym (ap (λ (l : PortLine). l.address) same) ∙ ap (λ (f : Flow). f.source) is, sym (ap (λ
-              (l : PortLine). l.port) same) ∙ ap (λ (f : Flow). f.source_port) is)
+          let same : record {
+            outside = source_port
+                (flow_found after);
+            protocol = flow.protocol;
+            address = flow.source;
+            port = flow.source_port;
+          } ≡ line = cc in (
+            sym (ap (λ (l : PortLine). l.address) same) ∙ ap (λ (f : Flow). f.source) is,
+            sym (ap (λ
+                (l : PortLine). l.port) same) ∙ ap (λ (f : Flow). f.source_port) is,
+          )
       | false ↦ λ none. absurd (cc)
     ] told
 
@@ -68,11 +75,11 @@ line_fits : (rule : NatRule) (seen : Seen) (line : PortLine) → AreBytes seen.b
     → IsPortLine line
 line_fits rule seen line are told =
     elim (flow_found seen.before) as (λ (o : Option Flow). flow_found seen.before ≡ o
-        → option_and_then (line_of_flow rule seen.outcome.packet) o ≡ Some line → IsPortLine line) [
+    → option_and_then (line_of_flow rule seen.outcome.packet) o ≡ Some line → IsPortLine line) [
       | None ↦ λ _ none. absurd (cc)
       | Some flow ↦ λ found some.
           let is = subst (λ (o : Option Flow). MatchOption o (¬ IsFlow seen.before) (λ f. IsFlow seen.before
-              × (f ≡ flow_in seen.before))) found (flows_are_found seen.before) in
+          × (f ≡ flow_in seen.before))) found (flows_are_found seen.before) in
           let same = flow_fits rule seen.before seen.outcome.packet line flow are is.1 some in
           let fits = source_fits seen.before are in
           record { address = omega (arith, same.0, fits.0); port = omega (arith, same.1, fits.1) }
@@ -82,7 +89,7 @@ gave_fits : (rule : NatRule) (server : ℕ) (run : List Seen) (line : PortLine) 
     → GavePort rule server run line → IsPortLine line
 gave_fits rule server run line are gave =
     any_of_all (λ (seen : Seen). (seen.server ≡ server) × (line_of rule seen ≡ Some line)) (λ
-        (seen : Seen). AreBytes seen.before) run
+    (seen : Seen). AreBytes seen.before) run
     (λ seen told bytes. line_fits rule seen line bytes told.1) gave are
 
 -- the key tells the endpoint
@@ -120,9 +127,9 @@ starts_holding rule = record {
 
 pub ports_apart : (rules : List Rule) (packets : List (List ℕ)) (steps : List Step) (server : ℕ) (rule : NatRule)
     (one other : PortLine) → AllByRecursion IsRule rules → AllByRecursion AreBytes packets
-        → slice_get rules server ≡ Some (Nat rule)
+    → slice_get rules server ≡ Some (Nat rule)
     → GavePort rule server (visits rules (opening packets) steps) one → GavePort rule server (visits rules
-        (opening packets) steps) other
+    (opening packets) steps) other
     → SameInside one other ↔ (one.outside ≡ other.outside)
 ports_apart rules packets steps server rule one other all bytes known gave given =
     let few : IsNatRule rule = rule_at rules server (Nat rule) all known in
@@ -132,11 +139,11 @@ ports_apart rules packets steps server rule one other all bytes known gave given
     let content : Content = (end_of rules start steps).maps server in
     let empty_holds = starts_holding rule in
     let held : Holds rule content = ends_holding (Nat rule) (line_of rule)
-        (Holds rule) HasPort kept rules server known start steps empty_holds in
+    (Holds rule) HasPort kept rules server known start steps empty_holds in
     let has : HasPort content one = ends_given (Nat rule) (line_of rule)
-        (Holds rule) HasPort kept rules server known one start steps empty_holds gave in
+    (Holds rule) HasPort kept rules server known one start steps empty_holds gave in
     let too : HasPort content other = ends_given (Nat rule) (line_of rule)
-        (Holds rule) HasPort kept rules server known other start steps empty_holds given in (
+    (Holds rule) HasPort kept rules server known other start steps empty_holds given in (
       λ same. some_once one.outside other.outside (sym has ∙ (ap (port_at content) (same_key one other same) ∙ too)),
       λ equal. same_inside one other (gave_fits rule server (visits rules start steps) one are gave)
           (gave_fits rule server (visits rules start steps) other are given)

@@ -46,7 +46,7 @@ pub record IsKept (rule : Rule) {Line : Type 0} (line_of : Seen → Option Line)
 module _ (rule : Rule) {Line : Type 0} (line_of : Seen → Option Line) (Holds : Content → Type 0) (Has : Content → Line
     → Type 0)
     (kept : IsKept rule line_of Holds Has) (rules : List Rule) (server : ℕ)
-        (known : slice_get rules server ≡ Some rule) where
+    (known : slice_get rules server ≡ Some rule) where
   -- the visits of that server that have this line
   abbrev Gave : List Seen → Line → Type 0
   Gave run line = AnyOf (λ seen. (seen.server ≡ server) × (line_of seen ≡ Some line)) run
@@ -66,7 +66,7 @@ module _ (rule : Rule) {Line : Type 0} (line_of : Seen → Option Line) (Holds :
       with_at_cases P state.maps at (written outcome.writes (state.maps at)) server
       (λ same. subst (λ (k : ℕ). P (written outcome.writes (state.maps k))) same
       (subst (λ (o : Outcome). P (written o.writes (state.maps server)))
-          (outcome_is state at packet outcome legal same) (own legal.bytes)))
+      (outcome_is state at packet outcome legal same) (own legal.bytes)))
       (λ apart. other)
 
   holds_on : (state : State) (entry : Entry) → IsLegal rules state entry → Holds (state.maps server)
@@ -80,7 +80,7 @@ module _ (rule : Rule) {Line : Type 0} (line_of : Seen → Option Line) (Holds :
       → Has (state.maps server) line → Has ((after (length rules) state entry).maps server) line
   has_on line state (Visited at packet outcome) legal holds has =
       after_visit (λ content. Has content line) state at packet outcome
-          (visit_legal rules state at packet outcome legal)
+      (visit_legal rules state at packet outcome legal)
       (λ bytes. kept.has bytes (state.maps server) line holds has) has
   has_on line state (Given packet bytes) legal holds has = has
 
@@ -88,14 +88,18 @@ module _ (rule : Rule) {Line : Type 0} (line_of : Seen → Option Line) (Holds :
       → Gave (seen_at state entry) line → Has ((after (length rules) state entry).maps server) line
   gives_on line state (Visited at packet outcome) legal holds (inl (is, told)) =
       let fair = visit_legal rules state at packet outcome legal in
-      let seen : line_of (record { server = at; before = fair.bytes; outcome = taken rule fair.bytes
-          (state.maps server) }) ≡ Some line =
+      let seen : line_of (record {
+        server = at;
+        before = fair.bytes;
+        outcome = taken rule fair.bytes
+            (state.maps server);
+      }) ≡ Some line =
       ap₂ (λ (b : List ℕ) (o : Outcome). line_of (record { server = at; before = b; outcome = o }))
       (sym (ap waiting_bytes fair.waits)) (outcome_is state at packet outcome fair (sym is)) ∙ told in
       with_at_cases (λ content. Has content line) state.maps at (written outcome.writes (state.maps at)) server
       (λ same. subst (λ (k : ℕ). Has (written outcome.writes (state.maps k)) line) same
       (subst (λ (o : Outcome). Has (written o.writes (state.maps server)) line)
-          (outcome_is state at packet outcome fair same)
+      (outcome_is state at packet outcome fair same)
       (kept.gives at fair.bytes (state.maps server) line holds seen)))
       (λ apart. absurd (apart (sym is)))
   gives_on line state (Visited at packet outcome) legal holds (inr none) = absurd none
@@ -106,8 +110,11 @@ module _ (rule : Rule) {Line : Type 0} (line_of : Seen → Option Line) (Holds :
   ends_holding state [] holds = holds
   ends_holding state (step ∷ steps) holds =
       elim (entry_of rules state step) as (λ (told : Option Entry). entry_of rules state step ≡ told
-      → Holds ((elim told as (λ (o : Option Entry). State) [ None ↦ state | Some entry ↦ end_of rules (after
-          (length rules) state entry) steps ]).maps server)) [
+      → Holds ((elim told as (λ (o : Option Entry). State) [
+        | None ↦ state
+        | Some entry ↦ end_of rules (after
+            (length rules) state entry) steps
+      ]).maps server)) [
         | None ↦ λ _. holds
         | Some entry ↦ λ told. ends_holding (after (length rules) state entry) steps
             (holds_on state entry (told_legal rules state step entry told).0 holds)
@@ -119,13 +126,16 @@ module _ (rule : Rule) {Line : Type 0} (line_of : Seen → Option Line) (Holds :
   ends_having line state [] holds has = has
   ends_having line state (step ∷ steps) holds has =
       elim (entry_of rules state step) as (λ (told : Option Entry). entry_of rules state step ≡ told
-      → Has ((elim told as (λ (o : Option Entry). State) [ None ↦ state | Some entry ↦ end_of rules (after
-          (length rules) state entry) steps ]).maps server) line) [
+      → Has ((elim told as (λ (o : Option Entry). State) [
+        | None ↦ state
+        | Some entry ↦ end_of rules (after
+            (length rules) state entry) steps
+      ]).maps server) line) [
         | None ↦ λ _. has
         | Some entry ↦ λ told.
             let legal = (told_legal rules state step entry told).0 in
             ends_having line (after (length rules) state entry) steps (holds_on state entry legal holds)
-                (has_on line state entry legal holds has)
+            (has_on line state entry legal holds has)
       ] refl
 
   -- the store at the end has each line that was given
@@ -136,15 +146,18 @@ module _ (rule : Rule) {Line : Type 0} (line_of : Seen → Option Line) (Holds :
   ends_given line state (step ∷ steps) holds gave =
       elim (entry_of rules state step) as (λ (told : Option Entry). entry_of rules state step ≡ told
       → Gave (elim told as (λ (o : Option Entry). List Seen) [ None ↦ [] | Some entry ↦ seen_at state entry ++ visits rules (after (length rules) state entry) steps ]) line
-      → Has ((elim told as (λ (o : Option Entry). State) [ None ↦ state | Some entry ↦ end_of rules (after
-          (length rules) state entry) steps ]).maps server) line) [
+      → Has ((elim told as (λ (o : Option Entry). State) [
+        | None ↦ state
+        | Some entry ↦ end_of rules (after
+            (length rules) state entry) steps
+      ]).maps server) line) [
         | None ↦ λ _ none. absurd none
         | Some entry ↦ λ told some.
             let legal = (told_legal rules state step entry told).0 in
             let next = after (length rules) state entry in
             let held = holds_on state entry legal holds in
             elim (any_of_both (λ (seen : Seen). (seen.server ≡ server)
-                × (line_of seen ≡ Some line)) (seen_at state entry) (visits rules next steps) some) [
+            × (line_of seen ≡ Some line)) (seen_at state entry) (visits rules next steps) some) [
               | inl now ↦ ends_having line next steps held (gives_on line state entry legal holds now)
               | inr later ↦ ends_given line next steps held later
             ]

@@ -59,7 +59,7 @@ shown : (packet : List ℕ) (flow : Flow) (address port : ℕ) → flow_found pa
     → source_port (flow_found (with_source packet address port)) ≡ port
 shown packet flow address port found =
     let is = subst (λ (o : Option Flow). MatchOption o (¬ IsFlow packet) (λ f. IsFlow packet
-        × (f ≡ flow_in packet))) found (flows_are_found packet) in
+    × (f ≡ flow_in packet))) found (flows_are_found packet) in
     ap source_port (flow_found-some (with_source packet address port) (IsFlow-with_end packet _ address port is.0))
     ∙ ap (λ (f : Flow). f.source_port) (flow_in-with_source packet address port is.0)
 
@@ -144,8 +144,11 @@ module _ (rule : NatRule) where
     of_none found =
         let end : End = record { writes = record { items = [] }; verdict = Forward Keep } in
         let told = ends_at_once (Nat rule) packet content end (of_flow (Nat rule) packet None [] found) in
-        record { nothing = writes_of (ended [] end) told; had = λ server line is. absurd
-            (no_line server line found is) }
+        record {
+          nothing = writes_of (ended [] end) told;
+          had = λ server line is. absurd
+              (no_line server line found is);
+        }
 
     -- an endpoint goes on with the port that it has
     of_known : (flow : Flow) (port : ℕ) → flow_found packet ≡ Some flow → leaves rule flow ≡ true
@@ -156,7 +159,7 @@ module _ (rule : NatRule) where
         let reads : nat_ask rule flow [] ≡ Read (key_of flow) true = rw goes refl in
         let ends : nat_ask rule flow (first ∷ []) ≡ Finish end = rw (goes, has) refl in
         let told = ends_after_one (Nat rule) packet content (key_of flow) true end (asks flow found []
-            ∙ reads) (asks flow found (first ∷ []) ∙ ends) in
+        ∙ reads) (asks flow found (first ∷ []) ∙ ends) in
         record {
           nothing = writes_of (ended (first ∷ []) end) told;
           had = λ server line is.
@@ -177,7 +180,7 @@ module _ (rule : NatRule) where
         let ends : nat_ask rule flow (first ∷ next ∷ []) ≡ Finish end = rw (goes, none, full) refl in
         let told = ends_after_two (Nat rule) packet content (key_of flow) next_port_key true true end
         (asks flow found [] ∙ reads) (asks flow found (first ∷ []) ∙ more) (asks flow found (first ∷ next ∷ [])
-            ∙ ends) in
+        ∙ ends) in
         record {
           nothing = writes_of (ended (first ∷ next ∷ []) end) told;
           had = λ server line is. absurd (dropped server line flow found (packet_of (ended
@@ -205,10 +208,10 @@ module _ (rule : NatRule) where
         let reads : nat_ask rule flow [] ≡ Read (key_of flow) true = rw goes refl in
         let more : nat_ask rule flow (first ∷ []) ≡ Read next_port_key true = rw (goes, none) refl in
         let again : nat_ask rule flow (first ∷ next ∷ []) ≡ Read (inside_key flow.protocol port) true = rw
-            (goes, none, room) refl in
+        (goes, none, room) refl in
         let ends : nat_ask rule flow (first ∷ next ∷ reverse ∷ []) ≡ Finish end = rw (goes, none, room) refl in
         let told = ends_after_three (Nat rule) packet content (key_of flow) next_port_key
-            (inside_key flow.protocol port) true true true end
+        (inside_key flow.protocol port) true true true end
         (asks flow found [] ∙ reads) (asks flow found (first ∷ []) ∙ more) (asks flow found (first ∷ next ∷ []) ∙ again)
         (asks flow found (first ∷ next ∷ reverse ∷ []) ∙ ends) in
         record {
@@ -226,8 +229,8 @@ module _ (rule : NatRule) where
     quiet_end None = (Filter, refl)
     quiet_end (Some value) =
         elim (length value == 6) as (λ t. (verdict : Verdict) × ((if t then forward_changed [] (Destination
-            (from_be_bytes w32 (take 4 value)) (from_be_bytes w16 (drop 4 value))) else filter_out) ≡ Finish
-            (record { writes = record { items = [] }; verdict = verdict }))) [
+        (from_be_bytes w32 (take 4 value)) (from_be_bytes w16 (drop 4 value))) else filter_out) ≡ Finish
+        (record { writes = record { items = [] }; verdict = verdict }))) [
           | true ↦ (Forward (Destination (from_be_bytes w32 (take 4 value)) (from_be_bytes w16 (drop 4 value))), refl)
           | false ↦ (Filter, refl)
         ]
@@ -242,32 +245,32 @@ module _ (rule : NatRule) where
         let reads : nat_ask rule flow [] ≡ Read key false = rw (stays, here) refl in
         let ends : nat_ask rule flow (first ∷ []) ≡ Finish end = rw (stays, here) quiet.1 in
         writes_of (ended (first ∷ []) end) (ends_after_one (Nat rule) packet content key false end (asks flow found []
-            ∙ reads) (asks flow found (first ∷ []) ∙ ends))
+        ∙ reads) (asks flow found (first ∷ []) ∙ ends))
 
     -- what else goes through writes nothing
     of_inside : (flow : Flow) → flow_found packet ≡ Some flow → leaves rule flow ≡ false → IsQuiet
     of_inside flow found stays = record {
       nothing = elim (flow.destination == rule.outside) as (λ t. (flow.destination == rule.outside) ≡ t
           → outcome.writes ≡ []) [
-        | true ↦ λ here. incoming_quiet flow found stays here
-        | false ↦ λ other.
-            let end : End = record { writes = record { items = [] }; verdict = Forward Keep } in
-            let ends : nat_ask rule flow [] ≡ Finish end = rw (stays, other) refl in
-            writes_of (ended [] end) (ends_at_once (Nat rule) packet content end (asks flow found [] ∙ ends))
-      ] refl;
+            | true ↦ λ here. incoming_quiet flow found stays here
+            | false ↦ λ other.
+                let end : End = record { writes = record { items = [] }; verdict = Forward Keep } in
+                let ends : nat_ask rule flow [] ≡ Finish end = rw (stays, other) refl in
+                writes_of (ended [] end) (ends_at_once (Nat rule) packet content end (asks flow found [] ∙ ends))
+          ] refl;
       had = λ server line is. absurd (inside server line flow found stays outcome.packet refl is);
     }
 
     of_leaving : (flow : Flow) → flow_found packet ≡ Some flow → leaves rule flow ≡ true → IsQuiet ⊎ IsDrawn
     of_leaving flow found goes =
         elim (port_at content (key_of flow)) as (λ (o : Option ℕ). port_at content (key_of flow) ≡ o → IsQuiet
-            ⊎ IsDrawn) [
+        ⊎ IsDrawn) [
           | Some port ↦ λ has. inl (of_known flow port found goes has)
           | None ↦ λ none. elim (nat_lt rule.last (next_of content)) as (λ t. nat_lt rule.last (next_of content) ≡ t
               → IsQuiet ⊎ IsDrawn) [
-            | true ↦ λ full. inl (of_full flow found goes none full)
-            | false ↦ λ room. inr (of_new flow found goes none room)
-          ] refl
+                | true ↦ λ full. inl (of_full flow found goes none full)
+                | false ↦ λ room. inr (of_new flow found goes none room)
+              ] refl
         ] refl
 
     -- each visit is quiet, or draws the next port
@@ -308,7 +311,7 @@ module _ (rule : NatRule) where
       own_now : port_at with_all own ≡ Some port
       own_now =
           ap (number_in w16) (off_put with_next reverse (endpoint is.flow.source is.flow.source_port) own
-              (λ same. absurd (cc))
+          (λ same. absurd (cc))
           ∙ (off_put with_own next_port_key (to_be_bytes w32 (port + 1)) own (λ same. absurd (cc))
           ∙ at_put content own (to_be_bytes w16 port)))
           ∙ ap Some (from_be_bytes-to_be_bytes_2 port (omega (arith, few, is.within)))
@@ -323,16 +326,16 @@ module _ (rule : NatRule) where
       others_stay : (key : List ℕ) → IsPortKey key → key ≢ own → port_at with_all key ≡ port_at content key
       others_stay key (rest, begins) differs =
           ap (number_in w16) (off_put with_next reverse (endpoint is.flow.source is.flow.source_port) key
-              (λ same. other_key 102 114 key rest _ begins same (λ e. omega (arith, e)))
+          (λ same. other_key 102 114 key rest _ begins same (λ e. omega (arith, e)))
           ∙ (off_put with_own next_port_key (to_be_bytes w32 (port + 1)) key
-              (λ same. other_key 102 110 key rest _ begins same (λ e. omega (arith, e)))
+          (λ same. other_key 102 110 key rest _ begins same (λ e. omega (arith, e)))
           ∙ off_put content own (to_be_bytes w16 port) key differs))
 
       -- the key is the endpoint's own, or has what it had
       own_or_other : (key : List ℕ) → IsPortKey key → (key ≡ own) ⊎ (port_at with_all key ≡ port_at content key)
       own_or_other key begins =
           elim (bytes_eq key own) as (λ t. bytes_eq key own ≡ t → (key ≡ own)
-              ⊎ (port_at with_all key ≡ port_at content key)) [
+          ⊎ (port_at with_all key ≡ port_at content key)) [
             | true ↦ λ same. inl ((bytes_eq-Decides key own).0 same)
             | false ↦ λ other. inr (others_stay key begins (λ same. let yes =
                 (bytes_eq-Decides key own).1 same in absurd (cc)))
@@ -391,6 +394,6 @@ module _ (rule : NatRule) where
           (quiet.had server line told)
       | inr drawn ↦ subst (λ (c : Content). HasPort c line) (sym (written_is packet content few drawn))
           (subst (λ (l : PortLine). HasPort (with_all packet content few drawn) l) (drawn.drawn server line told)
-              (own_now packet content few drawn))
+          (own_now packet content few drawn))
     ];
   }
