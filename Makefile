@@ -2,11 +2,15 @@
 
 # A folder with further cases and their comparer, where one lies beside the checkout.
 CASES ?= ../shared/cases
-CASE_SETS = first-path first-path-refused middleboxes middleboxes-refused check check-refused
+CASE_SETS = first-path first-path-refused middleboxes middleboxes-refused check check-refused watch watch-refused
 
 SOURCES := $(shell find crates crates.txt -name out -prune -o -type f -print)
 
-.PHONY: build demo test lines bench clean
+.PHONY: build demo test lines bench install uninstall clean
+
+# Where `make install` puts the program and its manual page.
+PREFIX ?= /usr/local
+DESTDIR ?=
 
 build: bin/ftc
 
@@ -40,6 +44,14 @@ bin/ftc_bench: $(SOURCES)
 	mkdir -p bin
 	cd crates/ftc_bench && rt run
 	cp crates/ftc_bench/out/ftc_bench bin/ftc_bench
+
+install: bin/ftc
+	install -d $(DESTDIR)$(PREFIX)/bin $(DESTDIR)$(PREFIX)/share/man/man1
+	install -m 755 bin/ftc $(DESTDIR)$(PREFIX)/bin/ftc
+	install -m 644 man/ftc.1 $(DESTDIR)$(PREFIX)/share/man/man1/ftc.1
+
+uninstall:
+	rm -f $(DESTDIR)$(PREFIX)/bin/ftc $(DESTDIR)$(PREFIX)/share/man/man1/ftc.1
 
 clean:
 	rm -rf bin out crates/*/out

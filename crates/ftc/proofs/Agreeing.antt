@@ -28,17 +28,17 @@ use Rattle.ftc.specs.Done.{Ends}
 use Rattle.ftc.specs.Checking.{IsJudged, AreChecked, IsRightRun, Judges, IsYesOrRefused, IsCheckEnd}
 
 -- a text is not both right and wrong
-not_both : {A F : Type 0} (told : Result A F) (value : A) (fault : F) → told ≡ Ok value → told ≡ Err fault → ⊥
+pub not_both : {A F : Type 0} (told : Result A F) (value : A) (fault : F) → told ≡ Ok value → told ≡ Err fault → ⊥
 not_both told value fault right wrong = cc
 
-ok_once : {A F : Type 0} (told : Result A F) (one other : A) → told ≡ Ok one → told ≡ Ok other → one ≡ other
+pub ok_once : {A F : Type 0} (told : Result A F) (one other : A) → told ≡ Ok one → told ≡ Ok other → one ≡ other
 ok_once told one other is also = cc
 
-some_once : {A : Type 0} (one other : A) → Some one ≡ Some other → one ≡ other
+pub some_once : {A : Type 0} (one other : A) → Some one ≡ Some other → one ≡ other
 some_once one other same = cc
 
 -- a text that is right is refused for the desk or for memory alone
-not_refused : (sound : Type 0) (files : Files) (name : List ℕ) (IsWrong : List ℕ → Status → Type 0) (ending : Status)
+pub not_refused : (sound : Type 0) (files : Files) (name : List ℕ) (IsWrong : List ℕ → Status → Type 0) (ending : Status)
     → ((text : List ℕ) → files name ≡ Some text → IsWrong text ending → ⊥) → (ending ≡ status.DeskFault → ⊥) → IsTextRefused sound files name IsWrong ending → ending ≡ status.NoMemory
 not_refused sound files name IsWrong status.Done fine no-fault refused = absurd (fine refused.0 refused.1 refused.2)
 not_refused sound files name IsWrong status.Usage fine no-fault refused = absurd (fine refused.0 refused.1 refused.2)
@@ -46,17 +46,19 @@ not_refused sound files name IsWrong (status.Chain line cause) fine no-fault ref
 not_refused sound files name IsWrong (status.Capture at cause) fine no-fault refused = absurd (fine refused.0 refused.1 refused.2)
 not_refused sound files name IsWrong (status.Script line cause) fine no-fault refused = absurd (fine refused.0 refused.1 refused.2)
 not_refused sound files name IsWrong (status.Journal line cause) fine no-fault refused = absurd (fine refused.0 refused.1 refused.2)
+not_refused sound files name IsWrong (status.Beats line cause) fine no-fault refused = absurd (fine refused.0 refused.1 refused.2)
 not_refused sound files name IsWrong (status.Check verdict) fine no-fault refused = absurd (fine refused.0 refused.1 refused.2)
 not_refused sound files name IsWrong status.DeskFault fine no-fault refused = absurd (no-fault refl)
 not_refused sound files name IsWrong status.NoMemory fine no-fault refused = refl
 
-no_chain : (most : ℕ) (text : List ℕ) (chain : Chain) → chain_within most text ≡ Ok chain → (ending : Status) → IsWrongChain most text ending → ⊥
+pub no_chain : (most : ℕ) (text : List ℕ) (chain : Chain) → chain_within most text ≡ Ok chain → (ending : Status) → IsWrongChain most text ending → ⊥
 no_chain most text chain right status.Done wrong = wrong
 no_chain most text chain right status.Usage wrong = wrong
 no_chain most text chain right (status.Chain line cause) wrong = not_both (chain_within most text) chain _ right wrong
 no_chain most text chain right (status.Capture at cause) wrong = wrong
 no_chain most text chain right (status.Script line cause) wrong = wrong
 no_chain most text chain right (status.Journal line cause) wrong = wrong
+no_chain most text chain right (status.Beats line cause) wrong = wrong
 no_chain most text chain right (status.Check verdict) wrong = wrong
 no_chain most text chain right status.DeskFault wrong = wrong
 no_chain most text chain right status.NoMemory wrong = wrong
@@ -68,6 +70,7 @@ no_script ring packets text script right (status.Chain line cause) wrong = wrong
 no_script ring packets text script right (status.Capture at cause) wrong = wrong
 no_script ring packets text script right (status.Script line cause) wrong = not_both (script_of ring packets text) script _ right wrong
 no_script ring packets text script right (status.Journal line cause) wrong = wrong
+no_script ring packets text script right (status.Beats line cause) wrong = wrong
 no_script ring packets text script right (status.Check verdict) wrong = wrong
 no_script ring packets text script right status.DeskFault wrong = wrong
 no_script ring packets text script right status.NoMemory wrong = wrong
@@ -79,6 +82,7 @@ no_some_script text empty (status.Chain line cause) wrong = wrong
 no_some_script text empty (status.Capture at cause) wrong = wrong
 no_some_script text empty (status.Script line cause) wrong = wrong.0 empty
 no_some_script text empty (status.Journal line cause) wrong = wrong
+no_some_script text empty (status.Beats line cause) wrong = wrong
 no_some_script text empty (status.Check verdict) wrong = wrong
 no_some_script text empty status.DeskFault wrong = wrong
 no_some_script text empty status.NoMemory wrong = wrong
@@ -90,6 +94,7 @@ no_journal text journal right (status.Chain line cause) wrong = wrong
 no_journal text journal right (status.Capture at cause) wrong = wrong
 no_journal text journal right (status.Script line cause) wrong = wrong
 no_journal text journal right (status.Journal line cause) wrong = not_both (journal_of text) journal _ right wrong
+no_journal text journal right (status.Beats line cause) wrong = wrong
 no_journal text journal right (status.Check verdict) wrong = wrong
 no_journal text journal right status.DeskFault wrong = wrong
 no_journal text journal right status.NoMemory wrong = wrong
@@ -106,13 +111,14 @@ pub record Laws : Type 0 where
   pub no_fault : (text : List ℕ) (capture : Capture) (fault : CaptureFault) → Spells text capture → IsFault text fault → ⊥
   pub one_verdict : VerdictsAreOne
 
-no_capture : (laws : Laws) (text : List ℕ) (capture : Capture) → Spells text capture → (ending : Status) → IsWrongCapture text ending → ⊥
+pub no_capture : (laws : Laws) (text : List ℕ) (capture : Capture) → Spells text capture → (ending : Status) → IsWrongCapture text ending → ⊥
 no_capture laws text capture right status.Done wrong = wrong
 no_capture laws text capture right status.Usage wrong = wrong
 no_capture laws text capture right (status.Chain line cause) wrong = wrong
 no_capture laws text capture right (status.Capture at cause) wrong = laws.no_fault text capture _ right wrong
 no_capture laws text capture right (status.Script line cause) wrong = wrong
 no_capture laws text capture right (status.Journal line cause) wrong = wrong
+no_capture laws text capture right (status.Beats line cause) wrong = wrong
 no_capture laws text capture right (status.Check verdict) wrong = wrong
 no_capture laws text capture right status.DeskFault wrong = wrong
 no_capture laws text capture right status.NoMemory wrong = wrong
@@ -129,10 +135,10 @@ module _ (laws : Laws) (names : Named) (files : Files) (chain : Chain) (capture 
       let has = checked.inputs.capture_right in
       subst (λ (t : List ℕ). Spells t capture) (some_once has.text text (sym has.file ∙ file)) has.right
 
-  chain_is : (other : Chain) → HasChain MOST_FAILURES names files other → other ≡ chain
+  chain_is : (other : Chain) → HasChain MOST_FAILURES names.chain files other → other ≡ chain
   chain_is other has = ok_once (chain_within MOST_FAILURES has.text) other chain has.right (chain_reads has.text has.file)
 
-  capture_is : (other : Capture) → HasCapture names files other → other ≡ capture
+  capture_is : (other : Capture) → HasCapture names.capture files other → other ≡ capture
   capture_is other has = laws.one_capture has.text other capture has.right (capture_reads has.text has.file)
 
   script_reads : (other : Chain) (taken : Capture) (text : List ℕ) → other ≡ chain → taken ≡ capture → files names.script ≡ Some text → script_of (ring_of other) (length taken.packets) text ≡ Ok script
@@ -178,6 +184,7 @@ module _ (laws : Laws) (names : Named) (files : Files) (chain : Chain) (capture 
   judges_all sound (status.Capture at cause) refused no-fault = for_memory sound (status.Capture at cause) no-fault refused
   judges_all sound (status.Script line cause) refused no-fault = for_memory sound (status.Script line cause) no-fault refused
   judges_all sound (status.Journal line cause) refused no-fault = for_memory sound (status.Journal line cause) no-fault refused
+  judges_all sound (status.Beats line cause) refused no-fault = for_memory sound (status.Beats line cause) no-fault refused
   judges_all sound (status.Check verdict) judged no-fault = tt
   judges_all sound status.DeskFault refused no-fault = absurd (no-fault refl)
   judges_all sound status.NoMemory judged no-fault = tt
@@ -208,6 +215,7 @@ module _ (laws : Laws) (names : Named) (files : Files) (right : IsRightRun names
   agrees sound (status.Capture at cause) fault = absurd (wrong sound (status.Capture at cause) fault (λ same. cc))
   agrees sound (status.Script line cause) fault = absurd (wrong sound (status.Script line cause) fault (λ same. cc))
   agrees sound (status.Journal line cause) fault = absurd (wrong sound (status.Journal line cause) fault (λ same. cc))
+  agrees sound (status.Beats line cause) fault = absurd (wrong sound (status.Beats line cause) fault (λ same. cc))
   agrees sound (status.Check verdict) judged = absurd (judged.1 (verdict_is laws names files right.judged.chain right.judged.capture right.judged.script right.judged.out right.judged.journal right.judged.report right.judged.checked right.judged.verdict_right verdict judged.0))
   agrees sound status.DeskFault judged = tt
   agrees sound status.NoMemory judged = tt
@@ -244,6 +252,7 @@ module _ (laws : Laws) (names : Named) (files : Files) (chain : Chain) (capture 
   completes sound new (status.Capture at cause) ends no-fault = done_or_memory sound new (status.Capture at cause) no-fault ends
   completes sound new (status.Script line cause) ends no-fault = done_or_memory sound new (status.Script line cause) no-fault ends
   completes sound new (status.Journal line cause) ends no-fault = done_or_memory sound new (status.Journal line cause) no-fault ends
+  completes sound new (status.Beats line cause) ends no-fault = done_or_memory sound new (status.Beats line cause) no-fault ends
   completes sound new (status.Check verdict) ends no-fault = done_or_memory sound new (status.Check verdict) no-fault ends
   completes sound new status.DeskFault ends no-fault = absurd (no-fault refl)
   completes sound new status.NoMemory ends no-fault = inr refl

@@ -12,3 +12,4 @@ pub mod Plain
 pub mod Reported
 pub mod Unread
 pub mod Refusing
+pub mod WatchLemmas

@@ -26,6 +26,7 @@ ends_refused sound names old new (status.Chain line cause) refused same = (refus
 ends_refused sound names old new (status.Capture at cause) refused same = (refused, same)
 ends_refused sound names old new (status.Script line cause) refused same = (refused, same)
 ends_refused sound names old new (status.Journal line cause) refused same = (refused, same)
+ends_refused sound names old new (status.Beats line cause) refused same = (refused, same)
 ends_refused sound names old new (status.Check verdict) refused same = (refused, same)
 ends_refused sound names old new status.DeskFault refused same = inl (refused, same)
 ends_refused sound names old new status.NoMemory refused same = inl same
@@ -63,6 +64,7 @@ judges_refused sound names files (status.Chain line cause) refused = refused
 judges_refused sound names files (status.Capture at cause) refused = refused
 judges_refused sound names files (status.Script line cause) refused = refused
 judges_refused sound names files (status.Journal line cause) refused = refused
+judges_refused sound names files (status.Beats line cause) refused = refused
 judges_refused sound names files (status.Check verdict) refused = absurd (check_isnt_judged sound names files verdict refused)
 judges_refused sound names files status.DeskFault refused = refused
 judges_refused sound names files status.NoMemory refused = tt
@@ -77,26 +79,27 @@ refused_before sound now-sound old new name IsWrong (status.Chain line cause) st
 refused_before sound now-sound old new name IsWrong (status.Capture at cause) stays same refused = (refused.0, sym (same name) ∙ refused.1, refused.2)
 refused_before sound now-sound old new name IsWrong (status.Script line cause) stays same refused = (refused.0, sym (same name) ∙ refused.1, refused.2)
 refused_before sound now-sound old new name IsWrong (status.Journal line cause) stays same refused = (refused.0, sym (same name) ∙ refused.1, refused.2)
+refused_before sound now-sound old new name IsWrong (status.Beats line cause) stays same refused = (refused.0, sym (same name) ∙ refused.1, refused.2)
 refused_before sound now-sound old new name IsWrong (status.Check verdict) stays same refused = (refused.0, sym (same name) ∙ refused.1, refused.2)
 refused_before sound now-sound old new name IsWrong status.DeskFault stays same refused = λ s. sym (same name) ∙ refused (stays s)
 refused_before sound now-sound old new name IsWrong status.NoMemory stays same refused = tt
 
-pub capture_before : (names : Named) (old new : Files) (capture : Capture) → SameFiles old new → HasCapture names new capture → HasCapture names old capture
-capture_before names old new capture same has = record { text = has.text; file = sym (same names.capture) ∙ has.file; right = has.right }
+pub capture_before : (name : List ℕ) (old new : Files) (capture : Capture) → SameFiles old new → HasCapture name new capture → HasCapture name old capture
+capture_before name old new capture same has = record { text = has.text; file = sym (same name) ∙ has.file; right = has.right }
 
-pub script_before : (names : Named) (old new : Files) (chain : Chain) (packets : ℕ) (script : ScriptShape) → SameFiles old new → HasScript names new chain packets script → HasScript names old chain packets script
-script_before names old new chain packets script same has = record { text = has.text; file = sym (same names.script) ∙ has.file; right = has.right }
+pub script_before : (name : List ℕ) (old new : Files) (chain : Chain) (packets : ℕ) (script : ScriptShape) → SameFiles old new → HasScript name new chain packets script → HasScript name old chain packets script
+script_before name old new chain packets script same has = record { text = has.text; file = sym (same name) ∙ has.file; right = has.right }
 
-pub journal_before : (names : Named) (old new : Files) (journal : List Event) → SameFiles old new → HasJournal names new journal → HasJournal names old journal
-journal_before names old new journal same has = record { text = has.text; file = sym (same names.journal) ∙ has.file; right = has.right }
+pub journal_before : (name : List ℕ) (old new : Files) (journal : List Event) → SameFiles old new → HasJournal name new journal → HasJournal name old journal
+journal_before name old new journal same has = record { text = has.text; file = sym (same name) ∙ has.file; right = has.right }
 
 -- ---- a text behind those that are right
 
-pub script_refused : (sound : Type 0) (names : Named) (files : Files) (chain : Chain) (capture : Capture) (ending : Status) → HasChain MOST_RUN_FAILURES names files chain → HasCapture names files capture
+pub script_refused : (sound : Type 0) (names : Named) (files : Files) (chain : Chain) (capture : Capture) (ending : Status) → HasChain MOST_RUN_FAILURES names.chain files chain → HasCapture names.capture files capture
     → IsTextRefused sound files names.script IsSomeScript ending → IsRunRefused sound names files ending
 script_refused sound names files chain capture ending chain_right capture_right refused = inr (chain, chain_right, inr (capture, capture_right, refused))
 
-pub whole_script_refused : (sound : Type 0) (names : Named) (files : Files) (chain : Chain) (capture : Capture) (ending : Status) → HasChain MOST_FAILURES names files chain → HasCapture names files capture
+pub whole_script_refused : (sound : Type 0) (names : Named) (files : Files) (chain : Chain) (capture : Capture) (ending : Status) → HasChain MOST_FAILURES names.chain files chain → HasCapture names.capture files capture
     → IsTextRefused sound files names.script (IsWrongScript (ring_of chain) (length capture.packets)) ending → IsCheckRefused sound names files ending
 whole_script_refused sound names files chain capture ending chain_right capture_right refused = inr (chain, chain_right, inr (capture, capture_right, inl refused))
 
@@ -110,6 +113,6 @@ journal_refused sound names files chain capture script out ending inputs out_fil
     inr (chain, inputs.chain_right, inr (capture, inputs.capture_right, inr (script, inputs.script_right, inr (out, out_file, inl refused))))
 
 pub report_refused : (sound : Type 0) (names : Named) (files : Files) (chain : Chain) (capture : Capture) (script : ScriptShape) (out : List ℕ) (journal : List Event) (ending : Status) → AreInputs names files chain capture script
-    → files names.out ≡ Some out → HasJournal names files journal → IsTextRefused sound files names.report IsNeverWrong ending → IsCheckRefused sound names files ending
+    → files names.out ≡ Some out → HasJournal names.journal files journal → IsTextRefused sound files names.report IsNeverWrong ending → IsCheckRefused sound names files ending
 report_refused sound names files chain capture script out journal ending inputs out_file journal_right refused =
     inr (chain, inputs.chain_right, inr (capture, inputs.capture_right, inr (script, inputs.script_right, inr (out, out_file, inr (journal, journal_right, refused)))))

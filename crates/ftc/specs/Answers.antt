@@ -4,13 +4,30 @@ use Rattle.ftc_check.specs.declared.verdict.Checked.TheVariants.{Yes}
 use Rattle.ftc.specs.declared.status.Status.{Status}
 use Rattle.ftc.specs.declared.status.Status.TheVariants as status
 
+-- what the reading of a chain or a capture may answer in place of it
+abbrev pub IsInputAnswer : Status → Type 0
+IsInputAnswer (status.Chain line cause) = Unit {0}
+IsInputAnswer (status.Capture at cause) = Unit {0}
+IsInputAnswer status.DeskFault = Unit {0}
+IsInputAnswer status.NoMemory = Unit {0}
+IsInputAnswer other = ⊥
+
 abbrev pub IsRunAnswer : Status → Type 0
 IsRunAnswer status.Usage = ⊥
 IsRunAnswer (status.Journal line cause) = ⊥
+IsRunAnswer (status.Beats line cause) = ⊥
 IsRunAnswer (status.Check verdict) = ⊥
 IsRunAnswer other = Unit {0}
 
 abbrev pub IsCheckAnswer : Status → Type 0
 IsCheckAnswer status.Usage = ⊥
+IsCheckAnswer (status.Beats line cause) = ⊥
 IsCheckAnswer (status.Check verdict) = verdict ≢ Yes
 IsCheckAnswer other = Unit {0}
+
+abbrev pub IsWatchAnswer : Status → Type 0
+IsWatchAnswer status.Usage = ⊥
+IsWatchAnswer (status.Script line cause) = ⊥
+IsWatchAnswer (status.Journal line cause) = ⊥
+IsWatchAnswer (status.Check verdict) = ⊥
+IsWatchAnswer other = Unit {0}

@@ -25,7 +25,7 @@ use Rattle.ftc.specs.Refused.{IsCheckRefused}
 pub record AreChecked (names : Named) (files : Files) (chain : Chain) (capture : Capture) (script : ScriptShape) (out : List ℕ) (journal : List Event) (report : List ℕ) : Type 0 where
   pub inputs : AreInputs names files chain capture script
   pub out_file : files names.out ≡ Some out
-  pub journal_right : HasJournal names files journal
+  pub journal_right : HasJournal names.journal files journal
   pub report_file : files names.report ≡ Some report
 
 -- the state of the protocol after a journal

@@ -4,13 +4,15 @@ use Rattle.std.specs.Borrow.{Bor}
 use Rattle.ftc_outside.specs.Desk.{Files, SameFiles}
 use Rattle.ftc_pcap.specs.declared.capture.Capture.{Capture}
 use Rattle.ftc_mbox.specs.Chain.{Chain}
+use Rattle.ftc_watch.specs.Beats.{BeatsShape}
 use Rattle.ftc_words.specs.Given.{texts_of}
-use Rattle.ftc_words.specs.Command.{Command, run, check, command_of}
+use Rattle.ftc_words.specs.Command.{Command, run, check, watch, command_of}
 use Rattle.ftc.specs.declared.status.Status.{Status}
-use Rattle.ftc.specs.Answers.{IsRunAnswer, IsCheckAnswer}
+use Rattle.ftc.specs.Answers.{IsRunAnswer, IsCheckAnswer, IsWatchAnswer}
 use Rattle.ftc.specs.Texts.{AreTexts}
 use Rattle.ftc.specs.Checking.{Judges, IsRightRun, AreReadable}
 use Rattle.ftc.specs.Done.{Ends, IsDone}
+use Rattle.ftc.specs.Watching.{watch_names, AreBeats, WatchEnds}
 
 -- the command that was asked for
 abbrev pub asked : List (Bor (List ℕ)) → Option Command
@@ -20,17 +22,20 @@ asked words = command_of (texts_of words)
 abbrev pub IsAnswer : Option Command → Status → Type 0
 IsAnswer (Some (run names mode)) ending = IsRunAnswer ending
 IsAnswer (Some (check names)) ending = IsCheckAnswer ending
+IsAnswer (Some (watch limit chain capture beats script)) ending = IsWatchAnswer ending
 IsAnswer other ending = Unit {0}
 
--- what the files are at its end, from what they were; only `run` changes any
+-- what the files are at its end, from what they were; a check changes none
 abbrev pub HasEnded : Type 0 → Option Command → Files → Files → Status → Type 0
 HasEnded sound (Some (run names mode)) old new ending = Ends sound names old new ending
 HasEnded sound (Some (check names)) old new ending = Judges sound names old ending × SameFiles old new
+HasEnded sound (Some (watch limit chain capture beats script)) old new ending = WatchEnds sound limit (watch_names chain capture beats script) old new ending
 HasEnded sound other old new ending = SameFiles old new
 
--- a run whose texts are right
+-- a run or a watch whose texts are right
 abbrev pub HasTexts : Option Command → Files → Type 0
 HasTexts (Some (run names mode)) files = (chain : Chain) × (capture : Capture) × AreTexts names files chain capture
+HasTexts (Some (watch limit chain capture beats script)) files = (read : BeatsShape) × AreBeats (watch_names chain capture beats script) files read
 HasTexts other files = ⊥
 
 -- a check whose files can all be read

@@ -10,3 +10,4 @@ pub mod Refused
 pub mod Writing
 pub mod Done
 pub mod Answers
+pub mod Watching

@@ -58,14 +58,14 @@ IsNeverWrong text ending = ⊥
 abbrev pub IsRunRefused : Type 0 → Named → Files → Status → Type 0
 IsRunRefused sound names files ending =
     IsTextRefused sound files names.chain (IsWrongChain MOST_RUN_FAILURES) ending
-    ⊎ ((chain : Chain) × HasChain MOST_RUN_FAILURES names files chain × (IsTextRefused sound files names.capture IsWrongCapture ending
-    ⊎ ((capture : Capture) × HasCapture names files capture × IsTextRefused sound files names.script IsSomeScript ending)))
+    ⊎ ((chain : Chain) × HasChain MOST_RUN_FAILURES names.chain files chain × (IsTextRefused sound files names.capture IsWrongCapture ending
+    ⊎ ((capture : Capture) × HasCapture names.capture files capture × IsTextRefused sound files names.script IsSomeScript ending)))
 
 abbrev pub IsCheckRefused : Type 0 → Named → Files → Status → Type 0
 IsCheckRefused sound names files ending =
     IsTextRefused sound files names.chain (IsWrongChain MOST_FAILURES) ending
-    ⊎ ((chain : Chain) × HasChain MOST_FAILURES names files chain × (IsTextRefused sound files names.capture IsWrongCapture ending
-    ⊎ ((capture : Capture) × HasCapture names files capture × (IsTextRefused sound files names.script (IsWrongScript (ring_of chain) (length capture.packets)) ending
-    ⊎ ((read : ScriptShape) × HasScript names files chain (length capture.packets) read × (IsTextRefused sound files names.out IsNeverWrong ending
+    ⊎ ((chain : Chain) × HasChain MOST_FAILURES names.chain files chain × (IsTextRefused sound files names.capture IsWrongCapture ending
+    ⊎ ((capture : Capture) × HasCapture names.capture files capture × (IsTextRefused sound files names.script (IsWrongScript (ring_of chain) (length capture.packets)) ending
+    ⊎ ((read : ScriptShape) × HasScript names.script files chain (length capture.packets) read × (IsTextRefused sound files names.out IsNeverWrong ending
     ⊎ ((out : List ℕ) × (files names.out ≡ Some out) × (IsTextRefused sound files names.journal IsWrongJournal ending
-    ⊎ ((journal : List Event) × HasJournal names files journal × IsTextRefused sound files names.report IsNeverWrong ending)))))))))
+    ⊎ ((journal : List Event) × HasJournal names.journal files journal × IsTextRefused sound files names.report IsNeverWrong ending)))))))))

@@ -15,6 +15,9 @@ use Rattle.ftc_script.specs.Codes as script
 use Rattle.ftc_journal.specs.declared.fault.JournalCause.{JournalCause}
 use Rattle.ftc_journal.specs.declared.fault.JournalCause.TheVariants as journal
 use Rattle.ftc_journal.specs.declared.fault.JournalFault.{JournalFault}
+use Rattle.ftc_watch.specs.declared.fault.BeatsCause.{BeatsCause}
+use Rattle.ftc_watch.specs.declared.fault.BeatsCause.TheVariants as beats
+use Rattle.ftc_watch.specs.declared.fault.BeatsFault.{BeatsFault}
 use Rattle.ftc_check.specs.declared.verdict.Checked.{Checked}
 use Rattle.ftc_check.specs.declared.verdict.Checked.TheVariants as checked
 use Rattle.ftc.specs.declared.status.Status.{Status}
@@ -51,6 +54,14 @@ journal_number journal.Word = 2
 journal_number journal.Range = 3
 journal_number journal.Cut = 4
 
+abbrev pub beats_number : BeatsCause → ℕ
+beats_number beats.Header = 1
+beats_number beats.Word = 2
+beats_number beats.Order = 3
+beats_number beats.Past = 4
+beats_number beats.Range = 5
+beats_number beats.TooMany = 6
+
 -- the exit code
 abbrev pub code_of : Status → ℕ
 code_of status.Done = 0
@@ -59,6 +70,7 @@ code_of (status.Chain line cause) = 3
 code_of (status.Capture at cause) = 3
 code_of (status.Script line cause) = 3
 code_of (status.Journal line cause) = 3
+code_of (status.Beats line cause) = 3
 code_of status.DeskFault = 4
 code_of status.NoMemory = 5
 code_of (status.Check verdict) = 6
@@ -83,6 +95,7 @@ line_of (status.Chain line cause) = fault_line (codes "chain: line") line (chain
 line_of (status.Capture at cause) = fault_line (codes "capture: byte") at (capture_number cause)
 line_of (status.Script line cause) = fault_line (codes "script: line") line (script.code_of cause)
 line_of (status.Journal line cause) = fault_line (codes "journal: line") line (journal_number cause)
+line_of (status.Beats line cause) = fault_line (codes "beats: line") line (beats_number cause)
 line_of (status.Check verdict) = verdict_line verdict
 line_of status.DeskFault = codes "desk: failed"
 line_of status.NoMemory = codes "memory: refused"
@@ -111,3 +124,7 @@ script_status refuse.NoMemory = status.NoMemory
 abbrev pub journal_status : Refuse JournalFault → Status
 journal_status (refuse.Bad fault) = status.Journal fault.line fault.cause
 journal_status refuse.NoMemory = status.NoMemory
+
+abbrev pub beats_status : Refuse BeatsFault → Status
+beats_status (refuse.Bad fault) = status.Beats fault.line fault.cause
+beats_status refuse.NoMemory = status.NoMemory

@@ -14,40 +14,40 @@ use Rattle.ftc_journal.specs.declared.event.Event.{Event}
 use Rattle.ftc_words.specs.Command.{Named}
 use Rattle.ftc.specs.declared.limits.TheConstants.{MOST_RUN_FAILURES}
 
--- The files spell this chain, of whose servers at most so many may be down at once, and this capture.
-pub record HasChain (most : ℕ) (names : Named) (files : Files) (chain : Chain) : Type 0 where
+-- The file of that name spells this chain, of whose servers at most so many may be down at once; or this capture.
+pub record HasChain (most : ℕ) (name : List ℕ) (files : Files) (chain : Chain) : Type 0 where
   pub text : List ℕ
-  pub file : files names.chain ≡ Some text
+  pub file : files name ≡ Some text
   pub right : chain_within most text ≡ Ok chain
 
-pub record HasCapture (names : Named) (files : Files) (capture : Capture) : Type 0 where
+pub record HasCapture (name : List ℕ) (files : Files) (capture : Capture) : Type 0 where
   pub text : List ℕ
-  pub file : files names.capture ≡ Some text
+  pub file : files name ≡ Some text
   pub right : Spells text capture
 
 -- What a run is given: as yet a chain whose servers may not be down, and an empty script.
 pub record AreTexts (names : Named) (files : Files) (chain : Chain) (capture : Capture) : Type 0 where
-  pub chain_right : HasChain MOST_RUN_FAILURES names files chain
-  pub capture_right : HasCapture names files capture
+  pub chain_right : HasChain MOST_RUN_FAILURES names.chain files chain
+  pub capture_right : HasCapture names.capture files capture
   pub script_empty : files names.script ≡ Some []
 
 -- the ring of a chain
 abbrev pub ring_of : Chain → RingShape
 ring_of chain = record { servers = length chain.rules; failures = chain.failures }
 
--- The files spell this script for a chain and its packets, and this journal.
-pub record HasScript (names : Named) (files : Files) (chain : Chain) (packets : ℕ) (script : ScriptShape) : Type 0 where
+-- The file spells this script for a chain and its packets; or this journal.
+pub record HasScript (name : List ℕ) (files : Files) (chain : Chain) (packets : ℕ) (script : ScriptShape) : Type 0 where
   pub text : List ℕ
-  pub file : files names.script ≡ Some text
+  pub file : files name ≡ Some text
   pub right : script_of (ring_of chain) packets text ≡ Ok script
 
-pub record HasJournal (names : Named) (files : Files) (journal : List Event) : Type 0 where
+pub record HasJournal (name : List ℕ) (files : Files) (journal : List Event) : Type 0 where
   pub text : List ℕ
-  pub file : files names.journal ≡ Some text
+  pub file : files name ≡ Some text
   pub right : journal_of text ≡ Ok journal
 
 -- A chain, a capture and a script that are right.
 pub record AreInputs (names : Named) (files : Files) (chain : Chain) (capture : Capture) (script : ScriptShape) : Type 0 where
-  pub chain_right : HasChain MOST_FAILURES names files chain
-  pub capture_right : HasCapture names files capture
-  pub script_right : HasScript names files chain (length capture.packets) script
+  pub chain_right : HasChain MOST_FAILURES names.chain files chain
+  pub capture_right : HasCapture names.capture files capture
+  pub script_right : HasScript names.script files chain (length capture.packets) script

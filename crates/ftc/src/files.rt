@@ -35,7 +35,7 @@ pub struct RunFiles {
 }
 
 /// The ring of a chain.
-fn ring_of(spec: &ChainSpec) -> Ring
+pub fn ring_of(spec: &ChainSpec) -> Ring
     ensures same { result ≡ ring_of spec.now }
     ensures right { IsRing result }
 {
@@ -48,16 +48,16 @@ fn ring_of(spec: &ChainSpec) -> Ring
 /// Fetches and reads the script of a run of this chain on so many packets.
 fn fetch_script<D: Desk>(
     alloc: Global,
-    names: Names<'_>,
+    name: &str,
     spec: &ChainSpec,
     packets: u32,
     desk: &mut D,
 ) -> Result<Script, Status>
-    ensures accepted { D.tells desk.old → IfOk result (HasScript (named_of names.entry) (D.file desk.old) spec.now packets) }
+    ensures accepted { D.tells desk.old → IfOk result (HasScript name.now (D.file desk.old) spec.now packets) }
     ensures ring { IfOk result (λ script. script.ring ≡ ring_of spec.now) }
     ensures packets { IfOk result (λ script. script.packets ≡ packets) }
     ensures right { IfOk result IsScript }
-    ensures refused { D.tells desk.old → IfErr result (IsTextRefused (D.sound desk.old) (D.file desk.old) names.entry.script.now (IsWrongScript (ring_of spec.now) packets)) }
+    ensures refused { D.tells desk.old → IfErr result (IsTextRefused (D.sound desk.old) (D.file desk.old) name.now (IsWrongScript (ring_of spec.now) packets)) }
     ensures known { IfErr result (λ ending. ending ≢ Status.Usage) }
     ensures answer { IfErr result IsCheckAnswer }
     ensures files { D.tells desk.old → SameFiles (D.file desk.old) (D.file desk.new) }
@@ -68,15 +68,15 @@ fn fetch_script<D: Desk>(
     ensures still { result ≢ Err Status.DeskFault → D.faults desk.new ≡ D.faults desk.old }
 {
     accepted();
-    let text = desk.fetch(alloc, names.script)?;
+    let text = desk.fetch(alloc, name)?;
     let script = read_script(alloc, text.as_slice(), &ring_of(spec), packets)?;
     Ok(script)
 }
 
 /// Fetches and reads the journal.
-fn fetch_journal<D: Desk>(alloc: Global, names: Names<'_>, desk: &mut D) -> Result<Journal, Status>
-    ensures accepted { D.tells desk.old → IfOk result (λ journal. HasJournal (named_of names.entry) (D.file desk.old) journal.items) }
-    ensures refused { D.tells desk.old → IfErr result (IsTextRefused (D.sound desk.old) (D.file desk.old) names.entry.journal.now IsWrongJournal) }
+fn fetch_journal<D: Desk>(alloc: Global, name: &str, desk: &mut D) -> Result<Journal, Status>
+    ensures accepted { D.tells desk.old → IfOk result (λ journal. HasJournal name.now (D.file desk.old) journal.items) }
+    ensures refused { D.tells desk.old → IfErr result (IsTextRefused (D.sound desk.old) (D.file desk.old) name.now IsWrongJournal) }
     ensures known { IfErr result (λ ending. ending ≢ Status.Usage) }
     ensures answer { IfErr result IsCheckAnswer }
     ensures files { D.tells desk.old → SameFiles (D.file desk.old) (D.file desk.new) }
@@ -86,7 +86,7 @@ fn fetch_journal<D: Desk>(alloc: Global, names: Names<'_>, desk: &mut D) -> Resu
     ensures cause { result ≡ Err Status.DeskFault → Rose (D.faults desk.old) (D.faults desk.new) }
     ensures still { result ≢ Err Status.DeskFault → D.faults desk.new ≡ D.faults desk.old }
 {
-    let text = desk.fetch(alloc, names.journal)?;
+    let text = desk.fetch(alloc, name)?;
     let journal = read(alloc, text.as_slice())?;
     Ok(journal)
 }
@@ -112,12 +112,12 @@ pub fn read_files<D: Desk>(
     ensures cause { result ≡ Err Status.DeskFault → Rose (D.faults desk.old) (D.faults desk.new) }
     ensures still { result ≢ Err Status.DeskFault → D.faults desk.new ≡ D.faults desk.old }
 {
-    let spec = fetch_chain(alloc, names, MOST_FAILURES, desk)?;
-    let capture = fetch_capture(alloc, names, desk)?;
+    let spec = fetch_chain(alloc, names.chain, MOST_FAILURES, desk)?;
+    let capture = fetch_capture(alloc, names.capture, desk)?;
     let packets = capture.packets.len() as u32;
-    let script = fetch_script(alloc, names, &spec, packets, desk)?;
+    let script = fetch_script(alloc, names.script, &spec, packets, desk)?;
     let out = desk.fetch(alloc, names.out)?;
-    let journal = fetch_journal(alloc, names, desk)?;
+    let journal = fetch_journal(alloc, names.journal, desk)?;
     let report = desk.fetch(alloc, names.report)?;
     Ok(RunFiles {
         spec,

@@ -1,4 +1,4 @@
-//! Runs a chain of middleboxes over a capture, and checks the files of such a run.
+//! Runs a chain of middleboxes over a capture, checks the files of such a run, and makes a script of heartbeats.
 #![tactic(auto)]
 
 mod drive;
@@ -12,6 +12,7 @@ mod status;
 mod telling;
 mod texts;
 mod top;
+mod watching;
 
 use ftc_outside::FileDesk;
 use status::Status;

@@ -2,7 +2,7 @@
 
 ghost use Rattle.std.specs.Prelude.{◌≡◌, IfOk, string_bytes};
 ghost use Rattle.ftc.specs.declared.status.Status.TheVariants as status;
-ghost use Rattle.ftc.specs.Status.{chain_number, capture_number, journal_number, code_of, fault_line, verdict_line, line_of, desk_status, chain_status, capture_status, script_status, journal_status};
+ghost use Rattle.ftc.specs.Status.{chain_number, capture_number, journal_number, beats_number, code_of, fault_line, verdict_line, line_of, desk_status, chain_status, capture_status, script_status, journal_status, beats_status};
 
 use ftc_base::{Bytes, NoMemory, Refuse};
 use ftc_check::Checked;
@@ -11,6 +11,7 @@ use ftc_journal::{JournalCause, JournalFault};
 use ftc_outside::DeskError;
 use ftc_pcap::{CaptureCause, CaptureFault};
 use ftc_script::{ScriptCause, ScriptFault};
+use ftc_watch::{BeatsCause, BeatsFault};
 use std::alloc::{AllocError, Global};
 
 /// How a command ended.
@@ -22,6 +23,7 @@ pub enum Status {
     Capture { at: u64, cause: CaptureCause },
     Script { line: u32, cause: ScriptCause },
     Journal { line: u64, cause: JournalCause },
+    Beats { line: u32, cause: BeatsCause },
     /// What a check says, other than Yes: a check that says Yes is done.
     Check { verdict: Checked },
     DeskFault,
@@ -42,6 +44,12 @@ fn capture_number(cause: CaptureCause) -> u8
 
 fn journal_number(cause: JournalCause) -> u8
     ensures { result ≡ journal_number cause }
+{
+    cause as u8
+}
+
+fn beats_number(cause: BeatsCause) -> u8
+    ensures { result ≡ beats_number cause }
 {
     cause as u8
 }
@@ -87,6 +95,9 @@ fn words(alloc: Global, status: Status) -> Result<String, AllocError>
         Status::Journal { line, cause } => {
             fault_words(alloc, "journal: line", line, journal_number(cause))
         }
+        Status::Beats { line, cause } => {
+            fault_words(alloc, "beats: line", u64::from(line), beats_number(cause))
+        }
         Status::Check { verdict } => verdict_words(alloc, verdict),
         Status::DeskFault => format!(in alloc; "desk: failed"),
         Status::NoMemory => format!(in alloc; "memory: refused"),
@@ -104,7 +115,8 @@ impl Status {
             Status::Chain { .. }
             | Status::Capture { .. }
             | Status::Script { .. }
-            | Status::Journal { .. } => 3,
+            | Status::Journal { .. }
+            | Status::Beats { .. } => 3,
             Status::DeskFault => 4,
             Status::NoMemory => 5,
             Status::Check { .. } => 6,
@@ -181,6 +193,17 @@ impl From<Refuse<JournalFault>> for Status {
     fn from(refusal: Refuse<JournalFault>) -> Status {
         match refusal {
             Refuse::Bad(JournalFault { line, cause }) => Status::Journal { line, cause },
+            Refuse::NoMemory => Status::NoMemory,
+        }
+    }
+}
+
+impl From<Refuse<BeatsFault>> for Status {
+    ghost from_gives = { λ refusal ending. ending ≡ beats_status refusal };
+
+    fn from(refusal: Refuse<BeatsFault>) -> Status {
+        match refusal {
+            Refuse::Bad(BeatsFault { line, cause }) => Status::Beats { line, cause },
             Refuse::NoMemory => Status::NoMemory,
         }
     }

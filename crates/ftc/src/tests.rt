@@ -3,6 +3,7 @@ mod frames;
 mod refusals;
 mod runs;
 mod statuses;
+mod watches;
 
 use ftc_base::Bytes;
 use ftc_outside::MemoryDesk;

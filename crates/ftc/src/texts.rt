@@ -2,7 +2,7 @@
 
 ghost use Rattle.std.specs.Prelude.{◌≡◌, ◌≢◌, ◌≤◌, [], Some, Err, IfOk, IfErr, OnOk};
 ghost use Rattle.ftc_outside.specs.Desk.{SameFiles, Rose};
-ghost use Rattle.ftc.specs.Answers.{IsRunAnswer};
+ghost use Rattle.ftc.specs.Answers.{IsInputAnswer, IsRunAnswer};
 ghost use Rattle.ftc_words.specs.Shown.{named_of};
 ghost use Rattle.ftc.specs.declared.limits.TheConstants.{MOST_RUN_FAILURES};
 ghost use Rattle.ftc.specs.Texts.{HasChain, HasCapture, AreTexts};
@@ -28,15 +28,15 @@ pub struct Texts {
 /// Fetches and reads the chain. It is refused where more servers than so many may be down at once.
 pub fn fetch_chain<D: Desk>(
     alloc: Global,
-    names: Names<'_>,
+    name: &str,
     most: u8,
     desk: &mut D,
 ) -> Result<ChainSpec, Status>
-    ensures accepted { D.tells desk.old → IfOk result (HasChain most (named_of names.entry) (D.file desk.old)) }
+    ensures accepted { D.tells desk.old → IfOk result (HasChain most name.now (D.file desk.old)) }
     ensures within { IfOk result (λ spec. spec.failures ≤ most) }
-    ensures refused { D.tells desk.old → IfErr result (IsTextRefused (D.sound desk.old) (D.file desk.old) names.entry.chain.now (IsWrongChain most)) }
+    ensures refused { D.tells desk.old → IfErr result (IsTextRefused (D.sound desk.old) (D.file desk.old) name.now (IsWrongChain most)) }
     ensures known { IfErr result (λ ending. ending ≢ Status.Usage) }
-    ensures answer { IfErr result IsRunAnswer }
+    ensures answer { IfErr result IsInputAnswer }
     ensures files { D.tells desk.old → SameFiles (D.file desk.old) (D.file desk.new) }
     ensures tells { D.tells desk.old → D.tells desk.new }
     ensures sound { D.sound desk.old → D.sound desk.new }
@@ -45,21 +45,17 @@ pub fn fetch_chain<D: Desk>(
     ensures still { result ≢ Err Status.DeskFault → D.faults desk.new ≡ D.faults desk.old }
 {
     bounded();
-    let text = desk.fetch(alloc, names.chain)?;
+    let text = desk.fetch(alloc, name)?;
     let spec = read_chain_within(alloc, text.as_slice(), most)?;
     Ok(spec)
 }
 
 /// Fetches and reads the capture.
-pub fn fetch_capture<D: Desk>(
-    alloc: Global,
-    names: Names<'_>,
-    desk: &mut D,
-) -> Result<Capture, Status>
-    ensures accepted { D.tells desk.old → IfOk result (HasCapture (named_of names.entry) (D.file desk.old)) }
-    ensures refused { D.tells desk.old → IfErr result (IsTextRefused (D.sound desk.old) (D.file desk.old) names.entry.capture.now IsWrongCapture) }
+pub fn fetch_capture<D: Desk>(alloc: Global, name: &str, desk: &mut D) -> Result<Capture, Status>
+    ensures accepted { D.tells desk.old → IfOk result (HasCapture name.now (D.file desk.old)) }
+    ensures refused { D.tells desk.old → IfErr result (IsTextRefused (D.sound desk.old) (D.file desk.old) name.now IsWrongCapture) }
     ensures known { IfErr result (λ ending. ending ≢ Status.Usage) }
-    ensures answer { IfErr result IsRunAnswer }
+    ensures answer { IfErr result IsInputAnswer }
     ensures files { D.tells desk.old → SameFiles (D.file desk.old) (D.file desk.new) }
     ensures tells { D.tells desk.old → D.tells desk.new }
     ensures sound { D.sound desk.old → D.sound desk.new }
@@ -67,15 +63,15 @@ pub fn fetch_capture<D: Desk>(
     ensures cause { result ≡ Err Status.DeskFault → Rose (D.faults desk.old) (D.faults desk.new) }
     ensures still { result ≢ Err Status.DeskFault → D.faults desk.new ≡ D.faults desk.old }
 {
-    let text = desk.fetch(alloc, names.capture)?;
+    let text = desk.fetch(alloc, name)?;
     let capture = read_capture(alloc, text.as_slice())?;
     Ok(capture)
 }
 
 /// Fetches the script. As yet every script that says something is refused.
-fn fetch_script<D: Desk>(alloc: Global, names: Names<'_>, desk: &mut D) -> Result<(), Status>
-    ensures accepted { D.tells desk.old → OnOk result (D.file desk.old names.entry.script.now ≡ Some []) }
-    ensures refused { D.tells desk.old → IfErr result (IsTextRefused (D.sound desk.old) (D.file desk.old) names.entry.script.now IsSomeScript) }
+fn fetch_script<D: Desk>(alloc: Global, name: &str, desk: &mut D) -> Result<(), Status>
+    ensures accepted { D.tells desk.old → OnOk result (D.file desk.old name.now ≡ Some []) }
+    ensures refused { D.tells desk.old → IfErr result (IsTextRefused (D.sound desk.old) (D.file desk.old) name.now IsSomeScript) }
     ensures known { IfErr result (λ ending. ending ≢ Status.Usage) }
     ensures answer { IfErr result IsRunAnswer }
     ensures files { D.tells desk.old → SameFiles (D.file desk.old) (D.file desk.new) }
@@ -85,7 +81,7 @@ fn fetch_script<D: Desk>(alloc: Global, names: Names<'_>, desk: &mut D) -> Resul
     ensures cause { result ≡ Err Status.DeskFault → Rose (D.faults desk.old) (D.faults desk.new) }
     ensures still { result ≢ Err Status.DeskFault → D.faults desk.new ≡ D.faults desk.old }
 {
-    let text = desk.fetch(alloc, names.script)?;
+    let text = desk.fetch(alloc, name)?;
     if text.is_empty() {
         return Ok(());
     }
@@ -107,8 +103,8 @@ pub fn read_texts<D: Desk>(alloc: Global, names: Names<'_>, desk: &mut D) -> Res
     ensures cause { result ≡ Err Status.DeskFault → Rose (D.faults desk.old) (D.faults desk.new) }
     ensures still { result ≢ Err Status.DeskFault → D.faults desk.new ≡ D.faults desk.old }
 {
-    let spec = fetch_chain(alloc, names, MOST_RUN_FAILURES, desk)?;
-    let capture = fetch_capture(alloc, names, desk)?;
-    fetch_script(alloc, names, desk)?;
+    let spec = fetch_chain(alloc, names.chain, MOST_RUN_FAILURES, desk)?;
+    let capture = fetch_capture(alloc, names.capture, desk)?;
+    fetch_script(alloc, names.script, desk)?;
     Ok(Texts { spec, capture })
 }

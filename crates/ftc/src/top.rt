@@ -6,7 +6,9 @@ ghost use Rattle.ftc_outside.specs.Desk.{SameFiles, Rose};
 ghost use Rattle.ftc_serial.specs.Held.{state_of};
 ghost use Rattle.ftc_report.specs.Output.{out_bytes, AreWritable};
 ghost use Rattle.ftc_words.specs.Shown.{named_of, shown};
-ghost use Rattle.ftc_words.specs.Command.{is_built, are_distinct, files_of};
+ghost use Rattle.std.specs.List.{list_all};
+ghost use Rattle.ftc_words.specs.Given.{is_name};
+ghost use Rattle.ftc_words.specs.Command.{is_built, are_distinct, files_of, named_by, IsWithin};
 ghost use Rattle.ftc.specs.Answers.{IsRunAnswer};
 ghost use Rattle.ftc.specs.Writing.{AreApart, AreDifferent, AreWritten, AreCutShort};
 ghost use Rattle.ftc.specs.Checking.{IsCheckEnd, IsYesOrRefused};
@@ -19,6 +21,7 @@ use crate::output::{write_journal, write_out, write_text};
 use crate::report::report_of;
 use crate::status::Status;
 use crate::texts::read_texts;
+use crate::watching::{WatchNames, watch_beats};
 use ftc_base::{Bytes, NoMemory};
 use ftc_check::{one_verdict, right_files};
 use ftc_conf::{fits, wider};
@@ -93,6 +96,8 @@ fn run_names<D: Desk>(alloc: Global, names: Names<'_>, desk: &mut D) -> Status
 fn run_command<D: Desk>(alloc: Global, command: &Command<'_>, desk: &mut D) -> Status
     requires built { is_built (shown command.now) ≡ true }
     requires distinct { are_distinct (files_of (shown command.now)) ≡ true }
+    requires named { list_all is_name (named_by (shown command.now)) ≡ true }
+    requires within { IsWithin (shown command.now) }
     ensures known { result ≢ Status.Usage }
     ensures answer { IsAnswer (Some (shown command.now)) result }
     ensures ends { D.tells desk.old → HasEnded (D.sound desk.old) (Some (shown command.now)) (D.file desk.old) (D.file desk.new) result }
@@ -112,6 +117,21 @@ fn run_command<D: Desk>(alloc: Global, command: &Command<'_>, desk: &mut D) -> S
     match command {
         Command::Run { names, .. } => run_names(alloc, *names, desk),
         Command::Check { names } => judge(alloc, *names, desk),
+        Command::Watch {
+            limit,
+            chain,
+            capture,
+            beats,
+            script,
+        } => {
+            let names = WatchNames {
+                chain: *chain,
+                capture: *capture,
+                beats: *beats,
+                script: *script,
+            };
+            watch_beats(alloc, names, *limit, desk)
+        }
         _ => unreachable!(),
     }
 }
@@ -127,7 +147,7 @@ pub fn run<R: AllocGlobal, D: Desk>(rt: &R, words: &[&str], desk: &mut D) -> Sta
     // What the files hold at each end, where the desk tells them.
     ensures ends { D.tells desk.old → HasEnded (D.sound desk.old) (asked words.now) (D.file desk.old) (D.file desk.new) result }
 
-    // Where the texts of a run are right and no call on the desk failed, it is done, but for want of memory; and where the
+    // Where the texts of a run or of a watch are right and no call on the desk failed, it is done, but for want of memory; and where the
     // files of a check can be read, it says what they are.
     ensures complete { D.tells desk.old → HasTexts (asked words.now) (D.file desk.old) → (Rose (D.faults desk.old) (D.faults desk.new) → ⊥) → (result ≡ Status.Done) ⊎ (result ≡ Status.NoMemory) }
     ensures complete_check { D.tells desk.old → HasFiles (asked words.now) (D.file desk.old) → (Rose (D.faults desk.old) (D.faults desk.new) → ⊥) → IsCheckEnd result }

@@ -1,9 +1,10 @@
 -- The lines that a watch prints.
-use Rattle.std.specs.Prelude.{ℕ, Bool, true, false, List, [], ◌∷◌, ◌++◌, codes, decimal, count_by}
+use Rattle.std.specs.Prelude.{ℕ, Bool, true, false, List, [], ◌∷◌, ◌++◌, codes, decimal, count_by, length}
 use Rattle.std.specs.List.{join_with_byte}
 use Rattle.ftc_script.specs.declared.statement.Statement.{Statement}
 use Rattle.ftc_script.specs.declared.statement.Statement.TheVariants.{Nothing, Crash, Recover, Lose}
 use Rattle.ftc_watch.specs.declared.held.Held.{Held}
+use Rattle.ftc_watch.specs.Watch.{Watching}
 
 -- the words of a held line
 abbrev pub held_words : Held → List (List ℕ)
@@ -23,3 +24,11 @@ is_crash (Lose link origin) = false
 
 abbrev pub crashes_in : List Statement → ℕ
 crashes_in lines = count_by is_crash lines
+
+-- what is told of a watch: how many crashes its script has and how many lines are held, and then these lines
+abbrev pub summary : ℕ → ℕ → List ℕ → List ℕ
+summary fenced refused held =
+    codes "ftc-watch 1\nfenced " ++ decimal fenced ++ codes "\nrefused " ++ decimal refused ++ codes "\n" ++ held
+
+abbrev pub summary_of : Watching → List ℕ
+summary_of watched = summary (crashes_in watched.script) (length watched.held) (held_text watched.held)

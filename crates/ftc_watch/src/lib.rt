@@ -22,6 +22,7 @@ pub use laws::{
     accepted, beating, fenced_exactly, held_lines_of_a_tick, lines_of_a_tick, makes_a_script,
     missed_at_a_tick, reads_back, silent_in_a_row,
 };
+pub use printer::summary;
 pub use reader::read_beats;
 pub use tick::Tick;
 pub use watching::{Watched, watch};

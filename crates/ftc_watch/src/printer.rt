@@ -3,9 +3,10 @@
 ghost use Rattle.std.specs.Prelude.{◌≡◌, ◌++◌, [], ◌∷◌, OnOk, IfOk, string_bytes};
 ghost use Rattle.std.specs.List.{join_with_byte};
 ghost use Rattle.ftc_script.specs.Plain.{words_in, plain_text};
-ghost use Rattle.ftc_watch.specs.Lines.{held_words, held_text};
+ghost use Rattle.ftc_watch.specs.Lines.{held_words, held_text, summary};
 
 use crate::held::Held;
+use crate::watching::Watched;
 use ftc_base::{Bytes, NoMemory};
 use ftc_script::Statement;
 use std::alloc::{AllocError, Global};
@@ -54,4 +55,17 @@ pub fn held_text(alloc: Global, held: &[Held]) -> Result<Bytes, NoMemory>
         out.append(line.as_bytes())?;
     }
     Ok(out)
+}
+
+/// What is told of a watch: how many servers were fenced and how many refused, and the held lines.
+pub fn summary(alloc: Global, watched: &Watched) -> Result<Bytes, NoMemory>
+    ensures { IfOk result (λ text. text ≡ summary watched.now.fenced watched.now.refused watched.now.held) }
+{
+    let fenced = watched.fenced;
+    let refused = watched.refused;
+    let counts = format!(in alloc; "ftc-watch 1\nfenced {fenced}\nrefused {refused}\n")?;
+    let mut text = Bytes::new(alloc);
+    text.append(counts.as_bytes())?;
+    text.append(watched.held.as_slice())?;
+    Ok(text)
 }

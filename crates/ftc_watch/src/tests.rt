@@ -1,6 +1,6 @@
 //! Beats with what has to come of them.
 
-use crate::{Beats, BeatsFault, Watched, read_beats, watch};
+use crate::{Beats, BeatsFault, Watched, read_beats, summary, watch};
 use ftc_base::Refuse;
 use ftc_ring::Ring;
 use std::alloc::Global;
@@ -212,4 +212,12 @@ fn beats_make_the_script_and_the_held_lines(rt: HostRuntime) {
         assert!(rt; told.held.as_slice() == held.as_bytes());
         assert_eq!(rt; (told.fenced, told.refused), (fenced, refused));
     }
+}
+
+#[test]
+fn what_is_told_of_a_watch(rt: HostRuntime) {
+    let ring = Ring::new(2, 1).expect(&rt, "a ring");
+    let told = watched(rt.alloc(), "ftc-beats 1\ntick 1\n", &ring, 2, 1).expect(&rt, "right beats");
+    let text = summary(rt.alloc(), &told).expect(&rt, "memory");
+    assert!(rt; text.as_slice() == b"ftc-watch 1\nfenced 1\nrefused 1\nheld 1 1 0\n".as_slice());
 }

@@ -1,3 +1,4 @@
 pub mod Takes
 pub mod Formed
 pub mod Six
+pub mod NamesGiven

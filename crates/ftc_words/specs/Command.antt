@@ -1,5 +1,5 @@
 -- The commands, the form of the words of each, and the command that words are.
-use Rattle.std.specs.Prelude.{ℕ, ◌-◌, Bool, true, false, not, ◌&&◌, ◌||◌, ◌++◌, List, [], ◌∷◌, Option, Some, None, Ok, Err, codes, if◌then◌else◌, option_and_then, option_map, nat_le}
+use Rattle.std.specs.Prelude.{ℕ, ◌≤◌, ◌<◌, ◌-◌, Bool, true, false, not, ◌&&◌, ◌||◌, ◌++◌, List, [], ◌∷◌, Option, Some, None, Ok, Err, codes, if◌then◌else◌, option_and_then, option_map, nat_le}
 use Rattle.std.specs.List.{list_any}
 use Rattle.std.specs.Str.{bytes_eq}
 use Rattle.ftc_base.specs.Number.{number_of}
@@ -159,6 +159,18 @@ files_of (check names) = six_of names
 files_of (ports chain capture journal server) = chain ∷ capture ∷ journal ∷ []
 files_of (watch limit chain capture beats script) = chain ∷ capture ∷ beats ∷ script ∷ []
 
+-- the names among its words that aren't the values of options
+abbrev pub named_by : Command → List (List ℕ)
+named_by (run names mode) = six_of names
+named_by other = files_of other
+
+-- its numbers lie in their bounds
+abbrev pub IsWithin : Command → Type 0
+IsWithin (make packets seed capture) = (1 ≤ packets) × (packets ≤ MOST_RECORDS) × (seed ≤ 4294967295)
+IsWithin (ports chain capture journal server) = server < MOST_SERVERS
+IsWithin (watch limit chain capture beats script) = (1 ≤ limit) × (limit ≤ MOST_MISSED)
+IsWithin other = Unit {0}
+
 -- ---- the command that words are
 
 abbrev pub are_distinct : List (List ℕ) → Bool
@@ -186,6 +198,7 @@ spelled (w ∷ ws) =
 abbrev pub is_built : Command → Bool
 is_built (run names plain) = true
 is_built (check names) = true
+is_built (watch limit chain capture beats script) = true
 is_built other = false
 
 abbrev pub command_of : List (List ℕ) → Option Command

@@ -60,7 +60,7 @@ pub enum Command<'a> {
         server: u8,
     },
     Watch {
-        limit: u32,
+        limit: u8,
         chain: &'a str,
         capture: &'a str,
         beats: &'a str,
@@ -75,7 +75,7 @@ impl Command<'_> {
     {
         match self {
             Command::Run { mode, .. } => matches!(mode, Mode::Plain),
-            Command::Check { .. } => true,
+            Command::Check { .. } | Command::Watch { .. } => true,
             _ => false,
         }
     }

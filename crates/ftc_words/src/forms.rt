@@ -1,11 +1,11 @@
 //! The form of each command's words.
 
 ghost use Rattle.std.specs.Prelude.{◌≡◌, ◌-◌, ◌++◌, ◌∷◌, true, Some, None, IfSome, option_map};
-ghost use Rattle.std.specs.List.{list_any};
+ghost use Rattle.std.specs.List.{list_all, list_any};
 ghost use Rattle.std.specs.Str.{bytes_eq};
-ghost use Rattle.ftc_words.specs.Given.{texts_of};
+ghost use Rattle.ftc_words.specs.Given.{is_name, texts_of};
 ghost use Rattle.ftc_words.specs.Shown.{shown, named_of, shown_move, shown_mode, sorted_of};
-ghost use Rattle.ftc_words.specs.Command.{number_in, named, names_of, move_of, mode_of, are_distinct, of_form, run_form, check_form, make_form, ports_form, watch_form, plain, of_word, forms, spelled, six_of, files_of};
+ghost use Rattle.ftc_words.specs.Command.{number_in, named, names_of, move_of, mode_of, are_distinct, of_form, run_form, check_form, make_form, ports_form, watch_form, plain, of_word, forms, spelled, six_of, files_of, named_by, IsWithin};
 
 use crate::command::{Command, Mode, Move, Names};
 use crate::limits::MOST_MISSED;
@@ -140,6 +140,7 @@ fn names_in<'a>(words: &[&'a str]) -> Option<Names<'a>>
 fn run_of<'a>(words: &[&'a str], mode: &Mode<'a>) -> Option<Command<'a>>
     ensures command { option_map shown result ≡ of_form run_form (shown_mode mode.now) (texts_of words.now) }
     ensures distinct { IfSome result (λ command. are_distinct (files_of (shown command)) ≡ true) }
+    ensures within { IfSome result (λ command. IsWithin (shown command)) }
 {
     let names = names_in(words)?;
     if !all_differ(mode, words) {
@@ -152,6 +153,7 @@ fn run_of<'a>(words: &[&'a str], mode: &Mode<'a>) -> Option<Command<'a>>
 fn check_of<'a>(words: &[&'a str]) -> Option<Command<'a>>
     ensures command { option_map shown result ≡ of_form check_form plain (texts_of words.now) }
     ensures distinct { IfSome result (λ command. are_distinct (files_of (shown command)) ≡ true) }
+    ensures within { IfSome result (λ command. IsWithin (shown command)) }
 {
     let names = names_in(words)?;
     if !are_distinct(words) {
@@ -163,6 +165,7 @@ fn check_of<'a>(words: &[&'a str]) -> Option<Command<'a>>
 fn make_of<'a>(words: &[&'a str]) -> Option<Command<'a>>
     ensures command { option_map shown result ≡ of_form make_form plain (texts_of words.now) }
     ensures distinct { IfSome result (λ command. are_distinct (files_of (shown command)) ≡ true) }
+    ensures within { IfSome result (λ command. IsWithin (shown command)) }
 {
     let [packets, seed, capture] = words else {
         return None;
@@ -180,6 +183,7 @@ fn make_of<'a>(words: &[&'a str]) -> Option<Command<'a>>
 fn ports_of<'a>(words: &[&'a str]) -> Option<Command<'a>>
     ensures command { option_map shown result ≡ of_form ports_form plain (texts_of words.now) }
     ensures distinct { IfSome result (λ command. are_distinct (files_of (shown command)) ≡ true) }
+    ensures within { IfSome result (λ command. IsWithin (shown command)) }
 {
     let [chain, capture, journal, server] = words else {
         return None;
@@ -199,11 +203,12 @@ fn ports_of<'a>(words: &[&'a str]) -> Option<Command<'a>>
 fn watch_of<'a>(words: &[&'a str]) -> Option<Command<'a>>
     ensures command { option_map shown result ≡ of_form watch_form plain (texts_of words.now) }
     ensures distinct { IfSome result (λ command. are_distinct (files_of (shown command)) ≡ true) }
+    ensures within { IfSome result (λ command. IsWithin (shown command)) }
 {
     let [limit, chain, capture, beats, script] = words else {
         return None;
     };
-    let limit = number_in(*limit, 1, MOST_MISSED)?;
+    let limit = number_in(*limit, 1, MOST_MISSED)? as u8;
     if !are_distinct(&[*chain, *capture, *beats, *script]) {
         return None;
     }
@@ -220,6 +225,7 @@ fn watch_of<'a>(words: &[&'a str]) -> Option<Command<'a>>
 fn of_word<'a>(word: &str, mode: &Mode<'a>, words: &[&'a str]) -> Option<Command<'a>>
     ensures command { option_map shown result ≡ of_word forms word.now (shown_mode mode.now) (texts_of words.now) }
     ensures distinct { IfSome result (λ command. are_distinct (files_of (shown command)) ≡ true) }
+    ensures within { IfSome result (λ command. IsWithin (shown command)) }
 {
     if word == "run" {
         return run_of(words, mode);
@@ -240,6 +246,8 @@ fn of_word<'a>(word: &str, mode: &Mode<'a>, words: &[&'a str]) -> Option<Command
 pub fn spelled<'a>(words: &[&'a str]) -> Option<Command<'a>>
     ensures command { option_map shown result ≡ spelled (texts_of words.now) }
     ensures distinct { IfSome result (λ command. are_distinct (files_of (shown command)) ≡ true) }
+    ensures named { IfSome result (λ command. list_all is_name (named_by (shown command)) ≡ true) }
+    ensures within { IfSome result (λ command. IsWithin (shown command)) }
 {
     let [word, others @ ..] = words else {
         return None;

@@ -1,9 +1,10 @@
 //! From words to a command.
 
 ghost use Rattle.std.specs.Prelude.{◌≡◌, ◌≢◌, true, None, IfSome, IfOk, IfErr, option_map};
-ghost use Rattle.ftc_words.specs.Given.{texts_of};
+ghost use Rattle.std.specs.List.{list_all};
+ghost use Rattle.ftc_words.specs.Given.{is_name, texts_of};
 ghost use Rattle.ftc_words.specs.Shown.{shown};
-ghost use Rattle.ftc_words.specs.Command.{command_of, is_built, are_distinct, files_of};
+ghost use Rattle.ftc_words.specs.Command.{command_of, is_built, are_distinct, files_of, named_by, IsWithin};
 
 use crate::command::Command;
 use crate::forms::spelled;
@@ -16,6 +17,8 @@ pub fn command_of<'a>(words: &[&'a str]) -> Option<Command<'a>>
     ensures command { option_map shown result ≡ command_of (texts_of words.now) }
     ensures built { IfSome result (λ command. is_built (shown command) ≡ true) }
     ensures distinct { IfSome result (λ command. are_distinct (files_of (shown command)) ≡ true) }
+    ensures named { IfSome result (λ command. list_all is_name (named_by (shown command)) ≡ true) }
+    ensures within { IfSome result (λ command. IsWithin (shown command)) }
 {
     let command = spelled(words)?;
     if command.is_built() {
@@ -31,6 +34,8 @@ pub fn read_command<'a>(alloc: Global, words: &[&'a str]) -> Result<Option<Comma
     ensures command { IfOk result (λ command. option_map shown command ≡ command_of (texts_of words.now)) }
     ensures built { IfOk result (λ command. IfSome command (λ c. is_built (shown c) ≡ true)) }
     ensures distinct { IfOk result (λ command. IfSome command (λ c. are_distinct (files_of (shown c)) ≡ true)) }
+    ensures named { IfOk result (λ command. IfSome command (λ c. list_all is_name (named_by (shown c)) ≡ true)) }
+    ensures within { IfOk result (λ command. IfSome command (λ c. IsWithin (shown c))) }
     ensures memory { IfErr result (λ _. command_of (texts_of words.now) ≢ None) }
 {
     let Some(command) = command_of(words) else {

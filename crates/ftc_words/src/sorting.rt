@@ -1,6 +1,7 @@
 //! Options, their values, and the other words.
 
-ghost use Rattle.std.specs.Prelude.{◌≡◌, option_map};
+ghost use Rattle.std.specs.Prelude.{◌≡◌, true, IfSome, option_map};
+ghost use Rattle.std.specs.List.{list_all};
 ghost use Rattle.ftc_words.specs.Given.{is_name as spec_is_name, given_in, texts_of};
 ghost use Rattle.ftc_words.specs.Shown.{sorted_of};
 
@@ -62,7 +63,8 @@ impl<'a> Sorted<'a> {
 
     /// Takes an option, unless it came before.
     fn take_option(&mut self, came: bool, awaited: Awaited<'a>) -> bool
-        ensures { option_taken came (awaited_of awaited.entry) (sorted_of self.old) ≡ if_taken result (sorted_of self.new) }
+        ensures taken { option_taken came (awaited_of awaited.entry) (sorted_of self.old) ≡ if_taken result (sorted_of self.new) }
+        ensures plain { (sorted_of self.new).plain ≡ (sorted_of self.old).plain }
     {
         if !came {
             self.awaited = awaited;
@@ -72,7 +74,8 @@ impl<'a> Sorted<'a> {
 
     /// Takes an option, or a word of the command.
     fn take_word(&mut self, word: &'a str) -> bool
-        ensures { word_taken (sorted_of self.old) word.now ≡ if_taken result (sorted_of self.new) }
+        ensures taken { word_taken (sorted_of self.old) word.now ≡ if_taken result (sorted_of self.new) }
+        ensures named { list_all spec_is_name (sorted_of self.old).plain ≡ true → list_all spec_is_name (sorted_of self.new).plain ≡ true }
     {
         if word == "--workers" {
             let came = self.workers.is_some();
@@ -95,7 +98,8 @@ impl<'a> Sorted<'a> {
 
     /// Takes a value of an option.
     fn take_value(&mut self, word: &'a str)
-        ensures { sorted_of self.new ≡ value_taken (sorted_of self.old).awaited (sorted_of self.old) word.now }
+        ensures taken { sorted_of self.new ≡ value_taken (sorted_of self.old).awaited (sorted_of self.old) word.now }
+        ensures plain { (sorted_of self.new).plain ≡ (sorted_of self.old).plain }
     {
         let mut next = Awaited::Any;
         match self.awaited {
@@ -110,7 +114,8 @@ impl<'a> Sorted<'a> {
 
     /// Takes the next word, and tells whether it could.
     fn take(&mut self, word: &'a str) -> bool
-        ensures { taken (sorted_of self.old) word.now ≡ if_taken result (sorted_of self.new) }
+        ensures taken { taken (sorted_of self.old) word.now ≡ if_taken result (sorted_of self.new) }
+        ensures named { list_all spec_is_name (sorted_of self.old).plain ≡ true → list_all spec_is_name (sorted_of self.new).plain ≡ true }
     {
         if let Awaited::Any = self.awaited {
             return self.take_word(word);
@@ -125,7 +130,8 @@ impl<'a> Sorted<'a> {
 
 /// The words behind a command's own, sorted, where each option comes once at most and has its values.
 pub fn sort<'a>(words: &[&'a str]) -> Option<Sorted<'a>>
-    ensures { option_map sorted_of result ≡ given_in (texts_of words.now) }
+    ensures given { option_map sorted_of result ≡ given_in (texts_of words.now) }
+    ensures named { IfSome result (λ sorted. list_all spec_is_name (sorted_of sorted).plain ≡ true) }
 {
     let mut sorted = Sorted::new();
     let mut rest = words;

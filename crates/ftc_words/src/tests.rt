@@ -131,7 +131,7 @@ fn commands_that_are_not_built(rt: HostRuntime) -> Result<(), Fail> {
     let cases: [&[&str]; 3] = [
         &["make", "1", "0", "p"],
         &["run", "c", "s", "p", "o", "j", "r", "--alone", "e"],
-        &["watch", "1", "c", "p", "b", "s"],
+        &["ports", "c", "p", "j", "0"],
     ];
     for words in cases {
         assert!(rt; command_of(words).is_none());

@@ -7,6 +7,7 @@ use ftc_conf::ChainCause;
 use ftc_journal::JournalCause;
 use ftc_pcap::CaptureCause;
 use ftc_script::ScriptCause;
+use ftc_watch::BeatsCause;
 use std::test::Fail;
 
 #[test]
@@ -14,7 +15,7 @@ fn codes_and_lines(rt: HostRuntime) -> Result<(), Fail> {
     let chain = ChainCause::SpareOrder;
     let capture = CaptureCause::Cut;
     let script = ScriptCause::Word;
-    let cases: [(Status, u8, &[u8]); 12] = [
+    let cases: [(Status, u8, &[u8]); 13] = [
         (Status::Done, 0, b""),
         (
             Status::Usage,
@@ -52,6 +53,14 @@ fn codes_and_lines(rt: HostRuntime) -> Result<(), Fail> {
             },
             3,
             b"journal: line 3: cause 3",
+        ),
+        (
+            Status::Beats {
+                line: 1002,
+                cause: BeatsCause::TooMany,
+            },
+            3,
+            b"beats: line 1002: cause 6",
         ),
         (Status::DeskFault, 4, b"desk: failed"),
         (Status::NoMemory, 5, b"memory: refused"),

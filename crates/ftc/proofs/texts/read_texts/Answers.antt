@@ -17,5 +17,5 @@ returns-in_err-fetch_script-clause-refused g c = λ t.
     let to_second : SameFiles old second = λ name. c.fetch_capture.ensures.files t-first name ∙ to_first name in
     let refused : IfErr c.from_residual-in_err-fetch_script.result (IsTextRefused (g.D.Desk.sound c.fetch_capture.new.desk) second c.args.names.script.now IsSomeScript) = search (rules, c.fetch_script.ensures.refused t-second) in
     IfErr-weaker c.from_residual-in_err-fetch_script.result _ _ (λ ending is. script_refused (g.D.Desk.sound c.args.desk.now) (named_of c.args.names) old c.in_ok-spec.spec c.in_ok-capture.capture ending
-    (c.in_ok-spec.ensures.accepted t) (capture_before (named_of c.args.names) old first c.in_ok-capture.capture to_first (c.in_ok-capture.ensures.accepted t-first))
+    (c.in_ok-spec.ensures.accepted t) (capture_before c.args.names.capture.now old first c.in_ok-capture.capture to_first (c.in_ok-capture.ensures.accepted t-first))
     (refused_before (g.D.Desk.sound c.args.desk.now) (g.D.Desk.sound c.fetch_capture.new.desk) old second c.args.names.script.now IsSomeScript ending (λ s. c.fetch_capture.ensures.sound (c.fetch_chain.ensures.sound s)) to_second is)) refused

@@ -1,10 +1,13 @@
 use Rattle.std.proofs.Common.{◌≡◌, true, Some, subst}
+use Rattle.std.specs.List.{list_all}
 use Rattle.ftc_words.specs.declared.command.Command.{Command}
-use Rattle.ftc_words.specs.Command.{are_distinct, files_of}
+use Rattle.ftc_words.specs.Given.{is_name}
+use Rattle.ftc_words.specs.Command.{are_distinct, files_of, named_by, IsWithin}
 use Rattle.ftc_words.specs.Shown.{named_of, shown_mode, shown}
 use Rattle.ftc.specs.Ended.{HasTexts, HasFiles, HasRightRun, WasLeft}
 use Rattle.ftc.proofs.Agreeing.{Laws, agrees, completes, judges_all}
 use Rattle.ftc.proofs.DistinctLemmas.{run_differs}
+use Rattle.ftc.proofs.WatchLemmas.{no_output, watch_completes}
 use Rattle.ftc.proofs.top.run_command.Goals as goal
 
 pub run_names-requires : goal.run_names-requires
@@ -51,3 +54,19 @@ returns-in-Check-clause-agrees g c = λ tells files.
     } in
     let left = subst (λ (command : Command). WasLeft (Some (shown command)) (g.D.Desk.file c.args.desk.now)) c.in-Check.is files in
     agrees laws _ (g.D.Desk.file c.args.desk.now) left.1.right _ c.judge.result (c.judge.ensures.judges tells)
+
+pub watch_beats-requires : goal.watch_beats-requires
+watch_beats-requires g c = record {
+  apart = no_output c.in-Watch.chain.now c.in-Watch.capture.now c.in-Watch.beats.now c.in-Watch.script.now (subst (λ (command : Command). list_all is_name (named_by (shown command)) ≡ true) c.in-Watch.is c.requires.named);
+  limit = (subst (λ (command : Command). IsWithin (shown command)) c.in-Watch.is c.requires.within).0;
+}
+
+pub returns-in-Watch-clause-complete : goal.returns-in-Watch-clause-complete
+returns-in-Watch-clause-complete g c = λ tells texts still.
+    let laws : Laws = record {
+      one_capture = c.one_reading.ensures;
+      no_fault = c.one_fault.ensures.none;
+      one_verdict = c.one_verdict.ensures;
+    } in
+    let (beats, given) = subst (λ (command : Command). HasTexts (Some (shown command)) (g.D.Desk.file c.args.desk.now)) c.in-Watch.is texts in
+    watch_completes laws _ (g.D.Desk.file c.args.desk.now) beats given _ _ _ c.watch_beats.result (c.watch_beats.ensures.ends tells) (λ failed. still (c.watch_beats.ensures.cause failed))

@@ -1,0 +1,32 @@
+use Rattle.std.proofs.Common.{◌∙◌, rules, length, IfErr}
+use Rattle.std.proofs.lemmas.Result.{IfErr-weaker}
+use Rattle.ftc_outside.specs.Desk.{Files, SameFiles}
+use Rattle.ftc.specs.Texts.{ring_of}
+use Rattle.ftc.specs.Refused.{IsTextRefused}
+use Rattle.ftc.specs.Watching.{watched_by, IsWrongBeats}
+use Rattle.ftc.proofs.Refusing.{refused_before, capture_before}
+use Rattle.ftc.proofs.WatchLemmas.{beats_refused}
+use Rattle.ftc.proofs.watching.read_watched.Goals as goal
+
+pub returns-in_err-beats-clause-refused : goal.returns-in_err-beats-clause-refused
+returns-in_err-beats-clause-refused g c = λ t.
+    let old : Files = g.D.Desk.file c.args.desk.now in
+    let first : Files = g.D.Desk.file c.fetch_chain.new.desk in
+    let second : Files = g.D.Desk.file c.fetch_capture.new.desk in
+    let t-first = c.fetch_chain.ensures.tells t in
+    let t-second = c.fetch_capture.ensures.tells t-first in
+    let to_first : SameFiles old first = c.fetch_chain.ensures.files t in
+    let to_second : SameFiles old second = λ name. c.fetch_capture.ensures.files t-first name ∙ to_first name in
+    let refused : IfErr c.from_residual-in_err-beats.result (IsTextRefused
+    (g.D.Desk.sound c.fetch_capture.new.desk) second c.args.names.beats.now (IsWrongBeats
+    (ring_of c.in_ok-spec.spec) (length c.in_ok-capture.capture.packets))) = search
+    (rules, c.fetch_beats.ensures.refused t-second) in
+    IfErr-weaker c.from_residual-in_err-beats.result _ _ (λ ending is. beats_refused (g.D.Desk.sound c.args.desk.now)
+    (watched_by c.args.names) old c.in_ok-spec.spec c.in_ok-capture.capture ending
+    (c.in_ok-spec.ensures.accepted t)
+    (capture_before c.args.names.capture.now old first c.in_ok-capture.capture to_first
+    (c.in_ok-capture.ensures.accepted t-first))
+    (refused_before (g.D.Desk.sound c.args.desk.now)
+    (g.D.Desk.sound c.fetch_capture.new.desk) old second c.args.names.beats.now (IsWrongBeats
+    (ring_of c.in_ok-spec.spec) (length c.in_ok-capture.capture.packets)) ending
+    (λ s. c.fetch_capture.ensures.sound (c.fetch_chain.ensures.sound s)) to_second is)) refused

@@ -1,0 +1,9 @@
+pub mod Runs
+pub mod Keys
+pub mod Asked
+pub mod Translating
+pub mod Balancing
+pub mod PortLaw
+pub mod BackendLaw
+pub mod Bytes
+pub mod ByteRuns

@@ -1,0 +1,43 @@
+//! What translators and balancers do over a whole run.
+
+ghost use Rattle.std.specs.Prelude.{◌≡◌, ◌↔◌, ℕ, List, Some, slice_get};
+ghost use Rattle.std.specs.List.{AllByRecursion};
+ghost use Rattle.ftc_packet.specs.Layout.{AreBytes};
+ghost use Rattle.ftc_mbox.specs.Bounds.{IsRule};
+ghost use Rattle.ftc_nat.specs.declared.rule.NatRule.{NatRule};
+ghost use Rattle.ftc_balance.specs.declared.rule.BalanceRule.{BalanceRule};
+ghost use Rattle.ftc_mbox.specs.declared.rule.Rule.{Rule};
+ghost use Rattle.ftc_mbox.specs.declared.rule.Rule.TheVariants.{Nat, Balance};
+ghost use Rattle.ftc_serial.specs.declared.step.Step.{Step};
+ghost use Rattle.ftc_serial.specs.Serial.{opening};
+ghost use Rattle.ftc_audit.specs.declared.line.PortLine.{PortLine as APortLine};
+ghost use Rattle.ftc_audit.specs.declared.line.ClientLine.{ClientLine as AClientLine};
+ghost use Rattle.ftc_audit.specs.Visits.{AreOfBytes, visits};
+ghost use Rattle.ftc_audit.specs.Ports.{GavePort, SameInside};
+ghost use Rattle.ftc_audit.specs.Backends.{GaveBackend, SameClient};
+
+/// At one translator, over a whole run and whatever else goes through it, inside endpoints are equal
+/// exactly where their outside ports are.
+pub fn ports_are_apart()
+    ensures { (rules : List Rule) (packets : List (List ℕ)) (steps : List Step) (server : ℕ) (rule : NatRule)
+        (one other : APortLine) → AllByRecursion IsRule rules → AllByRecursion AreBytes packets →
+        slice_get rules server ≡ Some (Nat rule) →
+        GavePort rule server (visits rules (opening packets) steps) one →
+        GavePort rule server (visits rules (opening packets) steps) other →
+        SameInside one other ↔ (one.outside ≡ other.outside) }
+{}
+
+/// At one balancer a client endpoint has one backend for the whole run.
+pub fn backends_stay()
+    ensures { (rules : List Rule) (packets : List (List ℕ)) (steps : List Step) (server : ℕ) (rule : BalanceRule)
+        (one other : AClientLine) → AllByRecursion IsRule rules → slice_get rules server ≡ Some (Balance rule) →
+        GaveBackend rule server (visits rules (opening packets) steps) one →
+        GaveBackend rule server (visits rules (opening packets) steps) other →
+        SameClient one other → one.backend ≡ other.backend }
+{}
+
+/// Packets of bytes stay packets of bytes, whatever visits they are of.
+pub fn packets_stay_bytes()
+    ensures { (rules : List Rule) (packets : List (List ℕ)) (steps : List Step) → AllByRecursion IsRule rules →
+        AllByRecursion AreBytes packets → AreOfBytes (visits rules (opening packets) steps) }
+{}
