@@ -23,9 +23,9 @@ pub use answers::CommitAnswer;
 pub use ftc_txn::ReadAnswer;
 pub use held::{HeldMessage, HeldMessages};
 pub use laws::rising;
-pub use standing::ends;
 pub use recovering::{GroupReplica, GroupReplicas};
 pub use server::Server;
+pub use standing::ends;
 pub use work::Work;
 
 #[cfg(test)]
