@@ -1,6 +1,6 @@
 -- The log that is applied next is the one of its packet and group.
-use Rattle.std.proofs.Common.{◌≡◌, ◌∙◌, ◌&&◌, ◌||◌, not, length, ℕ, Bool, true, false, List, [], ◌∷◌, Option, Some, None, refl, sym, ap, cond, arith}
-use Rattle.std.specs.Prelude.{nat_lt, ◌==◌, find}
+use Rattle.std.proofs.Common.{◌≡◌, ◌∙◌, not, length, ℕ, Bool, true, false, List, [], ◌∷◌, Option, Some, None, refl, sym, ap, cond, arith}
+use Rattle.std.specs.Prelude.{◌==◌, find}
 use Rattle.std.proofs.lemmas.Bool.{eq-eqb}
 use Rattle.std.proofs.lemmas.Bool.Decides.{nat_tests}
 use Rattle.ftc_message.specs.Logged.{Logged, log_follows, logs_rise}
