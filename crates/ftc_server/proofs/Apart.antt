@@ -1,6 +1,6 @@
 -- Lists of logs without a common one.
-use Rattle.std.proofs.Common.{◌≡◌, ◌∙◌, ◌&&◌, not, ℕ, Bool, true, false, List, [], ◌∷◌, refl}
-use Rattle.std.specs.List.{list_all, AllByRecursion}
+use Rattle.std.proofs.Common.{◌≡◌, not, true, false, List}
+use Rattle.std.specs.List.{list_all}
 use Rattle.ftc_message.specs.Logged.{Logged}
 use Rattle.ftc_message.specs.Ordered.{HasNone, AreApart, is_log_of}
 use Rattle.ftc_server.specs.Looks.{are_apart}

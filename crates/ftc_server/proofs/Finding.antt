@@ -1,7 +1,7 @@
 -- Looking for a held message in a list that changes.
-use Rattle.std.proofs.Common.{◌≡◌, ◌≢◌, ◌∙◌, ◌&&◌, ℕ, Bool, true, false, List, [], ◌∷◌, ◌++◌, Option, Some, None, refl, sym, ap, subst, cond, get_or, set, take, drop}
+use Rattle.std.proofs.Common.{◌≡◌, ◌≢◌, ◌∙◌, ◌&&◌, ℕ, Bool, true, false, List, [], ◌∷◌, ◌++◌, Option, Some, None, refl, sym, ap, cond, get_or, set}
 use Rattle.std.specs.List.{find, list_all, filter, position}
-use Rattle.std.proofs.Common.{suc, zero, length, ◌<◌, ◌+◌, arith}
+use Rattle.std.proofs.Common.{suc, zero, length, ◌<◌, arith}
 use Rattle.std.proofs.lemmas.Bool.{eqb-true}
 use Rattle.std.proofs.lemmas.Bool.Decides.{nat_tests}
 use Rattle.std.proofs.lemmas.List.Folds.{find_at}

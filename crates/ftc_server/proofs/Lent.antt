@@ -1,5 +1,5 @@
 -- What a commit and the message of its visit ask for, by what holds of the slots.
-use Rattle.std.proofs.Common.{◌≡◌, ◌≢◌, ◌∙◌, ◌<◌, ◌^◌, ◌-◌, ◌&&◌, ◌||◌, not, ℕ, Bool, true, false, zero, suc, List, [], ◌∷◌, ◌++◌, Option, Some, None, refl, sym, ap, subst, cond, get_or, arith, length}
+use Rattle.std.proofs.Common.{◌≡◌, ◌∙◌, ◌<◌, ◌^◌, ◌-◌, ◌&&◌, ◌||◌, not, ℕ, Bool, true, false, zero, suc, List, [], ◌∷◌, ◌++◌, Option, Some, None, refl, sym, ap, subst, cond, arith, length}
 use Rattle.std.specs.Prelude.{◌==◌, nat_lt, IfSome, slice_index}
 use Rattle.std.specs.List.{AllByRecursion, Any, list_all, list_any}
 use Rattle.std.proofs.Math.Logic.{∥∥₁_elim}
@@ -19,7 +19,7 @@ use Rattle.ftc_base.specs.Sets.{has}
 use Rattle.ftc_locks.specs.Locks.{holds_exclusively}
 use Rattle.ftc_mbox.specs.declared.rule.Rule.{Rule}
 use Rattle.ftc_mbox.specs.Ask.{ask}
-use Rattle.ftc_mbox.specs.InTurn.{Asks, AreInTurn, InTurn, IsLent, ComesNext}
+use Rattle.ftc_mbox.specs.InTurn.{Asks, AreInTurn, IsLent, ComesNext}
 use Rattle.ftc_mbox.proofs.InTurn.{in_turn}
 use Rattle.ftc_message.specs.declared.need.Need.{Need}
 use Rattle.ftc_message.specs.Logged.{Logged}
@@ -28,7 +28,7 @@ use Rattle.ftc_txn.specs.Slots.{Running, slot_at, packet_of, packet_at, wounded_
 use Rattle.ftc_txn.specs.Head.{HeadState, RunsUnwounded, AreItsWrites, IsAnswered}
 use Rattle.ftc_txn.specs.Logs.{IsLogOf}
 use Rattle.ftc_server.specs.Prepared.{IsLogLeft}
-use Rattle.ftc_txn.specs.Touched.{is_touched, numbers_before}
+use Rattle.ftc_txn.specs.Touched.{is_touched}
 use Rattle.ftc_vector.specs.Vector.{number_at, mark_at, by_partition}
 use Rattle.ftc_vector.proofs.Partitions.{get_or-by_partition}
 use Rattle.std.specs.Prelude.{MatchOption, option_map}

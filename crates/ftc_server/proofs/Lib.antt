@@ -5,3 +5,4 @@ pub mod Lent
 pub mod Apart
 pub mod Installing
 pub mod Numbers
+pub mod NextLog

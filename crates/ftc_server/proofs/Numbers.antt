@@ -1,8 +1,7 @@
 -- Numbers that may rise.
-use Rattle.std.proofs.Common.{◌≡◌, ◌∙◌, ◌<◌, ◌^◌, ◌-◌, ℕ, zero, suc, Bool, true, List, [], ◌∷◌, refl, sym, ap, subst, length, arith}
+use Rattle.std.proofs.Common.{◌≡◌, ◌<◌, ℕ, suc, true, List, [], ◌∷◌, refl, length, arith}
 use Rattle.std.specs.Prelude.{nat_lt, slice_index}
 use Rattle.std.specs.List.{list_all}
-use Rattle.ftc_server.specs.Replicas.{may_rise}
 use Rattle.ftc_server.proofs.Finding.{and_both}
 use Rattle.ftc_server.proofs.Lent.{is_below}
 

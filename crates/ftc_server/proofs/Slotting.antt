@@ -6,20 +6,20 @@ use Rattle.std.specs.List.{list_any, list_all}
 use Rattle.std.proofs.Math.Logic.{∥∥₁_elim}
 use Rattle.ftc_base.specs.declared.ask.Answer.{Answer}
 use Rattle.ftc_base.specs.declared.ask.Ask.{Ask}
-use Rattle.ftc_base.specs.declared.ask.Ask.TheVariants.{Read, Finish}
+use Rattle.ftc_base.specs.declared.ask.Ask.TheVariants.{Read}
 use Rattle.ftc_base.specs.Partition.{partition_of}
-use Rattle.ftc_locks.specs.Locks.{Locks, holds_exclusively, conflicts, SameHoldings}
+use Rattle.ftc_locks.specs.Locks.{holds_exclusively, conflicts, SameHoldings}
 use Rattle.ftc_mbox.specs.declared.rule.Rule.{Rule}
 use Rattle.ftc_mbox.specs.Ask.{ask}
-use Rattle.ftc_mbox.specs.InTurn.{Asks, AreInTurn, InTurn}
+use Rattle.ftc_mbox.specs.InTurn.{Asks, AreInTurn}
 use Rattle.ftc_txn.specs.Slots.{Running, slot_at, begun, restarted, answered, wounded_by, wounded_at, wounded_of, packet_of, packet_at}
-use Rattle.ftc_txn.specs.Head.{HeadState, RunsUnwounded, RunsWounded, next_age}
+use Rattle.ftc_txn.specs.Head.{HeadState, RunsUnwounded, next_age}
 use Rattle.ftc_txn.specs.Steps.{begins, restarts, HasRead, HasQuit, HasCommitted, Reads, Commits}
 use Rattle.ftc_txn.specs.declared.answers.HeadCommit.{HeadCommit}
 use Rattle.ftc_txn.specs.declared.answers.HeadCommit.TheVariants.{Done, Wounded as WoundedCommit, Idle as IdleCommit, NoMemory}
 use Rattle.ftc_txn.specs.declared.answers.ReadAnswer.{ReadAnswer}
 use Rattle.ftc_txn.specs.declared.answers.ReadAnswer.TheVariants.{Value, Blocked, Wounded as WoundedRead, Idle as IdleRead, NotAsked}
-use Rattle.ftc_txn.proofs.Kept.{slot_other, slot_set, slot_within, none_or_some, same_holdings, wound_of}
+use Rattle.ftc_txn.proofs.Kept.{slot_other, slot_set, slot_within, none_or_some, same_holdings}
 use Rattle.ftc_txn.proofs.StayedHoldings.{own, changed}
 use Rattle.ftc_server.specs.declared.held.HeldMessage.{HeldMessage}
 use Rattle.ftc_base.specs.declared.ask.Write.{Write}
@@ -32,7 +32,7 @@ use Rattle.ftc_server.specs.declared.server.Server.{Server}
 use Rattle.ftc_server.specs.Looks.{ask_in, ask_of_slot}
 use Rattle.ftc_server.proofs.Working.{is_waiting_so}
 use Rattle.ftc_server.proofs.Finding.{found_changed, found_kept, found_without, true_false, both}
-use Rattle.ftc_server.specs.Slots.{HoldsLent, IsSlot, AreSlots, ask_of, runs_packet, is_running, is_ready_one, slot_is_ready, slots_are_ready}
+use Rattle.ftc_server.specs.Slots.{IsSlot, AreSlots, ask_of, runs_packet, is_running, is_ready_one, slot_is_ready, slots_are_ready}
 
 abbrev Items : Type 0
 Items = List HeldMessage

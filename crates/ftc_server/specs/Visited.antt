@@ -1,5 +1,5 @@
 -- What the visit of its packet makes of a held message.
-use Rattle.std.specs.Prelude.{ℕ, Bool, true, ◌==◌, List, [], Option, Some, None, option_map, if◌then◌else◌}
+use Rattle.std.specs.Prelude.{ℕ, true, ◌==◌, List, [], Option, Some, None, if◌then◌else◌}
 use Rattle.ftc_base.specs.declared.ask.Verdict.{Verdict}
 use Rattle.ftc_base.specs.declared.ask.Verdict.TheVariants.{Forward, Filter}
 use Rattle.ftc_mbox.specs.Change.{changed_packet}

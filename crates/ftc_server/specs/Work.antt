@@ -1,13 +1,10 @@
 -- What is to be done with a held message.
-use Rattle.std.specs.Prelude.{ℕ, ◌==◌, ◌&&◌, Bool, true, false, not, List, [], ◌∷◌, Option, Some, None, is_some, find, option_map, if◌then◌else◌}
-use Rattle.std.specs.List.{list_all}
+use Rattle.std.specs.Prelude.{ℕ, ◌==◌, ◌&&◌, Bool, false, not, List, [], ◌∷◌, Option, Some, None, is_some, find, if◌then◌else◌}
 use Rattle.ftc_message.specs.Logged.{Logged}
-use Rattle.ftc_message.specs.declared.message.Message.{Message}
 use Rattle.ftc_replica.specs.Held.{Held}
 use Rattle.ftc_server.specs.declared.held.HeldMessage.{HeldMessage}
 use Rattle.ftc_server.specs.declared.work.Work.{Work}
 use Rattle.ftc_server.specs.declared.work.Work.TheVariants.{Apply, Visit, Send, Carry}
-use Rattle.ftc_server.specs.Holding.{found}
 use Rattle.ftc_server.specs.Replicas.{is_had, may_apply, is_ready}
 
 -- the packet of the log is that one

@@ -1,9 +1,10 @@
 //! What is to be done with a held message.
 
-ghost use Rattle.std.specs.Prelude.{◌≡◌, Some, None, is_some, option_map};
+ghost use Rattle.std.specs.Prelude.{◌≡◌, ℕ, true, Some, None};
 ghost use Rattle.std.specs.Option.{option_copied};
 ghost use Rattle.ftc_server.specs.Work.{next_log, last_work, work_for, has_work};
-ghost use Rattle.ftc_server.specs.Looks.{work_in, first_work_in};
+ghost use Rattle.ftc_server.specs.Looks.{work_in, first_work_in, may_apply_in};
+ghost use Rattle.ftc_server.specs.declared.work.Work.TheVariants.{Apply};
 
 use crate::held::HeldMessage;
 use crate::replicas::{are_had, is_had, may_apply};
@@ -81,9 +82,14 @@ impl Server {
     /// The work of the held message of that origin. None where it isn't held, or lacks a log and no log of
     /// it can be applied yet.
     pub fn work_of(&self, origin: PacketNo) -> Option<Work>
-        ensures { result ≡ work_in self.now origin }
+        ensures work { result ≡ work_in self.now origin }
+        // A log that is to be applied may be.
+        ensures allowed { (group packet : ℕ) → result ≡ Some (Apply group packet) →
+            may_apply_in self.now origin group packet ≡ true }
     {
         let held = self.held.get(origin)?;
+        // The contract of this call tells that the logs rise.
+        let _ = held.message.logs.len();
         work_for(self.others.as_slice(), held)
     }
 

@@ -1,4 +1,4 @@
-use Rattle.std.proofs.Common.{◌≡◌, ◌<◌, ◌^◌, ◌-◌, ℕ, sym, subst}
+use Rattle.std.proofs.Common.{◌<◌, ◌^◌, ◌-◌, ℕ, subst}
 use Rattle.ftc_server.proofs.Numbers.{all_below}
 use Rattle.ftc_server.proofs.laws.rising.Goals as goal
 

@@ -1,6 +1,5 @@
-use Rattle.std.proofs.Common.{◌≡◌, ◌∙◌, ◌∷◌, ◌++◌, [], ℕ, List, Option, Some, true, ap, sym, subst}
+use Rattle.std.proofs.Common.{◌≡◌, ◌∙◌, ◌∷◌, ◌++◌, [], ℕ, List, true, ap, sym, subst}
 use Rattle.std.specs.List.{list_all}
-use Rattle.ftc_replica.specs.Held.{Held}
 use Rattle.ftc_server.specs.declared.recovering.GroupReplica.{GroupReplica}
 use Rattle.ftc_server.specs.Looks.{is_later_of}
 use Rattle.ftc_server.specs.Standing.{with_own}

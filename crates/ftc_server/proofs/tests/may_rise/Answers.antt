@@ -1,4 +1,4 @@
-use Rattle.std.proofs.Common.{◌<◌, ◌≤◌, ℕ, arith}
+use Rattle.std.proofs.Common.{◌≤◌, arith}
 use Rattle.ftc_vector.specs.Vector.{number_at}
 use Rattle.ftc_server.proofs.tests.may_rise.Goals as goal
 

@@ -1,5 +1,5 @@
-use Rattle.std.proofs.Common.{◌∙◌, ◌≡◌, List, Some, None, sym, ap}
-use Rattle.std.specs.List.{position, find, remove}
+use Rattle.std.proofs.Common.{◌∙◌, List, Some, sym, ap}
+use Rattle.std.specs.List.{position}
 use Rattle.ftc_server.specs.declared.held.HeldMessage.{HeldMessage}
 use Rattle.ftc_server.specs.Holding.{Holding, is_of, found, without}
 use Rattle.ftc_server.proofs.Finding.{none_found, none_out, first_at, found_first, removed_first}

@@ -1,4 +1,4 @@
-use Rattle.std.proofs.Common.{◌≡◌, sym, subst}
+use Rattle.std.proofs.Common.{sym, subst}
 use Rattle.std.proofs.Math.Logic.{∥∥₁_map}
 use Rattle.ftc_txn.specs.Head.{HeadState}
 use Rattle.ftc_server.specs.declared.work.Work.TheVariants.{Visit}

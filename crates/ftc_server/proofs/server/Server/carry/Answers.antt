@@ -1,4 +1,4 @@
-use Rattle.std.proofs.Common.{◌≡◌, ◌∙◌, Some, List, ap, sym, subst, true}
+use Rattle.std.proofs.Common.{◌≡◌, ◌∙◌, List, ap, sym, subst, true}
 use Rattle.std.proofs.Math.Logic.{∥∥₁_map}
 use Rattle.std.specs.List.{list_all}
 use Rattle.ftc_server.specs.declared.held.HeldMessage.{HeldMessage}
@@ -13,7 +13,6 @@ use Rattle.ftc_server.specs.Looks.{are_apart, onward_in, onward_apart}
 use Rattle.ftc_server.proofs.Apart.{apart_is}
 use Rattle.ftc_message.specs.Logged.{Logged}
 use Rattle.ftc_message.specs.Ordered.{AreApart}
-use Rattle.std.specs.Prelude.{Option}
 
 pub carry-requires : goal.carry-requires
 carry-requires c =

@@ -1,4 +1,4 @@
-use Rattle.std.proofs.Common.{◌≡◌, ◌∙◌, Some, sym}
+use Rattle.std.proofs.Common.{sym}
 use Rattle.ftc_base.specs.declared.ask.Ask.TheVariants.{Finish}
 use Rattle.ftc_server.proofs.Lent.{its_writes, ending, may_change, log_is_new, need_is_new, log_may_rise}
 use Rattle.ftc_server.proofs.Slotting.{asked_of}

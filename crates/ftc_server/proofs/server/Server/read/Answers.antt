@@ -1,11 +1,8 @@
-use Rattle.std.proofs.Common.{◌≡◌, ◌∙◌, ℕ, Option, Some, ap, sym, true, false}
+use Rattle.std.proofs.Common.{◌≡◌, ◌∙◌, ℕ, Option, ap, sym, true, false}
 use Rattle.std.proofs.Math.Logic.{∥∥₁_map}
 use Rattle.std.specs.Prelude.{is_some}
-use Rattle.ftc_txn.specs.Slots.{Running, wounded_at}
-use Rattle.ftc_txn.specs.Head.{RunsUnwounded}
+use Rattle.ftc_txn.specs.Slots.{wounded_at}
 use Rattle.ftc_base.specs.declared.ask.Ask.TheVariants.{Read}
-use Rattle.ftc_server.specs.Holding.{found}
-use Rattle.ftc_server.specs.Looks.{ask_in, ask_of_slot}
 use Rattle.ftc_server.proofs.Slotting.{slots_read, wounded_apart, asked_of}
 use Rattle.ftc_server.proofs.Lent.{few_answers}
 use Rattle.ftc_server.proofs.server.Server.read.Goals as goal

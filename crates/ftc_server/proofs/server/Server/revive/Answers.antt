@@ -1,5 +1,4 @@
-use Rattle.std.proofs.Common.{◌≡◌, ◌∙◌, ap}
-use Rattle.ftc_ring.specs.Ring.{RingShape}
+use Rattle.std.proofs.Common.{◌∙◌, ap}
 use Rattle.ftc_server.specs.State.{ServerState}
 use Rattle.ftc_server.proofs.Installing.{later_here}
 use Rattle.ftc_server.proofs.server.Server.revive.Goals as goal

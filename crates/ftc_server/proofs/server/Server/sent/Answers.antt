@@ -1,4 +1,4 @@
-use Rattle.std.proofs.Common.{◌≡◌, ◌∙◌, ◌&&◌, Bool, List, [], ap, sym, subst, true, cond}
+use Rattle.std.proofs.Common.{◌≡◌, ◌∙◌, Bool, List, [], ap, sym, subst, true, cond}
 use Rattle.std.specs.Prelude.{◌==◌}
 use Rattle.std.proofs.lemmas.Bool.{eq-eqb}
 use Rattle.ftc_message.specs.Logged.{Logged}

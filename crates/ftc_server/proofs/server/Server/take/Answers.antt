@@ -1,9 +1,9 @@
-use Rattle.std.proofs.Common.{◌≡◌, ◌∙◌, [], ◌∷◌, ap, sym, subst, List, Bool, true, Some}
+use Rattle.std.proofs.Common.{◌≡◌, ◌∙◌, [], ◌∷◌, ap, sym, subst, List, true}
 use Rattle.std.proofs.Math.Logic.{∥∥₁_map}
 use Rattle.std.specs.List.{list_all}
 use Rattle.ftc_server.specs.declared.held.HeldMessage.{HeldMessage}
 use Rattle.ftc_server.specs.Holding.{is_of, found, arrived}
-use Rattle.ftc_server.specs.Slots.{AreSlots, is_open}
+use Rattle.ftc_server.specs.Slots.{is_open}
 use Rattle.ftc_server.proofs.Finding.{all_behind, found_behind}
 use Rattle.ftc_server.proofs.Slotting.{slots_found}
 use Rattle.ftc_server.proofs.server.Server.take.Goals as goal

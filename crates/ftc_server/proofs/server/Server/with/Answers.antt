@@ -1,4 +1,4 @@
-use Rattle.std.proofs.Common.{◌≡◌, ◌∙◌, Option, ap}
+use Rattle.std.proofs.Common.{◌∙◌, Option, ap}
 use Rattle.std.specs.Prelude.{is_some}
 use Rattle.ftc_replica.specs.Held.{Held}
 use Rattle.ftc_server.proofs.Slotting.{idle_slots}
