@@ -29,7 +29,7 @@ use Rattle.ftc_txn.specs.Head.{HeadState, RunsUnwounded, AreItsWrites, IsAnswere
 use Rattle.ftc_txn.specs.Logs.{IsLogOf}
 use Rattle.ftc_server.specs.Prepared.{IsLogLeft}
 use Rattle.ftc_txn.specs.Touched.{is_touched}
-use Rattle.ftc_vector.specs.Vector.{number_at, mark_at, by_partition}
+use Rattle.ftc_vector.specs.Vector.{number_at, mark_at}
 use Rattle.ftc_vector.proofs.Partitions.{get_or-by_partition}
 use Rattle.std.specs.Prelude.{MatchOption, option_map}
 use Rattle.ftc_packet.specs.declared.flow.Flow.{Flow}
