@@ -1,0 +1,11 @@
+pub mod Fields
+pub mod Messages
+pub mod Ring
+pub mod ReplicaCalls
+pub mod MessageCalls
+pub mod SentMessages
+pub mod VisitCalls
+pub mod Unmoved
+pub mod OpeningServer
+pub mod Readiness
+pub mod Works

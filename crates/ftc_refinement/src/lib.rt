@@ -1,0 +1,19 @@
+//! What each call of one server does to the state of the protocol: its contract leaves the server standing for the
+//! state after the event. Nothing here runs.
+#![tactic(auto)]
+
+mod applying;
+mod leaving;
+mod ready;
+mod still;
+mod taking;
+mod visiting;
+mod working;
+
+pub use applying::what_apply_does;
+pub use leaving::{what_carry_does, what_is_sent, what_pass_does, what_release_does};
+pub use ready::what_is_ready;
+pub use still::{what_new_makes, what_stays};
+pub use taking::what_take_does;
+pub use visiting::what_a_commit_does;
+pub use working::what_work_says;
