@@ -9,3 +9,4 @@ pub mod Unmoved
 pub mod OpeningServer
 pub mod Readiness
 pub mod Works
+pub mod DuePackets

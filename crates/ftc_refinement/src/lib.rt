@@ -3,6 +3,7 @@
 #![tactic(auto)]
 
 mod applying;
+mod due;
 mod leaving;
 mod ready;
 mod still;
@@ -11,6 +12,7 @@ mod visiting;
 mod working;
 
 pub use applying::what_apply_does;
+pub use due::what_is_due;
 pub use leaving::{what_carry_does, what_is_sent, what_pass_does, what_release_does};
 pub use ready::what_is_ready;
 pub use still::{what_new_makes, what_stays};
