@@ -1,5 +1,5 @@
 -- The packets of a buffer that are due.
-use Rattle.std.proofs.Common.{◌≡◌, ◌∙◌, ◌<◌, ◌≤◌, ◌+◌, ◌-◌, ◌==◌, ◌⊎◌, ◌++◌, ◌∷◌, ℕ, Bool, true, false, List, [], Option, Some, None, refl, sym, ap, subst, cond, inl, inr, arith}
+use Rattle.std.proofs.Common.{◌≡◌, ◌∙◌, ◌<◌, ◌≤◌, ◌+◌, ◌==◌, ◌⊎◌, ◌++◌, ◌∷◌, ℕ, Bool, true, false, List, [], Option, Some, None, refl, sym, ap, subst, cond, inl, inr, arith}
 use Rattle.std.specs.Prelude.{◌↔◌}
 use Rattle.std.specs.List.{find, AllByRecursion, before_first, after_first}
 use Rattle.std.proofs.lemmas.Bool.{eq-eqb, eqb-true}
@@ -48,8 +48,8 @@ module _ (setting : Setting) (state : ChainState) (server : ℕ) (last : server 
       (item : WithheldPacket) × (kept_of packet_of packet items ≡ Some item) × (is_due known item ≡ true)
   kept_due packet waiting due =
       let kept = kept_for time_of packet_of (IsWithheldAs setting state) packet waiting (kept_of packet_of packet items)
-          (subst (λ o. IsKeptAs (IsWithheldAs setting state) packet o (kept_of packet_of packet items)) (at_last packet ∙ due.0)
-          (are.each packet)) in
+      (subst (λ o. IsKeptAs (IsWithheldAs setting state) packet o (kept_of packet_of packet items)) (at_last packet ∙ due.0)
+      (are.each packet)) in
       (kept.0, kept.1, (said packet waiting kept.0 due.0 kept.2).1 due)
 
   pub none_due : AllByRecursion (λ item. is_due known item ≡ false) items → (packet : ℕ) (waiting : Withheld) →
@@ -57,7 +57,7 @@ module _ (setting : Setting) (state : ChainState) (server : ℕ) (last : server 
   none_due none packet waiting due =
       let kept = kept_due packet waiting due in
       let isnt = found_is (λ (item : WithheldPacket). is_due known item ≡ false) (λ item. packet_of item == packet) items kept.0
-          none kept.1 in
+      none kept.1 in
       let is = kept.2 in
       let no = isnt.0 in
       absurd cc
@@ -97,15 +97,15 @@ module _ (setting : Setting) (state : ChainState) (server : ℕ) (last : server 
         elim (which test before due after kept.0 found) [
           | inl sooner ↦
               let isnt = found_is (λ (item : WithheldPacket). is_due known item ≡ false) test before kept.0
-                  (none_before (is_due known) items) sooner in
+              (none_before (is_due known) items) sooner in
               let no = isnt.0 in
               let is = kept.2 in
               absurd cc
           | inr (inl same) ↦
               let named = eqb-true (packet_of kept.0) packet
-                  (found_is (λ (item : WithheldPacket). item ≡ item) test items kept.0 (all_same items) kept.1).1 in
+              (found_is (λ (item : WithheldPacket). item ≡ item) test items kept.0 (all_same items) kept.1).1 in
               let both = sym there ∙ (ap (λ (item : WithheldPacket). state.withheld item.packet) same
-                  ∙ (ap state.withheld named ∙ its.0)) in
+              ∙ (ap state.withheld named ∙ its.0)) in
               same_since here.0 waiting both
           | inr (inr later) ↦
               let behind_it = found_is (Sooner due) test after kept.0 (behind Sooner before due after apart.order) later in

@@ -10,3 +10,4 @@ pub mod OpeningServer
 pub mod Readiness
 pub mod Works
 pub mod DuePackets
+pub mod NextWork

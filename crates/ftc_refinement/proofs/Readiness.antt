@@ -6,7 +6,17 @@ use Rattle.ftc_replica.specs.Held.{Held as Replicated}
 use Rattle.ftc_replica.specs.Kept.{covers_log}
 use Rattle.ftc_vector.specs.Commits.{vector_of}
 use Rattle.ftc_protocol.specs.Setting.{Setting, servers, is_member}
-use Rattle.ftc_protocol.specs.State.{ChainState}
+use Rattle.ftc_protocol.specs.State.{ChainState, Message, Where, Held}
+use Rattle.ftc_protocol.specs.Visits.{In}
+use Rattle.ftc_protocol.specs.Orderly.{IsOrderly, aim}
+use Rattle.ftc_protocol.specs.Known.{ServerHas}
+use Rattle.ftc_protocol.specs.Trace.{IsChanging}
+use Rattle.ftc_protocol.proofs.TraceLemmas.{before_first}
+use Rattle.ftc_ring.specs.Ring.{apart}
+use Rattle.ftc_ties.specs.Logs.{IsLogIn}
+use Rattle.std.specs.Prelude.{◌↔◌, nat_le}
+use Rattle.std.proofs.lemmas.Bool.Decides.{nat_tests}
+use Rattle.std.proofs.Common.{◌≤◌, arith}
 use Rattle.ftc_ties.specs.Replica.{pruned_by}
 use Rattle.ftc_ties.specs.Servers.{IsReplicaAt}
 use Rattle.ftc_server.specs.declared.server.Server.{Server}
@@ -53,6 +63,53 @@ module _ (setting : Setting) (state : ChainState) (server : ℕ) (old : Server) 
           (is_member setting group server ≡ false) ⊎ (group ≡ server) → group ≡ server
       its_own group member (inl outside) = absurd cc
       its_own group member (inr same) = same
+
+-- ---- a log of a held message
+
+is_within : (a b : ℕ) → a ≤ b → nat_le a b ≡ true
+is_within a b below = grind (arith, nat_tests, below)
+
+abbrev pub VectorsSay : Setting → ChainState → ℕ → Type 0
+VectorsSay setting state server = (log : Logged) (held : Replicated) → IsLogIn setting.partitions state.trace log →
+    IsReplicaAt setting state server log.group held →
+    (covers_log held.vector log ≡ true) ↔ ServerHas setting state server log.group log.origin
+
+module _ (setting : Setting) (state : ChainState) (server origin : ℕ) (visited by_ring : Bool) (message : Message) (old : Server)
+    (order : IsOrderly setting state) (is : IsServerAt setting state server old)
+    (there : state.message origin ≡ Some message) (place : message.place ≡ Held server visited by_ring) where
+  pub is_up : state.up server ≡ true
+  is_up = subst (λ (p : Where). state.up (aim (servers setting) p) ≡ true) place (order.awake origin message there)
+
+  pub rides_below : (group packet : ℕ) → In message.logs group packet → group < servers setting
+  rides_below group packet rides = (order.rides origin group packet message there rides).0
+
+  rides_member : (group packet : ℕ) → In message.logs group packet → is_member setting group server ≡ true
+  rides_member group packet rides = is_within (apart (servers setting) group server) setting.failures
+      (subst (λ (p : Where). apart (servers setting) group (aim (servers setting) p) ≤ setting.failures) place
+      (order.rides origin group packet message there rides).1)
+
+  pub rides_stands : (group packet : ℕ) → In message.logs group packet →
+      IsReplicaAt setting state server group (replica_for old group)
+  rides_stands group packet rides =
+      replica_stands setting state server old is group (rides_below group packet rides) (rides_member group packet rides)
+
+  own_has : (group packet : ℕ) → group ≡ server → IsChanging setting.partitions state.trace group packet →
+      In (state.lists server) group packet
+  own_has group packet own changing = subst (λ s. In (state.lists s) group packet) own
+      (order.heads group packet (subst (λ s. state.up s ≡ true) (sym own) is_up) changing)
+
+  pub had_alike : VectorsSay setting state server → (log : Logged) → IsLogIn setting.partitions state.trace log →
+      In message.logs log.group log.origin →
+      is_had old.others.items log ≡ covers_log (replica_for old log.group).vector log
+  had_alike say log of_log rides =
+      had_as setting state server old is log (rides_below log.group log.origin rides)
+      (rides_member log.group log.origin rides)
+      (λ own. (say log (replica_for old log.group) of_log (rides_stands log.group log.origin rides)).1
+      (record {
+        changing = own_has log.group log.origin own;
+        other = λ still earlier before. own_has log.group earlier own
+            (before_first setting.partitions state.trace log.group earlier log.origin before);
+      }))
 
 -- ---- all logs of a message
 

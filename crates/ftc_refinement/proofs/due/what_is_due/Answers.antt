@@ -1,4 +1,4 @@
-use Rattle.std.proofs.Common.{◌≡◌, ◌+◌, ◌-◌, ℕ, refl, sym, subst, arith}
+use Rattle.std.proofs.Common.{◌≡◌, ◌+◌, ◌-◌, ℕ, subst, arith}
 use Rattle.ftc_protocol.specs.Setting.{servers}
 use Rattle.ftc_protocol.specs.Known.{knows}
 use Rattle.ftc_ties.specs.Servers.{AreCommits}
@@ -11,7 +11,7 @@ one_before server count last = omega (arith, last)
 pub returns-clause-first : goal.returns-clause-first
 returns-clause-first c setting state server due old run last is first =
     let commits = subst (λ s. AreCommits setting state (knows setting state s) old.known)
-        (one_before server (servers setting) last) is.stands.replicas.known in
+    (one_before server (servers setting) last) is.stands.replicas.known in
     first_may setting state server last old.known old.buffer.items is.stands.withheld
     (λ packet waiting item there stands.
     let told = c.due_packets.ensures old.known item in
@@ -22,7 +22,7 @@ returns-clause-first c setting state server due old run last is first =
 pub returns-clause-none : goal.returns-clause-none
 returns-clause-none c setting state server packet withheld old run last is none its =
     let commits = subst (λ s. AreCommits setting state (knows setting state s) old.known)
-        (one_before server (servers setting) last) is.stands.replicas.known in
+    (one_before server (servers setting) last) is.stands.replicas.known in
     none_due setting state server last old.known old.buffer.items is.stands.withheld
     (λ packet waiting item there stands.
     let told = c.due_packets.ensures old.known item in

@@ -1,12 +1,37 @@
-use Rattle.std.proofs.Common.{◌∙◌, ◌&&◌, ℕ, false, not, List, Option, Some, sym, ap}
+use Rattle.std.proofs.Common.{◌≡◌, ◌∙◌, ◌<◌, ◌==◌, ◌&&◌, ◌∷◌, ℕ, Bool, true, false, not, List, [], Option, Some, None, length, refl, sym, ap, subst, cond}
 use Rattle.std.specs.Option.{is_some}
 use Rattle.ftc_protocol.specs.State.{Held}
-use Rattle.ftc_server.specs.declared.work.Work.TheVariants.{Visit, Send, Carry}
+use Rattle.ftc_server.specs.declared.work.Work.TheVariants.{Apply, Visit, Send, Carry}
 use Rattle.ftc_server.specs.Holding.{found}
-use Rattle.ftc_server.specs.Work.{is_waiting, work_for_found}
+use Rattle.ftc_server.specs.Work.{is_waiting, next_log, work_behind, work_for_found}
 use Rattle.ftc_server.proofs.Working.{held_with, last_of}
-use Rattle.ftc_refinement.proofs.Messages.{found_as}
+use Rattle.ftc_refinement.proofs.Messages.{both, found_as}
 use Rattle.ftc_refinement.proofs.Works.{ready_of, last_comes, last_by, is_to_visit, is_to_send, is_to_carry, is_done, done_is, bytes_in_it, held_in, same_flags}
+use Rattle.std.proofs.lemmas.Bool.{eqb-true}
+use Rattle.ftc_base.specs.declared.ask.Write.{Write}
+use Rattle.ftc_journal.specs.declared.event.Event.TheVariants as event
+use Rattle.ftc_message.specs.Logged.{Logged}
+use Rattle.ftc_replica.specs.Held.{Held as Replicated}
+use Rattle.ftc_vector.specs.Order.{is_ready as is_ready_at}
+use Rattle.ftc_vector.specs.Commits.{vector_of}
+use Rattle.ftc_serial.specs.Take.{Outcome}
+use Rattle.ftc_protocol.specs.Visits.{In}
+use Rattle.ftc_protocol.specs.Known.{ServerHas}
+use Rattle.ftc_protocol.specs.Legal.{MayHappen}
+use Rattle.ftc_protocol.specs.Changes.{is_changing}
+use Rattle.ftc_protocol.proofs.TraceLemmas.{stands_map}
+use Rattle.ftc_ties.specs.Logs.{IsLogIn}
+use Rattle.ftc_ties.specs.Messages.{names_log}
+use Rattle.ftc_ties.specs.Replica.{pruned_by}
+use Rattle.ftc_server.specs.declared.held.HeldMessage.{HeldMessage}
+use Rattle.ftc_server.specs.Replicas.{is_ready, may_apply_to, replica_at}
+use Rattle.ftc_server.proofs.NextLog.{next_is}
+use Rattle.ftc_standing.specs.Stand.{IsReplicaSlot}
+use Rattle.ftc_standing.proofs.Arriving.{all_mapped_of}
+use Rattle.ftc_refinement.proofs.NextWork.{all_next, lower_had, IsLowerHad, found_with}
+use Rattle.ftc_refinement.proofs.Readiness.{replica_for, rides_below, rides_stands, had_alike}
+use Rattle.ftc_refinement.proofs.Ring.{each_named}
+use Rattle.ftc_refinement.proofs.VisitCalls.{changes_some}
 use Rattle.ftc_refinement.proofs.working.what_work_says.Goals as goal
 
 pub returns-clause-visit : goal.returns-clause-visit
@@ -87,3 +112,89 @@ returns-clause-carry c setting state origin old run is works =
     let carries = is_to_carry (is_waiting with.held) with.held.by_ring
     (last_of old.others.items with.held Carry (λ g p same. absurd cc) with.works) in
     (in_state.message, in_state.there, with.held.visited, place ∙ ap (λ b. Held 0 with.held.visited b) carries, ready)
+
+-- a log that is to be applied is the next one
+next_of : (replicas : List (Option Replicated)) (held : HeldMessage) (next : Option Logged) (group packet : ℕ) →
+    work_behind replicas held next ≡ Some (Apply group packet) →
+    (log : Logged) × (next ≡ Some log) × (log.group ≡ group) × (log.origin ≡ packet)
+next_of replicas held (Some log) group packet is = (log, refl, cc, cc)
+next_of replicas held None group packet is = absurd (no_apply (is_ready replicas held) (is_waiting held) held.by_ring group packet is)
+  where
+    no_apply : (ready waiting by_ring : Bool) (group packet : ℕ) →
+        cond ready (Some (last_by waiting by_ring)) None ≡ Some (Apply group packet) → ⊥
+    no_apply false waiting by_ring group packet is = absurd cc
+    no_apply true true by_ring group packet is = absurd cc
+    no_apply true false true group packet is = absurd cc
+    no_apply true false false group packet is = absurd cc
+
+-- the replica to which a log may be applied
+taker : (o : Option Replicated) (log : Logged) → may_apply_to o log ≡ true →
+    (held : Replicated) × (o ≡ Some held) × (is_ready_at held.vector log.before log.changed ≡ true)
+taker None log is = absurd cc
+taker (Some held) log is = (held, refl, is)
+
+changing_if : (partitions : ℕ) (outcome : Outcome) (writes : List Write) → outcome.writes ≡ writes →
+    not (length writes == 0) ≡ true → is_changing partitions outcome ≡ true
+changing_if partitions outcome [] same some = absurd cc
+changing_if partitions outcome (write ∷ writes) same some = changes_some partitions outcome write writes same
+
+pub returns-clause-apply : goal.returns-clause-apply
+returns-clause-apply c setting state server origin group packet held old run is at rising works =
+    let others = old.others.items in
+    let logs = held.message.logs in
+    let order = c.order_of_a_state.ensures setting state run in
+    let in_state = held_in setting state server origin held old.held.items at is.stands.held in
+    let message = in_state.message in
+    let are = in_state.stands.as_sent.logs in
+    let next = next_of others held (next_log others None logs) group packet
+    (sym (ap (work_for_found others) at) ∙ works) in
+    let log = next.0 in
+    let of_log = all_next others (IsLogIn setting.partitions state.trace) None logs log are.each next.1 in
+    let named = all_next others (λ (l : Logged). names_log logs l.group l.origin ≡ true) None logs log (each_named logs) next.1 in
+    let rides : In message.logs log.group log.origin = sym (are.names log.group log.origin) ∙ named in
+    let tests = next_is others None None logs log rising next.1 in
+    let halves = both (not (length log.writes == 0)) (may_apply_to (replica_at others log.group) log) tests.allowed in
+    let takes = taker (replica_at others log.group) log halves.1 in
+    let slot = subst (IsReplicaSlot setting state server old.known log.group) takes.1
+    (is.stands.replicas.others log.group (rides_below setting state server origin held.visited held.by_ring message old order is
+    in_state.there in_state.stands.place log.group log.origin rides)) in
+    let changing = stands_map (λ (other : Outcome). other ≡ of_log.outcome)
+    (λ (other : Outcome). is_changing setting.partitions other ≡ true)
+    (λ other same. changing_if setting.partitions other log.writes
+    (ap (λ (o : Outcome). o.writes) same ∙ sym of_log.writes) halves.0)
+    state.trace log.group log.origin of_log.there in
+    let lacks = (c.what_vectors_say.ensures.ready setting state server log (pruned_by (vector_of old.known log.group) takes.0)
+    run of_log slot.2 changing).0
+    ((c.order_tests.ensures.ready takes.0.vector log.before log.changed).0 takes.2) in
+    let say = λ (l : Logged) (h : Replicated) (of_l : IsLogIn setting.partitions state.trace l).
+    c.what_vectors_say.ensures.had setting state server l h run of_l in
+    let known = all_mapped_of (IsLogIn setting.partitions state.trace) (IsLowerHad others log)
+    (λ (l : Logged). IsLogIn setting.partitions state.trace l × IsLowerHad others log l)
+    (λ l of_l lower. (of_l, lower)) logs are.each (lower_had others None None logs log rising next.1) in
+    let lower = λ (smaller : ℕ) (less : smaller < log.group) (carried : In message.logs smaller log.origin).
+    let one = found_with (λ (l : Logged). IsLogIn setting.partitions state.trace l × IsLowerHad others log l)
+    (λ (l : Logged). l.group == smaller && l.origin == log.origin) logs known
+    (are.names smaller log.origin ∙ carried) in
+    let names = both (one.0.group == smaller) (one.0.origin == log.origin) one.1 in
+    let group_is = eqb-true one.0.group smaller names.0 in
+    let origin_is = eqb-true one.0.origin log.origin names.1 in
+    let its : In message.logs one.0.group one.0.origin =
+    ap (λ g. message.logs g one.0.origin) group_is ∙ (ap (message.logs smaller) origin_is ∙ carried) in
+    let alike = had_alike setting state server origin held.visited held.by_ring message old order is in_state.there
+    in_state.stands.place say one.0 one.2.0 its in
+    let stands = rides_stands setting state server origin held.visited held.by_ring message old order is in_state.there
+    in_state.stands.place one.0.group one.0.origin its in
+    let has = (say one.0 (replica_for old one.0.group) one.2.0 stands).0
+    (sym alike ∙ one.2.1 origin_is (subst (λ g. g < log.group) (sym group_is) less)) in
+    subst (λ g. ServerHas setting state server g log.origin) group_is
+    (subst (λ o. ServerHas setting state server one.0.group o) origin_is has) in
+    subst (λ p. MayHappen setting state (event.Apply server origin group p)) next.3
+    (subst (λ g. MayHappen setting state (event.Apply server origin g log.origin)) next.2 (
+      message,
+      (in_state.there, held.visited, held.by_ring, in_state.stands.place),
+      rides,
+      changing,
+      lacks.0,
+      (λ earlier before. lacks.1.each earlier before),
+      lower,
+    ))
