@@ -12,3 +12,4 @@ pub mod Lists
 pub mod StoredPairs
 pub mod PortTable
 pub mod Words
+pub mod OneTable

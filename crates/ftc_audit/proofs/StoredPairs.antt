@@ -11,7 +11,7 @@ use Rattle.ftc_serial.specs.Words.{AnyOf}
 use Rattle.ftc_store.specs.Store.{Content}
 use Rattle.ftc_store.specs.Pairs.{entry_of}
 use Rattle.ftc_store.specs.declared.pairs.Pair.{Pair}
-use Rattle.ftc_audit.proofs.Keys.{tied, ties}
+use Rattle.ftc_audit.proofs.Keys.{tied, tied_to_itself}
 
 abbrev pub IsAt : List ℕ → List ℕ → Pair → Type 0
 IsAt key value pair = (pair.key ≡ key) × (pair.value ≡ value)
@@ -30,7 +30,7 @@ not_less Equal equal less = less
 not_less Greater equal less = less
 
 pub below_itself : (key : List ℕ) → T (is_lt (slice_cmp nat_cmp key key)) → ⊥
-below_itself key less = not_less (slice_cmp nat_cmp key key) (ties key) less
+below_itself key less = not_less (slice_cmp nat_cmp key key) (tied_to_itself key) less
 
 below_any : (low key value : List ℕ) (pairs : List Pair) → T (below_all (slice_cmp nat_cmp) low (map entry_of pairs))
     → AnyOf (IsAt key value) pairs → T (is_lt (slice_cmp nat_cmp low key))
@@ -44,7 +44,7 @@ found_there : (pairs : List Pair) (key value : List ℕ) → T (is_sorted (slice
 found_there [] key value sorted any = absurd any
 found_there (pair ∷ pairs) key value sorted (inl (at, has)) =
     ap (λ (b : Bool). cond b (Some pair.value) (find (slice_cmp nat_cmp) key (map entry_of pairs)))
-    (ap (eq_by_cmp (slice_cmp nat_cmp) key) at ∙ ties key) ∙ ap Some has
+    (ap (eq_by_cmp (slice_cmp nat_cmp) key) at ∙ tied_to_itself key) ∙ ap Some has
 found_there (pair ∷ pairs) key value sorted (inr more) =
     elim (eq_by_cmp (slice_cmp nat_cmp) key pair.key) as (λ b. eq_by_cmp (slice_cmp nat_cmp) key pair.key ≡ b
     → cond b (Some pair.value) (find (slice_cmp nat_cmp) key (map entry_of pairs)) ≡ Some value) [

@@ -9,7 +9,7 @@ mod table;
 mod text;
 
 pub use cause::PortsCause;
-pub use laws::{backends_stay, packets_stay_bytes, ports_are_apart};
+pub use laws::{backends_stay, one_table, packets_stay_bytes, ports_are_apart};
 pub use line::{ClientLine, PortLine, PortLines};
 pub use table::ports;
 pub use text::ports_text;
