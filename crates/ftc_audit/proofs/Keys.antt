@@ -1,5 +1,5 @@
 -- What a store has after a value was put at a key.
-use Rattle.std.proofs.Common.{◌≡◌, ◌≢◌, ◌∙◌, ℕ, Bool, List, Some, refl, sym, ap, cond}
+use Rattle.std.proofs.Common.{◌≡◌, ◌≢◌, ◌∙◌, ℕ, Bool, true, List, Some, refl, sym, ap, cond}
 use Rattle.std.specs.Cmp.Lexicographic.{slice_cmp}
 use Rattle.std.specs.Ordering.{nat_cmp, eq_by_cmp}
 use Rattle.std.specs.Str.{bytes_eq}
@@ -24,3 +24,10 @@ off_put content key value q differs =
     get-insert nat_list_cmp_total content key value q
     ∙ ap (λ (same : Bool). cond same (Some value) (get content q))
     (false_from_ne_true _ (λ same. differs ((bytes_eq-Decides q key).0 (sym (is_same q key) ∙ same))))
+
+-- two keys tie exactly where they are equal
+pub tied : (q key : List ℕ) → eq_by_cmp (slice_cmp nat_cmp) q key ≡ true → q ≡ key
+tied q key ties = (bytes_eq-Decides q key).0 (sym (is_same q key) ∙ ties)
+
+pub tied_to_itself : (key : List ℕ) → eq_by_cmp (slice_cmp nat_cmp) key key ≡ true
+tied_to_itself key = is_same key key ∙ (bytes_eq-Decides key key).1 refl

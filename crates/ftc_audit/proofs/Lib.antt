@@ -7,3 +7,9 @@ pub mod PortLaw
 pub mod BackendLaw
 pub mod Bytes
 pub mod ByteRuns
+pub mod Coming
+pub mod Lists
+pub mod StoredPairs
+pub mod PortTable
+pub mod Words
+pub mod OneTable

@@ -1,5 +1,5 @@
 -- At a translator inside endpoints are equal exactly where their outside ports are.
-use Rattle.std.proofs.Common.{◌≡◌, ◌≤◌, ◌↔◌, ◌∙◌, sym, ap, subst, refl, ℕ, true, false, List, take, drop, get_or, Option, Some, None, arith, MatchOption}
+use Rattle.std.proofs.Common.{◌≡◌, ◌≤◌, ◌↔◌, ◌∙◌, ◌⊎◌, inl, inr, sym, ap, subst, refl, ℕ, true, false, List, [], ◌∷◌, take, drop, get_or, Option, Some, None, arith, MatchOption}
 use Rattle.std.specs.Prelude.{slice_get, if◌then◌else◌, option_and_then}
 use Rattle.std.specs.Int.{w16, w32, from_be_bytes}
 use Rattle.std.specs.Ordering.{nat_cmp}
@@ -30,11 +30,11 @@ use Rattle.ftc_audit.proofs.ByteRuns.{rule_at, stay_bytes}
 use Rattle.ftc_audit.proofs.Runs.{end_of, ends_holding, ends_given}
 use Rattle.ftc_audit.proofs.Translating.{port_at, HasPort, Holds, translating}
 
-abbrev key_of : PortLine → List ℕ
+abbrev pub key_of : PortLine → List ℕ
 key_of line = outside_port_key line.protocol line.address line.port
 
 -- an address of 32 bits and a port of 16
-record IsPortLine (line : PortLine) : Type 0 where
+pub record IsPortLine (line : PortLine) : Type 0 where
   pub address : line.address ≤ 4294967295
   pub port : line.port ≤ 65535
 
@@ -85,15 +85,62 @@ line_fits rule seen line are told =
           record { address = omega (arith, same.0, fits.0); port = omega (arith, same.1, fits.1) }
     ] refl told
 
-gave_fits : (rule : NatRule) (server : ℕ) (run : List Seen) (line : PortLine) → AreOfBytes run
+pub gave_fits : (rule : NatRule) (server : ℕ) (run : List Seen) (line : PortLine) → AreOfBytes run
     → GavePort rule server run line → IsPortLine line
 gave_fits rule server run line are gave =
     any_of_all (λ (seen : Seen). (seen.server ≡ server) × (line_of rule seen ≡ Some line)) (λ
     (seen : Seen). AreBytes seen.before) run
     (λ seen told bytes. line_fits rule seen line bytes told.1) gave are
 
+-- a line that was given is of TCP or of UDP
+flow_named : (rule : NatRule) (after : Option (List ℕ)) (line : PortLine) (flow : Flow)
+    → line_of_flow rule after flow ≡ Some line → line.protocol ≡ flow.protocol
+flow_named rule None line flow told = absurd (cc)
+flow_named rule (Some after) line flow told =
+    elim (leaves rule flow) as (λ t. (if t then Some (record {
+      outside = source_port (flow_found after);
+      protocol = flow.protocol;
+      address = flow.source;
+      port = flow.source_port;
+    }) else None) ≡ Some line → line.protocol ≡ flow.protocol) [
+      | true ↦ λ some.
+          let same : record {
+            outside = source_port (flow_found after);
+            protocol = flow.protocol;
+            address = flow.source;
+            port = flow.source_port;
+          } ≡ line = cc in
+          sym (ap (λ (l : PortLine). l.protocol) same)
+      | false ↦ λ none. absurd (cc)
+    ] told
+
+flow_carries : (bytes : List ℕ) → IsFlow bytes → ((flow_in bytes).protocol ≡ 6) ⊎ ((flow_in bytes).protocol ≡ 17)
+unfolding flow_in
+flow_carries bytes is = is.carries
+
+line_named : (rule : NatRule) (seen : Seen) (line : PortLine) → line_of rule seen ≡ Some line
+    → (line.protocol ≡ 6) ⊎ (line.protocol ≡ 17)
+line_named rule seen line told =
+    elim (flow_found seen.before) as (λ (o : Option Flow). flow_found seen.before ≡ o
+    → option_and_then (line_of_flow rule seen.outcome.packet) o ≡ Some line
+    → (line.protocol ≡ 6) ⊎ (line.protocol ≡ 17)) [
+      | None ↦ λ _ none. absurd (cc)
+      | Some flow ↦ λ found some.
+          let is = subst (λ (o : Option Flow). MatchOption o (¬ IsFlow seen.before) (λ f. IsFlow seen.before
+          × (f ≡ flow_in seen.before))) found (flows_are_found seen.before) in
+          let same : line.protocol ≡ (flow_in seen.before).protocol =
+          flow_named rule seen.outcome.packet line flow some ∙ ap (λ (f : Flow). f.protocol) is.1 in
+          subst (λ (n : ℕ). (n ≡ 6) ⊎ (n ≡ 17)) (sym same) (flow_carries seen.before is.0)
+    ] refl told
+
+pub gave_named : (rule : NatRule) (server : ℕ) (run : List Seen) (line : PortLine) → GavePort rule server run line
+    → (line.protocol ≡ 6) ⊎ (line.protocol ≡ 17)
+gave_named rule server [] line gave = absurd gave
+gave_named rule server (seen ∷ run) line (inl (is, told)) = line_named rule seen line told
+gave_named rule server (seen ∷ run) line (inr more) = gave_named rule server run line more
+
 -- the key tells the endpoint
-same_inside : (one other : PortLine) → IsPortLine one → IsPortLine other → key_of one ≡ key_of other
+pub same_inside : (one other : PortLine) → IsPortLine one → IsPortLine other → key_of one ≡ key_of other
     → SameInside one other
 same_inside one other fits also same = record {
   protocol = ap (λ (key : List ℕ). get_or key 1 0) same;
@@ -107,7 +154,7 @@ same_inside one other fits also same = record {
       ∙ from_be_bytes-to_be_bytes_2 other.port (omega (arith, also.port)));
 }
 
-same_key : (one other : PortLine) → SameInside one other → key_of one ≡ key_of other
+pub same_key : (one other : PortLine) → SameInside one other → key_of one ≡ key_of other
 same_key one other same = rw (same.protocol, same.address, same.port) refl
 
 some_once : (one other : ℕ) → Some one ≡ Some other → one ≡ other
@@ -119,7 +166,7 @@ no_port key port has =
     let same : None ≡ Some port = sym (ap (number_in w16) (get-empty (slice_cmp nat_cmp) key)) ∙ has in
     absurd (cc)
 
-starts_holding : (rule : NatRule) → Holds rule empty
+pub starts_holding : (rule : NatRule) → Holds rule empty
 starts_holding rule = record {
   below = λ key port begins has. absurd (no_port key port has);
   apart = λ key other port begins also has too. absurd (no_port key port has);

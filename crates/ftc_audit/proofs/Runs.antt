@@ -51,7 +51,7 @@ module _ (rule : Rule) {Line : Type 0} (line_of : Seen → Option Line) (Holds :
   abbrev Gave : List Seen → Line → Type 0
   Gave run line = AnyOf (λ seen. (seen.server ≡ server) × (line_of seen ≡ Some line)) run
 
-  outcome_is : (state : State) (at packet : ℕ) (outcome : Outcome) (legal : IsVisitLegal rules state at packet outcome)
+  pub outcome_is : (state : State) (at packet : ℕ) (outcome : Outcome) (legal : IsVisitLegal rules state at packet outcome)
       → server ≡ at → taken rule legal.bytes (state.maps server) ≡ outcome
   outcome_is state at packet outcome legal same =
       let rule_is = some_once rule legal.rule (sym known ∙ (ap (slice_get rules) same ∙ legal.known)) in

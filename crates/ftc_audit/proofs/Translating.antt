@@ -74,6 +74,14 @@ module _ (rule : NatRule) where
     pub apart : (key other : List ℕ) (port : ℕ) → IsPortKey key → IsPortKey other → port_at content key ≡ Some port
         → port_at content other ≡ Some port → key ≡ other
 
+  -- the visit gave the line of this key and this value
+  pub record ComesFrom (key value : List ℕ) (seen : Seen) : Type 0 where
+    pub line : PortLine
+    pub at : key ≡ outside_port_key line.protocol line.address line.port
+    pub has : value ≡ to_be_bytes w16 line.outside
+    pub few : line.outside ≤ rule.last
+    pub told : line_of rule seen ≡ Some line
+
   module _ (packet : List ℕ) (content : Content) where
     abbrev outcome : Outcome
     outcome = taken (Nat rule) packet content
@@ -98,6 +106,12 @@ module _ (rule : NatRule) where
           ∷ []
       pub drawn : (server : ℕ) (line : PortLine) → line_of rule (seen server) ≡ Some line
           → record { outside = next_of content; protocol = flow.protocol; address = flow.source; port = flow.source_port } ≡ line
+      pub gave : (server : ℕ) → line_of rule (seen server) ≡ Some (record {
+        outside = next_of content;
+        protocol = flow.protocol;
+        address = flow.source;
+        port = flow.source_port;
+      })
 
     -- what a visit writes, and the packet that goes on
     writes_of : (told : Asked) → asked (Nat rule) packet content ≡ told → outcome.writes ≡ told.end.writes.items
@@ -134,6 +148,17 @@ module _ (rule : NatRule) where
         let here : Some (record { outside = port; protocol = flow.protocol; address = flow.source; port = flow.source_port }) ≡ Some line =
         rw (shown packet flow rule.outside port found) at same in
         cc
+
+    line_was : (server : ℕ) (flow : Flow) (port : ℕ) → flow_found packet ≡ Some flow → leaves rule flow ≡ true
+        → outcome.packet ≡ Some (with_source packet rule.outside port)
+        → line_of rule (seen server) ≡ Some (record {
+          outside = port;
+          protocol = flow.protocol;
+          address = flow.source;
+          port = flow.source_port;
+        })
+    line_was server flow port found goes is =
+        rw (found, is, goes) (rw (shown packet flow rule.outside port found) refl)
 
     asks : (flow : Flow) → flow_found packet ≡ Some flow → (answers : List Answer)
         → ask (Nat rule) packet answers ≡ nat_ask rule flow answers
@@ -221,6 +246,8 @@ module _ (rule : NatRule) where
           writes = writes_of (ended (first ∷ next ∷ reverse ∷ []) end) told;
           drawn = λ server line is. line_is server line flow port found goes (packet_of (ended
               (first ∷ next ∷ reverse ∷ []) end) told) is;
+          gave = λ server. line_was server flow port found goes (packet_of (ended
+              (first ∷ next ∷ reverse ∷ []) end) told);
         }
 
     -- the end that a value of an inside endpoint gives
@@ -308,13 +335,15 @@ module _ (rule : NatRule) where
       written_is : written outcome.writes content ≡ with_all
       written_is = ap (λ (writes : List Write). written writes content) is.writes
 
+      own_value : get with_all own ≡ Some (to_be_bytes w16 port)
+      own_value =
+          off_put with_next reverse (endpoint is.flow.source is.flow.source_port) own (λ same. absurd (cc))
+          ∙ (off_put with_own next_port_key (to_be_bytes w32 (port + 1)) own (λ same. absurd (cc))
+          ∙ at_put content own (to_be_bytes w16 port))
+
       own_now : port_at with_all own ≡ Some port
       own_now =
-          ap (number_in w16) (off_put with_next reverse (endpoint is.flow.source is.flow.source_port) own
-          (λ same. absurd (cc))
-          ∙ (off_put with_own next_port_key (to_be_bytes w32 (port + 1)) own (λ same. absurd (cc))
-          ∙ at_put content own (to_be_bytes w16 port)))
-          ∙ ap Some (from_be_bytes-to_be_bytes_2 port (omega (arith, few, is.within)))
+          ap (number_in w16) own_value ∙ ap Some (from_be_bytes-to_be_bytes_2 port (omega (arith, few, is.within)))
 
       next_now : next_of with_all ≡ port + 1
       next_now =
@@ -323,23 +352,31 @@ module _ (rule : NatRule) where
           ∙ at_put with_own next_port_key (to_be_bytes w32 (port + 1)))
           ∙ from_be_bytes-to_be_bytes_4 (port + 1) (omega (arith, few, is.within))
 
-      others_stay : (key : List ℕ) → IsPortKey key → key ≢ own → port_at with_all key ≡ port_at content key
-      others_stay key (rest, begins) differs =
-          ap (number_in w16) (off_put with_next reverse (endpoint is.flow.source is.flow.source_port) key
+      other_value : (key : List ℕ) → IsPortKey key → key ≢ own → get with_all key ≡ get content key
+      other_value key (rest, begins) differs =
+          off_put with_next reverse (endpoint is.flow.source is.flow.source_port) key
           (λ same. other_key 102 114 key rest _ begins same (λ e. omega (arith, e)))
           ∙ (off_put with_own next_port_key (to_be_bytes w32 (port + 1)) key
           (λ same. other_key 102 110 key rest _ begins same (λ e. omega (arith, e)))
-          ∙ off_put content own (to_be_bytes w16 port) key differs))
+          ∙ off_put content own (to_be_bytes w16 port) key differs)
 
       -- the key is the endpoint's own, or has what it had
-      own_or_other : (key : List ℕ) → IsPortKey key → (key ≡ own) ⊎ (port_at with_all key ≡ port_at content key)
-      own_or_other key begins =
-          elim (bytes_eq key own) as (λ t. bytes_eq key own ≡ t → (key ≡ own)
-          ⊎ (port_at with_all key ≡ port_at content key)) [
+      own_or_same : (key : List ℕ) → IsPortKey key → (key ≡ own) ⊎ (get with_all key ≡ get content key)
+      own_or_same key begins =
+          elim (bytes_eq key own) as (λ t. bytes_eq key own ≡ t → (key ≡ own) ⊎ (get with_all key ≡ get content key)) [
             | true ↦ λ same. inl ((bytes_eq-Decides key own).0 same)
-            | false ↦ λ other. inr (others_stay key begins (λ same. let yes =
+            | false ↦ λ other. inr (other_value key begins (λ same. let yes =
                 (bytes_eq-Decides key own).1 same in absurd (cc)))
           ] refl
+
+      own_or_other : (key : List ℕ) → IsPortKey key → (key ≡ own) ⊎ (port_at with_all key ≡ port_at content key)
+      own_or_other key begins =
+          elim (own_or_same key begins) [ inl same ↦ inl same | inr stays ↦ inr (ap (number_in w16) stays) ]
+
+      own_is : (key value : List ℕ) → key ≡ own → get with_all key ≡ Some value → value ≡ to_be_bytes w16 port
+      own_is key value same has =
+          let here : Some value ≡ Some (to_be_bytes w16 port) = sym has ∙ (ap (get with_all) same ∙ own_value) in
+          cc
 
       own_port : (key : List ℕ) (other : ℕ) → key ≡ own → port_at with_all key ≡ Some other → other ≡ port
       own_port key other same has =
@@ -397,3 +434,30 @@ module _ (rule : NatRule) where
           (own_now packet content few drawn))
     ];
   }
+
+  -- what the store has at an endpoint's key after a visit stood there before, or the visit gave it
+  pub comes : rule.last ≤ 65535 → (server : ℕ) (packet : List ℕ) (content : Content) (key value : List ℕ)
+      → IsPortKey key → get (written (taken (Nat rule) packet content).writes content) key ≡ Some value
+      → (get content key ≡ Some value) ⊎ ComesFrom key value (seen packet content server)
+  comes few server packet content key value begins has = elim (visited packet content) [
+    | inl quiet ↦ inl (subst (λ (writes : List Write). get (written writes content) key ≡ Some value) quiet.nothing has)
+    | inr drawn ↦
+        let all = with_all packet content few drawn in
+        let now : get all key ≡ Some value = subst (λ (c : Content). get c key ≡ Some value)
+        (written_is packet content few drawn) has in
+        elim (own_or_same packet content few drawn key begins) [
+          | inl same ↦ inr (record {
+            line = record {
+              outside = next_of content;
+              protocol = drawn.flow.protocol;
+              address = drawn.flow.source;
+              port = drawn.flow.source_port;
+            };
+            at = same;
+            has = own_is packet content few drawn key value same now;
+            few = drawn.within;
+            told = drawn.gave server;
+          })
+          | inr stays ↦ inl (sym stays ∙ now)
+        ]
+  ]

@@ -12,8 +12,9 @@ ghost use Rattle.ftc_serial.specs.declared.step.Step.{Step};
 ghost use Rattle.ftc_serial.specs.Serial.{opening};
 ghost use Rattle.ftc_audit.specs.declared.line.PortLine.{PortLine as APortLine};
 ghost use Rattle.ftc_audit.specs.declared.line.ClientLine.{ClientLine as AClientLine};
-ghost use Rattle.ftc_audit.specs.Visits.{AreOfBytes, visits};
+ghost use Rattle.ftc_audit.specs.Visits.{Seen, AreOfBytes, visits};
 ghost use Rattle.ftc_audit.specs.Ports.{GavePort, SameInside};
+ghost use Rattle.ftc_audit.specs.Table.{IsPortTable};
 ghost use Rattle.ftc_audit.specs.Backends.{GaveBackend, SameClient};
 
 /// At one translator, over a whole run and whatever else goes through it, inside endpoints are equal
@@ -34,6 +35,12 @@ pub fn backends_stay()
         GaveBackend rule server (visits rules (opening packets) steps) one →
         GaveBackend rule server (visits rules (opening packets) steps) other →
         SameClient one other → one.backend ≡ other.backend }
+{}
+
+/// A run has at most one port table of a translator.
+pub fn one_table()
+    ensures { (rule : NatRule) (server : ℕ) (run : List Seen) (one other : List APortLine) →
+        IsPortTable rule server run one → IsPortTable rule server run other → one ≡ other }
 {}
 
 /// Packets of bytes stay packets of bytes, whatever visits they are of.

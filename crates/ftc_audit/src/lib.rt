@@ -1,8 +1,18 @@
 //! What an operator reads from a run: which outside port a translator gave an inside endpoint.
 #![tactic(auto)]
 
+mod captured;
+mod cause;
 mod laws;
 mod line;
+mod table;
+mod text;
 
-pub use laws::{backends_stay, ports_are_apart};
-pub use line::{ClientLine, PortLine};
+pub use cause::PortsCause;
+pub use laws::{backends_stay, one_table, packets_stay_bytes, ports_are_apart};
+pub use line::{ClientLine, PortLine, PortLines};
+pub use table::ports;
+pub use text::ports_text;
+
+#[cfg(test)]
+mod tests;
