@@ -11,3 +11,5 @@ pub mod Readiness
 pub mod Works
 pub mod DuePackets
 pub mod NextWork
+pub mod DroppedMessages
+pub mod PulledReplicas

@@ -3,8 +3,10 @@
 #![tactic(auto)]
 
 mod applying;
+mod dropping;
 mod due;
 mod leaving;
+mod pulling;
 mod ready;
 mod still;
 mod taking;
@@ -12,8 +14,10 @@ mod visiting;
 mod working;
 
 pub use applying::what_apply_does;
+pub use dropping::what_drop_unready_does;
 pub use due::what_is_due;
 pub use leaving::{what_carry_does, what_is_sent, what_pass_does, what_release_does};
+pub use pulling::what_install_does;
 pub use ready::what_is_ready;
 pub use still::{what_new_makes, what_stays};
 pub use taking::what_take_does;
