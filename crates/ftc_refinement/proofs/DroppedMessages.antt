@@ -8,17 +8,16 @@ use Rattle.ftc_protocol.specs.Trace.{has_each}
 use Rattle.ftc_server.specs.declared.held.HeldMessage.{HeldMessage}
 use Rattle.ftc_server.specs.declared.server.Server.{Server}
 use Rattle.ftc_server.specs.Holding.{found}
-use Rattle.ftc_server.specs.Looks.{replica_or_own}
-use Rattle.ftc_server.specs.State.{ServerState, state_of}
+use Rattle.ftc_server.specs.State.{ServerState}
 use Rattle.ftc_server.specs.Steps.{HasDropped}
 use Rattle.ftc_server.specs.Replicas.{is_ready}
-use Rattle.ftc_standing.specs.Arrivals.{kept_of, AreArrived}
+use Rattle.ftc_standing.specs.Arrivals.{kept_of}
 use Rattle.ftc_standing.specs.View.{held_at}
 use Rattle.ftc_standing.specs.Stand.{HeldItem, IsServer, IsHeldAs, AreItems, since_of}
 use Rattle.ftc_standing.proofs.Arriving.{kept_here}
 use Rattle.ftc_refinement.specs.Contents.{item_of_held, items_of, contents_of, IsServerAt}
 use Rattle.ftc_refinement.proofs.Messages.{origin_in, kept_item, items_among}
-use Rattle.ftc_refinement.proofs.MessageCalls.{HasSameReplicas, leaves}
+use Rattle.ftc_refinement.proofs.MessageCalls.{leaves}
 
 -- ---- each held message is found by its origin
 
@@ -40,16 +39,17 @@ module _ (setting : Setting) (state : ChainState) (server : ℕ) where
   each_from before [] are = tt
   each_from before (held ∷ after) are = (
     the_same (found held.message.origin (before ++ held ∷ after)) held
-    (sym (kept_item held.message.origin (before ++ held ∷ after))
-    ∙ (ap (kept_of origin_in held.message.origin) (items_among before after held)
-    ∙ kept_here since_of origin_in
-    (λ origin message item. IsHeldAs setting state server origin message item.visited item.by_ring item.message)
-    (held_at state server) (items_of before) (item_of_held held) (items_of after)
-    (subst (AreItems setting state server) (items_among before after held) are))),
+        (sym (kept_item held.message.origin (before ++ held ∷ after))
+        ∙ (ap (kept_of origin_in held.message.origin) (items_among before after held)
+        ∙ kept_here since_of origin_in
+        (λ origin message item. IsHeldAs setting state server origin message item.visited item.by_ring item.message)
+        (held_at state server) (items_of before) (item_of_held held) (items_of after)
+        (subst (AreItems setting state server) (items_among before after held) are))),
     subst (λ (list : List HeldMessage). AllByRecursion (λ (other : HeldMessage). found other.message.origin list ≡ Some other) after)
-    (assoc before held after)
-    (each_from (before ++ held ∷ []) after
-    (subst (λ (list : List HeldMessage). AreItems setting state server (items_of list)) (sym (assoc before held after)) are)))
+        (assoc before held after)
+        (each_from (before ++ held ∷ []) after
+        (subst (λ (list : List HeldMessage). AreItems setting state server (items_of list)) (sym (assoc before held after)) are)),
+  )
 
   pub each_found : (messages : List HeldMessage) → AreItems setting state server (items_of messages) →
       AllByRecursion (λ (held : HeldMessage). found held.message.origin messages ≡ Some held) messages

@@ -13,3 +13,4 @@ pub mod DuePackets
 pub mod NextWork
 pub mod DroppedMessages
 pub mod PulledReplicas
+pub mod RevivedServer

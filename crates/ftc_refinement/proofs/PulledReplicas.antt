@@ -18,12 +18,12 @@ abbrev pub in_place : Option GroupReplica → Option Held → Option Held
 in_place None old = old
 in_place (Some new) old = Some new.replica
 
-length_installed : (news : List GroupReplica) (others : List (Option Held)) → length (with_installed news others) ≡ length others
+pub length_installed : (news : List GroupReplica) (others : List (Option Held)) → length (with_installed news others) ≡ length others
 length_installed [] others = refl
 length_installed (new ∷ news) others =
     length-set (with_installed news others) new.group (Some new.replica) ∙ length_installed news others
 
-differs_so : (one other : ℕ) → (one ≡ other → ⊥) → (one == other) ≡ false
+pub differs_so : (one other : ℕ) → (one ≡ other → ⊥) → (one == other) ≡ false
 differs_so one other differs = by_test (one == other) refl
   where
     by_test : (b : Bool) → (one == other) ≡ b → b ≡ false
@@ -56,7 +56,7 @@ module _ (ring : RingShape) (id : ℕ) (known : List (List ℕ)) where
       with_own ring id group vector before ≡ cond b (group_raised before group vector) before
   own_by group vector before b is = ap (λ t. cond t (group_raised before group vector) before) is
 
-  none_known : (news : List GroupReplica) → AllByRecursion (λ (new : GroupReplica). group_ending_at ring id ≢ new.group) news →
+  pub none_known : (news : List GroupReplica) → AllByRecursion (λ (new : GroupReplica). group_ending_at ring id ≢ new.group) news →
       known_with ring id news known ≡ known
   none_known [] apart = refl
   none_known (new ∷ news) apart =

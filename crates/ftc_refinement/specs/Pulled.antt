@@ -1,5 +1,5 @@
 -- What the receiver of a link gets where it pulls.
-use Rattle.std.specs.Prelude.{ℕ, ◌≡◌, ◌≢◌, ◌<◌, ◌==◌, Bool, true, List, Option, Some, find}
+use Rattle.std.specs.Prelude.{ℕ, ◌≡◌, ◌≢◌, ◌<◌, ◌==◌, Bool, true, List, Some, find}
 use Rattle.std.specs.List.{AllByRecursion}
 use Rattle.ftc_replica.specs.Held.{Held}
 use Rattle.ftc_replica.specs.InTurn.{applied_all}

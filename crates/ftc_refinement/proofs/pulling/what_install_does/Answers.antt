@@ -1,6 +1,6 @@
-use Rattle.std.proofs.Common.{◌≡◌, ◌≢◌, ◌∙◌, ◌<◌, ℕ, Bool, true, false, List, Option, Some, None, length, refl, sym, ap, subst}
-use Rattle.std.specs.List.{find, AllByRecursion}
-use Rattle.std.proofs.lemmas.Bool.{eq-eqb, eqb-true}
+use Rattle.std.proofs.Common.{◌≡◌, ◌∙◌, ◌<◌, ℕ, true, false, Option, Some, None, length, refl, sym, ap, subst}
+use Rattle.std.specs.List.{find}
+use Rattle.std.proofs.lemmas.Bool.{eqb-true}
 use Rattle.ftc_journal.specs.declared.event.Event.TheVariants as event
 use Rattle.ftc_replica.specs.Held.{Held}
 use Rattle.ftc_ring.specs.Ring.{next_of, RingShape}
@@ -34,38 +34,41 @@ returns c setting state link tail old new sender news run legal inside tail_is s
     let long = ap (λ (r : RingShape). r.servers) is.ring in
     let size = old.each_group ∙ long in
     let within = all_mapped (IsPulledOf setting link old sender) (λ (n : GroupReplica). n.group < length others)
-        (λ n its. subst (λ m. n.group < m) (sym size) its.inside) news are.each in
+    (λ n its. subst (λ m. n.group < m) (sym size) its.inside) news are.each in
     let at = λ (group : ℕ). installed_at news others group within in
     let its = λ (group : ℕ) (one : GroupReplica) (found : find (is_of_group group) news ≡ Some one).
-        found_is (IsPulledOf setting link old sender) (is_of_group group) news one are.each found in
+    found_is (IsPulledOf setting link old sender) (is_of_group group) news one are.each found in
     let gets : (group : ℕ) → group < servers setting → is_shared setting group link receiver ≡ true →
-        (mine : Held) × (theirs : Held) × (replica_at others group ≡ Some mine)
-        × (replica_kept link (contents_of sender) group ≡ Some theirs)
-        × (replica_at later group ≡ Some (pulled mine theirs)) = λ group below both.
-        let one = are.all group below both in
-        let facts = its group one.0 one.1 in
-        let named = eqb-true one.0.group group facts.1 in
-        (facts.0.mine, facts.0.theirs, ap (replica_at others) (sym named) ∙ facts.0.mine_is,
-        ap (replica_kept link (contents_of sender)) (sym named) ∙ facts.0.theirs_is,
-        at group ∙ (put_in (find (is_of_group group) news) one.0 (replica_at others group) one.1
-        ∙ ap (λ r. Some r) facts.0.replica)) in
+    (mine : Held) × (theirs : Held) × (replica_at others group ≡ Some mine)
+    × (replica_kept link (contents_of sender) group ≡ Some theirs)
+    × (replica_at later group ≡ Some (pulled mine theirs)) = λ group below both.
+    let one = are.all group below both in
+    let facts = its group one.0 one.1 in
+    let named = eqb-true one.0.group group facts.1 in (
+      facts.0.mine,
+      facts.0.theirs,
+      ap (replica_at others) (sym named) ∙ facts.0.mine_is,
+      ap (replica_kept link (contents_of sender)) (sym named) ∙ facts.0.theirs_is,
+      at group ∙ (put_in (find (is_of_group group) news) one.0 (replica_at others group) one.1
+          ∙ ap (λ r. Some r) facts.0.replica),
+    ) in
     let keeps = λ (group : ℕ) (below : group < servers setting)
-        (apart : is_shared setting group link receiver ≡ false).
-        at group ∙ left_in (find (is_of_group group) news) (replica_at others group)
-        (λ one found. let facts = its group one found in
-        let named = eqb-true one.group group facts.1 in
-        let yes = ap (λ g. is_shared setting g link receiver) (sym named) ∙ facts.0.shared in
-        absurd cc) in
+    (apart : is_shared setting group link receiver ≡ false).
+    at group ∙ left_in (find (is_of_group group) news) (replica_at others group)
+    (λ one found. let facts = its group one found in
+    let named = eqb-true one.group group facts.1 in
+    let yes = ap (λ g. is_shared setting g link receiver) (sym named) ∙ facts.0.shared in
+    absurd cc) in
     let tail_got = gets tail inside shared in
     let one = are.all tail inside shared in
     let ending = eqb-true tail (group_ending_at (shape setting) receiver)
-        (c.ends.ensures (shape setting) tail receiver run.right.ring inside up ∙ tail_is) in
+    (c.ends.ensures (shape setting) tail receiver run.right.ring inside up ∙ tail_is) in
     let knows = done.known ∙ (ap (λ r. known_with r old.id news old.known) is.ring
-        ∙ (ap (λ n. known_with (shape setting) n news old.known) is.number_is
-        ∙ (known_by (shape setting) receiver old.known news one.0 are.once
-        (ap (λ g. find (is_of_group g) news) (sym ending) ∙ one.1)
-        ∙ (ap (λ g. group_raised old.known g one.0.replica.vector) (sym ending)
-        ∙ ap (λ (r : Held). group_raised old.known tail r.vector) (its tail one.0 one.1).0.replica)))) in
+    ∙ (ap (λ n. known_with (shape setting) n news old.known) is.number_is
+    ∙ (known_by (shape setting) receiver old.known news one.0 are.once
+    (ap (λ g. find (is_of_group g) news) (sym ending) ∙ one.1)
+    ∙ (ap (λ g. group_raised old.known g one.0.replica.vector) (sym ending)
+    ∙ ap (λ (r : Held). group_raised old.known tail r.vector) (its tail one.0 one.1).0.replica)))) in
     let vector = (pulled tail_got.0 tail_got.1).vector in
     stands_with setting state (next setting state (event.Pull link)) receiver old new
     (with_replicas old later (group_raised old.known tail vector)) is
