@@ -96,7 +96,7 @@ IsPast size (Queued link) = link + 1 ≡ size
 
 -- A withheld packet came by an earlier event, and its message, if there still is one, is behind the last server and has
 -- no packet.
-pub record IsBuffered (setting : Setting) (state : ChainState) : Type 0 where
+pub record IsWithholding (setting : Setting) (state : ChainState) : Type 0 where
   pub clock : (packet : ℕ) (withheld : Withheld) → state.withheld packet ≡ Some withheld → withheld.since < state.events
   pub past : (packet : ℕ) (withheld : Withheld) (message : Message) → state.withheld packet ≡ Some withheld →
       state.message packet ≡ Some message → IsPast (servers setting) message.place

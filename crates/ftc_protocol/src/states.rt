@@ -18,7 +18,7 @@ ghost use Rattle.ftc_protocol.specs.Next.{next};
 ghost use Rattle.ftc_protocol.specs.Run.{IsRun, IsRunState, state_after};
 ghost use Rattle.ftc_protocol.specs.Moment.{IsSound, Stands};
 ghost use Rattle.ftc_protocol.specs.Front.{AreFronts};
-ghost use Rattle.ftc_protocol.specs.Orderly.{AreAhead, IsBuffered, IsUndone, IsStanding, IsOrderly, IsNeeding, IsRiding};
+ghost use Rattle.ftc_protocol.specs.Orderly.{AreAhead, IsWithholding, IsUndone, IsStanding, IsOrderly, IsNeeding, IsRiding};
 
 /// After every prefix of a run, in every order of its events, with every loss and every crash list that was
 /// accepted: the serial run of the visits that stand exists and released what was released. The first live
@@ -58,7 +58,7 @@ pub fn needs_of_packets()
 /// A withheld packet came by an earlier event. Its message, if there still is one, is on the ring link or came by it,
 /// and has no packet.
 pub fn withheld_packets()
-    ensures { (setting : Setting) (state : ChainState) → IsRunState setting state → IsBuffered setting state }
+    ensures { (setting : Setting) (state : ChainState) → IsRunState setting state → IsWithholding setting state }
 {}
 
 /// A message that a server is still to visit has no log and no need of that server's own middlebox.

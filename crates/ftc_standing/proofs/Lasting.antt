@@ -23,7 +23,7 @@ use Rattle.ftc_protocol.specs.Legal.{IsLegal}
 use Rattle.ftc_protocol.specs.Next.{next}
 use Rattle.ftc_protocol.specs.Run.{IsRunState}
 use Rattle.ftc_protocol.specs.Front.{IsFront}
-use Rattle.ftc_protocol.specs.Orderly.{IsNeeding, IsBuffered}
+use Rattle.ftc_protocol.specs.Orderly.{IsNeeding, IsWithholding}
 use Rattle.ftc_protocol.proofs.RunLists.{run_next}
 use Rattle.ftc_protocol.proofs.TraceLemmas.{stands_map}
 use Rattle.ftc_ties.specs.Messages.{AreLogsOf, AreNeedsOf, needs_of}
@@ -43,7 +43,7 @@ use Rattle.ftc_standing.proofs.Arriving.{stays}
 pub record IsFirmState (c : Setting) (s : ChainState) : Type 0 where
   pub steady : IsSteadyState c s
   pub needing : (t : ChainState) → IsRunState c t → IsNeeding t
-  pub buffered : IsBuffered c s
+  pub buffered : IsWithholding c s
 
 -- a message that is at a place is there
 pub of_it : (test : Where → Bool) (o : Option Message) (message : Message) → where_it test o ≡ Some message →
