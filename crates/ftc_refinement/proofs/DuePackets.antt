@@ -11,6 +11,7 @@ use Rattle.ftc_protocol.specs.Setting.{Setting, servers}
 use Rattle.ftc_protocol.specs.State.{ChainState, Withheld}
 use Rattle.ftc_protocol.specs.Known.{IsDue}
 use Rattle.ftc_protocol.specs.Legal.{MayHappen}
+use Rattle.ftc_protocol.specs.Next.{bytes_withheld}
 use Rattle.ftc_standing.specs.Arrivals.{kept_of, IsKeptAs, IsSooner, AreArrived}
 use Rattle.ftc_standing.specs.View.{withheld_at}
 use Rattle.ftc_standing.specs.Stand.{IsWithheldAs, AreWithheld, time_of, packet_of}
@@ -128,3 +129,6 @@ module _ (setting : Setting) (state : ChainState) (server : ℕ) (last : server 
 
     pub first_may : MayHappen setting state (event.Release due.packet)
     first_may = (here.0, (said due.packet here.0 due there here.2).0 (test_of_found (is_due known) items due first), not_sooner)
+
+    pub first_bytes : bytes_withheld (state.withheld due.packet) ≡ due.bytes
+    first_bytes = ap bytes_withheld there ∙ sym here.2.bytes

@@ -1,0 +1,6 @@
+mod Changed
+mod Idle
+mod LastServer
+mod OneServer
+mod Released
+mod Results

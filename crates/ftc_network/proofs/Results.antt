@@ -1,0 +1,28 @@
+-- What holds of results and options that have a value.
+use Rattle.std.proofs.Common.{◌≡◌, Bool, false, true, Result, Ok, Err, Option, Some, None, refl, sym, subst}
+use Rattle.std.specs.Prelude.{OnOk, OnErr, IfSome, option_map, is_some}
+
+pub on_ok : {A E : Type 0} (result : Result A E) (Fact Other : Type 0) → (Fact → Other) → OnOk result Fact → OnOk result Other
+on_ok (Ok value) Fact Other from fact = from fact
+on_ok (Err fault) Fact Other from fact = tt
+
+pub on_err : {A E : Type 0} (result : Result A E) (Fact Other : Type 0) → (Fact → Other) → OnErr result Fact → OnErr result Other
+on_err (Ok value) Fact Other from fact = tt
+on_err (Err fault) Fact Other from fact = from fact
+
+-- nothing comes of it only where there is nothing
+pub none_mapped : {A B : Type 0} (make : A → B) (from : Option A) (result : Option B) → result ≡ option_map make from →
+    is_some result ≡ false → from ≡ None
+none_mapped make None result same none = refl
+none_mapped make (Some item) result same none = absurd cc
+
+-- what holds of what comes of each item holds of what comes
+pub some_mapped : {A B : Type 0} (Fact : B → Type 0) (make : A → B) (from : Option A) (result : Option B) →
+    result ≡ option_map make from → ((item : A) → from ≡ Some item → Fact (make item)) → IfSome result Fact
+some_mapped {B = B} Fact make None result same each = subst (λ (o : Option B). IfSome o Fact) (sym same) tt
+some_mapped {B = B} Fact make (Some item) result same each = subst (λ (o : Option B). IfSome o Fact) (sym same) (each item refl)
+
+pub if_some : {A : Type 0} (Fact Other : A → Type 0) (option : Option A) → ((item : A) → Fact item → Other item) →
+    IfSome option Fact → IfSome option Other
+if_some Fact Other None from fact = tt
+if_some Fact Other (Some item) from fact = from item fact

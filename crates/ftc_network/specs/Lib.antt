@@ -1,0 +1,5 @@
+pub mod Parts
+pub mod Stand
+pub mod Events
+pub mod Released
+pub mod Recovering
