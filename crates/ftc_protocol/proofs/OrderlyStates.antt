@@ -64,6 +64,9 @@ up_at n up (Queued link) is = is
 ringed_link : (n l : ℕ) (place : Where) (logs : Visits) → place ≡ Queued l → IsRinged n place logs → l < n
 ringed_link n l place logs at is = subst (λ (w : Where). IsRinged n w logs) at is
 
+ringed_first : (n k : ℕ) (v : Bool) (place : Where) (logs : Visits) → place ≡ Held k v true → IsRinged n place logs → k ≡ 0
+ringed_first n k v place logs at is = subst (λ (w : Where). IsRinged n w logs) at is
+
 pub orderly : (c : Setting) → IsSetting c → (journal : List Event) → IsRun c journal → IsOrderly c (state_after c (opening c) journal)
 orderly c is journal run =
     let s : ChainState = state_after c (opening c) journal in
@@ -84,6 +87,7 @@ orderly c is journal run =
       numbered = r.live.numbered;
       entered = r.live.timed.bounded;
       links = λ p l m e at. ringed_link (servers c) l m.place m.logs at (r.live.timed.ringed p m e);
+      by_ring = λ p k v m e at. ringed_first (servers c) k v m.place m.logs at (r.live.timed.ringed p m e);
       gaps = h.gaps;
       crashes = λ a k next. let fit = fit_next c s.up s.lines (line.Crash a k) next h.fit in fit.0;
       recoveries = λ a k next. let fit = fit_next c s.up s.lines (line.Recover a k) next h.fit in (fit.0, fit.1 refl);

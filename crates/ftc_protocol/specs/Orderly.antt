@@ -1,5 +1,5 @@
 -- What else holds of every state of a run: who may have what, and where messages are.
-use Rattle.std.specs.Prelude.{ℕ, ◌≡◌, ◌≢◌, ◌<◌, ◌≤◌, ◌+◌, ◌-◌, ◌⊎◌, true, false, Some, None, List, [], ◌∷◌, ◌++◌, length}
+use Rattle.std.specs.Prelude.{ℕ, ◌≡◌, ◌≢◌, ◌<◌, ◌≤◌, ◌+◌, ◌-◌, ◌⊎◌, Bool, true, false, Some, None, List, [], ◌∷◌, ◌++◌, length}
 use Rattle.ftc_journal.specs.declared.event.Event.{Event}
 use Rattle.ftc_journal.specs.declared.event.Event.TheVariants as event
 use Rattle.ftc_script.specs.declared.line.ScriptLine.{ScriptLine}
@@ -52,6 +52,8 @@ pub record IsOrderly (setting : Setting) (state : ChainState) : Type 0 where
   pub entered : state.entered ≤ count setting
   pub links : (origin link : ℕ) (message : Message) → state.message origin ≡ Some message →
       message.place ≡ Queued link → link < servers setting
+  pub by_ring : (origin server : ℕ) (visited : Bool) (message : Message) → state.message origin ≡ Some message →
+      message.place ≡ Held server visited true → server ≡ 0
   pub gaps : (link : ℕ) → state.gap link ≡ true → servers setting ≢ 1
   pub crashes : (entered server : ℕ) → IsNextLine state.lines (line.Crash entered server) → server < servers setting
   pub recoveries : (entered server : ℕ) → IsNextLine state.lines (line.Recover entered server) →

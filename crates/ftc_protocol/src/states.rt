@@ -32,8 +32,9 @@ pub fn every_moment()
 
 /// Each group has a live member. Lists hold changing visits alone, of members alone, and a live head has every
 /// changing visit of its group. Each message is at, or queued to, a live server, with logs of groups that this
-/// server belongs to and with the needs of its packet; a packet is withheld only while the last server is up; the
-/// forwarder has touching visits, and has any only while server 0 is up.
+/// server belongs to and with the needs of its packet, and one that came by the ring link is held by server 0; a packet
+/// is withheld only while the last server is up; the forwarder has touching visits, and has any only while server 0
+/// is up.
 pub fn order_of_a_state()
     ensures { (setting : Setting) (state : ChainState) → IsRunState setting state → IsOrderly setting state }
 {}

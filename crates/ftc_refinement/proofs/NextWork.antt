@@ -21,7 +21,7 @@ follows_by o g origin group follows same = grind (arith, nat_tests, follows, sam
 no_less : (a b d : ℕ) → a ≤ b → b ≤ d → a ≤ d
 no_less a b d first second = omega (arith, first, second)
 
-not_less : (o g : ℕ) (logs : List Logged) → logs_rise (Some (o, g)) logs ≡ true →
+pub not_less : (o g : ℕ) (logs : List Logged) → logs_rise (Some (o, g)) logs ≡ true →
     AllByRecursion (λ (log : Logged). o ≤ log.origin) logs
 not_less o g [] rising = tt
 not_less o g (log ∷ logs) rising =
@@ -40,7 +40,7 @@ greater_at o g a b d e follows least greater same =
     let most = greater one in
     omega (arith, more, most)
 
-greater : (o g : ℕ) (logs : List Logged) → logs_rise (Some (o, g)) logs ≡ true →
+pub greater : (o g : ℕ) (logs : List Logged) → logs_rise (Some (o, g)) logs ≡ true →
     AllByRecursion (λ (log : Logged). log.origin ≡ o → g < log.group) logs
 greater o g [] rising = tt
 greater o g (log ∷ logs) rising =
@@ -78,7 +78,7 @@ lower_than one other same less = let equal = ap (λ (l : Logged). l.group) same 
 never_both : (a b d : ℕ) → a < b → b < d → a ≡ d → ⊥
 never_both a b d first second same = omega (arith, first, second, same)
 
-waits_as : (waiting : Option ℕ) (log : Logged) → is_packet_of waiting log ≡ true → waiting ≡ Some log.origin
+pub waits_as : (waiting : Option ℕ) (log : Logged) → is_packet_of waiting log ≡ true → waiting ≡ Some log.origin
 waits_as None log is = absurd cc
 waits_as (Some packet) log is = ap (λ n. Some n) (sym (eqb-true log.origin packet is))
 

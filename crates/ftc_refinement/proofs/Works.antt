@@ -11,7 +11,7 @@ use Rattle.ftc_server.specs.declared.work.Work.{Work}
 use Rattle.ftc_server.specs.declared.work.Work.TheVariants.{Apply, Visit, Send, Carry}
 use Rattle.ftc_server.specs.Holding.{found}
 use Rattle.ftc_server.specs.Replicas.{is_had, is_ready, may_apply}
-use Rattle.ftc_server.specs.Work.{is_packet_of, next_log, last_work, work_behind, work_for}
+use Rattle.ftc_server.specs.Work.{is_packet_of, is_waiting, next_log, last_work, work_behind, work_for}
 use Rattle.ftc_standing.specs.Arrivals.{IsKeptAs}
 use Rattle.ftc_standing.specs.View.{held_at, where_it, is_held_by}
 use Rattle.ftc_standing.specs.Stand.{HeldItem, IsHeldAs, AreItems}
@@ -91,6 +91,20 @@ pub bytes_in_it : (visited : Bool) (packet : Option (List ℕ)) → not visited 
 bytes_in_it true packet is = absurd cc
 bytes_in_it false None is = absurd cc
 bytes_in_it false (Some bytes) is = (refl, (bytes, refl))
+
+-- a log that is to be applied is the next one
+pub next_applied : (replicas : List (Option Replicated)) (held : HeldMessage) (next : Option Logged) (group packet : ℕ) →
+    work_behind replicas held next ≡ Some (Apply group packet) →
+    (log : Logged) × (next ≡ Some log) × (log.group ≡ group) × (log.origin ≡ packet)
+next_applied replicas held (Some log) group packet is = (log, refl, cc, cc)
+next_applied replicas held None group packet is = absurd (no_apply (is_ready replicas held) (is_waiting held) held.by_ring group packet is)
+  where
+    no_apply : (ready waiting by_ring : Bool) (group packet : ℕ) →
+        cond ready (Some (last_by waiting by_ring)) None ≡ Some (Apply group packet) → ⊥
+    no_apply false waiting by_ring group packet is = absurd cc
+    no_apply true true by_ring group packet is = absurd cc
+    no_apply true false true group packet is = absurd cc
+    no_apply true false false group packet is = absurd cc
 
 -- ---- the message of the state
 

@@ -12,6 +12,7 @@ mod reviving;
 mod still;
 mod taking;
 mod visiting;
+mod whole_work;
 mod working;
 
 pub use applying::what_apply_does;
@@ -24,4 +25,5 @@ pub use reviving::what_revive_makes;
 pub use still::{what_new_makes, what_stays};
 pub use taking::what_take_does;
 pub use visiting::what_a_commit_does;
+pub use whole_work::what_work_is;
 pub use working::what_work_says;

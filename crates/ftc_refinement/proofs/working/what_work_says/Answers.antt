@@ -6,7 +6,7 @@ use Rattle.ftc_server.specs.Holding.{found}
 use Rattle.ftc_server.specs.Work.{is_waiting, next_log, work_behind, work_for_found}
 use Rattle.ftc_server.proofs.Working.{held_with, last_of}
 use Rattle.ftc_refinement.proofs.Messages.{both, found_as}
-use Rattle.ftc_refinement.proofs.Works.{ready_of, last_comes, last_by, is_to_visit, is_to_send, is_to_carry, is_done, done_is, bytes_in_it, held_in, same_flags}
+use Rattle.ftc_refinement.proofs.Works.{ready_of, last_comes, last_by, is_to_visit, is_to_send, is_to_carry, is_done, done_is, bytes_in_it, held_in, same_flags, next_applied}
 use Rattle.std.proofs.lemmas.Bool.{eqb-true}
 use Rattle.ftc_base.specs.declared.ask.Write.{Write}
 use Rattle.ftc_journal.specs.declared.event.Event.TheVariants as event
@@ -113,20 +113,6 @@ returns-clause-carry c setting state origin old run is works =
     (last_of old.others.items with.held Carry (λ g p same. absurd cc) with.works) in
     (in_state.message, in_state.there, with.held.visited, place ∙ ap (λ b. Held 0 with.held.visited b) carries, ready)
 
--- a log that is to be applied is the next one
-next_of : (replicas : List (Option Replicated)) (held : HeldMessage) (next : Option Logged) (group packet : ℕ) →
-    work_behind replicas held next ≡ Some (Apply group packet) →
-    (log : Logged) × (next ≡ Some log) × (log.group ≡ group) × (log.origin ≡ packet)
-next_of replicas held (Some log) group packet is = (log, refl, cc, cc)
-next_of replicas held None group packet is = absurd (no_apply (is_ready replicas held) (is_waiting held) held.by_ring group packet is)
-  where
-    no_apply : (ready waiting by_ring : Bool) (group packet : ℕ) →
-        cond ready (Some (last_by waiting by_ring)) None ≡ Some (Apply group packet) → ⊥
-    no_apply false waiting by_ring group packet is = absurd cc
-    no_apply true true by_ring group packet is = absurd cc
-    no_apply true false true group packet is = absurd cc
-    no_apply true false false group packet is = absurd cc
-
 -- the replica to which a log may be applied
 taker : (o : Option Replicated) (log : Logged) → may_apply_to o log ≡ true →
     (held : Replicated) × (o ≡ Some held) × (is_ready_at held.vector log.before log.changed ≡ true)
@@ -146,7 +132,7 @@ returns-clause-apply c setting state server origin group packet held old run is 
     let in_state = held_in setting state server origin held old.held.items at is.stands.held in
     let message = in_state.message in
     let are = in_state.stands.as_sent.logs in
-    let next = next_of others held (next_log others None logs) group packet
+    let next = next_applied others held (next_log others None logs) group packet
     (sym (ap (work_for_found others) at) ∙ works) in
     let log = next.0 in
     let of_log = all_next others (IsLogIn setting.partitions state.trace) None logs log are.each next.1 in
