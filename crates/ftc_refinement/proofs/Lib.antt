@@ -9,6 +9,7 @@ pub mod Unmoved
 pub mod OpeningServer
 pub mod Readiness
 pub mod Works
+pub mod TakenMessages
 pub mod DuePackets
 pub mod NextWork
 pub mod DroppedMessages

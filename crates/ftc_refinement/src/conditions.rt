@@ -1,0 +1,6 @@
+//! What the calls of a server want, where the protocol allows the event: what the server that stands for the state
+//! has, and which servers are up.
+
+mod taking;
+
+pub use taking::what_take_wants;
