@@ -10,6 +10,9 @@ pub mod OpeningServer
 pub mod Readiness
 pub mod Works
 pub mod TakenMessages
+pub mod AlongRuns
+pub mod ScriptedCrashes
+pub mod LiveNeighbours
 pub mod DuePackets
 pub mod NextWork
 pub mod DroppedMessages
