@@ -13,6 +13,8 @@ pub mod TakenMessages
 pub mod AlongRuns
 pub mod ScriptedCrashes
 pub mod LiveNeighbours
+pub mod RisingNumbers
+pub mod LogsToApply
 pub mod DuePackets
 pub mod NextWork
 pub mod DroppedMessages
