@@ -15,6 +15,10 @@ pub mod ScriptedCrashes
 pub mod LiveNeighbours
 pub mod RisingNumbers
 pub mod LogsToApply
+pub mod LogsApart
+pub mod MarkedLogs
+pub mod MessagesFormed
+pub mod BarePast
 pub mod DuePackets
 pub mod NextWork
 pub mod DroppedMessages

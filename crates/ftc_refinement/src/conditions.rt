@@ -2,9 +2,11 @@
 //! has, and which servers are up.
 
 mod applying;
+mod leaving;
 mod places;
 mod taking;
 
 pub use applying::{what_a_commit_wants, what_apply_wants};
+pub use leaving::{what_carry_wants, what_pass_wants};
 pub use places::where_events_are;
 pub use taking::what_take_wants;

@@ -16,7 +16,10 @@ mod visiting;
 mod working;
 
 pub use applying::what_apply_does;
-pub use conditions::{what_a_commit_wants, what_apply_wants, what_take_wants, where_events_are};
+pub use conditions::{
+    what_a_commit_wants, what_apply_wants, what_carry_wants, what_pass_wants, what_take_wants,
+    where_events_are,
+};
 pub use dropping::what_drop_unready_does;
 pub use due::what_is_due;
 pub use leaving::{what_carry_does, what_is_sent, what_pass_does, what_release_does};
