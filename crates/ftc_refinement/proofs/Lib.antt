@@ -19,6 +19,7 @@ pub mod LogsApart
 pub mod MarkedLogs
 pub mod MessagesFormed
 pub mod BarePast
+pub mod KeptLengths
 pub mod DuePackets
 pub mod NextWork
 pub mod DroppedMessages

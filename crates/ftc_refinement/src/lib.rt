@@ -17,8 +17,8 @@ mod working;
 
 pub use applying::what_apply_does;
 pub use conditions::{
-    what_a_commit_wants, what_apply_wants, what_carry_wants, what_pass_wants, what_take_wants,
-    where_events_are,
+    what_a_commit_wants, what_apply_wants, what_carry_wants, what_lines_up, what_pass_wants,
+    what_take_wants, where_events_are,
 };
 pub use dropping::what_drop_unready_does;
 pub use due::what_is_due;
