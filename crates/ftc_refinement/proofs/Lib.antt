@@ -9,6 +9,17 @@ pub mod Unmoved
 pub mod OpeningServer
 pub mod Readiness
 pub mod Works
+pub mod TakenMessages
+pub mod AlongRuns
+pub mod ScriptedCrashes
+pub mod LiveNeighbours
+pub mod RisingNumbers
+pub mod LogsToApply
+pub mod LogsApart
+pub mod MarkedLogs
+pub mod MessagesFormed
+pub mod BarePast
+pub mod KeptLengths
 pub mod DuePackets
 pub mod NextWork
 pub mod DroppedMessages

@@ -1,6 +1,6 @@
 -- The held messages of a server, and the items that stand for them.
 use Rattle.std.proofs.Common.{◌≡◌, ◌∙◌, ◌==◌, ◌&&◌, ◌++◌, ◌∷◌, ℕ, Bool, true, false, List, [], Option, Some, None, refl, sym, ap, subst, cond}
-use Rattle.std.specs.List.{find, AllByRecursion}
+use Rattle.std.specs.List.{find, list_all, AllByRecursion}
 use Rattle.std.specs.Option.{option_map}
 use Rattle.std.proofs.lemmas.Bool.{eqb-true, eq-eqb}
 use Rattle.std.proofs.lemmas.List.{map-append}
@@ -20,6 +20,11 @@ use Rattle.ftc_refinement.specs.Contents.{item_of_held, items_of}
 pub both : (a b : Bool) → a && b ≡ true → (a ≡ true) × (b ≡ true)
 both true b is = (refl, is)
 both false b is = absurd cc
+
+pub all_hold : {A : Type 0} (test : A → Bool) (items : List A) → AllByRecursion (λ item. test item ≡ true) items →
+    list_all test items ≡ true
+all_hold test [] all = refl
+all_hold test (item ∷ items) all = ap (λ b. b && list_all test items) all.0 ∙ all_hold test items all.1
 
 -- what is found in a list of which all is so
 pub found_is : {A : Type 0} (P : A → Type 0) (test : A → Bool) (items : List A) (item : A) → AllByRecursion P items →

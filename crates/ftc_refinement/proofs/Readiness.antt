@@ -83,7 +83,7 @@ module _ (setting : Setting) (state : ChainState) (server origin : ℕ) (visited
   pub rides_below : (group packet : ℕ) → In message.logs group packet → group < servers setting
   rides_below group packet rides = (order.rides origin group packet message there rides).0
 
-  rides_member : (group packet : ℕ) → In message.logs group packet → is_member setting group server ≡ true
+  pub rides_member : (group packet : ℕ) → In message.logs group packet → is_member setting group server ≡ true
   rides_member group packet rides = is_within (apart (servers setting) group server) setting.failures
       (subst (λ (p : Where). apart (servers setting) group (aim (servers setting) p) ≤ setting.failures) place
       (order.rides origin group packet message there rides).1)

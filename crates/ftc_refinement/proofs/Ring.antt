@@ -37,7 +37,7 @@ goes_on ends setting server (log ∷ logs) ring inside below =
     ∙ ap (λ rest. cond (not (is_tail setting log.group server)) (log ∷ rest) rest)
     (goes_on ends setting server logs ring inside below.1)
 
-or_true : (a b : Bool) → b ≡ true → a || b ≡ true
+pub or_true : (a b : Bool) → b ≡ true → a || b ≡ true
 or_true true b is = refl
 or_true false b is = is
 

@@ -1,8 +1,9 @@
 //! What each call of one server does to the state of the protocol: its contract leaves the server standing for the
-//! state after the event. Nothing here runs.
+//! state after the event, and where the event is legal the call may be made. Nothing here runs.
 #![tactic(auto)]
 
 mod applying;
+mod conditions;
 mod dropping;
 mod due;
 mod leaving;
@@ -16,6 +17,10 @@ mod whole_work;
 mod working;
 
 pub use applying::what_apply_does;
+pub use conditions::{
+    what_a_commit_wants, what_apply_wants, what_carry_wants, what_lines_up, what_pass_wants,
+    what_take_wants, where_events_are,
+};
 pub use dropping::what_drop_unready_does;
 pub use due::what_is_due;
 pub use leaving::{what_carry_does, what_is_sent, what_pass_does, what_release_does};
