@@ -27,7 +27,7 @@ use Rattle.ftc_ties.proofs.Logging.{only_one}
 use Rattle.ftc_server.specs.declared.held.HeldMessage.{HeldMessage}
 use Rattle.ftc_server.specs.declared.server.Server.{Server}
 use Rattle.ftc_server.specs.Holding.{found}
-use Rattle.ftc_server.specs.Replicas.{replica_at, has_log, is_had, may_apply, may_apply_to}
+use Rattle.ftc_server.specs.Replicas.{replica_at, has_log, is_had, may_apply_to}
 use Rattle.ftc_server.specs.Work.{next_log}
 use Rattle.ftc_standing.specs.Stand.{IsReplicaSlot}
 use Rattle.ftc_standing.proofs.Arriving.{all_mapped_of}

@@ -27,3 +27,7 @@ pub mod PulledReplicas
 pub mod RevivedServer
 pub mod LowestLog
 pub mod LegalLogs
+pub mod InTurn
+pub mod QueuedMessages
+pub mod HeldInTurn
+pub mod Propagating

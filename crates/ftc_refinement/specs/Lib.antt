@@ -1,3 +1,4 @@
 pub mod Contents
 pub mod Pulled
 pub mod Got
+pub mod Slots

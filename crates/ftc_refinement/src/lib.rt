@@ -1,11 +1,13 @@
 //! What each call of one server does to the state of the protocol: its contract leaves the server standing for the
-//! state after the event, and where the event is legal the call may be made. Nothing here runs.
+//! state after the event, and where the event is legal the call may be made. And which jobs are legal and come first, by
+//! what servers and links have. Nothing here runs.
 #![tactic(auto)]
 
 mod applying;
 mod conditions;
 mod dropping;
 mod due;
+mod first_jobs;
 mod leaving;
 mod pulling;
 mod ready;
@@ -23,6 +25,7 @@ pub use conditions::{
 };
 pub use dropping::what_drop_unready_does;
 pub use due::what_is_due;
+pub use first_jobs::{held_in_turn, what_a_link_offers, what_enters, what_propagates, which_pulls};
 pub use leaving::{what_carry_does, what_is_sent, what_pass_does, what_release_does};
 pub use pulling::what_install_does;
 pub use ready::what_is_ready;

@@ -1,21 +1,18 @@
-use Rattle.std.proofs.Common.{◌≡◌, ◌∙◌, ◌<◌, ◌⊎◌, ℕ, Bool, true, false, List, Option, Some, None, refl, sym, ap, subst, cond, inl, inr}
+use Rattle.std.proofs.Common.{◌≡◌, ◌∙◌, ◌<◌, ◌⊎◌, ℕ, true, List, Option, Some, None, refl, sym, ap, subst}
 use Rattle.ftc_base.specs.declared.limits.TheConstants.{FINISHING_SLOT}
 use Rattle.ftc_journal.specs.declared.job.Job.TheVariants as job
 use Rattle.ftc_message.specs.Logged.{Logged}
 use Rattle.ftc_replica.specs.Held.{Held as Replicated}
-use Rattle.ftc_protocol.specs.Setting.{Setting}
-use Rattle.ftc_protocol.specs.State.{ChainState, Where, Held}
+use Rattle.ftc_protocol.specs.State.{ChainState, Held}
 use Rattle.ftc_protocol.specs.Jobs.{IsLegalJob, IsWork}
 use Rattle.ftc_server.specs.declared.held.HeldMessage.{HeldMessage}
-use Rattle.ftc_server.specs.declared.server.Server.{Server}
-use Rattle.ftc_server.specs.declared.work.Work.TheVariants.{Visit, Send, Carry}
+use Rattle.ftc_server.specs.declared.work.Work.TheVariants.{Carry}
 use Rattle.ftc_server.specs.Holding.{found}
 use Rattle.ftc_server.specs.Work.{is_waiting, last_work, next_log, work_behind, work_for, work_for_found}
 use Rattle.ftc_server.proofs.Working.{held_with, last_of}
 use Rattle.ftc_refinement.specs.Contents.{IsServerAt}
 use Rattle.ftc_refinement.proofs.LegalLogs.{IsNotPassed, held_not_passed}
 use Rattle.ftc_refinement.proofs.LowestLog.{IsLower, IsNoLater, not_both}
-use Rattle.ftc_refinement.proofs.Messages.{found_as, one_found}
 use Rattle.ftc_refinement.proofs.Works.{held_in, is_to_carry, last_comes, next_applied}
 use Rattle.ftc_refinement.proofs.whole_work.what_work_is.Goals as goal
 

@@ -1,9 +1,9 @@
-use Rattle.std.proofs.Common.{◌≡◌, ◌∙◌, ◌<◌, ◌==◌, ◌&&◌, ◌∷◌, ℕ, Bool, true, false, not, List, [], Option, Some, None, length, refl, sym, ap, subst, cond}
+use Rattle.std.proofs.Common.{◌≡◌, ◌∙◌, ◌<◌, ◌==◌, ◌&&◌, ◌∷◌, ℕ, true, false, not, List, [], Option, Some, None, length, refl, sym, ap, subst}
 use Rattle.std.specs.Option.{is_some}
 use Rattle.ftc_protocol.specs.State.{Held}
-use Rattle.ftc_server.specs.declared.work.Work.TheVariants.{Apply, Visit, Send, Carry}
+use Rattle.ftc_server.specs.declared.work.Work.TheVariants.{Visit, Send, Carry}
 use Rattle.ftc_server.specs.Holding.{found}
-use Rattle.ftc_server.specs.Work.{is_waiting, next_log, work_behind, work_for_found}
+use Rattle.ftc_server.specs.Work.{is_waiting, next_log, work_for_found}
 use Rattle.ftc_server.proofs.Working.{held_with, last_of}
 use Rattle.ftc_refinement.proofs.Messages.{both, found_as}
 use Rattle.ftc_refinement.proofs.Works.{ready_of, last_comes, last_by, is_to_visit, is_to_send, is_to_carry, is_done, done_is, bytes_in_it, held_in, same_flags, next_applied}
@@ -23,8 +23,7 @@ use Rattle.ftc_protocol.proofs.TraceLemmas.{stands_map}
 use Rattle.ftc_ties.specs.Logs.{IsLogIn}
 use Rattle.ftc_ties.specs.Messages.{names_log}
 use Rattle.ftc_ties.specs.Replica.{pruned_by}
-use Rattle.ftc_server.specs.declared.held.HeldMessage.{HeldMessage}
-use Rattle.ftc_server.specs.Replicas.{is_ready, may_apply_to, replica_at}
+use Rattle.ftc_server.specs.Replicas.{may_apply_to, replica_at}
 use Rattle.ftc_server.proofs.NextLog.{next_is}
 use Rattle.ftc_standing.specs.Stand.{IsReplicaSlot}
 use Rattle.ftc_standing.proofs.Arriving.{all_mapped_of}

@@ -1,0 +1,54 @@
+//! A server applies a log.
+
+ghost use Rattle.std.specs.Prelude.{◌≡◌, OnOk, OnErr};
+ghost use Rattle.ftc_journal.specs.declared.event.Event.TheVariants as event;
+ghost use Rattle.ftc_network.specs.Events.{IsAllowed, IsAllowedAt, Follows, SlotFollows, StandsStill, SlotStandsStill};
+
+use crate::laws::servers_beside;
+use crate::network::Network;
+use crate::places::place_of;
+use ftc_base::{NoMemory, PacketNo, ServerId};
+use ftc_refinement::{what_apply_does, what_apply_wants, what_stays, where_events_are};
+use ftc_server::Server;
+use ftc_standing::links_stand_still;
+
+/// A server applies a log of a message that it holds.
+fn apply_at(
+    slot: &mut Option<Server>,
+    server: ServerId,
+    origin: PacketNo,
+    group: ServerId,
+    packet: PacketNo,
+) -> Result<(), NoMemory>
+    requires { ∥ IsAllowedAt (event.Apply server origin group packet) server slot.old ∥₁ }
+    ensures ok { OnOk result (SlotFollows (event.Apply server origin group packet) server slot.old slot.new) }
+    ensures err { OnErr result (SlotStandsStill server slot.old slot.new) }
+{
+    what_apply_wants();
+    what_apply_does();
+    what_stays();
+    match slot {
+        Some(live) => live.apply(origin, group, packet),
+        None => Ok(()),
+    }
+}
+
+impl Network {
+    /// A server applies the log of a group and a packet from a message that it holds.
+    pub fn apply(
+        &mut self,
+        server: ServerId,
+        origin: PacketNo,
+        group: ServerId,
+        packet: PacketNo,
+    ) -> Result<(), NoMemory>
+        requires { ∥ IsAllowed (event.Apply server origin group packet) self.old ∥₁ }
+        ensures ok { OnOk result (Follows (event.Apply server origin group packet) self.old self.new) }
+        ensures err { OnErr result (StandsStill self.old self.new) }
+    {
+        where_events_are();
+        servers_beside();
+        links_stand_still();
+        apply_at(&mut self.servers[place_of(server)], server, origin, group, packet)
+    }
+}

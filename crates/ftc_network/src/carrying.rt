@@ -1,0 +1,41 @@
+//! The forwarder takes a message from the ring.
+
+ghost use Rattle.std.specs.Prelude.{◌≡◌, OnOk, OnErr};
+ghost use Rattle.ftc_journal.specs.declared.event.Event.TheVariants as event;
+ghost use Rattle.ftc_network.specs.Events.{IsAllowed, IsAllowedAt, Follows, SlotFollows, StandsStill, SlotStandsStill};
+
+use crate::laws::servers_beside;
+use crate::network::Network;
+use ftc_base::{NoMemory, PacketNo};
+use ftc_refinement::{what_carry_does, what_carry_wants, what_stays};
+use ftc_server::Server;
+use ftc_standing::links_stand_still;
+
+/// A message that came round the ring ends at server 0, and its logs that go on are with the forwarder.
+fn carry_at(slot: &mut Option<Server>, origin: PacketNo) -> Result<(), NoMemory>
+    requires { ∥ IsAllowedAt (event.Carry origin) 0 slot.old ∥₁ }
+    ensures ok { OnOk result (SlotFollows (event.Carry origin) 0 slot.old slot.new) }
+    ensures err { OnErr result (SlotStandsStill 0 slot.old slot.new) }
+{
+    what_carry_wants();
+    what_carry_does();
+    what_stays();
+    match slot {
+        Some(server) => server.carry(origin),
+        None => Ok(()),
+    }
+}
+
+impl Network {
+    /// A message that came round the ring ends at server 0.
+    pub fn carry(&mut self, origin: PacketNo) -> Result<(), NoMemory>
+        requires { ∥ IsAllowed (event.Carry origin) self.old ∥₁ }
+        ensures ok { OnOk result (Follows (event.Carry origin) self.old self.new) }
+        ensures err { OnErr result (StandsStill self.old self.new) }
+    {
+        servers_beside();
+        links_stand_still();
+        let _ = self.ring.servers();
+        carry_at(&mut self.servers[0], origin)
+    }
+}

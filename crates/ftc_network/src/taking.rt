@@ -1,0 +1,72 @@
+//! The receiver of a link takes a message.
+
+ghost use Rattle.std.specs.Prelude.{◌≡◌, ◌+◌, ◌==◌, ℕ, OnOk, OnErr};
+ghost use Rattle.ftc_journal.specs.declared.event.Event.TheVariants as event;
+ghost use Rattle.ftc_protocol.specs.Setting.{Setting, servers};
+ghost use Rattle.ftc_protocol.specs.State.{ChainState};
+ghost use Rattle.ftc_network.specs.Events.{IsAllowed, IsTaking, EndsFollow, Follows, StandsStill, SlotStandsStill};
+
+use crate::laws::servers_beside;
+use crate::network::Network;
+use crate::places::place_of;
+use ftc_base::{NoMemory, PacketNo, ServerId};
+use ftc_link::Link;
+use ftc_refinement::{what_stays, what_take_does, what_take_wants, where_events_are};
+use ftc_server::Server;
+use ftc_standing::{a_message_is_taken, links_stand_still};
+use std::alloc::Global;
+
+/// The receiver of a link holds its oldest message.
+fn take_at(
+    link: &mut Link,
+    slot: &mut Option<Server>,
+    alloc: Global,
+    sender: ServerId,
+    origin: PacketNo,
+    by_ring: bool,
+) -> Result<(), NoMemory>
+    requires { ∥ IsTaking sender origin by_ring link.old slot.old ∥₁ }
+    ensures ok { OnOk result ((setting : Setting) (state : ChainState) → by_ring ≡ (sender + 1 == servers setting) →
+        EndsFollow setting state sender origin link.old link.new slot.old slot.new) }
+    ensures link { OnErr result (link.new ≡ link.old) }
+    ensures slot { OnErr result ((number : ℕ) → SlotStandsStill number slot.old slot.new) }
+{
+    what_take_wants();
+    what_take_does();
+    a_message_is_taken();
+    what_stays();
+    match slot {
+        Some(server) => {
+            let logs = link.logs().unwrap_or(0);
+            server.make_room(logs)?;
+            if let Some(message) = link.take(alloc)? {
+                server.take(message, by_ring);
+            }
+            Ok(())
+        }
+        None => Ok(()),
+    }
+}
+
+impl Network {
+    /// The receiver of a link takes its oldest message.
+    pub fn take(&mut self, alloc: Global, link: ServerId, origin: PacketNo) -> Result<(), NoMemory>
+        requires { ∥ IsAllowed (event.Take link origin) self.old ∥₁ }
+        ensures ok { OnOk result (Follows (event.Take link origin) self.old self.new) }
+        ensures err { OnErr result (StandsStill self.old self.new) }
+    {
+        where_events_are();
+        servers_beside();
+        links_stand_still();
+        let receiver = self.ring.next(link);
+        let by_ring = link.number() + 1 == self.ring.servers();
+        take_at(
+            &mut self.links[place_of(link)],
+            &mut self.servers[place_of(receiver)],
+            alloc,
+            link,
+            origin,
+            by_ring,
+        )
+    }
+}
