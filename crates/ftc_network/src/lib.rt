@@ -1,9 +1,14 @@
 //! The servers of a chain and the links between them, and what each event of the protocol does to them.
 #![tactic(auto)]
 
+mod applying;
+mod carrying;
+mod crashing;
+mod entering;
 mod laws;
 mod network;
 mod places;
 mod releasing;
+mod taking;
 
 pub use network::Network;
