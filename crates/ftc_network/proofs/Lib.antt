@@ -1,3 +1,4 @@
+mod Allowed
 mod Changed
 mod Idle
 mod LastServer

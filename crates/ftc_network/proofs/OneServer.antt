@@ -1,12 +1,15 @@
 -- A network of which one server is changed.
-use Rattle.std.proofs.Common.{◌≡◌, ◌≢◌, ◌<◌, ℕ, Option, length, slice_set}
+use Rattle.std.proofs.Common.{◌≡◌, ◌≢◌, ◌<◌, ◌∙◌, ℕ, List, Option, None, length, slice_set, get_or, inl, inr, sym, ap, subst, get_or-set_same, get_or-set_other}
+use Rattle.std.proofs.lemmas.Bool.{cases_eq}
+use Rattle.std.proofs.lemmas.List.{get_or_read}
+use Rattle.ftc_edge.specs.declared.buffer.Withheld.{Withheld}
 use Rattle.ftc_journal.specs.declared.event.Event.{Event}
 use Rattle.ftc_link.specs.Queue.{Queue}
 use Rattle.ftc_protocol.specs.Setting.{Setting, servers}
 use Rattle.ftc_protocol.specs.State.{ChainState}
 use Rattle.ftc_server.specs.declared.server.Server.{Server}
 use Rattle.ftc_standing.specs.Stand.{IsLink}
-use Rattle.ftc_network.specs.Parts.{NetworkParts, server_in, link_in}
+use Rattle.ftc_network.specs.Parts.{NetworkParts, server_in, link_in, buffer_of}
 use Rattle.ftc_network.specs.Stand.{IsSlot, AreCounts, AreParts}
 use Rattle.ftc_network.proofs.Changed.{server_set}
 
@@ -32,3 +35,30 @@ one_server setting state after parts number slot entered done propagates within 
   links_are = λ link below. links link (link_in parts.links link) below (are.links_are link below);
   counts = counts;
 }
+
+-- the server at a place, as it is read there
+pub read_server : (items : List (Option Server)) (place number : ℕ) (slot : Option Server) → place ≡ number →
+    place < length items → slot ≡ get_or items place slot → slot ≡ server_in items number
+read_server items place number slot same within read =
+    get_or_read items place slot within read None ∙ ap (server_in items) same
+
+-- where a server stands for what it stood for, so does the network
+pub still_server : (setting : Setting) (state : ChainState) (parts : NetworkParts) (place number : ℕ) (slot : Option Server) →
+    place ≡ number → place < length parts.servers → AreParts setting state parts → IsSlot setting state number slot →
+    AreParts setting state (record parts { servers = slice_set parts.servers place slot })
+still_server setting state parts place number slot same within are here =
+    one_server setting state state parts place slot parts.entered parts.done parts.propagates within are
+    (subst (λ (n : ℕ). IsSlot setting state n slot) (sym same) here)
+    (λ server other below differs stays. stays) (λ link queue below stays. stays) are.counts
+
+-- as many packets are withheld where a server withholds what it did
+pub same_withheld : (items : List (Option Server)) (place last : ℕ) (slot : Option Server) → place < length items →
+    buffer_of slot ≡ buffer_of (server_in items place) →
+    length (buffer_of (server_in (slice_set items place slot) last)) ≡ length (buffer_of (server_in items last))
+same_withheld items place last slot within same = elim (cases_eq last place) [
+  | inl here ↦ ap (λ (n : ℕ). length (buffer_of (server_in (slice_set items place slot) n))) here
+      ∙ (ap (λ (o : Option Server). length (buffer_of o)) (get_or-set_same items place slot None within)
+      ∙ (ap (λ (list : List Withheld). length list) same
+      ∙ ap (λ (n : ℕ). length (buffer_of (server_in items n))) (sym here)))
+  | inr differs ↦ ap (λ (o : Option Server). length (buffer_of o)) (get_or-set_other items place last slot None differs)
+]

@@ -1,8 +1,9 @@
 //! A server stops.
 
-ghost use Rattle.std.specs.Prelude.{◌≡◌, ◌<◌};
+ghost use Rattle.std.specs.Prelude.{◌≡◌, ◌<◌, ◌≤◌};
 ghost use Rattle.ftc_journal.specs.declared.event.Event.TheVariants as event;
 ghost use Rattle.ftc_network.specs.Events.{IsAllowed, Follows};
+ghost use Rattle.ftc_network.specs.Parts.{withheld_in};
 
 use crate::laws::servers_beside;
 use crate::network::Network;
@@ -16,7 +17,8 @@ impl Network {
     pub fn crash(&mut self, server: ServerId)
         requires allowed { ∥ IsAllowed (event.Crash server) self.old ∥₁ }
         requires room { self.old.done < usize.MAX }
-        ensures { Follows (event.Crash server) self.old self.new }
+        ensures follows { Follows (event.Crash server) self.old self.new }
+        ensures withheld { withheld_in self.new ≤ withheld_in self.old }
     {
         where_events_are();
         servers_beside();

@@ -9,6 +9,7 @@ ghost use Rattle.ftc_server.specs.Slots.{is_open};
 ghost use Rattle.ftc_server.specs.Steps.{HasTaken, HasRoomed};
 ghost use Rattle.ftc_standing.specs.Stand.{IsBegun};
 ghost use Rattle.ftc_network.specs.Events.{IsAllowed, IsAllowedAt, Follows, FollowsIn, SlotFollows, SlotFollowsIn, StandsStill, SlotStandsStill};
+ghost use Rattle.ftc_network.specs.Parts.{buffer_of, withheld_in};
 
 use crate::laws::servers_beside;
 use crate::network::Network;
@@ -56,6 +57,7 @@ fn enter_at(
     ensures ok { OnOk result ((setting : Setting) (state : ChainState) → bytes ≡ packet_at setting packet →
         SlotFollowsIn setting state (event.Enter packet) 0 slot.old slot.new) }
     ensures err { OnErr result (SlotStandsStill 0 slot.old slot.new) }
+    ensures buffer { OnOk result (buffer_of slot.new ≡ buffer_of slot.old) }
 {
     what_take_wants();
     what_take_does();
@@ -75,6 +77,7 @@ fn propagate_at(
     requires { ∥ IsAllowedAt (event.Propagate origin) 0 slot.old ∥₁ }
     ensures ok { OnOk result (SlotFollows (event.Propagate origin) 0 slot.old slot.new) }
     ensures err { OnErr result (SlotStandsStill 0 slot.old slot.new) }
+    ensures buffer { OnOk result (buffer_of slot.new ≡ buffer_of slot.old) }
 {
     what_take_wants();
     what_take_does();
@@ -93,6 +96,7 @@ impl Network {
         ensures ok { OnOk result ((setting : Setting) (state : ChainState) → bytes ≡ packet_at setting packet →
             FollowsIn setting state (event.Enter packet) self.old self.new) }
         ensures err { OnErr result (StandsStill self.old self.new) }
+        ensures withheld { OnOk result (withheld_in self.new ≡ withheld_in self.old) }
     {
         servers_beside();
         links_stand_still();
@@ -108,6 +112,7 @@ impl Network {
         requires room { self.old.propagates < u32.MAX }
         ensures ok { OnOk result (Follows (event.Propagate origin) self.old self.new) }
         ensures err { OnErr result (StandsStill self.old self.new) }
+        ensures withheld { OnOk result (withheld_in self.new ≡ withheld_in self.old) }
     {
         servers_beside();
         links_stand_still();
