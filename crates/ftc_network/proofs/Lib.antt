@@ -1,7 +1,10 @@
 mod Allowed
 mod Changed
 mod Idle
+mod IdleSlots
 mod LastServer
 mod OneServer
+mod ReadAlone
 mod Released
 mod Results
+mod ScriptLines

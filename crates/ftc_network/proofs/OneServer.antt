@@ -1,5 +1,5 @@
 -- A network of which one server is changed.
-use Rattle.std.proofs.Common.{◌≡◌, ◌≢◌, ◌<◌, ◌∙◌, ℕ, List, Option, None, length, slice_set, get_or, inl, inr, sym, ap, subst, get_or-set_same, get_or-set_other}
+use Rattle.std.proofs.Common.{◌≡◌, ◌≢◌, ◌<◌, ◌≤◌, ◌∙◌, ℕ, List, [], false, Option, None, length, slice_set, get_or, inl, inr, sym, ap, subst, arith, get_or-set_same, get_or-set_other}
 use Rattle.std.proofs.lemmas.Bool.{cases_eq}
 use Rattle.std.proofs.lemmas.List.{get_or_read}
 use Rattle.ftc_edge.specs.declared.buffer.Withheld.{Withheld}
@@ -11,7 +11,7 @@ use Rattle.ftc_server.specs.declared.server.Server.{Server}
 use Rattle.ftc_standing.specs.Stand.{IsLink}
 use Rattle.ftc_network.specs.Parts.{NetworkParts, server_in, link_in, buffer_of}
 use Rattle.ftc_network.specs.Stand.{IsSlot, AreCounts, AreParts}
-use Rattle.ftc_network.proofs.Changed.{server_set}
+use Rattle.ftc_network.proofs.Changed.{server_set, link_set}
 
 pub one_server : (setting : Setting) (state after : ChainState) (parts : NetworkParts) (number : ℕ) (slot : Option Server)
     (entered done propagates : ℕ) → number < length parts.servers → AreParts setting state parts →
@@ -61,4 +61,54 @@ same_withheld items place last slot within same = elim (cases_eq last place) [
       ∙ (ap (λ (list : List Withheld). length list) same
       ∙ ap (λ (n : ℕ). length (buffer_of (server_in items n))) (sym here)))
   | inr differs ↦ ap (λ (o : Option Server). length (buffer_of o)) (get_or-set_other items place last slot None differs)
+]
+
+-- the link at a place, as it is read there
+pub read_link : (items : List Queue) (place number : ℕ) (queue : Queue) → place ≡ number → place < length items →
+    queue ≡ get_or items place queue → queue ≡ link_in items number
+read_link items place number queue same within read =
+    get_or_read items place queue within read (record { from = 0; messages = []; gap = false }) ∙ ap (link_in items) same
+
+-- a network of which one server and one link are changed
+pub server_and_link : (setting : Setting) (state after : ChainState) (parts : NetworkParts) (number : ℕ)
+    (slot : Option Server) (link : ℕ) (queue : Queue) (entered done propagates : ℕ) → number < length parts.servers →
+    link < length parts.links → AreParts setting state parts → IsSlot setting after number slot →
+    IsLink setting after link queue →
+    ((server : ℕ) (other : Option Server) → server < servers setting → server ≢ number → IsSlot setting state server other →
+    IsSlot setting after server other) →
+    ((other : ℕ) (queued : Queue) → other < servers setting → other ≢ link → IsLink setting state other queued →
+    IsLink setting after other queued) →
+    AreCounts setting after entered done propagates →
+    AreParts setting after (record parts {
+      servers = slice_set parts.servers number slot;
+      links = slice_set parts.links link queue;
+      entered = entered;
+      done = done;
+      propagates = propagates;
+    })
+server_and_link setting state after parts number slot link queue entered done propagates within inside are here there servers_stay links_stay counts =
+    record {
+      ring = are.ring;
+      partitions = are.partitions;
+      servers_are = server_set (IsSlot setting after) (servers setting) parts.servers number slot within here
+          (λ server below differs. servers_stay server (server_in parts.servers server) below differs
+          (are.servers_are server below));
+      links_are = link_set (IsLink setting after) (servers setting) parts.links link queue inside there
+          (λ other below differs. links_stay other (link_in parts.links other) below differs (are.links_are other below));
+      counts = counts;
+    }
+
+-- no more packets are withheld where a server is gone
+pub gone_withheld : (items : List (Option Server)) (place last : ℕ) → place < length items →
+    length (buffer_of (server_in (slice_set items place None) last)) ≤ length (buffer_of (server_in items last))
+gone_withheld items place last within = elim (cases_eq last place) [
+  | inl here ↦
+      let none : length (buffer_of (server_in (slice_set items place None) last)) ≡ 0 =
+      ap (λ (n : ℕ). length (buffer_of (server_in (slice_set items place None) n))) here
+      ∙ ap (λ (o : Option Server). length (buffer_of o)) (get_or-set_same items place None None within) in
+      omega (arith, none)
+  | inr differs ↦
+      let same : length (buffer_of (server_in (slice_set items place None) last)) ≡ length (buffer_of (server_in items last)) =
+      ap (λ (o : Option Server). length (buffer_of o)) (get_or-set_other items place last None None differs) in
+      omega (arith, same)
 ]

@@ -30,3 +30,8 @@ if_some Fact Other (Some item) from fact = from item fact
 pub as_err : {A E : Type 0} (result : Result A E) (Fact : Type 0) → Fact → OnErr result Fact
 as_err (Ok value) Fact fact = tt
 as_err (Err fault) Fact fact = fact
+
+pub on_err_both : {A E : Type 0} (result : Result A E) (One Two Other : Type 0) → (One → Two → Other) → OnErr result One →
+    OnErr result Two → OnErr result Other
+on_err_both (Ok value) One Two Other from one two = tt
+on_err_both (Err fault) One Two Other from one two = from one two

@@ -3,3 +3,4 @@ pub mod Stand
 pub mod Events
 pub mod Released
 pub mod Recovering
+pub mod Visiting

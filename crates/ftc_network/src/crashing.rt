@@ -10,6 +10,7 @@ use crate::network::Network;
 use crate::places::place_of;
 use ftc_base::ServerId;
 use ftc_refinement::where_events_are;
+use ftc_ring::steps;
 use ftc_standing::{a_receiver_stops, links_stand_still};
 
 impl Network {
@@ -24,6 +25,7 @@ impl Network {
         servers_beside();
         links_stand_still();
         a_receiver_stops();
+        steps();
         let before = self.ring.previous(server);
         self.servers[place_of(server)] = None;
         self.links[place_of(before)].clear();

@@ -10,5 +10,6 @@ mod network;
 mod places;
 mod releasing;
 mod taking;
+mod visiting;
 
 pub use network::Network;
