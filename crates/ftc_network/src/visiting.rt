@@ -49,6 +49,16 @@ fn read_asked(server: &mut Server, worker: WorkerId, key: &Key)
     let _ = server.read(worker, key);
 }
 
+/// A slot gives up what it runs, as the only one that runs something, if it does.
+fn give_up(server: &mut Server, worker: WorkerId) -> NoMemory
+    ensures stands { StandsFor server.old server.new }
+    ensures idle { ((other : ℕ) → other ≢ worker → slot_at server.old.head.slots other ≡ None) → AreIdle server.new }
+{
+    what_stays();
+    server.quit(worker);
+    NoMemory
+}
+
 /// The visit of a packet is made whole. The answer is what it read.
 pub fn visit_whole(
     server: &mut Server,
@@ -60,22 +70,23 @@ pub fn visit_whole(
     requires work { work_in server.old packet ≡ Some Visit }
     requires rise { may_rise server.old.head.vector ≡ true }
     ensures ok { IfOk result (λ answers. VisitsWhole server.old server.new worker packet answers.items) }
-    ensures err { OnErr result (StandsFor server.old server.new × AreIdle server.new) }
+    ensures stands { OnErr result (StandsFor server.old server.new) }
+    ensures idle { OnErr result (AreIdle server.new) }
 {
     what_stays();
-    if start(server, worker, packet) {
-        for _ in 0..=MOST_READS {
-            let Some(answers) = server.answers(worker) else {
-                unreachable!()
-            };
-            let answers = copy_answers(answers);
-            match server.finish_visit(worker, plan) {
-                CommitAnswer::Done => return Ok(answers),
-                CommitAnswer::Unfinished { key } => read_asked(server, worker, &key),
-                _ => break,
-            }
+    if !start(server, worker, packet) {
+        return Err(give_up(server, worker));
+    }
+    for _ in 0..=MOST_READS {
+        let Some(answers) = server.answers(worker) else {
+            unreachable!()
+        };
+        let answers = copy_answers(answers);
+        match server.finish_visit(worker, plan) {
+            CommitAnswer::Done => return Ok(answers),
+            CommitAnswer::Unfinished { key } => read_asked(server, worker, &key),
+            _ => return Err(give_up(server, worker)),
         }
     }
-    server.quit(worker);
-    Err(NoMemory)
+    Err(give_up(server, worker))
 }
