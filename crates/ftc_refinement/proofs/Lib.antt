@@ -14,3 +14,5 @@ pub mod NextWork
 pub mod DroppedMessages
 pub mod PulledReplicas
 pub mod RevivedServer
+pub mod HavingStill
+pub mod ReadyStays
