@@ -74,8 +74,10 @@ module _ (partitions server packet : ℕ) (some : 0 < partitions) (few : partiti
         (λ (answer : Answer). partition_of partitions answer.key < MOST_PARTITIONS
         × (mark_at (need_of log.before log.changed) (partition_of partitions answer.key)
         ≡ Some (number_at after (partition_of partitions answer.key))))
-        (λ answer touched. (partition_within partitions answer.key some few,
-        mark_there (partition_of partitions answer.key) (partition_within partitions answer.key some few) touched))
+        (λ answer touched. (
+          partition_within partitions answer.key some few,
+          mark_there (partition_of partitions answer.key) (partition_within partitions answer.key some few) touched,
+        ))
         answers (touched_each partitions answers));
     all = λ partition number within is.
         let says = needs_touched (is_touched partitions answers partition) (is_changed partitions writes partition)

@@ -36,11 +36,11 @@ unfolding is_touched
 touched_each partitions [] = tt
 touched_each partitions (answer ∷ answers) = (
   or_left (partition_of partitions answer.key == partition_of partitions answer.key) (is_touched partitions answers (partition_of partitions answer.key))
-  (eq-eqb (partition_of partitions answer.key) (partition_of partitions answer.key) refl),
+      (eq-eqb (partition_of partitions answer.key) (partition_of partitions answer.key) refl),
   all_to (λ (other : Answer). is_touched partitions answers (partition_of partitions other.key) ≡ true)
-  (λ (other : Answer). is_touched partitions (answer ∷ answers) (partition_of partitions other.key) ≡ true)
-  (λ other is. or_right (partition_of partitions other.key == partition_of partitions answer.key) (is_touched partitions answers (partition_of partitions other.key)) is)
-  answers (touched_each partitions answers),
+      (λ (other : Answer). is_touched partitions (answer ∷ answers) (partition_of partitions other.key) ≡ true)
+      (λ other is. or_right (partition_of partitions other.key == partition_of partitions answer.key) (is_touched partitions answers (partition_of partitions other.key)) is)
+      answers (touched_each partitions answers),
 )
 
 pub touched_by : (partitions partition : ℕ) (answers : List Answer) → is_touched partitions answers partition ≡ true → AnyOf (λ (answer : Answer). partition_of partitions answer.key ≡ partition) answers

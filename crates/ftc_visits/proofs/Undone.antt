@@ -71,11 +71,15 @@ module _ (setting : Setting) (state : ChainState) (server : ℕ) (trace : IsTrac
         let found = (undone visit.server visit.packet).0 named in
         any_to (λ (earlier : MadeVisit). (earlier.server ≡ found.earlier) × (earlier.packet ≡ visit.packet))
         (Undoes alone is_named visit) Made
-        (λ earlier same made. (same.1, subst (λ k. k ≤ visit.server) (sym same.0) found.before, has earlier made
-        (subst (λ k. IsUndoneAlone setting state (previous_live setting state server) (following_live setting state server) k earlier.packet)
-        (sym same.0) (subst (λ p. IsUndoneAlone setting state (previous_live setting state server)
-        (following_live setting state server) found.earlier p) (sym same.1)
-        (record { touching = found.touching; between = found.between; lacked = found.lacked })))))
+        (λ earlier same made. (
+          same.1,
+          subst (λ k. k ≤ visit.server) (sym same.0) found.before,
+          has earlier made
+              (subst (λ k. IsUndoneAlone setting state (previous_live setting state server) (following_live setting state server) k earlier.packet)
+              (sym same.0) (subst (λ p. IsUndoneAlone setting state (previous_live setting state server)
+              (following_live setting state server) found.earlier p) (sym same.1)
+              (record { touching = found.touching; between = found.between; lacked = found.lacked }))),
+        ))
         visits (made_of state.trace visits are.names found.earlier visit.packet
         (stands_map _ (λ outcome. Unit {0}) (λ outcome touches. tt) state.trace found.earlier visit.packet found.touching)) are.each
 
