@@ -1,5 +1,5 @@
 -- A set that has a visit has it still where the set grows and where the trace gains or loses other visits.
-use Rattle.std.proofs.Common.{◌≡◌, ℕ, ◌==◌, ◌&&◌, Bool, true, false, not, cond, List, ◌∷◌, inl, inr, refl, sym, subst}
+use Rattle.std.proofs.Common.{◌≡◌, ℕ, ◌==◌, ◌&&◌, true, false, not, cond, List, ◌∷◌, inl, inr, refl}
 use Rattle.ftc_serial.specs.Removal.{left_of}
 use Rattle.ftc_serial.specs.Serial.{Entry, Visited, Given}
 use Rattle.ftc_serial.specs.Take.{Outcome}
@@ -26,7 +26,8 @@ module _ (partitions : ℕ) (trace : List Entry) where
       other = λ still earlier before.
           let stays : gone group packet ≡ false = (visit_stood gone (λ o. Unit {0}) trace group packet
           (before_last partitions (left_of gone trace) group earlier packet before)).1 in
-          has.other (λ is. still (visit_left gone (λ o. is_changing partitions o ≡ true) trace group packet is stays)) earlier
+          has.other (λ is. still (visit_left gone (λ o. is_changing partitions o ≡ true) trace group packet is stays))
+          earlier
           (before_left gone partitions trace group earlier packet before);
     }
 
@@ -56,8 +57,10 @@ pub pull_has : (setting : Setting) (state : ChainState) (sender receiver group p
     Has setting.partitions state.trace (state.lists receiver) group packet →
     Has setting.partitions state.trace (pulled_list setting state sender receiver) group packet
 pull_has setting state sender receiver group packet below has =
-    has_more setting.partitions state.trace (state.lists receiver) (pulled_list setting state sender receiver) group packet
-    (λ other listed. elim (is_member setting group sender && is_member setting group receiver && not (group == receiver)) as
+    has_more setting.partitions state.trace (state.lists receiver)
+    (pulled_list setting state sender receiver) group packet
+    (λ other listed. elim (is_member setting group sender && is_member setting group receiver && not
+    (group == receiver)) as
     (λ b. is_member setting group sender && is_member setting group receiver && not (group == receiver) ≡ b →
     cond b (state.lists sender group other) (state.lists receiver group other) ≡ true) [
       | true ↦ λ shared. below shared other listed

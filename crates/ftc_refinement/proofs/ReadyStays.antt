@@ -1,5 +1,5 @@
 -- A message that is ready at the server that holds it stays so.
-use Rattle.std.proofs.Common.{◌≡◌, ◌≢◌, ◌∙◌, ◌≤◌, ◌<◌, ◌+◌, ◌==◌, ◌&&◌, ℕ, Bool, true, false, not, cond, List, Option, Some, None, inl, inr, refl, sym, ap, subst, arith, eq-eqb}
+use Rattle.std.proofs.Common.{◌≡◌, ◌≢◌, ◌∙◌, ◌<◌, ◌==◌, ◌&&◌, ℕ, Bool, true, false, not, cond, Option, Some, None, inl, inr, refl, sym, ap, subst, arith, eq-eqb}
 use Rattle.std.proofs.lemmas.Bool.{true≢false, and_parts, not-true, eqb-false}
 use Rattle.ftc_journal.specs.declared.event.Event.{Event}
 use Rattle.ftc_journal.specs.declared.event.Event.TheVariants.{Apply, Carry, Crash, Enter, Lose, Pass, Propagate, Pull, Recover, Release, Take, Visit}
@@ -27,14 +27,16 @@ use Rattle.ftc_refinement.proofs.HavingStill.{has_more, has_left, has_grown, has
 same_some : {A : Type 0} (one other : A) → Some one ≡ Some other → one ≡ other
 same_some one other same = cc
 
-not_queued : (place : Where) (link server : ℕ) (visited by_ring : Bool) → place ≡ Queued link → place ≡ Held server visited by_ring → ⊥
+not_queued : (place : Where) (link server : ℕ) (visited by_ring : Bool) → place ≡ Queued link →
+    place ≡ Held server visited by_ring → ⊥
 not_queued place link server visited by_ring queued held = cc
 
 -- what is left of the messages that go away by a test
 kept_one : (goes : Message → Bool) (o : Option Message) (message : Message) → drop_if goes o ≡ Some message →
     (o ≡ Some message) × (goes message ≡ false)
 kept_one goes None message is = absurd cc
-kept_one goes (Some other) message is = elim (goes other) as (λ b. goes other ≡ b → cond b None (Some other) ≡ Some message →
+kept_one goes (Some other) message is = elim (goes other) as
+    (λ b. goes other ≡ b → cond b None (Some other) ≡ Some message →
     (Some other ≡ Some message) × (goes message ≡ false)) [
       | true ↦ λ gone none. absurd cc
       | false ↦ λ stays some. (some, subst (λ (m : Message). goes m ≡ false) (same_some other message some) stays)
@@ -48,7 +50,8 @@ module _ (c : Setting) (s : ChainState) (h : IsSteadyState c s) (server origin :
   same : s.message origin ≡ Some after → after ≡ message
   same is = same_some after message (sym is ∙ there)
 
-  others : (p : ℕ) (o : Option Message) → (origin ≡ p → o ≡ Some after → ⊥) → with_at s.message p o origin ≡ Some after →
+  others : (p : ℕ) (o : Option Message) →
+      (origin ≡ p → o ≡ Some after → ⊥) → with_at s.message p o origin ≡ Some after →
       after ≡ message
   others p o never is = with_at_cases (λ (v : Option Message). v ≡ Some after → after ≡ message) s.message p o origin
       (λ own gone. absurd (never own gone)) (λ other still. same still) is
@@ -68,7 +71,8 @@ module _ (c : Setting) (s : ChainState) (h : IsSteadyState c s) (server origin :
   same_message (Take l p) legal unvisited is = others p (taken_message c s l (s.message p)) (λ own taken.
       let m = legal.0.0 in
       let same_one : m ≡ message = same_some m message (sym legal.0.1 ∙ (ap s.message (sym own) ∙ there)) in
-      not_queued message.place l server visited by_ring (sym (ap (λ (x : Message). x.place) same_one) ∙ legal.0.2) place) is
+      not_queued message.place l server visited by_ring
+      (sym (ap (λ (x : Message). x.place) same_one) ∙ legal.0.2) place) is
   same_message (Apply k p j q) legal unvisited is = same is
   same_message (Visit k p w) legal unvisited is =
       others p _ (λ own visits. unvisited k w (ap (λ x. Visit k x w) (sym own))) is
@@ -77,7 +81,8 @@ module _ (c : Setting) (s : ChainState) (h : IsSteadyState c s) (server origin :
   same_message (Lose k p) legal unvisited is =
       others p _ (λ own sent. not_sent k (is_sent c k && not (is_away c s k true)) (s.message p) sent) is
   same_message (Carry p) legal unvisited is = others p None (λ own none. cc) is
-  same_message (Crash k) legal unvisited is = same (kept_one (λ (m : Message). is_at c k m.place) (s.message origin) after is).0
+  same_message (Crash k) legal unvisited is = same
+      (kept_one (λ (m : Message). is_at c k m.place) (s.message origin) after is).0
   same_message (Recover k undone) legal unvisited is =
       same (kept_one (is_dropped c s (following_live c s k)) (s.message origin) after is).0
   same_message (Pull l) legal unvisited is = same is
@@ -86,7 +91,8 @@ module _ (c : Setting) (s : ChainState) (h : IsSteadyState c s) (server origin :
 
   -- ---- and what the server had of its logs it still has
 
-  module _ (group packet : ℕ) (inside : In message.logs group packet) (has : Has c.partitions s.trace (s.lists server) group packet) where
+  module _ (group packet : ℕ) (inside : In message.logs group packet)
+      (has : Has c.partitions s.trace (s.lists server) group packet) where
     is_up : s.up server ≡ true
     is_up = subst (λ (p : Where). s.up (aim (servers c) p) ≡ true) place (h.tied.order.awake origin message there)
 
@@ -117,18 +123,21 @@ module _ (c : Setting) (s : ChainState) (h : IsSteadyState c s) (server origin :
     still_has (Apply k p j q) legal is =
         has_more c.partitions s.trace (s.lists server) ((next c s (Apply k p j q)).lists server) group packet
         (λ x listed. kept s.lists k j q true server group x listed) has
-    still_has (Visit k p w) legal is = has_grown c.partitions s.trace ((next c s (Visit k p w)).lists server) group packet
+    still_has (Visit k p w) legal is = has_grown c.partitions s.trace
+        ((next c s (Visit k p w)).lists server) group packet
         (has_more c.partitions s.trace (s.lists server) ((next c s (Visit k p w)).lists server) group packet
         (λ x listed. kept s.lists k k p (is_changing c.partitions (outcome_at c s k p)) server group x listed) has)
         k p (outcome_at c s k p) (λ own. (traced c (next c s (Visit k p w)) (steady_next c s h (Visit k p w) legal)).0
-        (subst (λ x. IsSomeVisit s.trace k x) (sym own.1) (subst (λ x. IsSomeVisit s.trace x packet) (sym own.0) stands)))
+        (subst (λ x. IsSomeVisit s.trace k x) (sym own.1)
+        (subst (λ x. IsSomeVisit s.trace x packet) (sym own.0) stands)))
     still_has (Pass k p) legal is = has
     still_has (Lose k p) legal is = has
     still_has (Carry p) legal is = has
     still_has (Crash k) legal is =
         with_at_cases (λ (v : Visits). Has c.partitions s.trace v group packet) s.lists k _ server
         (λ own. absurd (true≢false (sym (eq-eqb server k own)
-        ∙ (sym (ap (is_at c k) now) ∙ (kept_one (λ (m : Message). is_at c k m.place) (s.message origin) after is).1)))) (λ other. has)
+        ∙ (sym (ap (is_at c k) now) ∙ (kept_one (λ (m : Message). is_at c k m.place)
+        (s.message origin) after is).1)))) (λ other. has)
     still_has (Recover k undone) legal is =
         has_left c.partitions s.trace ((next c s (Recover k undone)).lists server) group packet
         (with_at_cases (λ (v : Visits). Has c.partitions s.trace v group packet) s.lists k _ server
@@ -138,8 +147,10 @@ module _ (c : Setting) (s : ChainState) (h : IsSteadyState c s) (server origin :
         with_at_cases (λ (v : Visits). Has c.partitions s.trace v group packet) s.lists (next_of (servers c) l) _ server
         (λ own.
         pull_has c s l (next_of (servers c) l) group packet
-        (λ shared. sender_has l legal (eqb-false group (next_of (servers c) l) (not-true (group == next_of (servers c) l)
-        (and_parts (is_member c group l && is_member c group (next_of (servers c) l)) (not (group == next_of (servers c) l))
+        (λ shared. sender_has l legal (eqb-false group (next_of (servers c) l)
+        (not-true (group == next_of (servers c) l)
+        (and_parts (is_member c group l && is_member c group (next_of (servers c) l))
+        (not (group == next_of (servers c) l))
         shared).1)))
         (subst (λ x. Has c.partitions s.trace (s.lists x) group packet) own has)) (λ other. has)
     still_has (Propagate p) legal is = has

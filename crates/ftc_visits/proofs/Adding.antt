@@ -1,5 +1,5 @@
 -- The marks of a visit that a head commits are its need.
-use Rattle.std.proofs.Common.{◌≡◌, ℕ, ◌<◌, ◌≤◌, ◌+◌, ◌==◌, if◌then◌else◌, Bool, true, false, cond, List, [], ◌∷◌, map, Option, Some, None, refl, sym, ap, subst, ◌∙◌}
+use Rattle.std.proofs.Common.{◌≡◌, ℕ, ◌<◌, ◌≤◌, ◌+◌, ◌==◌, if◌then◌else◌, Bool, true, false, List, [], ◌∷◌, map, Option, Some, None, refl, sym, ap, subst, ◌∙◌}
 use Rattle.std.specs.List.{AllByRecursion}
 use Rattle.std.specs.Prelude.{IfSome, IsNone, ◌↔◌}
 use Rattle.std.proofs.lemmas.Bool.{cond-true}
@@ -12,7 +12,6 @@ use Rattle.ftc_base.specs.declared.limits.TheConstants.{MOST_PARTITIONS}
 use Rattle.ftc_message.specs.Logged.{Logged}
 use Rattle.ftc_serial.specs.Reads.{IsRead}
 use Rattle.ftc_serial.specs.Serial.{Entry}
-use Rattle.ftc_serial.specs.Words.{AnyOf}
 use Rattle.ftc_txn.specs.Logs.{IsLogOf}
 use Rattle.ftc_txn.specs.Touched.{is_touched, is_changed, numbers_before, vector_after}
 use Rattle.ftc_vector.specs.Vector.{number_at, mark_at, need_at, need_of}
@@ -46,7 +45,8 @@ module _ (partitions server packet : ℕ) (some : 0 < partitions) (few : partiti
       mark_at-need_of log.before log.changed partition within
       ∙ (ap (λ (marks : List (Option ℕ)). need_at (mark_at marks partition) (has log.changed partition)) of_visit.before
       ∙ (ap (λ (mark : Option ℕ). need_at mark (has log.changed partition))
-      (get_or-by_partition (λ p. if is_touched partitions answers p then Some (number_at vector p) else None) partition None within)
+      (get_or-by_partition (λ p. if is_touched partitions answers p then Some (number_at vector p) else None)
+      partition None within)
       ∙ ap (need_at (if is_touched partitions answers partition then Some (number_at vector partition) else None))
       (of_visit.changed partition)))
 
@@ -69,7 +69,8 @@ module _ (partitions server packet : ℕ) (some : 0 < partitions) (few : partiti
   are_marks : AreMarksOf (need_of log.before log.changed) (map (mark_of partitions after) answers)
   are_marks = record {
     each = all_map (λ (mark : Mark). mark.partition < MOST_PARTITIONS
-        × (mark_at (need_of log.before log.changed) mark.partition ≡ Some mark.number)) (mark_of partitions after) answers
+        × (mark_at (need_of log.before log.changed) mark.partition ≡ Some mark.number))
+        (mark_of partitions after) answers
         (all_to (λ (answer : Answer). is_touched partitions answers (partition_of partitions answer.key) ≡ true)
         (λ (answer : Answer). partition_of partitions answer.key < MOST_PARTITIONS
         × (mark_at (need_of log.before log.changed) (partition_of partitions answer.key)
@@ -82,7 +83,8 @@ module _ (partitions server packet : ℕ) (some : 0 < partitions) (few : partiti
     all = λ partition number within is.
         let says = needs_touched (is_touched partitions answers partition) (is_changed partitions writes partition)
         (number_at vector partition) number (sym (need_there partition within) ∙ is) in
-        any_map (λ (mark : Mark). (mark.partition ≡ partition) × (mark.number ≡ number)) (mark_of partitions after) answers
+        any_map (λ (mark : Mark). (mark.partition ≡ partition) × (mark.number ≡ number))
+        (mark_of partitions after) answers
         (any_to (λ (answer : Answer). partition_of partitions answer.key ≡ partition)
         (λ (answer : Answer). (partition_of partitions answer.key ≡ partition)
         × (number_at after (partition_of partitions answer.key) ≡ number)) (λ answer. Unit {0})
@@ -131,8 +133,10 @@ log_made server partitions vector packet answers writes None logged none reads =
     group = refl;
     origin = refl;
     before = refl;
-    changed = λ partition. has_none partition ∙ sym (ap (λ (w : List Write). is_changed partitions w partition) (none_written writes
-        (subst (λ (a : List Answer). AllByRecursion (λ (write : Write). IsRead a write.key) writes) (none.0 refl) reads))
+    changed = λ partition. has_none partition ∙ sym
+        (ap (λ (w : List Write). is_changed partitions w partition) (none_written writes
+        (subst (λ (a : List Answer). AllByRecursion (λ (write : Write). IsRead a write.key) writes)
+        (none.0 refl) reads))
         ∙ nothing_changed partitions partition);
     writes = refl;
   },

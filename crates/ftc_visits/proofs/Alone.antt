@@ -1,6 +1,6 @@
 -- Which visits are undone by themselves.
-use Rattle.std.proofs.Common.{◌≡◌, ◌≢◌, ℕ, ◌<◌, ◌≤◌, ◌+◌, ◌-◌, ◌==◌, ◌&&◌, ◌||◌, ◌↔◌, ◌⊎◌, Bool, true, false, not, cond, List, length, Option, Some, None, inl, inr, refl, sym, ap, subst, ◌∙◌, arith, eqb-true, eq-eqb, le-leb, lt-ltb, ltb-true}
-use Rattle.std.specs.Prelude.{nat_le, nat_lt, unwrap_or}
+use Rattle.std.proofs.Common.{◌≡◌, ◌≢◌, ℕ, ◌<◌, ◌≤◌, ◌==◌, ◌&&◌, ◌||◌, ◌↔◌, true, false, not, cond, List, length, Option, Some, None, inl, inr, refl, sym, subst, ◌∙◌, arith, eqb-true, le-leb, lt-ltb, ltb-true}
+use Rattle.std.specs.Prelude.{nat_le, nat_lt}
 use Rattle.std.specs.List.{list_all}
 use Rattle.std.proofs.lemmas.Bool.{true≢false, or_cases, or_left, or_right, and_parts, and_from, cases_lt, eqb-false, false_from_ne_true, not-true, not_from_false}
 use Rattle.ftc_base.specs.declared.limits.TheConstants.{MOST_PARTITIONS}
@@ -46,10 +46,12 @@ between_says n previous following server before after inside is =
           let differs : server ≢ previous = eqb-false server previous (not-true (server == previous) other) in
           record {
             behind = omega arith;
-            ahead = subst (λ b. apart n previous server < cond b n (apart n previous following)) (sym same) (omega arith);
+            ahead = subst (λ b. apart n previous server < cond b n (apart n previous following)) (sym same)
+                (omega arith);
           }
       | false ↦ λ differ. elim (nat_lt previous following) as (λ b. nat_lt previous following ≡ b →
-          cond b (nat_lt previous server && nat_lt server following) (nat_lt previous server || nat_lt server following) ≡ true →
+          cond b (nat_lt previous server && nat_lt server following)
+          (nat_lt previous server || nat_lt server following) ≡ true →
           IsBetween n previous following server) [
             | true ↦ λ rises both.
                 let up : previous < following = ltb-true previous following rises in
@@ -58,7 +60,8 @@ between_says n previous following server before after inside is =
                 let high : server < following = ltb-true server following parts.1 in
                 record {
                   behind = omega arith;
-                  ahead = subst (λ b. apart n previous server < cond b n (apart n previous following)) (sym differ) (omega arith);
+                  ahead = subst (λ b. apart n previous server < cond b n (apart n previous following)) (sym differ)
+                      (omega arith);
                 }
             | false ↦ λ falls either.
                 let other : previous ≢ following = eqb-false previous following differ in
@@ -68,12 +71,15 @@ between_says n previous following server before after inside is =
                 ] in
                 let close : (0 < apart n previous server) × (apart n previous server < apart n previous following) =
                 elim (or_cases (nat_lt previous server) (nat_lt server following) either) [
-                  | inl behind ↦ let low : previous < server = ltb-true previous server behind in (omega arith, omega arith)
-                  | inr ahead ↦ let high : server < following = ltb-true server following ahead in (omega arith, omega arith)
+                  | inl behind ↦ let low : previous < server = ltb-true previous server behind in
+                      (omega arith, omega arith)
+                  | inr ahead ↦ let high : server < following = ltb-true server following ahead in
+                      (omega arith, omega arith)
                 ] in
                 record {
                   behind = close.0;
-                  ahead = subst (λ b. apart n previous server < cond b n (apart n previous following)) (sym differ) close.1;
+                  ahead = subst (λ b. apart n previous server < cond b n (apart n previous following))
+                      (sym differ) close.1;
                 }
           ] refl
     ] refl is
@@ -91,9 +97,11 @@ says_between n previous following server before after inside is =
       | true ↦ λ same ahead. not_from_false (server == previous) (false_from_ne_true (server == previous) (λ own.
           let e : server ≡ previous = eqb-true server previous own in absurd (omega arith)))
       | false ↦ λ differ ahead. elim (nat_lt previous following) as (λ b. nat_lt previous following ≡ b →
-          cond b (nat_lt previous server && nat_lt server following) (nat_lt previous server || nat_lt server following) ≡ true) [
+          cond b (nat_lt previous server && nat_lt server following)
+          (nat_lt previous server || nat_lt server following) ≡ true) [
             | true ↦ λ rises. let up : previous < following = ltb-true previous following rises in
-                and_from (nat_lt previous server) (nat_lt server following) (lt-ltb previous server (omega arith)) (lt-ltb server following (omega arith))
+                and_from (nat_lt previous server) (nat_lt server following) (lt-ltb previous server (omega arith))
+                (lt-ltb server following (omega arith))
             | false ↦ λ falls. elim (cases_lt previous server) [
               | inl low ↦ or_left (nat_lt previous server) (nat_lt server following) (lt-ltb previous server low)
               | inr high ↦
@@ -119,12 +127,14 @@ VectorsSay setting state server = (log : Logged) (held : Replicated) → IsLogIn
 abbrev pub CoversSay : Type 0
 CoversSay = (vector : List ℕ) (need : List (Option ℕ)) → (covers vector need ≡ true) ↔ IsCovered vector need
 
-module _ (setting : Setting) (state : ChainState) (server : ℕ) (old : Server) (is : IsServerAt setting state server old) where
+module _ (setting : Setting) (state : ChainState) (server : ℕ) (old : Server)
+    (is : IsServerAt setting state server old) where
   abbrev replica_for : ℕ → Option Replicated → Replicated
   replica_for group slot = pruned_by (vector_of old.known group) (replica_or_own old slot)
 
   by_slot : (group : ℕ) (slot : Option Replicated) → is_member setting group server ≡ true →
-      IsReplicaSlot setting state server old.known group slot → IsReplicaAt setting state server group (replica_for group slot)
+      IsReplicaSlot setting state server old.known group slot →
+      IsReplicaAt setting state server group (replica_for group slot)
   by_slot group None member (inl outside) = absurd cc
   by_slot group None member (inr same) =
       subst (λ g. IsReplicaAt setting state server g (replica_for g None)) (sym same) is.stands.replicas.own
@@ -133,27 +143,27 @@ module _ (setting : Setting) (state : ChainState) (server : ℕ) (old : Server) 
   module _ (say : VectorsSay setting state server) (covers_say : CoversSay) (visit : MadeVisit)
       (made : IsMadeIn setting.partitions state.trace visit) (below : visit.server < servers setting)
       (member : is_member setting visit.server server ≡ true) where
-    log : Logged
-    log = made.need.log
+    at_group : IsReplicaAt setting state server visit.server
+        (replica_for visit.server (replica_at old.others.items visit.server))
+    at_group = by_slot visit.server (replica_at old.others.items visit.server) member
+        (is.stands.replicas.others visit.server below)
 
-    at_group : IsReplicaAt setting state server visit.server (replica_for visit.server (replica_at old.others.items visit.server))
-    at_group = by_slot visit.server (replica_at old.others.items visit.server) member (is.stands.replicas.others visit.server below)
-
-    vector : List ℕ
-    vector = (replica_in old visit.server).vector
-
-    has : (covers_log (replica_in old visit.server).vector made.need.log ≡ true) ↔ ServerHas setting state server made.need.log.group made.need.log.origin
+    has : (covers_log (replica_in old visit.server).vector made.need.log ≡ true) ↔ ServerHas setting state server
+        made.need.log.group made.need.log.origin
     has = say made.need.log (replica_for visit.server (replica_at old.others.items visit.server)) made.need.log_of
-        (subst (λ g. IsReplicaAt setting state server g (replica_for visit.server (replica_at old.others.items visit.server))) (sym made.need.group_is) at_group)
+        (subst (λ g. IsReplicaAt setting state server g
+        (replica_for visit.server (replica_at old.others.items visit.server))) (sym made.need.group_is) at_group)
 
-    pub reached_has : list_all (is_reached (replica_in old visit.server).vector) visit.needed.items ≡ true → ServerHas setting state server visit.server visit.packet
+    pub reached_has : list_all (is_reached (replica_in old visit.server).vector) visit.needed.items ≡ true →
+        ServerHas setting state server visit.server visit.packet
     reached_has reached = subst (λ p. ServerHas setting state server visit.server p) made.need.origin_is
         (subst (λ g. ServerHas setting state server g made.need.log.origin) made.need.group_is
         (has.0 ((covers_say (replica_in old visit.server).vector (need_of made.need.log.before made.need.log.changed)).1
         (subst (λ (m : List (Option ℕ)). IsCovered (replica_in old visit.server).vector m) made.need.marks_are
         (reached_covered (replica_in old visit.server).vector made.marks visit.needed.items made.needed reached)))))
 
-    pub has_reached : ServerHas setting state server visit.server visit.packet → list_all (is_reached (replica_in old visit.server).vector) visit.needed.items ≡ true
+    pub has_reached : ServerHas setting state server visit.server visit.packet →
+        list_all (is_reached (replica_in old visit.server).vector) visit.needed.items ≡ true
     has_reached had = covered_reached (replica_in old visit.server).vector made.marks visit.needed.items made.needed
         (subst (λ (m : List (Option ℕ)). IsCovered (replica_in old visit.server).vector m) (sym made.need.marks_are)
         ((covers_say (replica_in old visit.server).vector (need_of made.need.log.before made.need.log.changed)).0
@@ -168,12 +178,17 @@ pub record IsUndoneAlone (setting : Setting) (state : ChainState) (previous foll
   pub between : IsBetween (servers setting) previous following group
   pub lacked : ServerHas setting state following group packet → ⊥
 
-module _ (setting : Setting) (state : ChainState) (trace : IsTrace setting.partitions state.trace) (some : 0 < setting.partitions)
-    (few : setting.partitions ≤ MOST_PARTITIONS) (previous following : ℕ) (old : Server) (is : IsServerAt setting state following old)
-    (say : VectorsSay setting state following) (covers_say : CoversSay) (before : previous < servers setting) (after : following < servers setting)
+module _ (setting : Setting) (state : ChainState) (trace : IsTrace setting.partitions state.trace)
+    (some : 0 < setting.partitions)
+    (few : setting.partitions ≤ MOST_PARTITIONS) (previous following : ℕ) (old : Server)
+    (is : IsServerAt setting state following old)
+    (say : VectorsSay setting state following) (covers_say : CoversSay) (before : previous < servers setting)
+    (after : following < servers setting)
     (visit : MadeVisit) (made : IsMadeIn setting.partitions state.trace visit) (below : visit.server < servers setting)
-    (member : IsBetween (servers setting) previous following visit.server → is_member setting visit.server following ≡ true) where
-  pub alone_says : is_undone_alone previous old visit ≡ true → IsUndoneAlone setting state previous following visit.server visit.packet
+    (member : IsBetween (servers setting) previous following visit.server →
+    is_member setting visit.server following ≡ true) where
+  pub alone_says : is_undone_alone previous old visit ≡ true →
+      IsUndoneAlone setting state previous following visit.server visit.packet
   alone_says alone =
       let all = and_parts (not (length visit.needed.items == 0) && is_between previous old.id visit.server)
       (not (list_all (is_reached (replica_in old visit.server).vector) visit.needed.items)) alone in
@@ -181,20 +196,25 @@ module _ (setting : Setting) (state : ChainState) (trace : IsTrace setting.parti
       let lies = between_says (servers setting) previous following visit.server before after below
       (subst (λ f. is_between previous f visit.server ≡ true) is.number_is first.1) in
       record {
-        touching = some_touching setting.partitions some few state.trace trace visit made (not-true (length visit.needed.items == 0) first.0);
+        touching = some_touching setting.partitions some few state.trace trace visit made
+            (not-true (length visit.needed.items == 0) first.0);
         between = lies;
-        lacked = λ had. true≢false (sym (has_reached setting state following old is say covers_say visit made below (member lies) had)
+        lacked = λ had. true≢false (sym
+            (has_reached setting state following old is say covers_say visit made below (member lies) had)
             ∙ not-true (list_all (is_reached (replica_in old visit.server).vector) visit.needed.items) all.1);
       }
 
-  pub says_alone : IsUndoneAlone setting state previous following visit.server visit.packet → is_undone_alone previous old visit ≡ true
+  pub says_alone : IsUndoneAlone setting state previous following visit.server visit.packet →
+      is_undone_alone previous old visit ≡ true
   says_alone alone =
       and_from (not (length visit.needed.items == 0) && is_between previous old.id visit.server)
       (not (list_all (is_reached (replica_in old visit.server).vector) visit.needed.items))
       (and_from (not (length visit.needed.items == 0)) (is_between previous old.id visit.server)
-      (not_from_false (length visit.needed.items == 0) (touching_some setting.partitions some few state.trace trace visit made alone.touching))
+      (not_from_false (length visit.needed.items == 0)
+      (touching_some setting.partitions some few state.trace trace visit made alone.touching))
       (subst (λ f. is_between previous f visit.server ≡ true) (sym is.number_is)
       (says_between (servers setting) previous following visit.server before after below alone.between)))
       (not_from_false (list_all (is_reached (replica_in old visit.server).vector) visit.needed.items)
       (false_from_ne_true (list_all (is_reached (replica_in old visit.server).vector) visit.needed.items)
-      (λ reached. alone.lacked (reached_has setting state following old is say covers_say visit made below (member alone.between) reached))))
+      (λ reached. alone.lacked (reached_has setting state following old is say covers_say visit made below
+      (member alone.between) reached))))

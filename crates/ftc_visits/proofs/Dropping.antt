@@ -1,8 +1,7 @@
 -- Made visits last while they stand in the trace.
-use Rattle.std.proofs.Common.{◌≡◌, ℕ, ◌++◌, ◌∷◌, Bool, true, false, not, List, [], Option, map, filter, refl, sym, ap, subst, ◌∙◌}
+use Rattle.std.proofs.Common.{◌≡◌, ℕ, not, List, Option, map, filter, sym, ap, subst, ◌∙◌}
 use Rattle.std.specs.List.{AllByRecursion}
 use Rattle.std.proofs.lemmas.Bool.{not-true}
-use Rattle.ftc_journal.specs.declared.event.Event.{Event}
 use Rattle.ftc_journal.specs.declared.event.VisitName.{VisitName}
 use Rattle.ftc_serial.specs.Serial.{Entry}
 use Rattle.ftc_serial.specs.Trace.{names}
@@ -25,7 +24,8 @@ NeedsLast partitions before after = (group packet : ℕ) (marks : List (Option �
     IsNeedIn partitions after group packet marks
 
 module _ (partitions : ℕ) (before after : List Entry) (last : NeedsLast partitions before after) where
-  pub made_lasts : (visit : MadeVisit) → IsSomeVisit after visit.server visit.packet → IsMadeIn partitions before visit →
+  pub made_lasts : (visit : MadeVisit) → IsSomeVisit after visit.server visit.packet →
+      IsMadeIn partitions before visit →
       IsMadeIn partitions after visit
   made_lasts visit there made = record {
     marks = made.marks;
@@ -46,7 +46,8 @@ module _ (partitions : ℕ) (before after : List Entry) (last : NeedsLast partit
 module _ (partitions : ℕ) (trace : List Entry) (undone : List VisitName) (visits : List MadeVisit)
     (are : map name_of visits ≡ visits_in trace)
     (order : undone ≡ filter (λ (name : VisitName). names undone name.server name.packet) (visits_in trace)) where
-  without_is : without undone visits ≡ filter (λ (visit : MadeVisit). not (names undone visit.server visit.packet)) visits
+  without_is : without undone visits ≡ filter
+      (λ (visit : MadeVisit). not (names undone visit.server visit.packet)) visits
   without_is =
       ap (λ (list : List VisitName). without list visits)
       (order ∙ ap (filter (λ (name : VisitName). names undone name.server name.packet)) (sym are))
@@ -63,7 +64,8 @@ module _ (partitions : ℕ) (trace : List Entry) (undone : List VisitName) (visi
       AllByRecursion (IsMadeIn partitions trace) visits →
       AllByRecursion (IsMadeIn partitions (left_of (names undone) trace)) (without undone visits)
   each_left last made =
-      let stands = all_zip (λ (visit : MadeVisit). IsSomeVisit trace visit.server visit.packet) (IsMadeIn partitions trace)
+      let stands = all_zip (λ (visit : MadeVisit). IsSomeVisit trace visit.server visit.packet)
+      (IsMadeIn partitions trace)
       (λ (visit : MadeVisit). IsSomeVisit trace visit.server visit.packet × IsMadeIn partitions trace visit)
       (λ visit there is. (there, is)) visits (made_stand trace visits are) made in
       subst (AllByRecursion (IsMadeIn partitions (left_of (names undone) trace))) (sym without_is)

@@ -1,5 +1,5 @@
 -- The live servers next to one that is down, by what the laws of the ring say.
-use Rattle.std.proofs.Common.{◌≡◌, ℕ, ◌<◌, ◌↔◌, Bool, false, Option, Some, None, refl}
+use Rattle.std.proofs.Common.{◌≡◌, ℕ, ◌↔◌, Bool, Some, None, refl}
 use Rattle.std.specs.Prelude.{unwrap_or}
 use Rattle.ftc_ring.specs.Live.{IsAlone, IsLiveBefore, IsLiveAfter, live_before_of, live_after_of}
 

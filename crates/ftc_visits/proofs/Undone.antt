@@ -1,6 +1,5 @@
 -- The visits that are found are those that a recovery undoes.
-use Rattle.std.proofs.Common.{◌≡◌, ℕ, ◌<◌, ◌≤◌, ◌↔◌, ◌∷◌, Bool, true, false, List, filter, map, refl, sym, ap, subst, ◌∙◌}
-use Rattle.std.specs.List.{AllByRecursion}
+use Rattle.std.proofs.Common.{◌≡◌, ℕ, ◌<◌, ◌≤◌, ◌↔◌, Bool, true, false, List, filter, sym, ap, subst, ◌∙◌}
 use Rattle.ftc_base.specs.declared.limits.TheConstants.{MOST_PARTITIONS}
 use Rattle.ftc_journal.specs.declared.event.VisitName.{VisitName}
 use Rattle.ftc_ring.specs.Live.{IsBetween}
@@ -49,16 +48,19 @@ module _ (setting : Setting) (state : ChainState) (server : ℕ) (trace : IsTrac
   stands visit made = made_stands setting.partitions some few state.trace trace visit made
 
   below : (visit : MadeVisit) → Made visit → visit.server < servers setting
-  below visit made = stands_below setting some_server (λ outcome. Unit {0}) state.trace serial visit.server visit.packet (stands visit made)
+  below visit made = stands_below setting some_server
+      (λ outcome. Unit {0}) state.trace serial visit.server visit.packet (stands visit made)
 
   says : (visit : MadeVisit) → Made visit → alone visit ≡ true →
-      IsUndoneAlone setting state (previous_live setting state server) (following_live setting state server) visit.server visit.packet
+      IsUndoneAlone setting state (previous_live setting state server)
+      (following_live setting state server) visit.server visit.packet
   says visit made = alone_says setting state trace some few (previous_live setting state server)
       (following_live setting state server) old is say covers_say before after visit made (below visit made)
       (member visit.server (below visit made))
 
   has : (visit : MadeVisit) → Made visit →
-      IsUndoneAlone setting state (previous_live setting state server) (following_live setting state server) visit.server visit.packet →
+      IsUndoneAlone setting state (previous_live setting state server)
+      (following_live setting state server) visit.server visit.packet →
       alone visit ≡ true
   has visit made = says_alone setting state trace some few (previous_live setting state server)
       (following_live setting state server) old is say covers_say before after visit made (below visit made)
@@ -75,15 +77,18 @@ module _ (setting : Setting) (state : ChainState) (server : ℕ) (trace : IsTrac
           same.1,
           subst (λ k. k ≤ visit.server) (sym same.0) found.before,
           has earlier made
-              (subst (λ k. IsUndoneAlone setting state (previous_live setting state server) (following_live setting state server) k earlier.packet)
+              (subst (λ k. IsUndoneAlone setting state (previous_live setting state server)
+              (following_live setting state server) k earlier.packet)
               (sym same.0) (subst (λ p. IsUndoneAlone setting state (previous_live setting state server)
               (following_live setting state server) found.earlier p) (sym same.1)
               (record { touching = found.touching; between = found.between; lacked = found.lacked }))),
         ))
         visits (made_of state.trace visits are.names found.earlier visit.packet
-        (stands_map _ (λ outcome. Unit {0}) (λ outcome touches. tt) state.trace found.earlier visit.packet found.touching)) are.each
+        (stands_map _ (λ outcome. Unit {0})
+        (λ outcome touches. tt) state.trace found.earlier visit.packet found.touching)) are.each
 
-    some_named : (visit : MadeVisit) → Made visit → AnyOf (Undoes alone is_named visit) visits → is_named (name_of visit) ≡ true
+    some_named : (visit : MadeVisit) → Made visit → AnyOf (Undoes alone is_named visit) visits →
+        is_named (name_of visit) ≡ true
     some_named visit made any = any_of_all (Undoes alone is_named visit) Made visits
         (λ earlier undoes is_made.
         let it = says earlier is_made undoes.2 in
@@ -93,7 +98,9 @@ module _ (setting : Setting) (state : ChainState) (server : ℕ) (trace : IsTrac
           before = undoes.1;
           touching = subst (λ p. IsTouching state.trace earlier.server p) undoes.0 it.touching;
           between = it.between;
-          lacked = λ had. it.lacked (subst (λ p. ServerHas setting state (following_live setting state server) earlier.server p) (sym undoes.0) had);
+          lacked = λ had. it.lacked (subst
+              (λ p. ServerHas setting state (following_live setting state server) earlier.server p)
+              (sym undoes.0) had);
         })) any are.each
 
     found_filter : undone_from alone (λ packet. false) visits ≡ filter is_named (visits_in state.trace)
@@ -104,9 +111,12 @@ module _ (setting : Setting) (state : ChainState) (server : ℕ) (trace : IsTrac
         (made_rise setting state.trace visits serial are.names)
         ∙ ap (filter is_named) are.names
 
-  pub found_is : ((group packet : ℕ) → (names (undone_visits setting state server) group packet ≡ true) ↔ IsUndone setting state server group packet) →
+  pub found_is : ((group packet : ℕ) →
+      (names (undone_visits setting state server) group packet ≡ true) ↔ IsUndone setting state server group packet) →
       undone_visits setting state server
-      ≡ filter (λ (visit : VisitName). names (undone_visits setting state server) visit.server visit.packet) (visits_in state.trace) →
+      ≡ filter (λ (visit : VisitName). names (undone_visits setting state server) visit.server visit.packet)
+      (visits_in state.trace) →
       undone_from alone (λ packet. false) visits ≡ undone_visits setting state server
   found_is undone order =
-      found_filter (λ (visit : VisitName). names (undone_visits setting state server) visit.server visit.packet) undone ∙ sym order
+      found_filter (λ (visit : VisitName). names (undone_visits setting state server) visit.server visit.packet)
+      undone ∙ sym order

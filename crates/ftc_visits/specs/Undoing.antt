@@ -1,5 +1,5 @@
 -- Which visits are undone, by their numbers.
-use Rattle.std.specs.Prelude.{ℕ, ◌≡◌, ◌==◌, ◌&&◌, ◌||◌, nat_lt, nat_le, not, Bool, false, List, [], ◌∷◌, length, if◌then◌else◌}
+use Rattle.std.specs.Prelude.{ℕ, ◌==◌, ◌&&◌, ◌||◌, nat_lt, nat_le, not, Bool, false, List, [], ◌∷◌, length, if◌then◌else◌}
 use Rattle.std.specs.List.{list_all}
 use Rattle.ftc_base.specs.declared.limits.TheConstants.{MOST_PARTITIONS}
 use Rattle.ftc_journal.specs.declared.event.VisitName.{VisitName}
@@ -27,8 +27,8 @@ is_undone_alone previous following visit =
     not (length visit.needed.items == 0) && is_between previous following.id visit.server
     && not (list_all (is_reached (replica_in following visit.server).vector) visit.needed.items)
 
--- the names of the visits that are undone, in order: each that is so by itself, and those behind it of its packet;
--- of these packets all are
+-- the names of the visits that are undone, in order: each that is so by itself, those behind it of its packet, and
+-- those of packets of which an earlier visit is undone
 abbrev pub undone_from : (MadeVisit → Bool) → (ℕ → Bool) → List MadeVisit → List VisitName
 undone_from is_alone packets [] = []
 undone_from is_alone packets (visit ∷ visits) =

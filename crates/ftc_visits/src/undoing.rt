@@ -66,8 +66,8 @@ fn is_undone_alone(previous: ServerId, following: &Server, visit: &MadeVisit) ->
         && !are_reached(following.vector_of(visit.server), visit.needed.as_slice())
 }
 
-/// Whether a visit is undone, with an earlier one of its packet or by itself, where these are the packets of the earlier
-/// visits that are undone.
+/// Whether a visit is undone, by itself or with an earlier one of its packet, where these are the packets of which an
+/// earlier visit is undone.
 fn is_undone(
     packets: &BTreeSet<PacketNo>,
     previous: ServerId,
@@ -170,6 +170,8 @@ impl MadeVisits {
         ensures items { self.new.items ≡ without names.now self.old.items }
         ensures spare { self.new.spare + length self.new.items ≡ self.old.spare + length self.old.items }
     {
-        drop_named(&mut self.visits, names);
+        if !names.is_empty() {
+            drop_named(&mut self.visits, names);
+        }
     }
 }

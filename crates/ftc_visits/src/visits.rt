@@ -21,7 +21,10 @@ impl Model for MadeVisits {
 
     ghost Value = { MadeVisitList };
 
-    ghost view = { λ made. record { items = made.visits.items; spare = deque_capacity made.visits - deque_len made.visits } };
+    ghost view = { λ made. record {
+      items = made.visits.items;
+      spare = deque_capacity made.visits - deque_len made.visits;
+    } };
 }
 
 impl MadeVisits {

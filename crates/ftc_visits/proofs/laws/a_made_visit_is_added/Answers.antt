@@ -1,14 +1,12 @@
-use Rattle.std.proofs.Common.{◌≡◌, ◌∙◌, ◌++◌, ◌∷◌, ℕ, true, false, List, [], Option, Some, None, inr, refl, sym, ap, subst}
+use Rattle.std.proofs.Common.{◌≡◌, ◌∙◌, ◌++◌, ◌∷◌, ℕ, true, false, List, [], Some, None, inr, sym, ap, subst}
 use Rattle.std.proofs.Math.Logic.{∥∥₁_map}
 use Rattle.std.specs.List.{AllByRecursion}
 use Rattle.std.specs.Option.{option_map}
 use Rattle.std.specs.Prelude.{IfSome}
-use Rattle.ftc_base.specs.declared.ask.Answer.{Answer}
 use Rattle.ftc_base.specs.declared.ask.Ask.TheVariants.{Finish}
 use Rattle.ftc_base.specs.declared.ask.Write.{Write}
 use Rattle.ftc_journal.specs.declared.event.Event.TheVariants as event
 use Rattle.ftc_journal.specs.declared.event.VisitName.{VisitName}
-use Rattle.ftc_message.specs.Logged.{Logged}
 use Rattle.ftc_mbox.specs.Ask.{ask}
 use Rattle.ftc_mbox.specs.InTurn.{InTurn}
 use Rattle.ftc_protocol.specs.Setting.{servers, rule_at}
@@ -46,18 +44,22 @@ returns c setting state server worker running end old new visits made run legal 
     let order = c.order_of_a_state.ensures setting state run in
     let message = legal.0.0 in
     let there = legal.0.3 in
-    let there_as = found_as setting state server packet message false legal.0.2 old.held.items there legal.0.4 is.stands.held in
-    let up = subst (λ (p : Where). state.up (aim (servers setting) p) ≡ true) legal.0.4 (order.awake packet message there) in
+    let there_as = found_as setting state server packet message false legal.0.2 old.held.items there legal.0.4
+    is.stands.held in
+    let up = subst (λ (p : Where). state.up (aim (servers setting) p) ≡ true) legal.0.4
+    (order.awake packet message there) in
     let slot = slots.each worker running runs.slot in
     let at = found packet old.held.items in
     let slot_bytes = some_same slot.packet done.packet (sym slot.with_packet
-    ∙ (ap (λ (h : HeldMessage). h.message.packet) (one_found at slot.held done.before slot.there done.there) ∙ done.with_packet)) in
+    ∙ (ap (λ (h : HeldMessage). h.message.packet) (one_found at slot.held done.before slot.there done.there)
+    ∙ done.with_packet)) in
     let turn = subst (λ (bytes : List ℕ). InTurn old.rule bytes running.answers) slot_bytes slot.turn in
     let ask_is = some_same (ask old.rule done.packet running.answers) (Finish end)
     (sym (ap (ask_of_slot old) runs.slot ∙ (ap (ask_of old.rule running) done.there
     ∙ ap (option_map (λ bytes. ask old.rule bytes running.answers)) done.with_packet)) ∙ asked) in
     let bytes_are = ap bytes_of there ∙ ap bytes_in (sym there_as.stands.as_sent.packet
-    ∙ (ap (λ (h : HeldMessage). h.message.packet) (one_found at there_as.held done.before there_as.there done.there) ∙ done.with_packet)) in
+    ∙ (ap (λ (h : HeldMessage). h.message.packet) (one_found at there_as.held done.before there_as.there done.there)
+    ∙ done.with_packet)) in
     let content = content_of state.trace (state.lists server server) server in
     let outcome = outcome_at setting state server packet in
     let outcome_is : outcome ≡ outcome_of running end done.packet =
@@ -67,7 +69,8 @@ returns c setting state server worker running end old new visits made run legal 
     ∙ c.what_is_taken_in_turn.ensures old.rule done.packet old.head.content end running.answers turn done.head.current
     ask_is)) in
     let partitions_are = old.head_partitions ∙ is.partitions in
-    let reads = subst (λ (o : Outcome). AllByRecursion (λ (write : Write). IsRead o.answers write.key) o.writes) outcome_is
+    let reads = subst (λ (o : Outcome). AllByRecursion (λ (write : Write). IsRead o.answers write.key) o.writes)
+    outcome_is
     (c.what_it_reads.ensures (rule_at setting server) (bytes_of (state.message packet)) content) in
     let logged = log_made server setting.partitions old.head.vector packet running.answers end.writes.items done.log
     (subst (λ g. IfSome done.log (IsLogOf g setting.partitions old.head.vector packet running.answers end.writes.items))
@@ -83,10 +86,12 @@ returns c setting state server worker running end old new visits made run legal 
     record {
       names = map_end name_of visits made
           ∙ (ap (λ (list : List VisitName). list ++ name_of made ∷ []) are.names
-          ∙ ap (λ (last : VisitName). visits_in state.trace ++ last ∷ []) (named setting.partitions server packet running.answers new.head.vector made by));
+          ∙ ap (λ (last : VisitName). visits_in state.trace ++ last ∷ [])
+          (named setting.partitions server packet running.answers new.head.vector made by));
       each = all_end (IsMadeIn setting.partitions after.trace) visits made
           (all_last setting.partitions state.trace after.trace
-          (λ group p marks. c.logs_last.ensures.need setting state (event.Visit server packet worker) group p marks run legal)
+          (λ group p marks. c.logs_last.ensures.need setting state
+          (event.Visit server packet worker) group p marks run legal)
           visits are.names (λ group p stood. inr stood) are.each)
           (made_with setting.partitions server packet run.right.some_partition run.right.few_partitions old.head.vector
           new.head.vector running.answers end.writes.items logged.0 logged.1 raised after.trace made log_in by);

@@ -14,6 +14,7 @@ returns c setting state server undone visits run legal are =
     record {
       names = names_left setting.partitions state.trace undone visits are.names order;
       each = each_left setting.partitions state.trace undone visits are.names order
-          (λ group packet marks. c.logs_last.ensures.need setting state (event.Recover server undone) group packet marks run legal)
+          (λ group packet marks. c.logs_last.ensures.need setting state
+          (event.Recover server undone) group packet marks run legal)
           are.each;
     }

@@ -1,5 +1,5 @@
-use Rattle.std.proofs.Common.{◌<◌, ◌≤◌, ◌≡◌, ◌∙◌, ◌+◌, ℕ, List, length, refl, sym, ap, subst, arith, length-append, length-drop}
-use Rattle.std.specs.VecDeque.{deque_capacity, deque_len}
+use Rattle.std.proofs.Common.{◌<◌, ◌∙◌, ◌+◌, ℕ, List, length, refl, sym, ap, subst, arith, length-append, length-drop}
+use Rattle.std.specs.VecDeque.{deque_capacity}
 use Rattle.ftc_visits.specs.declared.visit.MadeVisit.{MadeVisit}
 use Rattle.ftc_visits.proofs.Passing.{HasPassed, passed_none, passed_all, one_goes, one_stays}
 use Rattle.ftc_visits.proofs.undoing.drop_named.Goals as goal
@@ -25,7 +25,8 @@ loop-place-preserved c =
         passed = subst (λ (n : ℕ). HasPassed old names (place + 1) n c.if-is_next.visits.items) (sym w.next-is)
             (subst (λ (items : List MadeVisit). HasPassed old names (place + 1) (next + 1) items)
             (sym (ap (λ v. v.items) w.visits-is))
-            (one_goes old names place next c.loop-place.visits.items passed within c.in-Some.visit c.pop_front.new.self.items
+            (one_goes old names place next c.loop-place.visits.items passed within c.in-Some.visit
+            c.pop_front.new.self.items
             c.in-Some.ensures.items (sym c.is_next.ensures.first ∙ w.if-is_next.true)));
         few = omega (arith, w.next-is, c.is_next.ensures.within w.if-is_next.true);
         capacity = ap deque_capacity w.visits-is ∙ (c.pop_front.ensures.capacity ∙ c.loop-place.invariant.capacity);
@@ -34,7 +35,8 @@ loop-place-preserved c =
         passed = subst (λ (n : ℕ). HasPassed old names (place + 1) n c.if-is_next.visits.items) (sym w.next-is)
             (subst (λ (items : List MadeVisit). HasPassed old names (place + 1) next items)
             (sym (ap (λ v. v.items) w.visits-is ∙ w.push_back_reserved.ensures.items))
-            (one_stays old names place next c.loop-place.visits.items passed within c.in-Some.visit c.pop_front.new.self.items
+            (one_stays old names place next c.loop-place.visits.items passed within c.in-Some.visit
+            c.pop_front.new.self.items
             c.in-Some.ensures.items (sym c.is_next.ensures.first ∙ w.if-is_next.false)));
         few = omega (arith, w.next-is, c.loop-place.invariant.few);
         capacity = ap deque_capacity w.visits-is ∙ (w.push_back_reserved.ensures.capacity
@@ -57,7 +59,8 @@ unreachable-requires c =
 
 pub returns : goal.returns
 returns c = record {
-  items = passed_all c.args.visits.now.items c.args.names.now c.loop-place.place c.loop-place.next c.loop-place.visits.items
+  items = passed_all c.args.visits.now.items c.args.names.now c.loop-place.place c.loop-place.next
+      c.loop-place.visits.items
       c.loop-place.invariant.passed (omega (arith, c.args.visits.now.ok));
   capacity = c.loop-place.invariant.capacity;
 }
