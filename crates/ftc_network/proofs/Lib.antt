@@ -1,6 +1,7 @@
 mod Allowed
 mod Changed
 mod Idle
+mod EndsAlone
 mod IdleSlots
 mod LastServer
 mod OneServer
