@@ -26,3 +26,9 @@ pub if_some : {A : Type 0} (Fact Other : A → Type 0) (option : Option A) → (
     IfSome option Fact → IfSome option Other
 if_some Fact Other None from fact = tt
 if_some Fact Other (Some item) from fact = from item fact
+
+-- what holds of each item that an option may be holds of it
+pub each_some : {A : Type 0} (Fact : A → Type 0) (option : Option A) → ((item : A) → option ≡ Some item → Fact item) →
+    IfSome option Fact
+each_some Fact None each = tt
+each_some Fact (Some item) each = each item refl

@@ -2,4 +2,5 @@ pub mod Parts
 pub mod Stand
 pub mod Events
 pub mod Released
+pub mod Sending
 pub mod Recovering
