@@ -2,7 +2,9 @@ mod Changed
 mod Idle
 mod LastServer
 mod MessageForms
-mod SentAlong
+mod OneEach
 mod OneServer
 mod Released
 mod Results
+mod SentAlong
+mod Untold

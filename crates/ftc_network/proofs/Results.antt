@@ -32,3 +32,8 @@ pub each_some : {A : Type 0} (Fact : A → Type 0) (option : Option A) → ((ite
     IfSome option Fact
 each_some Fact None each = tt
 each_some Fact (Some item) each = each item refl
+
+pub on_err_both : {A E : Type 0} (result : Result A E) (One Another Other : Type 0) → (One → Another → Other) →
+    OnErr result One → OnErr result Another → OnErr result Other
+on_err_both (Ok value) One Another Other from one another = tt
+on_err_both (Err fault) One Another Other from one another = from one another

@@ -1,5 +1,5 @@
 -- The link that a message leaves a server by.
-use Rattle.std.proofs.Common.{◌≡◌, ◌∙◌, ◌+◌, ◌==◌, ◌&&◌, ◌||◌, ◌++◌, ◌∷◌, ℕ, Bool, true, false, not, List, [], Option, Some, None, refl, sym, ap, subst, cond, arith}
+use Rattle.std.proofs.Common.{◌≡◌, ◌≢◌, ◌<◌, ◌∙◌, ◌+◌, ◌==◌, ◌&&◌, ◌||◌, ◌++◌, ◌∷◌, ℕ, Bool, true, false, not, List, [], Option, Some, None, refl, sym, ap, subst, cond, arith}
 use Rattle.std.proofs.lemmas.Bool.{eq-eqb}
 use Rattle.std.proofs.lemmas.Bool.Decides.{nat_tests}
 use Rattle.std.specs.Prelude.{nat_lt, is_some}
@@ -13,15 +13,20 @@ use Rattle.ftc_protocol.specs.Setting.{Setting, servers, shape}
 use Rattle.ftc_protocol.specs.State.{ChainState}
 use Rattle.ftc_protocol.specs.Legal.{IsLegal, is_sent}
 use Rattle.ftc_protocol.specs.Next.{next, is_away}
+use Rattle.ftc_protocol.specs.Run.{IsRunState}
 use Rattle.ftc_server.specs.declared.held.HeldMessage.{HeldMessage}
 use Rattle.ftc_server.specs.declared.server.Server.{Server}
 use Rattle.ftc_server.specs.Holding.{found}
 use Rattle.ftc_server.specs.Looks.{sent, sent_in}
 use Rattle.ftc_server.specs.Standing.{is_last}
 use Rattle.ftc_standing.specs.Stand.{IsLink}
-use Rattle.ftc_standing.specs.View.{leaving}
+use Rattle.ftc_standing.specs.View.{leaving, IsBesideServer, IsBesideLink}
 use Rattle.ftc_refinement.specs.Contents.{IsServerAt}
 use Rattle.ftc_network.specs.Sending.{queue_after}
+use Rattle.ftc_network.specs.declared.network.Network.{Network}
+use Rattle.ftc_network.specs.Events.{IsAllowed}
+use Rattle.ftc_network.specs.Stand.{AreCounts}
+use Rattle.ftc_network.proofs.Untold.{is_below}
 
 -- what holds where a message is passed on and where it is lost
 pub either_way : (Fact : Type 0) (setting : Setting) (state : ChainState) (server origin : ℕ) (lost : Bool) →
@@ -115,3 +120,43 @@ module _ (setting : Setting) (state : ChainState) (server origin : ℕ) (queue :
       ∙ ap (λ b. not (not b)) (sym same))
   after_sending None false (Some sent) same silent sends queued away =
       gone false (sends sent refl) (ap not (sym same)) away
+
+-- the other servers and links have no part in it, and counts stay
+pub other_server : (setting : Setting) (state : ChainState) (lost : Bool) (server origin other : ℕ) → other ≢ server →
+    IsBesideServer setting state (leaving lost server origin) other
+other_server setting state false server origin other differs = differs
+other_server setting state true server origin other differs = differs
+
+pub other_link : (setting : Setting) (state : ChainState) (lost : Bool) (server origin other : ℕ) → other ≢ server →
+    IsBesideLink setting state (leaving lost server origin) other
+other_link setting state false server origin other differs = differs
+other_link setting state true server origin other differs = differs
+
+pub counts_after : (setting : Setting) (state : ChainState) (lost : Bool) (server origin entered done propagates : ℕ) →
+    AreCounts setting state entered done propagates →
+    AreCounts setting (next setting state (leaving lost server origin)) entered done propagates
+counts_after setting state false server origin entered done propagates are =
+    record { entered_is = are.entered_is; lines = are.lines; propagates_is = are.propagates_is }
+counts_after setting state true server origin entered done propagates are =
+    record { entered_is = are.entered_is; lines = are.lines; propagates_is = are.propagates_is }
+
+-- the server is one of the chain
+module _ (at_pass : (setting : Setting) (state : ChainState) (server origin : ℕ) → IsRunState setting state →
+    IsLegal setting state (event.Pass server origin) → (server < servers setting) × (state.up server ≡ true))
+    (at_loss : (setting : Setting) (state : ChainState) (server origin : ℕ) → IsRunState setting state →
+    IsLegal setting state (event.Lose server origin) → (server < servers setting) × (state.up server ≡ true)) where
+  pub leaver_below : (setting : Setting) (state : ChainState) (lost : Bool) (server origin : ℕ) → IsRunState setting state →
+      IsLegal setting state (leaving lost server origin) → server < servers setting
+  leaver_below setting state lost server origin run legal =
+      either_way (server < servers setting) setting state server origin lost
+      (λ passes. (at_pass setting state server origin run passes).0)
+      (λ loses. (at_loss setting state server origin run loses).0) legal
+
+  pub leaver_inside : (network : Network) (lost : Bool) (server origin : ℕ) →
+      ∥ IsAllowed (leaving lost server origin) network ∥₁ → server < network.ring.servers
+  leaver_inside network lost server origin some =
+      is_below server network.ring.servers some (λ allowed.
+      let size : network.ring.servers ≡ servers allowed.setting = ap (λ (ring : RingShape). ring.servers) allowed.stands.ring in
+      let below : server < servers allowed.setting =
+      leaver_below allowed.setting allowed.state lost server origin allowed.run allowed.legal in
+      omega (arith, size, below))

@@ -67,12 +67,12 @@ returns-in_ok-send_on-in-Some-clause-ok c setting state same run legal link is =
     let at : IsServerAt setting state server roomed =
     c.what_stays.ensures.buffered setting state server live roomed up.at room in (
       subst (λ queue_now. IsLink setting after server queue_now) (sym c.in_ok-send_on-in-Some.ensures.ok)
-      (after_sending setting state server origin queue link c.args.lost c.args.up message same
-      (λ none. c.what_is_sent.ensures.nothing setting state lost server origin live run legal up.at (sym sends ∙ none))
-      (λ sent some. is_sent_where setting state server origin live sent up.at (sym sends ∙ some))
-      (λ sent some queued. c.what_is_sent.ensures.queued setting state lost server origin live queue sent run legal queued
-      up.at (sym sends ∙ some) link)
-      (λ gap away now. c.a_message_is_sent.ensures.away setting state lost server origin queue gap run legal away now link)),
+          (after_sending setting state server origin queue link c.args.lost c.args.up message same
+          (λ none. c.what_is_sent.ensures.nothing setting state lost server origin live run legal up.at (sym sends ∙ none))
+          (λ sent some. is_sent_where setting state server origin live sent up.at (sym sends ∙ some))
+          (λ sent some queued. c.what_is_sent.ensures.queued setting state lost server origin live queue sent run legal queued
+          up.at (sym sends ∙ some) link)
+          (λ gap away now. c.a_message_is_sent.ensures.away setting state lost server origin queue gap run legal away now link)),
       record {
         up = up_after setting state lost server origin server ∙ up.up;
         at = c.what_pass_does.ensures setting state lost server origin roomed passed run legal at c.pass.ensures;
