@@ -4,8 +4,12 @@ mod Idle
 mod EndsAlone
 mod IdleSlots
 mod LastServer
+mod MessageForms
+mod OneEach
 mod OneServer
 mod ReadAlone
 mod Released
 mod Results
 mod ScriptLines
+mod SentAlong
+mod Untold

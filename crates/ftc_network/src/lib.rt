@@ -6,6 +6,7 @@ mod carrying;
 mod crashing;
 mod entering;
 mod laws;
+mod leaving;
 mod network;
 mod places;
 mod releasing;
