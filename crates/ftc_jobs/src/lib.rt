@@ -1,0 +1,5 @@
+//! What the servers of a chain may do next, and in which order it is done where nobody chooses.
+#![tactic(auto)]
+
+mod links;
+mod places;
