@@ -1,1 +1,5 @@
+mod FirstWork
+mod LinesInOrder
+mod NextLine
 mod Sizes
+mod WorkInTurn
