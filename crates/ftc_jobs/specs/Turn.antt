@@ -5,7 +5,7 @@ use Rattle.ftc_message.specs.Logged.{logs_rise}
 use Rattle.ftc_protocol.specs.Setting.{Setting}
 use Rattle.ftc_protocol.specs.State.{Message, ChainState}
 use Rattle.ftc_protocol.specs.Legal.{IsHeld}
-use Rattle.ftc_protocol.specs.Jobs.{IsWork, IsNoWork, since_of}
+use Rattle.ftc_protocol.specs.Jobs.{IsLegalJob, IsWork, IsNoWork, since_of}
 use Rattle.ftc_server.specs.declared.held.HeldMessage.{HeldMessage}
 
 -- the logs of a held message rise
@@ -23,3 +23,6 @@ pub record IsFirstWork (setting : Setting) (state : ChainState) (server : ℕ) (
   pub work : IsWork setting state server origin job
   pub before : (another : ℕ) (message : Message) → IsHeld state server another message →
       message.since < since_of (state.message origin) → IsNoWork setting state server another
+
+abbrev pub IsNothingLegal : Setting → ChainState → Type 0
+IsNothingLegal setting state = (job : Job) → IsLegalJob setting state job → ⊥

@@ -1,15 +1,8 @@
 use Rattle.std.proofs.Common.{◌≡◌, ◌∙◌, ◌&&◌, ◌⊎◌, Bool, true, false, refl, sym, inl, inr}
 use Rattle.std.proofs.lemmas.Bool.{true≢false}
 use Rattle.ftc_protocol.specs.Legal.{is_sent}
+use Rattle.ftc_jobs.proofs.Tests.{both, either}
 use Rattle.ftc_jobs.proofs.works.leave_job.Goals as goal
-
-both : (a b : Bool) → a && b ≡ true → (a ≡ true) × (b ≡ true)
-both true b is = (refl, is)
-both false b is = absurd cc
-
-either : (a b : Bool) → a && b ≡ false → (b ≡ false) ⊎ (a ≡ false)
-either true b is = inl is
-either false b is = inr refl
 
 pub returns-then-is_lost : goal.returns-then-is_lost
 returns-then-is_lost c setting state packets old rest is works =
