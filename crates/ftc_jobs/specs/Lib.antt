@@ -1,0 +1,4 @@
+pub mod Rest
+pub mod Turn
+pub mod Lines
+pub mod Quiet

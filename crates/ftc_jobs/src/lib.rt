@@ -1,0 +1,11 @@
+//! What the servers of a chain may do next, and in which order it is done where nobody chooses.
+#![tactic(auto)]
+
+mod first;
+mod lines;
+mod links;
+mod places;
+mod quiet;
+mod works;
+
+pub use first::first_job;
