@@ -1,10 +1,9 @@
 -- Slots that are idle, one by one or all.
-use Rattle.std.proofs.Common.{◌≡◌, ◌≢◌, ◌∙◌, ◌||◌, ℕ, zero, suc, Bool, false, true, List, [], ◌∷◌, Option, Some, None, refl, inl, inr, sym, ap, subst, length, slice_set, get_or-set_other, get_or-set_same, length-set}
+use Rattle.std.proofs.Common.{◌≡◌, ◌≢◌, ◌∙◌, ◌||◌, ℕ, suc, Bool, false, List, [], ◌∷◌, Option, None, refl, inl, inr, ap, length, slice_set, get_or-set_other, get_or-set_same, length-set}
 use Rattle.std.specs.List.{list_any}
 use Rattle.std.proofs.lemmas.Bool.{cases_eq, cases_lt}
 use Rattle.std.proofs.lemmas.List.{get_or_past}
-use Rattle.ftc_txn.specs.Slots.{Running, slot_at, packet_at, packet_of}
-use Rattle.ftc_txn.specs.Head.{HeadState}
+use Rattle.ftc_txn.specs.Slots.{Running, slot_at}
 
 pub none_any : (test : Option Running → Bool) → test None ≡ false → (slots : List (Option Running)) →
     ((worker : ℕ) → slot_at slots worker ≡ None) → list_any test slots ≡ false

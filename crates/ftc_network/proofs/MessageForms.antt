@@ -1,15 +1,13 @@
 -- That a message has a frame, and which work is to be done, where it is known only that this is so.
-use Rattle.std.proofs.Common.{◌≡◌, ◌∙◌, ◌<◌, ◌≤◌, ◌&&◌, ◌||◌, ◌+◌, ℕ, zero, suc, Bool, true, false, not, List, [], ◌∷◌, Option, Some, None, length, refl, sym, ap, subst}
+use Rattle.std.proofs.Common.{◌≡◌, ◌∙◌, ◌&&◌, ◌||◌, ℕ, zero, suc, Bool, true, false, List, [], ◌∷◌, Option, Some, None, refl, ap}
 use Rattle.std.proofs.Math.Bool.{Bool-set}
 use Rattle.std.proofs.Math.Logic.{∥∥₁_elim}
-use Rattle.std.specs.Prelude.{IfSome, IsSome, is_some}
+use Rattle.std.specs.Prelude.{is_some}
 use Rattle.std.specs.List.{AllByRecursion, list_all, list_any}
-use Rattle.ftc_base.specs.declared.limits.TheConstants.{MOST_CAPTURED}
 use Rattle.ftc_message.specs.Bounds.{MarksSome}
 use Rattle.ftc_message.specs.declared.message.Message.{Message}
 use Rattle.ftc_message.specs.declared.need.Need.{Need}
 use Rattle.ftc_message.specs.Logged.{Logged}
-use Rattle.ftc_message.specs.WellFormed.{IsWellFormed}
 use Rattle.ftc_vector.specs.Vector.{mark_at}
 use Rattle.ftc_server.specs.declared.work.Work.{Work}
 use Rattle.ftc_server.specs.declared.work.Work.TheVariants.{Apply, Visit, Send, Carry}

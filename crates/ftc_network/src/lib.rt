@@ -7,6 +7,7 @@ mod crashing;
 mod entering;
 mod laws;
 mod leaving;
+mod making;
 mod network;
 mod places;
 mod releasing;
