@@ -5,3 +5,4 @@ pub mod Released
 pub mod Sending
 pub mod Recovering
 pub mod Visiting
+pub mod Opening

@@ -9,6 +9,7 @@ mod laws;
 mod leaving;
 mod making;
 mod network;
+mod opening;
 mod places;
 mod releasing;
 mod taking;
