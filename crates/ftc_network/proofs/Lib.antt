@@ -1,10 +1,15 @@
 mod Changed
+mod GainedVisits
+mod GroupNews
 mod Idle
 mod LastServer
 mod MessageForms
 mod OneEach
 mod OneServer
+mod PullWanted
+mod PulledServer
 mod Released
 mod Results
 mod SentAlong
+mod SharedGroups
 mod Untold

@@ -72,7 +72,7 @@ and_right true b both = both
 and_right false b both = absurd cc
 
 module _ {A : Type 0} (Fact : A → Type 0) (test : A → Bool) where
-  all_pass : ((item : A) → Fact item → test item ≡ true) → (items : List A) → AllByRecursion Fact items →
+  pub all_pass : ((item : A) → Fact item → test item ≡ true) → (items : List A) → AllByRecursion Fact items →
       list_all test items ≡ true
   all_pass tells [] all = refl
   all_pass tells (item ∷ items) all =

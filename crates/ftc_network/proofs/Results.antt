@@ -37,3 +37,8 @@ pub on_err_both : {A E : Type 0} (result : Result A E) (One Another Other : Type
     OnErr result One → OnErr result Another → OnErr result Other
 on_err_both (Ok value) One Another Other from one another = tt
 on_err_both (Err fault) One Another Other from one another = from one another
+
+-- what holds anyway holds where there is an error
+pub held_on_err : {A E : Type 0} (result : Result A E) (Fact : Type 0) → Fact → OnErr result Fact
+held_on_err (Ok value) Fact fact = tt
+held_on_err (Err fault) Fact fact = fact

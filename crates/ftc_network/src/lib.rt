@@ -9,6 +9,7 @@ mod laws;
 mod leaving;
 mod network;
 mod places;
+mod pulling;
 mod releasing;
 mod taking;
 
