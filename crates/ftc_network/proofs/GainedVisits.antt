@@ -1,15 +1,16 @@
 -- The receiver of a link gains a visit exactly where the protocol says that there is news.
-use Rattle.std.proofs.Common.{◌≡◌, ◌≢◌, ◌<◌, ◌≤◌, ◌+◌, ◌==◌, ◌&&◌, ◌||◌, ◌∙◌, ◌⊎◌, ℕ, zero, suc, Bool, true, false, not, List, [], ◌∷◌, length, Option, Some, None, inl, inr, refl, sym, ap, subst, arith, if◌then◌else◌}
-use Rattle.std.proofs.lemmas.Bool.{and_parts, and_from, eqb-true, ne_eqb, cases_Bool, cases_lt, cases_eq, true≢false, or_left, or_right, or_cases, not-true}
+use Rattle.std.proofs.Common.{◌≡◌, ◌<◌, ◌==◌, ◌&&◌, ◌∙◌, ℕ, zero, suc, Bool, true, false, not, List, [], ◌∷◌, length, inl, inr, refl, sym, ap, subst, arith, if◌then◌else◌}
+use Rattle.std.proofs.lemmas.Bool.{and_parts, and_from, eqb-true, cases_Bool, cases_eq, true≢false, or_left, or_right, or_cases, not-true}
 use Rattle.std.proofs.lemmas.Bool.Decides.{nat_tests}
 use Rattle.std.specs.List.{list_any}
 use Rattle.ftc_journal.specs.declared.event.Event.TheVariants.{Pull}
 use Rattle.ftc_message.specs.Logged.{Logged}
-use Rattle.ftc_ring.specs.Ring.{RingShape, IsRing, next_of, tail_of}
+use Rattle.ftc_ring.specs.Ring.{IsRing, next_of, tail_of}
 use Rattle.ftc_serial.specs.Serial.{Entry, Visited, Given}
 use Rattle.ftc_serial.specs.Take.{Outcome}
 use Rattle.ftc_protocol.specs.Setting.{Setting, servers, shape, is_tail}
 use Rattle.ftc_protocol.specs.State.{ChainState}
+use Rattle.ftc_protocol.specs.Changes.{is_changing}
 use Rattle.ftc_protocol.specs.Trace.{IsInTrace, IsChanging}
 use Rattle.ftc_protocol.specs.Legal.{IsLegal}
 use Rattle.ftc_protocol.specs.Next.{is_news, pulled_list}
@@ -136,7 +137,7 @@ module _ (c : Setting) (s : ChainState) (h : IsSteadyState c s) (link : ℕ) (le
       (turn c s h link legal sender old sends is group inside parts.0)
       (all c s h link legal sender old sends is group inside parts.0)
       (not-true (length (lacking sender old group) == 0) rest.0) in
-      visit_in (is_news c s link receiver) (λ o. Rattle.ftc_protocol.specs.Changes.is_changing c.partitions o ≡ true) group one.0
+      visit_in (is_news c s link receiver) (λ o. is_changing c.partitions o ≡ true) group one.0
       (λ outcome. news_at group one.0 outcome inside parts.0 one.1 one.2 isnt) s.trace one.3
 
   -- news is a gain

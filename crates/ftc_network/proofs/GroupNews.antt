@@ -1,5 +1,5 @@
 -- The replicas that the receiver of a link gets: one of each group that both ends share.
-use Rattle.std.proofs.Common.{◌≡◌, ◌≢◌, ◌<◌, ◌==◌, ◌++◌, ◌∷◌, ◌∙◌, ℕ, zero, suc, Bool, true, false, List, [], Option, Some, None, inl, inr, refl, sym, ap, subst, arith, if◌then◌else◌}
+use Rattle.std.proofs.Common.{◌≡◌, ◌≢◌, ◌<◌, ◌++◌, ◌∷◌, ◌∙◌, ℕ, zero, suc, Bool, true, false, List, [], Option, Some, None, inl, inr, refl, sym, ap, subst, arith, if◌then◌else◌}
 use Rattle.std.proofs.lemmas.Bool.{eq-eqb, ne_eqb, cases_eq}
 use Rattle.std.proofs.lemmas.List.Folds.{find-append}
 use Rattle.std.specs.List.{AllByRecursion, find, list_all}
@@ -124,8 +124,10 @@ module _ (c : Setting) (s : ChainState) (h : IsSteadyState c s) (link : ℕ) (le
       replica = refl;
     });
     once = once_made shared_at (new_of sender old) (λ group. refl) (servers c);
-    all = λ group inside shared. (new_of sender old group,
-        found_made shared_at (new_of sender old) (λ g. refl) (servers c) group inside shared);
+    all = λ group inside shared. (
+      new_of sender old group,
+      found_made shared_at (new_of sender old) (λ g. refl) (servers c) group inside shared,
+    );
   }
 
   -- it is a later member of each

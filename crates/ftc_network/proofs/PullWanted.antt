@@ -1,5 +1,5 @@
 -- What a pull wants of the two ends of a link, and what it makes of them.
-use Rattle.std.proofs.Common.{◌≡◌, ◌≢◌, ◌<◌, ◌≤◌, ◌+◌, ◌-◌, ◌^◌, ◌∙◌, ℕ, Bool, true, false, List, [], ◌∷◌, length, Option, Some, None, refl, sym, ap, subst, arith}
+use Rattle.std.proofs.Common.{◌≡◌, ◌<◌, ◌≤◌, ◌-◌, ◌^◌, ◌∙◌, ℕ, Bool, true, List, [], ◌∷◌, length, Option, Some, None, sym, ap, subst, arith}
 use Rattle.std.proofs.Props.{props}
 use Rattle.std.proofs.Math.Bool.{Bool-set}
 use Rattle.std.proofs.Math.Bridge.{le_prop}
@@ -9,16 +9,14 @@ use Rattle.std.specs.List.{list_all, list_any}
 use Rattle.ftc_journal.specs.declared.event.Event.{Event}
 use Rattle.ftc_journal.specs.declared.event.Event.TheVariants.{Pull}
 use Rattle.ftc_message.specs.Logged.{Logged}
-use Rattle.ftc_replica.specs.Held.{Held}
 use Rattle.ftc_replica.specs.InTurn.{AreReadyInTurn}
 use Rattle.ftc_ring.specs.Ring.{RingShape, next_of}
-use Rattle.ftc_txn.specs.Head.{HeadState}
 use Rattle.ftc_vector.specs.Vector.{raised}
-use Rattle.ftc_protocol.specs.Setting.{Setting, servers, shape}
+use Rattle.ftc_protocol.specs.Setting.{Setting, servers, shape, is_tail}
 use Rattle.ftc_protocol.specs.State.{ChainState, opening}
 use Rattle.ftc_protocol.specs.Legal.{IsLegal}
 use Rattle.ftc_protocol.specs.Next.{next, is_news}
-use Rattle.ftc_protocol.specs.Run.{IsRunState, state_after}
+use Rattle.ftc_protocol.specs.Run.{state_after}
 use Rattle.ftc_ties.specs.Servers.{is_shared}
 use Rattle.ftc_ties.proofs.Serving.{IsSteadyState}
 use Rattle.ftc_server.specs.declared.recovering.GroupReplica.{GroupReplica}
@@ -30,7 +28,7 @@ use Rattle.ftc_standing.proofs.Lasting.{IsFirmState}
 use Rattle.ftc_refinement.specs.Contents.{IsServerAt}
 use Rattle.ftc_refinement.specs.Pulled.{ArePulled}
 use Rattle.ftc_refinement.proofs.Ring.{EndsAsSaid}
-use Rattle.ftc_network.specs.Pulling.{is_shared_by, lacking, news, gains_some, MayPullOne, MayPull, MayPullBetween, AreGains, IsOfLater, SlotHasInstalled}
+use Rattle.ftc_network.specs.Pulling.{is_shared_by, lacking, gains_some, MayPullOne, MayPullBetween, AreGains, IsOfLater, SlotHasInstalled}
 use Rattle.ftc_network.specs.Stand.{IsSlot}
 use Rattle.ftc_network.proofs.GainedVisits.{gains_same}
 use Rattle.ftc_network.proofs.GroupNews.{made, news_same, are_later}
@@ -119,7 +117,7 @@ module _ (c : Setting) (s : ChainState) (f : IsFirmState c s) (ends : EndsAsSaid
 
   -- the receiver stands for what is there after it, and gained something exactly where there is news
   pub pull_follows : ((tail : ℕ) (old new sender : Server) (news : List GroupReplica) → tail < servers c →
-      Rattle.ftc_protocol.specs.Setting.is_tail c tail receiver ≡ true → is_shared c tail link receiver ≡ true →
+      is_tail c tail receiver ≡ true → is_shared c tail link receiver ≡ true →
       IsServerAt c s receiver old → IsServerAt c s link sender → ArePulled c link old sender news →
       HasInstalled old new news → IsServerAt c (next c s (Pull link)) receiver new) →
       ((old new : Server) → IsServerAt c (next c s (Pull link)) receiver old → state_of new ≡ state_of old →

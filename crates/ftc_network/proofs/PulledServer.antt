@@ -1,10 +1,11 @@
 -- What the receiver of a link has after a pull, whether or not servers may fail, and what becomes of the links.
-use Rattle.std.proofs.Common.{◌≡◌, ◌≢◌, ◌<◌, ◌≤◌, ◌+◌, ◌-◌, ◌==◌, ◌&&◌, ◌||◌, ◌∙◌, ℕ, Bool, true, false, not, List, [], length, Option, Some, None, inl, inr, refl, sym, ap, subst, arith, nat_le, le-leb, leb-true, leb-false, if◌then◌else◌}
-use Rattle.std.proofs.lemmas.Bool.{and_parts, and_from, eq-eqb, eqb-true, ne_eqb, cases_Bool, cases_eq, true≢false, not-true, false_from_ne_true}
+use Rattle.std.proofs.Common.{◌≡◌, ◌≢◌, ◌<◌, ◌≤◌, ◌+◌, ◌-◌, ◌==◌, ◌&&◌, ◌||◌, ◌∙◌, ℕ, Bool, true, false, not, List, [], Option, Some, None, inl, inr, refl, sym, ap, subst, arith, nat_le, le-leb, leb-true, leb-false, if◌then◌else◌}
+use Rattle.std.proofs.lemmas.Bool.{and_parts, and_from, eq-eqb, eqb-true, ne_eqb, cases_eq, true≢false, false_from_ne_true}
+use Rattle.std.proofs.Math.Bool.{or-true, or-false}
 use Rattle.std.specs.List.{list_any}
 use Rattle.ftc_journal.specs.declared.event.Event.TheVariants.{Pull}
 use Rattle.ftc_replica.specs.Held.{Held}
-use Rattle.ftc_ring.specs.Ring.{RingShape, apart, next_of}
+use Rattle.ftc_ring.specs.Ring.{apart, next_of}
 use Rattle.ftc_serial.proofs.Functions.{with_at_cases}
 use Rattle.ftc_vector.specs.Commits.{vector_of}
 use Rattle.ftc_protocol.specs.Setting.{Setting, servers, shape, is_member, is_tail}
@@ -20,7 +21,7 @@ use Rattle.ftc_ties.proofs.Informing.{knows_stay}
 use Rattle.ftc_ties.proofs.Serving.{IsSteadyState, others_stay}
 use Rattle.ftc_server.specs.declared.server.Server.{Server}
 use Rattle.ftc_server.specs.Standing.{group_ending_at}
-use Rattle.ftc_server.specs.State.{ServerState, state_of}
+use Rattle.ftc_server.specs.State.{state_of}
 use Rattle.ftc_server.specs.Steps.{HasInstalled}
 use Rattle.ftc_standing.specs.Stand.{HeldItem, AreReplicas, IsReplicaSlot, replica_of}
 use Rattle.ftc_standing.proofs.Lasting.{IsFirmState, held_stay, withheld_stay, forwarded_stay}
@@ -195,21 +196,13 @@ module _ (c : Setting) (s : ChainState) (f : IsFirmState c s) (ends : EndsAsSaid
 
 -- ---- the links
 
-or_false : (b : Bool) → b || false ≡ b
-or_false true = refl
-or_false false = refl
-
-or_true : (b : Bool) → b || true ≡ true
-or_true true = refl
-or_true false = refl
-
 gap_so : (at_receiver at_link gained gap before : Bool) → (at_receiver ≡ true → at_link ≡ false) →
     (at_receiver ≡ true → gap ≡ before) →
     (if at_receiver && gained then true else (if at_link then false else gap))
     ≡ (if at_link then false else (if at_receiver then before || gained else gap))
 gap_so true true gained gap before apart same = absurd (true≢false (apart refl))
-gap_so true false true gap before apart same = sym (or_true before)
-gap_so true false false gap before apart same = same refl ∙ sym (or_false before)
+gap_so true false true gap before apart same = sym (or-true before)
+gap_so true false false gap before apart same = same refl ∙ sym (or-false before)
 gap_so false true gained gap before apart same = refl
 gap_so false false gained gap before apart same = refl
 

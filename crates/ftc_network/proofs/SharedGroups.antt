@@ -1,6 +1,6 @@
 -- What the receiver of a link that is pulled lacks of a group that both ends share.
-use Rattle.std.proofs.Common.{◌≡◌, ◌≢◌, ◌<◌, ◌==◌, ◌&&◌, ◌∙◌, ℕ, Bool, true, false, not, List, [], ◌∷◌, length, Option, Some, None, refl, sym, ap, subst, arith, if◌then◌else◌}
-use Rattle.std.proofs.lemmas.Bool.{and_parts, and_from, eqb-true, ne_eqb, cases_Bool, true≢false}
+use Rattle.std.proofs.Common.{◌≡◌, ◌<◌, ◌==◌, ◌&&◌, ◌∙◌, ℕ, true, false, not, List, length, Option, Some, None, refl, sym, ap, subst, arith, if◌then◌else◌}
+use Rattle.std.proofs.lemmas.Bool.{and_parts, and_from}
 use Rattle.std.specs.Prelude.{is_some}
 use Rattle.ftc_base.specs.declared.limits.TheConstants.{MOST_SERVERS}
 use Rattle.ftc_journal.specs.declared.event.Event.TheVariants.{Pull}
@@ -9,6 +9,7 @@ use Rattle.ftc_replica.specs.Held.{Held}
 use Rattle.ftc_replica.specs.InTurn.{applied_all, AreReadyInTurn}
 use Rattle.ftc_replica.specs.Kept.{covers_log, missing}
 use Rattle.ftc_ring.specs.Ring.{RingShape, next_of}
+use Rattle.ftc_serial.specs.Serial.{Entry}
 use Rattle.ftc_vector.specs.Vector.{need_of, number_at}
 use Rattle.ftc_vector.specs.Order.{IsBelow}
 use Rattle.ftc_vector.specs.Commits.{vector_of}
@@ -46,16 +47,16 @@ covers_up : (one other : List ℕ) → IsBelow one other → (log : Logged) → 
 covers_up one other less log has = (covered other (need_of log.before log.changed)).1
     (covered_above one other (need_of log.before log.changed) less ((covered one (need_of log.before log.changed)).0 has))
 
-vector_below : (partitions group : ℕ) (setting : Setting) (state : ChainState) (one other : Packets) →
+vector_below : (partitions group : ℕ) (trace : List Entry) (one other : Packets) →
     ((packet : ℕ) → one packet ≡ true → other packet ≡ true) →
-    IsBelow (vector_in partitions state.trace group one) (vector_in partitions state.trace group other)
-vector_below partitions group setting state one other inside = record {
+    IsBelow (vector_in partitions trace group one) (vector_in partitions trace group other)
+vector_below partitions group trace one other inside = record {
   each = λ i within.
-      let first : number_at (vector_in partitions state.trace group one) i ≡ count_of partitions state.trace group one i =
-      get_or-by_partition (count_of partitions state.trace group one) i 0 within in
-      let second : number_at (vector_in partitions state.trace group other) i ≡ count_of partitions state.trace group other i =
-      get_or-by_partition (count_of partitions state.trace group other) i 0 within in
-      let less = count_mono partitions group i state.trace one other (λ q _ there. inside q there) in
+      let first : number_at (vector_in partitions trace group one) i ≡ count_of partitions trace group one i =
+      get_or-by_partition (count_of partitions trace group one) i 0 within in
+      let second : number_at (vector_in partitions trace group other) i ≡ count_of partitions trace group other i =
+      get_or-by_partition (count_of partitions trace group other) i 0 within in
+      let less = count_mono partitions group i trace one other (λ q _ there. inside q there) in
       omega arith;
 }
 
@@ -125,7 +126,7 @@ module _ (c : Setting) (s : ChainState) (h : IsSteadyState c s) (link : ℕ) (le
   known_below : IsBelow (vector_of sender.known group) mine.vector
   known_below = subst (λ v. IsBelow v mine.vector) (sym (sends.stands.replicas.known group few))
       (subst (IsBelow (vector_in c.partitions s.trace group (knows c s link group))) (sym mine_at.vector)
-      (vector_below c.partitions group c s (knows c s link group) (s.lists receiver group)
+      (vector_below c.partitions group s.trace (knows c s link group) (s.lists receiver group)
       (λ q known. known_had c s h link receiver group q legal.0.1 both.1 known)))
 
   same_lacking : missing mine.vector (missing (vector_of sender.known group) theirs.kept) ≡ lacking sender old group

@@ -3,7 +3,6 @@ use Rattle.std.specs.Prelude.{ℕ, ◌≡◌, ◌<◌, ◌-◌, ◌^◌, ◌==�
 use Rattle.std.specs.List.{list_all}
 use Rattle.ftc_link.specs.Queue.{Queue}
 use Rattle.ftc_message.specs.Logged.{Logged}
-use Rattle.ftc_replica.specs.Held.{Held}
 use Rattle.ftc_replica.specs.InTurn.{AreReadyInTurn}
 use Rattle.ftc_replica.specs.Kept.{missing}
 use Rattle.ftc_ring.specs.Ring.{RingShape, apart, tail_of}
