@@ -49,12 +49,6 @@ impl Network {
         where_events_are();
         servers_beside();
         links_stand_still();
-        apply_at(
-            &mut self.servers[place_of(server)],
-            server,
-            origin,
-            group,
-            packet,
-        )
+        apply_at(&mut self.servers[place_of(server)], server, origin, group, packet)
     }
 }
