@@ -1,5 +1,7 @@
 mod Allowed
 mod Changed
+mod GainedVisits
+mod GroupNews
 mod Idle
 mod EndsAlone
 mod IdleSlots
@@ -8,8 +10,11 @@ mod MessageForms
 mod OneEach
 mod OneServer
 mod ReadAlone
+mod PullWanted
+mod PulledServer
 mod Released
 mod Results
 mod ScriptLines
 mod SentAlong
+mod SharedGroups
 mod Untold

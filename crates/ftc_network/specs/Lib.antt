@@ -1,6 +1,7 @@
 pub mod Parts
 pub mod Stand
 pub mod Events
+pub mod Pulling
 pub mod Released
 pub mod Sending
 pub mod Recovering

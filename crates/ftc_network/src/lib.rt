@@ -11,6 +11,7 @@ mod making;
 mod network;
 mod opening;
 mod places;
+mod pulling;
 mod releasing;
 mod taking;
 mod visiting;
