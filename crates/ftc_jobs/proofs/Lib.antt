@@ -1,7 +1,9 @@
+mod ApplyNow
+mod Begins
 mod FirstWork
 mod LinesInOrder
 mod NextLine
-mod Begins
 mod Sizes
+mod Standing
 mod Tests
 mod WorkInTurn

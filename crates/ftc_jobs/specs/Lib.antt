@@ -2,3 +2,4 @@ pub mod Rest
 pub mod Turn
 pub mod Lines
 pub mod Quiet
+pub mod Applies
