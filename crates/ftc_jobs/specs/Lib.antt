@@ -3,3 +3,4 @@ pub mod Turn
 pub mod Lines
 pub mod Quiet
 pub mod Applies
+pub mod Works

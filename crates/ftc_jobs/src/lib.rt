@@ -3,10 +3,13 @@
 
 mod applies;
 mod first;
+mod legal;
 mod lines;
 mod links;
 mod places;
 mod quiet;
+mod tasks;
 mod works;
 
 pub use first::first_job;
+pub use legal::is_legal;
