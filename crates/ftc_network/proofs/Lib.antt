@@ -1,6 +1,15 @@
+mod Allowed
 mod Changed
 mod Idle
+mod EndsAlone
+mod IdleSlots
 mod LastServer
+mod MessageForms
+mod OneEach
 mod OneServer
+mod ReadAlone
 mod Released
 mod Results
+mod ScriptLines
+mod SentAlong
+mod Untold

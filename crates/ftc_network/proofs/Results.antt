@@ -1,5 +1,5 @@
 -- What holds of results and options that have a value.
-use Rattle.std.proofs.Common.{◌≡◌, Bool, false, true, Result, Ok, Err, Option, Some, None, refl, sym, subst}
+use Rattle.std.proofs.Common.{◌≡◌, false, Result, Ok, Err, Option, Some, None, refl, sym, subst}
 use Rattle.std.specs.Prelude.{OnOk, OnErr, IfSome, option_map, is_some}
 
 pub on_ok : {A E : Type 0} (result : Result A E) (Fact Other : Type 0) → (Fact → Other) → OnOk result Fact → OnOk result Other
@@ -26,3 +26,18 @@ pub if_some : {A : Type 0} (Fact Other : A → Type 0) (option : Option A) → (
     IfSome option Fact → IfSome option Other
 if_some Fact Other None from fact = tt
 if_some Fact Other (Some item) from fact = from item fact
+
+pub as_err : {A E : Type 0} (result : Result A E) (Fact : Type 0) → Fact → OnErr result Fact
+as_err (Ok value) Fact fact = tt
+as_err (Err fault) Fact fact = fact
+
+pub on_err_both : {A E : Type 0} (result : Result A E) (One Two Other : Type 0) → (One → Two → Other) → OnErr result One →
+    OnErr result Two → OnErr result Other
+on_err_both (Ok value) One Two Other from one two = tt
+on_err_both (Err fault) One Two Other from one two = from one two
+
+-- what holds of each item that an option may be holds of it
+pub each_some : {A : Type 0} (Fact : A → Type 0) (option : Option A) → ((item : A) → option ≡ Some item → Fact item) →
+    IfSome option Fact
+each_some Fact None each = tt
+each_some Fact (Some item) each = each item refl

@@ -2,4 +2,6 @@ pub mod Parts
 pub mod Stand
 pub mod Events
 pub mod Released
+pub mod Sending
 pub mod Recovering
+pub mod Visiting

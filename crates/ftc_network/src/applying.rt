@@ -3,6 +3,7 @@
 ghost use Rattle.std.specs.Prelude.{◌≡◌, OnOk, OnErr};
 ghost use Rattle.ftc_journal.specs.declared.event.Event.TheVariants as event;
 ghost use Rattle.ftc_network.specs.Events.{IsAllowed, IsAllowedAt, Follows, SlotFollows, StandsStill, SlotStandsStill};
+ghost use Rattle.ftc_network.specs.Parts.{buffer_of, withheld_in};
 
 use crate::laws::servers_beside;
 use crate::network::Network;
@@ -11,6 +12,7 @@ use ftc_base::{NoMemory, PacketNo, ServerId};
 use ftc_refinement::{what_apply_does, what_apply_wants, what_stays, where_events_are};
 use ftc_server::Server;
 use ftc_standing::links_stand_still;
+use ftc_visits::made_visits_stay;
 
 /// A server applies a log of a message that it holds.
 fn apply_at(
@@ -23,6 +25,7 @@ fn apply_at(
     requires { ∥ IsAllowedAt (event.Apply server origin group packet) server slot.old ∥₁ }
     ensures ok { OnOk result (SlotFollows (event.Apply server origin group packet) server slot.old slot.new) }
     ensures err { OnErr result (SlotStandsStill server slot.old slot.new) }
+    ensures buffer { OnOk result (buffer_of slot.new ≡ buffer_of slot.old) }
 {
     what_apply_wants();
     what_apply_does();
@@ -45,10 +48,18 @@ impl Network {
         requires { ∥ IsAllowed (event.Apply server origin group packet) self.old ∥₁ }
         ensures ok { OnOk result (Follows (event.Apply server origin group packet) self.old self.new) }
         ensures err { OnErr result (StandsStill self.old self.new) }
+        ensures withheld { OnOk result (withheld_in self.new ≡ withheld_in self.old) }
     {
         where_events_are();
         servers_beside();
         links_stand_still();
-        apply_at(&mut self.servers[place_of(server)], server, origin, group, packet)
+        made_visits_stay();
+        apply_at(
+            &mut self.servers[place_of(server)],
+            server,
+            origin,
+            group,
+            packet,
+        )
     }
 }

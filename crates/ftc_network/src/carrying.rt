@@ -3,6 +3,7 @@
 ghost use Rattle.std.specs.Prelude.{◌≡◌, OnOk, OnErr};
 ghost use Rattle.ftc_journal.specs.declared.event.Event.TheVariants as event;
 ghost use Rattle.ftc_network.specs.Events.{IsAllowed, IsAllowedAt, Follows, SlotFollows, StandsStill, SlotStandsStill};
+ghost use Rattle.ftc_network.specs.Parts.{buffer_of, withheld_in};
 
 use crate::laws::servers_beside;
 use crate::network::Network;
@@ -10,12 +11,14 @@ use ftc_base::{NoMemory, PacketNo};
 use ftc_refinement::{what_carry_does, what_carry_wants, what_stays};
 use ftc_server::Server;
 use ftc_standing::links_stand_still;
+use ftc_visits::made_visits_stay;
 
 /// A message that came round the ring ends at server 0, and its logs that go on are with the forwarder.
 fn carry_at(slot: &mut Option<Server>, origin: PacketNo) -> Result<(), NoMemory>
     requires { ∥ IsAllowedAt (event.Carry origin) 0 slot.old ∥₁ }
     ensures ok { OnOk result (SlotFollows (event.Carry origin) 0 slot.old slot.new) }
     ensures err { OnErr result (SlotStandsStill 0 slot.old slot.new) }
+    ensures buffer { OnOk result (buffer_of slot.new ≡ buffer_of slot.old) }
 {
     what_carry_wants();
     what_carry_does();
@@ -32,9 +35,11 @@ impl Network {
         requires { ∥ IsAllowed (event.Carry origin) self.old ∥₁ }
         ensures ok { OnOk result (Follows (event.Carry origin) self.old self.new) }
         ensures err { OnErr result (StandsStill self.old self.new) }
+        ensures withheld { OnOk result (withheld_in self.new ≡ withheld_in self.old) }
     {
         servers_beside();
         links_stand_still();
+        made_visits_stay();
         let _ = self.ring.servers();
         carry_at(&mut self.servers[0], origin)
     }

@@ -9,6 +9,7 @@ ghost use Rattle.ftc_server.specs.Slots.{is_open};
 ghost use Rattle.ftc_server.specs.Steps.{HasTaken, HasRoomed};
 ghost use Rattle.ftc_standing.specs.Stand.{IsBegun};
 ghost use Rattle.ftc_network.specs.Events.{IsAllowed, IsAllowedAt, Follows, FollowsIn, SlotFollows, SlotFollowsIn, StandsStill, SlotStandsStill};
+ghost use Rattle.ftc_network.specs.Parts.{buffer_of, withheld_in};
 
 use crate::laws::servers_beside;
 use crate::network::Network;
@@ -18,6 +19,7 @@ use ftc_refinement::{what_stays, what_take_does, what_take_wants};
 use ftc_server::Server;
 use ftc_standing::links_stand_still;
 use ftc_vector::Commits;
+use ftc_visits::made_visits_stay;
 use std::alloc::Global;
 
 /// A message that begins.
@@ -56,6 +58,7 @@ fn enter_at(
     ensures ok { OnOk result ((setting : Setting) (state : ChainState) → bytes ≡ packet_at setting packet →
         SlotFollowsIn setting state (event.Enter packet) 0 slot.old slot.new) }
     ensures err { OnErr result (SlotStandsStill 0 slot.old slot.new) }
+    ensures buffer { OnOk result (buffer_of slot.new ≡ buffer_of slot.old) }
 {
     what_take_wants();
     what_take_does();
@@ -67,14 +70,11 @@ fn enter_at(
 }
 
 /// Server 0 holds a message that begins without a packet.
-fn propagate_at(
-    slot: &mut Option<Server>,
-    alloc: Global,
-    origin: PacketNo,
-) -> Result<(), NoMemory>
+fn propagate_at(slot: &mut Option<Server>, alloc: Global, origin: PacketNo) -> Result<(), NoMemory>
     requires { ∥ IsAllowedAt (event.Propagate origin) 0 slot.old ∥₁ }
     ensures ok { OnOk result (SlotFollows (event.Propagate origin) 0 slot.old slot.new) }
     ensures err { OnErr result (SlotStandsStill 0 slot.old slot.new) }
+    ensures buffer { OnOk result (buffer_of slot.new ≡ buffer_of slot.old) }
 {
     what_take_wants();
     what_take_does();
@@ -93,9 +93,11 @@ impl Network {
         ensures ok { OnOk result ((setting : Setting) (state : ChainState) → bytes ≡ packet_at setting packet →
             FollowsIn setting state (event.Enter packet) self.old self.new) }
         ensures err { OnErr result (StandsStill self.old self.new) }
+        ensures withheld { OnOk result (withheld_in self.new ≡ withheld_in self.old) }
     {
         servers_beside();
         links_stand_still();
+        made_visits_stay();
         let _ = self.ring.servers();
         enter_at(&mut self.servers[0], alloc, packet, bytes)?;
         self.entered += 1;
@@ -108,9 +110,11 @@ impl Network {
         requires room { self.old.propagates < u32.MAX }
         ensures ok { OnOk result (Follows (event.Propagate origin) self.old self.new) }
         ensures err { OnErr result (StandsStill self.old self.new) }
+        ensures withheld { OnOk result (withheld_in self.new ≡ withheld_in self.old) }
     {
         servers_beside();
         links_stand_still();
+        made_visits_stay();
         let _ = self.ring.servers();
         propagate_at(&mut self.servers[0], alloc, origin)?;
         self.propagates += 1;

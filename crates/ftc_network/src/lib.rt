@@ -6,9 +6,12 @@ mod carrying;
 mod crashing;
 mod entering;
 mod laws;
+mod leaving;
+mod making;
 mod network;
 mod places;
 mod releasing;
 mod taking;
+mod visiting;
 
 pub use network::Network;

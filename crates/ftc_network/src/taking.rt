@@ -5,6 +5,7 @@ ghost use Rattle.ftc_journal.specs.declared.event.Event.TheVariants as event;
 ghost use Rattle.ftc_protocol.specs.Setting.{Setting, servers};
 ghost use Rattle.ftc_protocol.specs.State.{ChainState};
 ghost use Rattle.ftc_network.specs.Events.{IsAllowed, IsTaking, EndsFollow, Follows, StandsStill, SlotStandsStill};
+ghost use Rattle.ftc_network.specs.Parts.{buffer_of, withheld_in};
 
 use crate::laws::servers_beside;
 use crate::network::Network;
@@ -14,6 +15,7 @@ use ftc_link::Link;
 use ftc_refinement::{what_stays, what_take_does, what_take_wants, where_events_are};
 use ftc_server::Server;
 use ftc_standing::{a_message_is_taken, links_stand_still};
+use ftc_visits::made_visits_stay;
 use std::alloc::Global;
 
 /// The receiver of a link holds its oldest message.
@@ -30,10 +32,12 @@ fn take_at(
         EndsFollow setting state sender origin link.old link.new slot.old slot.new) }
     ensures link { OnErr result (link.new ≡ link.old) }
     ensures slot { OnErr result ((number : ℕ) → SlotStandsStill number slot.old slot.new) }
+    ensures buffer { OnOk result (buffer_of slot.new ≡ buffer_of slot.old) }
 {
     what_take_wants();
     what_take_does();
     a_message_is_taken();
+    where_events_are();
     what_stays();
     match slot {
         Some(server) => {
@@ -54,10 +58,12 @@ impl Network {
         requires { ∥ IsAllowed (event.Take link origin) self.old ∥₁ }
         ensures ok { OnOk result (Follows (event.Take link origin) self.old self.new) }
         ensures err { OnErr result (StandsStill self.old self.new) }
+        ensures withheld { OnOk result (withheld_in self.new ≡ withheld_in self.old) }
     {
         where_events_are();
         servers_beside();
         links_stand_still();
+        made_visits_stay();
         let receiver = self.ring.next(link);
         let by_ring = link.number() + 1 == self.ring.servers();
         take_at(

@@ -31,3 +31,5 @@ pub mod InTurn
 pub mod QueuedMessages
 pub mod HeldInTurn
 pub mod Propagating
+pub mod HavingStill
+pub mod ReadyStays

@@ -28,7 +28,7 @@ pub use due::what_is_due;
 pub use first_jobs::{held_in_turn, what_a_link_offers, what_enters, what_propagates, which_pulls};
 pub use leaving::{what_carry_does, what_is_sent, what_pass_does, what_release_does};
 pub use pulling::what_install_does;
-pub use ready::what_is_ready;
+pub use ready::{ready_messages_stay, what_is_ready};
 pub use reviving::what_revive_makes;
 pub use still::{what_new_makes, what_stays};
 pub use taking::what_take_does;

@@ -1,0 +1,47 @@
+-- What follows from an event's being allowed, where it is a test.
+use Rattle.std.proofs.Common.{◌≡◌, ◌<◌, ◌^◌, ◌-◌, ℕ, Bool, true, nat_lt, Option, Some, sym, ap, subst}
+use Rattle.std.proofs.Math.Bool.{Bool-set}
+use Rattle.std.proofs.Math.Logic.{∥∥₁_elim, ∥∥₁_map}
+use Rattle.std.proofs.lemmas.Bool.{ltb-true, lt-ltb}
+use Rattle.ftc_journal.specs.declared.event.Event.{Event}
+use Rattle.ftc_protocol.specs.Legal.{IsLegal}
+use Rattle.ftc_protocol.specs.Run.{IsRunState}
+use Rattle.ftc_protocol.specs.Setting.{Setting, servers}
+use Rattle.ftc_protocol.specs.State.{ChainState}
+use Rattle.ftc_ring.specs.Ring.{RingShape}
+use Rattle.ftc_server.specs.declared.server.Server.{Server}
+use Rattle.ftc_network.specs.declared.network.Network.{Network}
+use Rattle.ftc_network.specs.Events.{IsAllowed, IsAllowedAt}
+use Rattle.ftc_network.specs.Parts.{server_in}
+use Rattle.ftc_network.specs.Stand.{IsSlot, IsUp}
+
+-- of a server that is up
+pub at_up : (event : Event) (number : ℕ) (slot : Option Server) (server : Server) (test value : Bool) → slot ≡ Some server →
+    ((setting : Setting) (state : ChainState) → IsRunState setting state → IsLegal setting state event →
+    state.events < 2 ^ 64 - 1 → IsUp setting state number server → test ≡ value) →
+    ∥ IsAllowedAt event number slot ∥₁ → test ≡ value
+at_up event number slot server test value same proves allowed = ∥∥₁_elim allowed (Bool-set _ _) (λ given.
+    proves given.setting given.state given.run given.legal given.few
+    (subst (IsSlot given.setting given.state number) same given.stands))
+
+-- of a number of the ring
+pub below_servers : (event : Event) (network : Network) (number : ℕ) →
+    ((setting : Setting) (state : ChainState) → IsRunState setting state → IsLegal setting state event →
+    number < servers setting) → ∥ IsAllowed event network ∥₁ → number < network.ring.servers
+below_servers event network number proves allowed = ltb-true number network.ring.servers
+    (∥∥₁_elim allowed (Bool-set _ _) (λ given.
+    subst (λ (n : ℕ). nat_lt number n ≡ true) (sym (ap (λ (ring : RingShape). ring.servers) given.stands.ring))
+    (lt-ltb number (servers given.setting) (proves given.setting given.state given.run given.legal))))
+
+-- what is allowed with a network is allowed with its server of a number
+pub slot_allowed : (event : Event) (network : Network) (number : ℕ) (slot : Option Server) → number < network.ring.servers →
+    slot ≡ server_in network.servers.items number → ∥ IsAllowed event network ∥₁ → ∥ IsAllowedAt event number slot ∥₁
+slot_allowed event network number slot below same allowed = ∥∥₁_map allowed (λ given. record {
+  setting = given.setting;
+  state = given.state;
+  run = given.run;
+  legal = given.legal;
+  few = given.few;
+  stands = subst (IsSlot given.setting given.state number) (sym same) (given.stands.servers_are number
+      (subst (λ (n : ℕ). number < n) (ap (λ (ring : RingShape). ring.servers) given.stands.ring) below));
+})

@@ -1,0 +1,45 @@
+use Rattle.std.proofs.Common.{true, ap, sym, subst, ◌∙◌}
+use Rattle.ftc_journal.specs.declared.event.Event.{Event}
+use Rattle.ftc_journal.specs.declared.event.Event.TheVariants as event
+use Rattle.ftc_server.specs.Looks.{may_apply_in}
+use Rattle.ftc_server.specs.Replicas.{replica_at, may_rise_in}
+use Rattle.ftc_server.specs.State.{ServerState}
+use Rattle.ftc_network.specs.Parts.{buffer_of}
+use Rattle.ftc_network.specs.Stand.{IsSlot, IsUp}
+use Rattle.ftc_network.proofs.Allowed.{at_up}
+use Rattle.ftc_network.proofs.Idle.{idle_after}
+use Rattle.ftc_network.proofs.Results.{on_ok}
+use Rattle.ftc_network.proofs.applying.apply_at.Goals as goal
+
+pub apply-requires-clause-ready : goal.apply-requires-clause-ready
+apply-requires-clause-ready c =
+    let event : Event = event.Apply c.args.server c.args.origin c.args.group c.args.packet in
+    at_up event c.args.server c.args.slot.now c.in-Some.live
+    (may_apply_in c.in-Some.live c.args.origin c.args.group c.args.packet) true c.in-Some.is
+    (λ setting state run legal few up. c.what_apply_wants.ensures.ready setting state c.args.server c.args.origin c.args.group
+    c.args.packet c.in-Some.live run legal up.at) c.requires
+
+pub apply-requires-clause-rise : goal.apply-requires-clause-rise
+apply-requires-clause-rise c =
+    let event : Event = event.Apply c.args.server c.args.origin c.args.group c.args.packet in
+    at_up event c.args.server c.args.slot.now c.in-Some.live
+    (may_rise_in (replica_at c.in-Some.live.others.items c.args.group)) true c.in-Some.is
+    (λ setting state run legal few up. c.what_apply_wants.ensures.rise setting state c.args.server c.args.origin c.args.group
+    c.args.packet c.in-Some.live run legal up.at few) c.requires
+
+pub returns-in-Some-clause-ok : goal.returns-in-Some-clause-ok
+returns-in-Some-clause-ok c =
+    let old = c.in-Some.live in
+    let new = c.apply.new.self in
+    on_ok c.apply.result _ _ (λ done setting state run legal is.
+    let up : IsUp setting state c.args.server old = subst (IsSlot setting state c.args.server) c.in-Some.is is in
+    record {
+      up = up.up;
+      at = c.what_apply_does.ensures setting state c.args.server c.args.origin c.args.group c.args.packet old new run legal
+          up.at done;
+      idle = idle_after old new (ap (λ (s : ServerState). s.head) done.rest) up.idle;
+    }) c.apply.ensures.ok
+
+pub returns-in-Some-clause-buffer : goal.returns-in-Some-clause-buffer
+returns-in-Some-clause-buffer c = on_ok c.apply.result _ _ (λ done.
+    ap (λ (s : ServerState). s.buffer.items) done.rest ∙ ap buffer_of (sym c.in-Some.is)) c.apply.ensures.ok

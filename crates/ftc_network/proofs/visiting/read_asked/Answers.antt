@@ -1,0 +1,10 @@
+use Rattle.ftc_network.proofs.ReadAlone.{read_alone}
+use Rattle.ftc_network.proofs.visiting.read_asked.Goals as goal
+
+pub returns : goal.returns
+returns c first packet count change is asked =
+    read_alone first c.args.server.now c.read.new.self c.args.worker packet count c.args.key.now change is
+    c.store.ensures.valid asked
+    (λ answer reads setting state number at. c.what_stays.ensures.read setting state number c.args.worker c.args.key.now answer
+    c.args.server.now c.read.new.self at reads)
+    c.read.result c.read.ensures

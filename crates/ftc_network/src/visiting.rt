@@ -1,0 +1,92 @@
+//! Visits, each made whole as the only one that runs.
+
+ghost use Rattle.std.specs.Prelude.{◌≡◌, ◌≢◌, ◌+◌, ℕ, Bool, true, Some, None, IfOk, OnErr};
+ghost use Rattle.ftc_base.specs.declared.ask.Ask.TheVariants.{Read};
+ghost use Rattle.ftc_server.specs.declared.server.Server.{Server as AServer};
+ghost use Rattle.ftc_server.specs.declared.work.Work.TheVariants.{Visit};
+ghost use Rattle.ftc_server.specs.Looks.{work_in, ask_in};
+ghost use Rattle.ftc_server.specs.Replicas.{may_rise};
+ghost use Rattle.ftc_txn.specs.Slots.{slot_at};
+ghost use Rattle.ftc_network.specs.Stand.{AreIdle};
+ghost use Rattle.ftc_network.specs.Visiting.{StandsFor, IsUnderWay, VisitsWhole};
+
+use ftc_base::limits::MOST_READS;
+use ftc_base::{Answers, Key, NoMemory, PacketNo, WorkerId};
+use ftc_mbox::Plan;
+use ftc_refinement::what_stays;
+use ftc_server::{CommitAnswer, Server};
+
+/// The same answers once more.
+fn copy_answers(answers: &Answers) -> Answers
+    ensures { result ≡ answers.now }
+{
+    Answers::try_from(answers.as_slice()).unwrap()
+}
+
+/// A slot begins a visit at a server whose slots are idle. The answer is whether it runs then, as it does.
+fn start(server: &mut Server, worker: WorkerId, packet: PacketNo) -> bool
+    requires idle { AreIdle server.old }
+    requires work { work_in server.old packet ≡ Some Visit }
+    requires rise { may_rise server.old.head.vector ≡ true }
+    ensures runs { result ≡ true → IsUnderWay server.old server.new worker packet 0 }
+    ensures stands { StandsFor server.old server.new }
+    ensures others { (other : ℕ) → other ≢ worker → slot_at server.new.head.slots other ≡ None }
+{
+    what_stays();
+    server.begin(worker, packet);
+    server.packet_of(worker).is_some()
+}
+
+/// The only visit that runs at a server reads the key that its rule asks for.
+fn read_asked(server: &mut Server, worker: WorkerId, key: &Key)
+    ensures { (first : AServer) (packet count : ℕ) (change : Bool) → IsUnderWay first server.old worker packet count →
+        ask_in server.old worker ≡ Some (Read key.now change) →
+        IsUnderWay first server.new worker packet (count + 1) }
+{
+    what_stays();
+    // The contract of this call tells what holds of slots and locks.
+    let _ = server.head.store();
+    let _ = server.read(worker, key);
+}
+
+/// A slot gives up what it runs, as the only one that runs something, if it does.
+fn give_up(server: &mut Server, worker: WorkerId) -> NoMemory
+    ensures stands { StandsFor server.old server.new }
+    ensures idle { ((other : ℕ) → other ≢ worker → slot_at server.old.head.slots other ≡ None) → AreIdle server.new }
+{
+    what_stays();
+    server.quit(worker);
+    NoMemory
+}
+
+/// The visit of a packet is made whole. The answer is what it read.
+pub fn visit_whole(
+    server: &mut Server,
+    worker: WorkerId,
+    packet: PacketNo,
+    plan: &Plan,
+) -> Result<Answers, NoMemory>
+    requires idle { AreIdle server.old }
+    requires work { work_in server.old packet ≡ Some Visit }
+    requires rise { may_rise server.old.head.vector ≡ true }
+    ensures ok { IfOk result (λ answers. VisitsWhole server.old server.new worker packet answers.items) }
+    ensures stands { OnErr result (StandsFor server.old server.new) }
+    ensures idle { OnErr result (AreIdle server.new) }
+{
+    what_stays();
+    if !start(server, worker, packet) {
+        return Err(give_up(server, worker));
+    }
+    for _ in 0..=MOST_READS {
+        let Some(answers) = server.answers(worker) else {
+            unreachable!()
+        };
+        let answers = copy_answers(answers);
+        match server.finish_visit(worker, plan) {
+            CommitAnswer::Done => return Ok(answers),
+            CommitAnswer::Unfinished { key } => read_asked(server, worker, &key),
+            _ => return Err(give_up(server, worker)),
+        }
+    }
+    Err(give_up(server, worker))
+}
