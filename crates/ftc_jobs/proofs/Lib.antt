@@ -1,7 +1,11 @@
+mod ApplyNow
+mod Begins
+mod Chosen
 mod FirstWork
 mod LinesInOrder
 mod NextLine
-mod Begins
 mod Sizes
+mod Standing
 mod Tests
+mod WorkAt
 mod WorkInTurn

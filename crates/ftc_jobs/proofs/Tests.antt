@@ -17,6 +17,11 @@ pub either : (a b : Bool) → a && b ≡ false → (b ≡ false) ⊎ (a ≡ fals
 either true b is = inl is
 either false b is = inr refl
 
+pub neither : (a b : Bool) → (b ≡ false) ⊎ (a ≡ false) → a && b ≡ false
+neither true b (inl isnt) = isnt
+neither true b (inr isnt) = absurd cc
+neither false b isnt = refl
+
 pub some_part : (a b : Bool) → a || b ≡ true → (a ≡ true) ⊎ (b ≡ true)
 some_part true b is = inl refl
 some_part false b is = inr is

@@ -21,12 +21,16 @@ pub fn server_of(number: u8) -> ServerId
     }
 }
 
-/// The server of that number, None where it is down.
+/// The server of that number, None where it is down or the chain hasn't one of that number.
 pub fn server_at(network: &Network, server: ServerId) -> Option<&Server>
-    requires { server < network.now.ring.servers }
     ensures { option_copied result ≡ server_in network.now.servers.items server }
 {
-    network.servers[usize::from(server.number())].as_ref()
+    let place = usize::from(server.number());
+    if place < network.servers.len() {
+        network.servers[place].as_ref()
+    } else {
+        None
+    }
 }
 
 /// The link that leaves the server of that number.

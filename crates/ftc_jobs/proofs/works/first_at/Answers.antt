@@ -1,6 +1,6 @@
 use Rattle.std.proofs.Common.{◌≡◌, ◌∙◌, ◌<◌, ◌++◌, ◌∷◌, ℕ, false, List, Option, Some, None, sym, ap, subst}
 use Rattle.std.specs.Option.{option_copied}
-use Rattle.std.proofs.lemmas.Option.{none-some}
+use Rattle.std.proofs.lemmas.Bool.{true≢false}
 use Rattle.ftc_protocol.specs.Setting.{servers}
 use Rattle.ftc_protocol.specs.State.{Message}
 use Rattle.ftc_protocol.specs.Jobs.{since_of}
@@ -10,10 +10,8 @@ use Rattle.ftc_server.specs.declared.work.Work.{Work}
 use Rattle.ftc_server.specs.Holding.{found}
 use Rattle.ftc_server.specs.Looks.{work_in}
 use Rattle.ftc_server.specs.Work.{first_with_work, work_for_found, work_for}
-use Rattle.ftc_network.specs.Parts.{server_in}
-use Rattle.ftc_network.specs.Stand.{IsSlot, IsUp}
 use Rattle.ftc_jobs.proofs.FirstWork.{IsPassed, IsFirstOf, all_passed, first_of, found_before, no_first, so_of_found, some_first}
-use Rattle.ftc_jobs.proofs.Sizes.{size_of}
+use Rattle.ftc_jobs.proofs.Standing.{is_down_there, is_up_there}
 use Rattle.ftc_jobs.proofs.works.first_at.Goals as goal
 
 works_not : (o : Option Work) → Rattle.std.specs.Option.is_some o ≡ Rattle.std.proofs.Common.true → o ≡ None → ⊥
@@ -25,11 +23,9 @@ returns-in_err-live-clause-none c none setting state packets rest origin message
     let network = c.args.network.now in
     let server = c.args.server in
     let holder = c.held_in_turn.ensures.holder setting state server origin message rest.resting.run held in
-    let slot : server_in network.servers.items server ≡ None =
-    sym c.server_at.ensures ∙ ap (λ o. option_copied o) c.in_err-live.was in
-    let down : state.up server ≡ false = subst (IsSlot setting state server) slot
-    (rest.resting.stands.servers_are server holder.0) in
-    absurd cc
+    let down = is_down_there setting state network rest.resting server holder.0
+    (sym c.server_at.ensures ∙ ap (λ o. option_copied o) c.in_err-live.was) in
+    absurd (true≢false (sym holder.1 ∙ down))
 
 pub returns-in_err-origin-clause-none : goal.returns-in_err-origin-clause-none
 returns-in_err-origin-clause-none c none setting state packets rest origin message held =
@@ -37,11 +33,8 @@ returns-in_err-origin-clause-none c none setting state packets rest origin messa
     let server = c.args.server in
     let live = c.in_ok-live.live.now in
     let run = rest.resting.run in
-    let below = (c.held_in_turn.ensures.holder setting state server origin message run held).0 in
-    let slot : server_in network.servers.items server ≡ Some live =
-    sym c.server_at.ensures ∙ ap (λ o. option_copied o) c.in_ok-live.was in
-    let up : IsUp setting state server live = subst (IsSlot setting state server) slot
-    (rest.resting.stands.servers_are server below) in
+    let up = is_up_there setting state network rest.resting server live
+    (sym c.server_at.ensures ∙ ap (λ o. option_copied o) c.in_ok-live.was) in
     let there = c.held_in_turn.ensures.there setting state server origin message live up.at held in
     let passed = so_of_found (IsPassed live.others.items) origin live.held.items there.0
     (all_passed live.others.items live.held.items c.are_rising.ensures
@@ -58,11 +51,8 @@ returns-in_err-work-clause-none c none setting state packets rest another messag
     let items = live.held.items in
     let origin = c.in_ok-origin.origin in
     let run = rest.resting.run in
-    let below = (c.held_in_turn.ensures.holder setting state server another message run held).0 in
-    let slot : server_in network.servers.items server ≡ Some live =
-    sym c.server_at.ensures ∙ ap (λ o. option_copied o) c.in_ok-live.was in
-    let up : IsUp setting state server live = subst (IsSlot setting state server) slot
-    (rest.resting.stands.servers_are server below) in
+    let up = is_up_there setting state network rest.resting server live
+    (sym c.server_at.ensures ∙ ap (λ o. option_copied o) c.in_ok-live.was) in
     let chosen = some_first (first_with_work others items) origin (sym c.first_work.ensures ∙ c.in_ok-origin.was) in
     let first = first_of others items chosen.0 c.are_rising.ensures chosen.1 in
     let placed = c.held_in_turn.ensures.place setting state server chosen.0 first.before first.after live up.at first.parts in
@@ -79,12 +69,8 @@ returns-clause-some c setting state packets rest =
     let items = live.held.items in
     let origin = c.in_ok-origin.origin in
     let run = rest.resting.run in
-    let below : server < servers setting =
-    subst (λ (n : ℕ). server < n) (size_of setting state network rest.resting) c.requires in
-    let slot : server_in network.servers.items server ≡ Some live =
-    sym c.server_at.ensures ∙ ap (λ o. option_copied o) c.in_ok-live.was in
-    let up : IsUp setting state server live = subst (IsSlot setting state server) slot
-    (rest.resting.stands.servers_are server below) in
+    let up = is_up_there setting state network rest.resting server live
+    (sym c.server_at.ensures ∙ ap (λ o. option_copied o) c.in_ok-live.was) in
     let chosen = some_first (first_with_work others items) origin (sym c.first_work.ensures ∙ c.in_ok-origin.was) in
     let first = first_of others items chosen.0 c.are_rising.ensures chosen.1 in
     let placed = c.held_in_turn.ensures.place setting state server chosen.0 first.before first.after live up.at first.parts in
