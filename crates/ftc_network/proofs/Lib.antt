@@ -7,6 +7,7 @@ mod EndsAlone
 mod IdleSlots
 mod LastServer
 mod MessageForms
+mod NewNetwork
 mod OneEach
 mod OneServer
 mod ReadAlone
