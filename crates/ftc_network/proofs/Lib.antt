@@ -3,6 +3,7 @@ mod Changed
 mod Idle
 mod IdleSlots
 mod LastServer
+mod NewReplicas
 mod OneServer
 mod ReadAlone
 mod Released

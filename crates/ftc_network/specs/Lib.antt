@@ -3,4 +3,5 @@ pub mod Stand
 pub mod Events
 pub mod Released
 pub mod Recovering
+pub mod Reviving
 pub mod Visiting

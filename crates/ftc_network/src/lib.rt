@@ -9,6 +9,7 @@ mod laws;
 mod network;
 mod places;
 mod releasing;
+mod reviving;
 mod taking;
 mod visiting;
 
