@@ -1,11 +1,16 @@
 mod Allowed
 mod Changed
+mod EndsAlone
 mod Idle
 mod IdleSlots
 mod LastServer
+mod MessageForms
 mod NewReplicas
+mod OneEach
 mod OneServer
 mod ReadAlone
 mod Released
 mod Results
 mod ScriptLines
+mod SentAlong
+mod Untold

@@ -3,7 +3,7 @@ use Rattle.std.proofs.Common.{◌≡◌, ◌≢◌, ◌<◌, ◌≤◌, ◌==◌
 use Rattle.std.specs.List.{AllByRecursion, list_all, find}
 use Rattle.std.specs.Prelude.{if◌then◌else◌}
 use Rattle.std.specs.Option.{option_or}
-use Rattle.std.proofs.lemmas.Bool.{cases_eq, eqb-refl}
+use Rattle.std.proofs.lemmas.Bool.{cases_eq, eq-eqb}
 use Rattle.std.proofs.lemmas.List.Folds.{list_all-append, find-append}
 use Rattle.ftc_serial.specs.Words.{EachLater, each_below}
 use Rattle.ftc_refinement.specs.Pulled.{is_of_group}
@@ -72,7 +72,7 @@ module _ (test : ℕ → Bool) (make : ℕ → GroupReplica) where
       find (is_of_group group) (single test make group) ≡ Some (make group)
   found_single group named is =
       ap (λ (t : Bool). find (is_of_group group) (if t then make group ∷ [] else [])) is
-      ∙ ap (λ (b : Bool). if b then Some (make group) else None) (ap (λ (n : ℕ). n == group) (named group) ∙ eqb-refl group)
+      ∙ ap (λ (b : Bool). if b then Some (make group) else None) (ap (λ (n : ℕ). n == group) (named group) ∙ eq-eqb group group refl)
 
   none_below : (group count : ℕ) → ((number : ℕ) → (make number).group ≡ number) → count ≤ group →
       find (is_of_group group) (each_below (single test make) count) ≡ None

@@ -9,6 +9,7 @@ use Rattle.ftc_protocol.specs.Setting.{Setting, servers}
 use Rattle.ftc_protocol.specs.State.{ChainState}
 use Rattle.ftc_server.specs.declared.server.Server.{Server}
 use Rattle.ftc_standing.specs.Stand.{IsLink}
+use Rattle.ftc_visits.specs.Made.{AreMade}
 use Rattle.ftc_network.specs.Parts.{NetworkParts, server_in, link_in, buffer_of}
 use Rattle.ftc_network.specs.Stand.{IsSlot, AreCounts, AreParts}
 use Rattle.ftc_network.proofs.Changed.{server_set, link_set}
@@ -20,20 +21,21 @@ pub one_server : (setting : Setting) (state after : ChainState) (parts : Network
     IsSlot setting after server other) →
     ((link : ℕ) (queue : Queue) → link < servers setting → IsLink setting state link queue →
     IsLink setting after link queue) →
-    AreCounts setting after entered done propagates →
+    AreCounts setting after entered done propagates → AreMade setting after parts.visits →
     AreParts setting after (record parts {
       servers = slice_set parts.servers number slot;
       entered = entered;
       done = done;
       propagates = propagates;
     })
-one_server setting state after parts number slot entered done propagates within are here others links counts = record {
+one_server setting state after parts number slot entered done propagates within are here others links counts visits = record {
   ring = are.ring;
   partitions = are.partitions;
   servers_are = server_set (IsSlot setting after) (servers setting) parts.servers number slot within here
       (λ server below differs. others server (server_in parts.servers server) below differs (are.servers_are server below));
   links_are = λ link below. links link (link_in parts.links link) below (are.links_are link below);
   counts = counts;
+  visits = visits;
 }
 
 -- the server at a place, as it is read there
@@ -49,7 +51,7 @@ pub still_server : (setting : Setting) (state : ChainState) (parts : NetworkPart
 still_server setting state parts place number slot same within are here =
     one_server setting state state parts place slot parts.entered parts.done parts.propagates within are
     (subst (λ (n : ℕ). IsSlot setting state n slot) (sym same) here)
-    (λ server other below differs stays. stays) (λ link queue below stays. stays) are.counts
+    (λ server other below differs stays. stays) (λ link queue below stays. stays) are.counts are.visits
 
 -- as many packets are withheld where a server withholds what it did
 pub same_withheld : (items : List (Option Server)) (place last : ℕ) (slot : Option Server) → place < length items →
@@ -78,7 +80,7 @@ pub server_and_link : (setting : Setting) (state after : ChainState) (parts : Ne
     IsSlot setting after server other) →
     ((other : ℕ) (queued : Queue) → other < servers setting → other ≢ link → IsLink setting state other queued →
     IsLink setting after other queued) →
-    AreCounts setting after entered done propagates →
+    AreCounts setting after entered done propagates → AreMade setting after parts.visits →
     AreParts setting after (record parts {
       servers = slice_set parts.servers number slot;
       links = slice_set parts.links link queue;
@@ -86,7 +88,7 @@ pub server_and_link : (setting : Setting) (state after : ChainState) (parts : Ne
       done = done;
       propagates = propagates;
     })
-server_and_link setting state after parts number slot link queue entered done propagates within inside are here there servers_stay links_stay counts =
+server_and_link setting state after parts number slot link queue entered done propagates within inside are here there servers_stay links_stay counts visits =
     record {
       ring = are.ring;
       partitions = are.partitions;
@@ -96,6 +98,7 @@ server_and_link setting state after parts number slot link queue entered done pr
       links_are = link_set (IsLink setting after) (servers setting) parts.links link queue inside there
           (λ other below differs. links_stay other (link_in parts.links other) below differs (are.links_are other below));
       counts = counts;
+      visits = visits;
     }
 
 -- no more packets are withheld where a server is gone

@@ -35,3 +35,9 @@ pub on_err_both : {A E : Type 0} (result : Result A E) (One Two Other : Type 0) 
     OnErr result Two → OnErr result Other
 on_err_both (Ok value) One Two Other from one two = tt
 on_err_both (Err fault) One Two Other from one two = from one two
+
+-- what holds of each item that an option may be holds of it
+pub each_some : {A : Type 0} (Fact : A → Type 0) (option : Option A) → ((item : A) → option ≡ Some item → Fact item) →
+    IfSome option Fact
+each_some Fact None each = tt
+each_some Fact (Some item) each = each item refl

@@ -5,6 +5,7 @@ use Rattle.ftc_link.specs.Queue.{Queue}
 use Rattle.ftc_network.specs.declared.network.Network.{Network}
 use Rattle.ftc_ring.specs.Ring.{RingShape}
 use Rattle.ftc_server.specs.declared.server.Server.{Server}
+use Rattle.ftc_visits.specs.declared.visit.MadeVisit.{MadeVisit}
 
 pub record NetworkParts : Type 0 where
   pub ring : RingShape
@@ -14,6 +15,7 @@ pub record NetworkParts : Type 0 where
   pub entered : ℕ
   pub done : ℕ
   pub propagates : ℕ
+  pub visits : List MadeVisit
 
 abbrev pub parts_of : Network → NetworkParts
 parts_of network = record {
@@ -24,6 +26,7 @@ parts_of network = record {
   entered = network.entered;
   done = network.done;
   propagates = network.propagates;
+  visits = network.visits.items;
 }
 
 -- the server of that number, none where it is down

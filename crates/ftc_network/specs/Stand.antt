@@ -6,6 +6,7 @@ use Rattle.ftc_txn.specs.Slots.{slot_at}
 use Rattle.ftc_refinement.specs.Contents.{IsServerAt}
 use Rattle.ftc_server.specs.declared.server.Server.{Server}
 use Rattle.ftc_standing.specs.Stand.{IsLink}
+use Rattle.ftc_visits.specs.Made.{AreMade}
 use Rattle.ftc_network.specs.declared.network.Network.{Network}
 use Rattle.ftc_network.specs.Parts.{NetworkParts, parts_of, server_in, link_in}
 
@@ -29,13 +30,14 @@ pub record AreCounts (setting : Setting) (state : ChainState) (entered done prop
   pub lines : state.lines ≡ drop done setting.lines
   pub propagates_is : propagates ≡ state.propagates
 
--- each server and each link stands for what is there
+-- each server and each link stands for what is there, and the visits are those of the trace
 pub record AreParts (setting : Setting) (state : ChainState) (parts : NetworkParts) : Type 0 where
   pub ring : parts.ring ≡ shape setting
   pub partitions : parts.partitions ≡ setting.partitions
   pub servers_are : (server : ℕ) → server < servers setting → IsSlot setting state server (server_in parts.servers server)
   pub links_are : (link : ℕ) → link < servers setting → IsLink setting state link (link_in parts.links link)
   pub counts : AreCounts setting state parts.entered parts.done parts.propagates
+  pub visits : AreMade setting state parts.visits
 
 abbrev pub IsNetwork : Setting → ChainState → Network → Type 0
 IsNetwork setting state network = AreParts setting state (parts_of network)

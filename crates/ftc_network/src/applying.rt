@@ -12,6 +12,7 @@ use ftc_base::{NoMemory, PacketNo, ServerId};
 use ftc_refinement::{what_apply_does, what_apply_wants, what_stays, where_events_are};
 use ftc_server::Server;
 use ftc_standing::links_stand_still;
+use ftc_visits::made_visits_stay;
 
 /// A server applies a log of a message that it holds.
 fn apply_at(
@@ -52,6 +53,13 @@ impl Network {
         where_events_are();
         servers_beside();
         links_stand_still();
-        apply_at(&mut self.servers[place_of(server)], server, origin, group, packet)
+        made_visits_stay();
+        apply_at(
+            &mut self.servers[place_of(server)],
+            server,
+            origin,
+            group,
+            packet,
+        )
     }
 }

@@ -11,6 +11,7 @@ use ftc_base::{NoMemory, PacketNo};
 use ftc_refinement::{what_carry_does, what_carry_wants, what_stays};
 use ftc_server::Server;
 use ftc_standing::links_stand_still;
+use ftc_visits::made_visits_stay;
 
 /// A message that came round the ring ends at server 0, and its logs that go on are with the forwarder.
 fn carry_at(slot: &mut Option<Server>, origin: PacketNo) -> Result<(), NoMemory>
@@ -38,6 +39,7 @@ impl Network {
     {
         servers_beside();
         links_stand_still();
+        made_visits_stay();
         let _ = self.ring.servers();
         carry_at(&mut self.servers[0], origin)
     }

@@ -12,6 +12,7 @@ use ftc_base::ServerId;
 use ftc_refinement::where_events_are;
 use ftc_ring::steps;
 use ftc_standing::{a_receiver_stops, links_stand_still};
+use ftc_visits::made_visits_stay;
 
 impl Network {
     /// All that a server has is gone, and what is queued to it.
@@ -24,6 +25,7 @@ impl Network {
         where_events_are();
         servers_beside();
         links_stand_still();
+        made_visits_stay();
         a_receiver_stops();
         steps();
         let before = self.ring.previous(server);

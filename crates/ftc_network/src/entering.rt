@@ -19,6 +19,7 @@ use ftc_refinement::{what_stays, what_take_does, what_take_wants};
 use ftc_server::Server;
 use ftc_standing::links_stand_still;
 use ftc_vector::Commits;
+use ftc_visits::made_visits_stay;
 use std::alloc::Global;
 
 /// A message that begins.
@@ -69,11 +70,7 @@ fn enter_at(
 }
 
 /// Server 0 holds a message that begins without a packet.
-fn propagate_at(
-    slot: &mut Option<Server>,
-    alloc: Global,
-    origin: PacketNo,
-) -> Result<(), NoMemory>
+fn propagate_at(slot: &mut Option<Server>, alloc: Global, origin: PacketNo) -> Result<(), NoMemory>
     requires { ∥ IsAllowedAt (event.Propagate origin) 0 slot.old ∥₁ }
     ensures ok { OnOk result (SlotFollows (event.Propagate origin) 0 slot.old slot.new) }
     ensures err { OnErr result (SlotStandsStill 0 slot.old slot.new) }
@@ -100,6 +97,7 @@ impl Network {
     {
         servers_beside();
         links_stand_still();
+        made_visits_stay();
         let _ = self.ring.servers();
         enter_at(&mut self.servers[0], alloc, packet, bytes)?;
         self.entered += 1;
@@ -116,6 +114,7 @@ impl Network {
     {
         servers_beside();
         links_stand_still();
+        made_visits_stay();
         let _ = self.ring.servers();
         propagate_at(&mut self.servers[0], alloc, origin)?;
         self.propagates += 1;

@@ -7,6 +7,7 @@ use ftc_base::PacketNo;
 use ftc_link::Link;
 use ftc_ring::Ring;
 use ftc_server::Server;
+use ftc_visits::MadeVisits;
 
 /// The servers and the links between them, and what stands beside them.
 #[derive(Drop)]
@@ -23,6 +24,8 @@ pub struct Network {
     pub entered: PacketNo,
     pub done: usize,
     pub propagates: u32,
+    /// The visits that count, and what a replica has to have reached to have each.
+    pub visits: MadeVisits,
     ghost some_partition: { 1 ≤ partitions },
     ghost few_partitions: { partitions ≤ MOST_PARTITIONS },
     ghost each_server: { length servers.items ≡ ring.servers },

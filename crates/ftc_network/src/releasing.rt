@@ -18,6 +18,7 @@ use ftc_protocol::order_of_a_state;
 use ftc_refinement::{what_is_due, what_release_does, what_stays};
 use ftc_server::Server;
 use ftc_standing::links_stand_still;
+use ftc_visits::made_visits_stay;
 
 /// The first packet that is due leaves the last server.
 fn release_at(slot: &mut Option<Server>) -> Option<Freed>
@@ -53,6 +54,7 @@ impl Network {
     {
         servers_beside();
         links_stand_still();
+        made_visits_stay();
         let _ = self.ring.servers();
         let last = self.servers.len() - 1;
         release_at(&mut self.servers[last])

@@ -15,6 +15,7 @@ use ftc_link::Link;
 use ftc_refinement::{what_stays, what_take_does, what_take_wants, where_events_are};
 use ftc_server::Server;
 use ftc_standing::{a_message_is_taken, links_stand_still};
+use ftc_visits::made_visits_stay;
 use std::alloc::Global;
 
 /// The receiver of a link holds its oldest message.
@@ -62,6 +63,7 @@ impl Network {
         where_events_are();
         servers_beside();
         links_stand_still();
+        made_visits_stay();
         let receiver = self.ring.next(link);
         let by_ring = link.number() + 1 == self.ring.servers();
         take_at(

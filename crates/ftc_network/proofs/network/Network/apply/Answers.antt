@@ -1,4 +1,4 @@
-use Rattle.std.proofs.Common.{◌≡◌, ◌∙◌, ◌<◌, ◌-◌, ℕ, length, sym, ap, subst, arith}
+use Rattle.std.proofs.Common.{◌≡◌, ◌∙◌, ◌<◌, ◌-◌, ℕ, length, refl, sym, ap, subst, arith}
 use Rattle.ftc_journal.specs.declared.event.Event.{Event}
 use Rattle.ftc_journal.specs.declared.event.Event.TheVariants as event
 use Rattle.ftc_protocol.specs.Next.{next}
@@ -55,7 +55,8 @@ returns-clause-ok c =
       entered_is = is.counts.entered_is;
       lines = is.counts.lines;
       propagates_is = is.counts.propagates_is;
-    })) c.apply_at.ensures.ok
+    })
+    (c.made_visits_stay.ensures setting state event old.visits.items run legal refl is.visits)) c.apply_at.ensures.ok
 
 pub returns-clause-err : goal.returns-clause-err
 returns-clause-err c =

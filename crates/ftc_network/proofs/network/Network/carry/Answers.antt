@@ -38,7 +38,8 @@ returns-clause-ok c =
       entered_is = is.counts.entered_is;
       lines = is.counts.lines;
       propagates_is = is.counts.propagates_is;
-    })) c.carry_at.ensures.ok
+    })
+    (c.made_visits_stay.ensures setting state event old.visits.items run legal refl is.visits)) c.carry_at.ensures.ok
 
 pub returns-clause-err : goal.returns-clause-err
 returns-clause-err c =

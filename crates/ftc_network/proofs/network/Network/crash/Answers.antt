@@ -58,6 +58,7 @@ returns-clause-follows c setting state run legal is =
       lines = lines_left setting.lines state.lines old.done is.counts.lines;
       propagates_is = is.counts.propagates_is;
     })
+    (c.made_visits_stay.ensures setting state event old.visits.items run legal refl is.visits)
 
 pub returns-clause-withheld : goal.returns-clause-withheld
 returns-clause-withheld c =

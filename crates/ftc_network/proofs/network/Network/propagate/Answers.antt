@@ -39,6 +39,7 @@ returns-clause-ok c setting state run legal is =
       lines = is.counts.lines;
       propagates_is = ap (λ (n : ℕ). n + 1) is.counts.propagates_is;
     })
+    (c.made_visits_stay.ensures setting state event old.visits.items run legal refl is.visits)
 
 pub returns-in_err-propagate_at-clause-err : goal.returns-in_err-propagate_at-clause-err
 returns-in_err-propagate_at-clause-err c = as_err c.from_residual.result _ (λ setting state is.

@@ -1,4 +1,4 @@
-use Rattle.std.proofs.Common.{◌≡◌, ◌∙◌, ◌+◌, ◌-◌, ◌<◌, ℕ, Option, None, length, sym, ap, subst, arith}
+use Rattle.std.proofs.Common.{◌≡◌, ◌∙◌, ◌+◌, ◌-◌, ◌<◌, ℕ, Option, None, length, refl, sym, ap, subst, arith}
 use Rattle.std.proofs.lemmas.List.{get_or_read}
 use Rattle.ftc_edge.specs.declared.buffer.Freed.{Freed}
 use Rattle.ftc_journal.specs.declared.event.Event.{Event}
@@ -26,9 +26,11 @@ returns-clause-none c none setting state run is =
     let slot : c.index_mut.result.now ≡ server_in old.servers.items number =
     get_or_read old.servers.items number c.index_mut.result.now within c.index_mut.ensures.value None in
     let done = c.release_at.ensures.none none setting state number run last
-    (subst (IsSlot setting state number) (sym slot) (is.servers_are number (omega (arith, last)))) in
-    (done.0, one_server setting state state (parts_of old) number c.release_at.new.slot old.entered old.done old.propagates
-    within is done.1 (λ server other below differs stays. stays) (λ link queue below stays. stays) is.counts)
+    (subst (IsSlot setting state number) (sym slot) (is.servers_are number (omega (arith, last)))) in (
+      done.0,
+      one_server setting state state (parts_of old) number c.release_at.new.slot old.entered old.done old.propagates
+          within is done.1 (λ server other below differs stays. stays) (λ link queue below stays. stays) is.counts is.visits,
+    )
 
 pub returns-clause-some : goal.returns-clause-some
 returns-clause-some c =
@@ -43,14 +45,17 @@ returns-clause-some c =
     let slot : c.index_mut.result.now ≡ server_in old.servers.items number =
     get_or_read old.servers.items number c.index_mut.result.now within c.index_mut.ensures.value None in
     let released = done setting state number run last
-    (subst (IsSlot setting state number) (sym slot) (is.servers_are number (omega (arith, last)))) in
-    (released.0, one_server setting state (next setting state event) (parts_of old) number c.release_at.new.slot old.entered
-    old.done old.propagates within is released.1
-    (λ server other below differs stays. c.servers_beside.ensures setting state event server other run released.0.legal
-    (λ same. differs (omega (arith, same, last))) stays)
-    (λ link queue below stays. c.links_stand_still.ensures setting state event link queue run released.0.legal tt stays)
-    (record {
-      entered_is = is.counts.entered_is;
-      lines = is.counts.lines;
-      propagates_is = is.counts.propagates_is;
-    }))) c.release_at.ensures.some
+    (subst (IsSlot setting state number) (sym slot) (is.servers_are number (omega (arith, last)))) in (
+      released.0,
+      one_server setting state (next setting state event) (parts_of old) number c.release_at.new.slot old.entered
+          old.done old.propagates within is released.1
+          (λ server other below differs stays. c.servers_beside.ensures setting state event server other run released.0.legal
+          (λ same. differs (omega (arith, same, last))) stays)
+          (λ link queue below stays. c.links_stand_still.ensures setting state event link queue run released.0.legal tt stays)
+          (record {
+            entered_is = is.counts.entered_is;
+            lines = is.counts.lines;
+            propagates_is = is.counts.propagates_is;
+          })
+          (c.made_visits_stay.ensures setting state event old.visits.items run released.0.legal refl is.visits),
+    )) c.release_at.ensures.some

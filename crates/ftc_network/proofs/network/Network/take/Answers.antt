@@ -1,4 +1,4 @@
-use Rattle.std.proofs.Common.{◌≡◌, ◌∙◌, ◌==◌, ◌<◌, ◌+◌, ◌-◌, ℕ, length, sym, ap, subst, arith}
+use Rattle.std.proofs.Common.{◌≡◌, ◌∙◌, ◌==◌, ◌<◌, ◌+◌, ◌-◌, ℕ, length, refl, sym, ap, subst, arith}
 use Rattle.std.proofs.Math.Logic.{∥∥₁_map}
 use Rattle.ftc_journal.specs.declared.event.Event.{Event}
 use Rattle.ftc_journal.specs.declared.event.Event.TheVariants as event
@@ -86,7 +86,8 @@ returns-clause-ok c =
       entered_is = is.counts.entered_is;
       lines = is.counts.lines;
       propagates_is = is.counts.propagates_is;
-    })) c.take_at.ensures.ok
+    })
+    (c.made_visits_stay.ensures setting state event old.visits.items run legal refl is.visits)) c.take_at.ensures.ok
 
 pub returns-clause-err : goal.returns-clause-err
 returns-clause-err c =
@@ -111,7 +112,7 @@ returns-clause-err c =
     (subst (λ (n : ℕ). IsLink setting state n c.take_at.new.link) (sym c.place_of.ensures)
     (subst (IsLink setting state link) (sym (same ∙ queue))
     (is.links_are link (subst (λ (n : ℕ). link < n) size below))))
-    (λ server other less differs stays. stays) (λ other queued less differs stays. stays) is.counts)
+    (λ server other less differs stays. stays) (λ other queued less differs stays. stays) is.counts is.visits)
     c.take_at.ensures.link c.take_at.ensures.slot
 
 pub returns-clause-withheld : goal.returns-clause-withheld

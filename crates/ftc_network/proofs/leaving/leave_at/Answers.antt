@@ -1,0 +1,92 @@
+use Rattle.std.proofs.Common.{◌≡◌, ◌∙◌, ℕ, true, false, Option, Some, None, sym, ap, subst}
+use Rattle.std.proofs.Math.Bool.{Bool-set}
+use Rattle.std.proofs.Math.Logic.{∥∥₁_elim}
+use Rattle.std.specs.Prelude.{is_some}
+use Rattle.ftc_message.specs.declared.message.Message.{Message}
+use Rattle.ftc_protocol.specs.Next.{next}
+use Rattle.ftc_server.specs.declared.server.Server.{Server}
+use Rattle.ftc_server.specs.State.{ServerState}
+use Rattle.ftc_standing.specs.Stand.{IsLink}
+use Rattle.ftc_standing.specs.View.{leaving}
+use Rattle.ftc_refinement.specs.Contents.{IsServerAt}
+use Rattle.ftc_network.specs.Stand.{IsSlot, IsUp}
+use Rattle.ftc_network.specs.Sending.{HasFrameIfRoom}
+use Rattle.ftc_network.proofs.Idle.{idle_after}
+use Rattle.ftc_network.proofs.MessageForms.{has_frame, work_is_send}
+use Rattle.ftc_network.proofs.Results.{each_some}
+use Rattle.ftc_network.proofs.SentAlong.{either_way, up_after, is_sent_where, after_sending}
+use Rattle.ftc_network.proofs.leaving.leave_at.Goals as goal
+
+pub outgoing-requires : goal.outgoing-requires
+outgoing-requires c =
+    let lost = is_some c.args.lost in
+    let live = c.in-Some.live in
+    ∥∥₁_elim c.requires (Bool-set _ _) (λ leaves.
+    let up : IsUp leaves.setting leaves.state c.args.server live =
+    subst (IsSlot leaves.setting leaves.state c.args.server) c.in-Some.is leaves.stands in
+    c.what_pass_wants.ensures.apart leaves.setting leaves.state lost c.args.server c.args.origin live leaves.run leaves.legal
+    up.at)
+
+pub send_on-requires : goal.send_on-requires
+send_on-requires c =
+    let lost = is_some c.args.lost in
+    let live = c.in-Some.live in
+    each_some HasFrameIfRoom c.in_ok-message-in-Some.message (λ message is.
+    has_frame message c.requires (λ leaves few short.
+    let up : IsUp leaves.setting leaves.state c.args.server live =
+    subst (IsSlot leaves.setting leaves.state c.args.server) c.in-Some.is leaves.stands in
+    c.what_pass_wants.ensures.formed leaves.setting leaves.state lost c.args.server c.args.origin live message leaves.run
+    leaves.legal up.at (sym c.in_ok-message-in-Some.ensures.sent ∙ is) few short))
+
+pub pass-requires-clause-work : goal.pass-requires-clause-work
+pass-requires-clause-work c =
+    let lost = is_some c.args.lost in
+    let live = c.in-Some.live in
+    let roomed = c.outgoing.new.self in
+    work_is_send _ c.requires (λ leaves.
+    let up : IsUp leaves.setting leaves.state c.args.server live =
+    subst (IsSlot leaves.setting leaves.state c.args.server) c.in-Some.is leaves.stands in
+    c.what_pass_wants.ensures.work leaves.setting leaves.state lost c.args.server c.args.origin roomed leaves.run leaves.legal
+    (c.what_stays.ensures.buffered leaves.setting leaves.state c.args.server live roomed up.at
+    c.in_ok-message-in-Some.ensures.same))
+
+pub returns-in_ok-send_on-in-Some-clause-ok : goal.returns-in_ok-send_on-in-Some-clause-ok
+returns-in_ok-send_on-in-Some-clause-ok c setting state same run legal link is =
+    let lost = is_some c.args.lost in
+    let server = c.args.server in
+    let origin = c.args.origin in
+    let queue = c.args.link.now in
+    let live = c.in-Some.live in
+    let roomed = c.outgoing.new.self in
+    let passed = c.pass.new.self in
+    let message = c.in_ok-message-in-Some.message in
+    let sends = c.in_ok-message-in-Some.ensures.sent in
+    let room = c.in_ok-message-in-Some.ensures.same in
+    let after = next setting state (leaving lost server origin) in
+    let up : IsUp setting state server live = subst (IsSlot setting state server) c.in-Some.is is in
+    let at : IsServerAt setting state server roomed =
+    c.what_stays.ensures.buffered setting state server live roomed up.at room in (
+      subst (λ queue_now. IsLink setting after server queue_now) (sym c.in_ok-send_on-in-Some.ensures.ok)
+          (after_sending setting state server origin queue link c.args.lost c.args.up message same
+          (λ none. c.what_is_sent.ensures.nothing setting state lost server origin live run legal up.at (sym sends ∙ none))
+          (λ sent some. is_sent_where setting state server origin live sent up.at (sym sends ∙ some))
+          (λ sent some queued. c.what_is_sent.ensures.queued setting state lost server origin live queue sent run legal queued
+          up.at (sym sends ∙ some) link)
+          (λ gap away now. c.a_message_is_sent.ensures.away setting state lost server origin queue gap run legal away now link)),
+      record {
+        up = up_after setting state lost server origin server ∙ up.up;
+        at = c.what_pass_does.ensures setting state lost server origin roomed passed run legal at c.pass.ensures;
+        idle = idle_after live passed
+            (ap (λ (s : ServerState). s.head) c.pass.ensures.rest ∙ ap (λ (s : ServerState). s.head) room.rest) up.idle;
+      },
+    )
+
+pub returns-in-None-clause-ok : goal.returns-in-None-clause-ok
+returns-in-None-clause-ok c setting state same run legal link is =
+    let lost = is_some c.args.lost in
+    let down : state.up c.args.server ≡ false = subst (IsSlot setting state c.args.server) c.in-None.is is in
+    let up : state.up c.args.server ≡ true =
+    either_way (state.up c.args.server ≡ true) setting state c.args.server c.args.origin lost
+    (λ passes. (c.where_events_are.ensures.pass setting state c.args.server c.args.origin run passes).1)
+    (λ loses. (c.where_events_are.ensures.lose setting state c.args.server c.args.origin run loses).1) legal in
+    absurd cc
