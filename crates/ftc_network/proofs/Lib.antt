@@ -1,10 +1,12 @@
 mod Allowed
 mod Changed
 mod EndsAlone
+mod GotReplicas
 mod Idle
 mod IdleSlots
 mod LastServer
 mod MessageForms
+mod NearServers
 mod NewReplicas
 mod OneEach
 mod OneServer
@@ -13,4 +15,5 @@ mod Released
 mod Results
 mod ScriptLines
 mod SentAlong
+mod Truncated
 mod Untold

@@ -1,16 +1,36 @@
 //! A server begins anew.
 
-ghost use Rattle.std.specs.Prelude.{◌≡◌, ◌≢◌, ◌<◌, ℕ, true, length, Some, IfSome, IsNone};
+ghost use Rattle.std.specs.Prelude.{◌≡◌, ◌≢◌, ◌<◌, ◌≤◌, ℕ, true, length, Some, IfSome, IsNone, IfOk, OnOk, OnErr};
+ghost use Rattle.ftc_protocol.specs.Drive.{IsNoneDue};
+ghost use Rattle.ftc_protocol.specs.Legal.{IsNextLine};
+ghost use Rattle.ftc_protocol.specs.Recovery.{undone_visits};
+ghost use Rattle.ftc_protocol.specs.Run.{IsRunState};
+ghost use Rattle.ftc_protocol.specs.Setting.{Setting, rule_at};
+ghost use Rattle.ftc_protocol.specs.State.{ChainState};
 ghost use Rattle.ftc_ring.specs.Live.{is_live, IsAlone};
-ghost use Rattle.ftc_network.specs.Parts.{server_in, link_in};
-ghost use Rattle.ftc_network.specs.Recovering.{is_up, AreNear, emptied, with_gaps, cut_off, may_drop, SlotHasDropped, AreReplaced};
+ghost use Rattle.ftc_script.specs.declared.line.ScriptLine.TheVariants.{Recover};
+ghost use Rattle.ftc_server.specs.declared.server.Server.{Server as AServer};
+ghost use Rattle.ftc_network.specs.Events.{StandsStill};
+ghost use Rattle.ftc_network.specs.Parts.{server_in, link_in, withheld_in};
+ghost use Rattle.ftc_network.specs.Recovering.{IsRecovering, HasRecovered, is_up, AreNear, emptied, with_gaps, cut_off, may_drop, SlotHasDropped, AreReplaced};
+ghost use Rattle.ftc_network.specs.Reviving.{IsAnew};
+ghost use Rattle.ftc_network.specs.Stand.{IsNetwork};
 
+use crate::laws::servers_beside;
 use crate::network::Network;
 use crate::places::place_of;
-use ftc_base::{ServerId, ServerSet};
+use crate::reviving::revived;
+use ftc_base::{NoMemory, ServerId, ServerSet};
+use ftc_journal::VisitNames;
 use ftc_link::Link;
-use ftc_ring::Ring;
+use ftc_mbox::Rule;
+use ftc_protocol::order_of_a_state;
+use ftc_refinement::{what_drop_unready_does, what_revive_makes, where_events_are};
+use ftc_ring::{Ring, recoveries, the_live};
 use ftc_server::Server;
+use ftc_standing::a_server_is_replaced;
+use ftc_visits::undone_visits_are_dropped;
+use std::alloc::Global;
 
 /// The two live servers next to one that is down.
 #[derive(Clone, Copy)]
@@ -125,5 +145,79 @@ impl Network {
             Some(server) => server,
             None => unreachable!(),
         }
+    }
+
+    /// The visits that the recovery of a server undoes, and the server that begins anew.
+    fn replaced(
+        &self,
+        alloc: Global,
+        server: ServerId,
+        rule: &Rule,
+        near: &Neighbours,
+    ) -> Result<(VisitNames, Server), NoMemory>
+        requires allowed { ∥ IsRecovering server rule.now self.now ∥₁ }
+        requires near { AreNear self.now.ring.servers self.now.servers.items server near.now.previous near.now.following }
+        ensures undone { IfOk result (λ made. (setting : Setting) (state : ChainState) → IsRunState setting state →
+            IsNextLine state.lines (Recover state.entered server) → IsNetwork setting state self.now →
+            made.0 ≡ undone_visits setting state server) }
+        ensures new { IfOk result (λ made. (previous following : AServer) →
+            server_in self.now.servers.items near.now.previous ≡ Some previous →
+            server_in self.now.servers.items near.now.following ≡ Some following →
+            IsAnew self.now.ring server rule.now self.now.partitions previous following made.1) }
+    {
+        order_of_a_state();
+        the_live();
+        recoveries();
+        let previous = self.live(near.previous);
+        let following = self.live(near.following);
+        let undone = self.visits.undone(alloc, near.previous, following)?;
+        let new = revived(
+            alloc,
+            &self.ring,
+            server,
+            rule,
+            self.partitions,
+            previous,
+            following,
+        )?;
+        Ok((undone, new))
+    }
+
+    /// A server that is down begins anew with what its two live neighbours have. The answer is the visits that this
+    /// undoes.
+    pub fn recover(
+        &mut self,
+        alloc: Global,
+        server: ServerId,
+        rule: &Rule,
+    ) -> Result<VisitNames, NoMemory>
+        requires allowed { ∥ IsRecovering server rule.now self.old ∥₁ }
+        requires room { self.old.done < usize.MAX }
+        ensures ok { IfOk result (λ undone. (setting : Setting) (state : ChainState) → IsRunState setting state →
+            IsNoneDue setting state → IsNextLine state.lines (Recover state.entered server) →
+            rule.now ≡ rule_at setting server → IsNetwork setting state self.old →
+            HasRecovered setting state server undone self.new) }
+        ensures err { OnErr result (StandsStill self.old self.new) }
+        ensures withheld { OnOk result (withheld_in self.new ≤ withheld_in self.old) }
+    {
+        order_of_a_state();
+        where_events_are();
+        the_live();
+        recoveries();
+        what_revive_makes();
+        what_drop_unready_does();
+        a_server_is_replaced();
+        servers_beside();
+        undone_visits_are_dropped();
+        let Some(near) = self.neighbours(server) else {
+            return Ok(VisitNames::new(alloc));
+        };
+        let (undone, new) = self.replaced(alloc, server, rule, &near)?;
+        let following = near.following;
+        replace(&mut self.servers, server, following, new);
+        cut_off(&mut self.links, &self.ring, server, following);
+        self.visits.drop_undone(&undone);
+        self.done += 1;
+        Ok(undone)
     }
 }
