@@ -1,6 +1,6 @@
 -- Slots that are idle, one by one or all.
-use Rattle.std.proofs.Common.{◌≡◌, ◌≢◌, ◌∙◌, ◌||◌, ℕ, zero, suc, Bool, false, true, List, [], ◌∷◌, Option, Some, None, refl, inl, inr, sym, ap, subst, length, slice_set, get_or-set_other, get_or-set_same, length-set}
-use Rattle.std.specs.List.{list_any}
+use Rattle.std.proofs.Common.{◌≡◌, ◌≢◌, ◌∙◌, ◌&&◌, ◌||◌, ℕ, zero, suc, Bool, false, true, List, [], ◌∷◌, Option, Some, None, refl, inl, inr, sym, ap, subst, length, slice_set, get_or-set_other, get_or-set_same, length-set}
+use Rattle.std.specs.List.{list_all, list_any}
 use Rattle.std.proofs.lemmas.Bool.{cases_eq, cases_lt}
 use Rattle.std.proofs.lemmas.List.{get_or_past}
 use Rattle.ftc_txn.specs.Slots.{Running, slot_at, packet_at, packet_of}
@@ -11,6 +11,12 @@ pub none_any : (test : Option Running → Bool) → test None ≡ false → (slo
 none_any test none [] idle = refl
 none_any test none (slot ∷ slots) idle =
     ap (λ (b : Bool). b || list_any test slots) (ap test (idle 0) ∙ none) ∙ none_any test none slots (λ worker. idle (suc worker))
+
+pub none_all : (test : Option Running → Bool) → test None ≡ true → (slots : List (Option Running)) →
+    ((worker : ℕ) → slot_at slots worker ≡ None) → list_all test slots ≡ true
+none_all test none [] idle = refl
+none_all test none (slot ∷ slots) idle =
+    ap (λ (b : Bool). b && list_all test slots) (ap test (idle 0) ∙ none) ∙ none_all test none slots (λ worker. idle (suc worker))
 
 pub set_other : (slots : List (Option Running)) (worker : ℕ) (slot : Option Running) (other : ℕ) → other ≢ worker →
     slot_at (slice_set slots worker slot) other ≡ slot_at slots other

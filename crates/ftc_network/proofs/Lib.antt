@@ -12,6 +12,7 @@ mod OneEach
 mod OneServer
 mod ReadAlone
 mod Released
+mod Replaced
 mod Results
 mod ScriptLines
 mod SentAlong
