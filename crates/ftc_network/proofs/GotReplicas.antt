@@ -1,5 +1,5 @@
 -- What a new server gets of each group, as the state has it.
-use Rattle.std.proofs.Common.{◌≡◌, ◌≢◌, ◌<◌, ◌≤◌, ◌+◌, ◌-◌, ◌==◌, ◌∙◌, ℕ, Bool, true, false, not, nat_le, List, Option, Some, None, refl, sym, ap, subst, inl, inr, arith}
+use Rattle.std.proofs.Common.{◌≡◌, ◌≢◌, ◌<◌, ◌≤◌, ◌+◌, ◌-◌, ◌==◌, ◌∙◌, ℕ, Bool, true, false, not, nat_le, Option, Some, None, refl, sym, ap, subst, inl, inr, arith}
 use Rattle.std.specs.Prelude.{if◌then◌else◌}
 use Rattle.std.proofs.lemmas.Bool.{eqb-true, eqb-false, leb-true, leb-false, le-leb, eq-eqb, ne_eqb, and_parts, and_from, both_ways, not-true}
 use Rattle.ftc_mbox.specs.declared.rule.Rule.{Rule}
@@ -20,7 +20,8 @@ use Rattle.ftc_standing.specs.Stand.{IsReplicaSlot, replica_kept, got_by}
 use Rattle.ftc_network.specs.Reviving.{got_of, news, IsAnew}
 use Rattle.ftc_network.proofs.NewReplicas.{each_new, new_found, new_once}
 
-module _ (setting : Setting) (state : ChainState) (number : ℕ) (server : Server) (is : IsServerAt setting state number server)
+module _ (setting : Setting) (state : ChainState) (number : ℕ) (server : Server)
+    (is : IsServerAt setting state number server)
     (group : ℕ) (below : group < servers setting) where
   keys_in : (slot : Option Held) → IsReplicaSlot setting state number server.known group slot →
       (replica_or_own server slot).partitions ≡ setting.partitions
@@ -55,18 +56,21 @@ module _ (setting : Setting) (state : ChainState) (number : ℕ) (server : Serve
       ] refl
 
 -- what is got has the partitions of the setting
-pub got_keys : (setting : Setting) (state : ChainState) (ring : RingShape) (server first last : ℕ) (previous following : Server) →
-    IsServerAt setting state first previous → IsServerAt setting state last following → (group : ℕ) →
-    group < servers setting → (got_of ring server previous following group).partitions ≡ setting.partitions
-got_keys setting state ring server first last previous following before after group below =
+pub got_keys : (setting : Setting) (state : ChainState) (ring : RingShape) (server first last : ℕ)
+    (previous following : Server) →
+    IsServerAt setting state first previous → IsServerAt setting state last following → (group partitions : ℕ) →
+    group < servers setting → partitions ≡ setting.partitions →
+    (got_of ring server previous following group).partitions ≡ partitions
+got_keys setting state ring server first last previous following before after group partitions below same =
     elim (nat_le (apart ring.servers previous.id server) (apart ring.servers group server)) as (λ (t : Bool).
-    (if t then replica_in previous group else replica_in following group).partitions ≡ setting.partitions) [
-      | true ↦ keys_are setting state first previous before group below
-      | false ↦ keys_are setting state last following after group below
+    (if t then replica_in previous group else replica_in following group).partitions ≡ partitions) [
+      | true ↦ keys_are setting state first previous before group below ∙ sym same
+      | false ↦ keys_are setting state last following after group below ∙ sym same
     ]
 
 -- what is got of a group that the source is a member of
-pub got_is : (setting : Setting) (state : ChainState) (ring : RingShape) (server : ℕ) (previous following : Server) (group : ℕ) →
+pub got_is : (setting : Setting) (state : ChainState) (ring : RingShape) (server : ℕ) (previous following : Server)
+    (group : ℕ) →
     ring ≡ shape setting → group < servers setting →
     IsServerAt setting state (previous_live setting state server) previous →
     IsServerAt setting state (following_live setting state server) following →
@@ -78,16 +82,20 @@ pub got_is : (setting : Setting) (state : ChainState) (ring : RingShape) (server
     ≡ Some (got_of ring server previous following group)
 got_is setting state ring server previous following group same below before after near far =
     let size : ring.servers ≡ servers setting = ap (λ (r : RingShape). r.servers) same in
-    let test = nat_le (apart (servers setting) (previous_live setting state server) server) (apart (servers setting) group server) in
+    let test = nat_le (apart (servers setting) (previous_live setting state server) server)
+    (apart (servers setting) group server) in
     let tests : nat_le (apart ring.servers previous.id server) (apart ring.servers group server) ≡ test =
     ap (λ (n : ℕ). nat_le (apart n previous.id server) (apart n group server)) size
-    ∙ ap (λ (n : ℕ). nat_le (apart (servers setting) n server) (apart (servers setting) group server)) before.number_is in
+    ∙ ap (λ (n : ℕ). nat_le (apart (servers setting) n server) (apart (servers setting) group server))
+    before.number_is in
     elim test as (λ (t : Bool). test ≡ t →
     (if t then replica_kept (previous_live setting state server) (contents_of previous) group
     else replica_kept (following_live setting state server) (contents_of following) group)
     ≡ Some (if t then replica_in previous group else replica_in following group)) [
-      | true ↦ λ up_to. kept_is setting state (previous_live setting state server) previous before group below (near (leb-true _ _ up_to))
-      | false ↦ λ behind. kept_is setting state (following_live setting state server) following after group below (far (leb-false _ _ behind))
+      | true ↦ λ up_to. kept_is setting state (previous_live setting state server) previous before group below
+          (near (leb-true _ _ up_to))
+      | false ↦ λ behind. kept_is setting state (following_live setting state server) following after group below
+          (far (leb-false _ _ behind))
     ] refl
     ∙ ap (λ (t : Bool). Some (if t then replica_in previous group else replica_in following group)) (sym tests)
 
@@ -105,9 +113,11 @@ pub sources_are : (setting : Setting) (state : ChainState) (server : ℕ) → Is
     server < servers setting → IsDown state.up server →
     IsLiveBefore (servers setting) state.up server (previous_live setting state server) →
     IsLiveAfter (servers setting) state.up server (following_live setting state server) →
-    ((n : ℕ) (live : ℕ → Bool) (k r s j : ℕ) → k < n → IsDown live k → IsLiveBefore n live k r → IsLiveAfter n live k s →
+    ((n : ℕ) (live : ℕ → Bool) (k r s j : ℕ) → k < n → IsDown live k → IsLiveBefore n live k r →
+    IsLiveAfter n live k s →
     j < n → apart n r k ≤ apart n j k → apart n j r + apart n r k ≡ apart n j k) →
-    ((n : ℕ) (live : ℕ → Bool) (k r s j : ℕ) → k < n → IsDown live k → IsLiveBefore n live k r → IsLiveAfter n live k s →
+    ((n : ℕ) (live : ℕ → Bool) (k r s j : ℕ) → k < n → IsDown live k → IsLiveBefore n live k r →
+    IsLiveAfter n live k s →
     j < n → apart n j k < apart n r k → IsBetween n r s j × (apart n j k < apart n j s)) →
     ((ring : RingShape) (live : ℕ → Bool) (k r s j : ℕ) → k < ring.servers → IsDown live k →
     IsLiveBefore ring.servers live k r → IsLiveAfter ring.servers live k s → IsAdmissible ring live → j < ring.servers →
@@ -117,7 +127,8 @@ sources_are setting state server admissible inside down before after from_before
     let last = following_live setting state server in
     record {
       near = λ group below member closer.
-          let way = from_before (servers setting) state.up server first last group inside down before after below closer in
+          let way = from_before (servers setting) state.up server first last group inside down before after below
+          closer in
           le-leb (apart (servers setting) group first) setting.failures
           (omega (arith, way, leb-true (apart (servers setting) group server) setting.failures member));
       far = λ group below member farther. le-leb (apart (servers setting) group last) setting.failures
@@ -128,7 +139,8 @@ sources_are setting state server admissible inside down before after from_before
 own_member : (setting : Setting) (server : ℕ) → is_member setting server server ≡ true
 own_member setting server =
     let none : apart (servers setting) server server ≡ 0 =
-    ap (λ (t : Bool). if t then server - server else server + servers setting - server) (le-leb server server (omega arith))
+    ap (λ (t : Bool). if t then server - server else server + servers setting - server)
+    (le-leb server server (omega arith))
     ∙ omega arith in
     le-leb (apart (servers setting) server server) setting.failures (omega (arith, none))
 
@@ -139,14 +151,16 @@ later_parts setting group server later =
     (λ same. both_ways (group == server) (not-true (group == server) parts.0) (eq-eqb group server same), parts.1)
 
 -- what a new server gets is of its own group and of those that it is a later member of
-pub are_got : (setting : Setting) (state : ChainState) (server : ℕ) (previous following : Server) → server < servers setting →
+pub are_got : (setting : Setting) (state : ChainState) (server : ℕ) (previous following : Server) →
+    server < servers setting →
     IsServerAt setting state (previous_live setting state server) previous →
     IsServerAt setting state (following_live setting state server) following → AreSources setting state server →
     AreGot setting state server previous following (got_of (shape setting) server previous following server)
     (news (shape setting) server previous following)
 are_got setting state server previous following inside before after sources =
     let test = λ (group : ℕ). is_later_member (shape setting) group server in
-    let make : ℕ → GroupReplica = λ group. record { group = group; replica = got_of (shape setting) server previous following group } in
+    let make : ℕ → GroupReplica = λ group. record
+    { group = group; replica = got_of (shape setting) server previous following group } in
     let got = λ (group : ℕ) (below : group < servers setting) (member : is_member setting group server ≡ true).
     got_is setting state (shape setting) server previous following group refl below before after
     (sources.near group below member) (sources.far group below member) in
@@ -160,9 +174,12 @@ are_got setting state server previous following inside before after sources =
             replica = got group below parts.1;
           });
       once = new_once test make (servers setting) (λ number. refl);
-      all = λ group below member later. (make group, new_found test make group (servers setting) (λ number. refl) below
-          (and_from (not (group == server)) (is_member setting group server)
-          (ap not (ne_eqb group server later)) member));
+      all = λ group below member later. (
+        make group,
+        new_found test make group (servers setting) (λ number. refl) below
+            (and_from (not (group == server)) (is_member setting group server)
+            (ap not (ne_eqb group server later)) member),
+      );
     }
 
 -- a server that begins anew in the ring, with the rule and the partitions of a setting

@@ -1,5 +1,5 @@
 -- The live servers next to one, by two tests that agree on the ring, and in a state for which the servers stand.
-use Rattle.std.proofs.Common.{◌≡◌, ◌≢◌, ◌<◌, ◌∙◌, ℕ, Bool, true, false, List, Option, Some, None, refl, sym, ap, subst}
+use Rattle.std.proofs.Common.{◌≡◌, ◌<◌, ◌∙◌, ℕ, Bool, true, Option, Some, None, refl, sym, ap, subst}
 use Rattle.std.specs.Prelude.{is_some, unwrap_or}
 use Rattle.ftc_protocol.specs.Recovery.{previous_live, following_live}
 use Rattle.ftc_protocol.specs.Setting.{Setting, servers}
@@ -12,7 +12,8 @@ use Rattle.ftc_network.specs.Recovering.{is_up, AreNear}
 use Rattle.ftc_network.specs.Stand.{IsSlot, IsUp, AreParts}
 use Rattle.ftc_network.proofs.OneEach.{up_there}
 
-module _ (size : ℕ) (one other : ℕ → Bool) (server : ℕ) (same : (number : ℕ) → number < size → one number ≡ other number) where
+module _ (size : ℕ) (one other : ℕ → Bool) (server : ℕ)
+    (same : (number : ℕ) → number < size → one number ≡ other number) where
   pub before_by : (before : ℕ) → IsLiveBefore size one server before → IsLiveBefore size other server before
   before_by before is = record {
     within = is.within;
@@ -37,9 +38,21 @@ some_of None is = absurd cc
 some_of (Some item) is = (item, refl)
 
 -- of servers that stand for a state, those are up that are there
-pub up_in : (setting : Setting) (state : ChainState) (parts : NetworkParts) → AreParts setting state parts → (number : ℕ) →
+pub up_in : (setting : Setting) (state : ChainState) (parts : NetworkParts) → AreParts setting state parts →
+    (number : ℕ) →
     number < servers setting → is_up parts.servers number ≡ state.up number
-up_in setting state parts are number below = up_there setting state number (server_in parts.servers number) (are.servers_are number below)
+up_in setting state parts are number below = up_there setting state number (server_in parts.servers number)
+    (are.servers_are number below)
+
+-- a number of the ring, as the setting has it and as the servers' ring has it
+pub within_ring : (setting : Setting) (state : ChainState) (parts : NetworkParts) → AreParts setting state parts →
+    (number : ℕ) → number < servers setting → number < parts.ring.servers
+within_ring setting state parts are number below =
+    subst (λ (ring : RingShape). number < ring.servers) (sym are.ring) below
+
+pub within_setting : (setting : Setting) (state : ChainState) (parts : NetworkParts) → AreParts setting state parts →
+    (number : ℕ) → number < parts.ring.servers → number < servers setting
+within_setting setting state parts are number below = subst (λ (ring : RingShape). number < ring.servers) are.ring below
 
 -- the two live servers in a state
 pub record AreLive (setting : Setting) (state : ChainState) (server previous following : ℕ) : Type 0 where
@@ -50,12 +63,14 @@ pub near_live : (setting : Setting) (state : ChainState) (parts : NetworkParts) 
     (server previous following : ℕ) → AreNear parts.ring.servers parts.servers server previous following →
     AreLive setting state server previous following
 near_live setting state parts are server previous following near =
-    let size : parts.ring.servers ≡ servers setting = ap (λ (ring : RingShape). ring.servers) are.ring in
     record {
-      before = before_by (servers setting) (is_up parts.servers) state.up server (up_in setting state parts are) previous
-          (subst (λ (n : ℕ). IsLiveBefore n (is_up parts.servers) server previous) size near.before);
+      before = before_by (servers setting) (is_up parts.servers) state.up server
+          (up_in setting state parts are) previous
+          (subst (λ (ring : RingShape). IsLiveBefore ring.servers (is_up parts.servers) server previous) are.ring
+          near.before);
       after = after_by (servers setting) (is_up parts.servers) state.up server (up_in setting state parts are) following
-          (subst (λ (n : ℕ). IsLiveAfter n (is_up parts.servers) server following) size near.after);
+          (subst (λ (ring : RingShape). IsLiveAfter ring.servers (is_up parts.servers) server following) are.ring
+          near.after);
     }
 
 pub previous_is : (setting : Setting) (state : ChainState) (server previous : ℕ) →
@@ -70,4 +85,5 @@ following_is setting state server following found = sym (ap (λ (o : Option ℕ)
 pub up_at : (setting : Setting) (state : ChainState) (parts : NetworkParts) → AreParts setting state parts →
     (number : ℕ) (server : Server) → number < servers setting → server_in parts.servers number ≡ Some server →
     IsUp setting state number server
-up_at setting state parts are number server below there = subst (IsSlot setting state number) there (are.servers_are number below)
+up_at setting state parts are number server below there = subst (IsSlot setting state number) there
+    (are.servers_are number below)

@@ -1,7 +1,6 @@
 -- Servers of which one begins anew and another drops messages, and links that are cut off.
 use Rattle.std.proofs.Common.{◌≡◌, ◌≢◌, ◌<◌, ◌≤◌, ◌==◌, ◌||◌, ◌∙◌, ℕ, Bool, true, false, List, [], Option, Some, None, length, refl, sym, ap, subst, inl, inr, arith}
 use Rattle.std.specs.Prelude.{if◌then◌else◌}
-use Rattle.std.specs.List.{list_all}
 use Rattle.std.proofs.lemmas.Bool.{cases_eq, eqb-true, eqb-false}
 use Rattle.ftc_edge.specs.declared.buffer.Withheld.{Withheld}
 use Rattle.ftc_journal.specs.declared.event.Event.TheVariants as event
@@ -19,7 +18,6 @@ use Rattle.ftc_server.specs.Slots.{slot_is_ready}
 use Rattle.ftc_server.specs.State.{ServerState}
 use Rattle.ftc_server.specs.Steps.{HasDropped}
 use Rattle.ftc_standing.specs.Stand.{IsLink}
-use Rattle.ftc_txn.specs.Slots.{Running, slot_at}
 use Rattle.ftc_network.specs.Parts.{server_in, buffer_of}
 use Rattle.ftc_network.specs.Recovering.{cut_off, may_drop, SlotHasDropped, AreReplaced}
 use Rattle.ftc_network.specs.Stand.{IsSlot}
@@ -39,7 +37,8 @@ module _ (old new : List (Option Server)) (server following : ℕ) (made : Serve
   pub each_replaced : (Before After : ℕ → Option Server → Type 0) (size : ℕ) →
       ((number : ℕ) → number < size → Before number (server_in old number)) → After server (Some made) →
       (SlotHasDropped (server_in old following) (server_in new following) → After following (server_in new following)) →
-      ((number : ℕ) (slot : Option Server) → number ≢ server → number ≢ following → Before number slot → After number slot) →
+      ((number : ℕ) (slot : Option Server) → number ≢ server → number ≢ following → Before number slot →
+      After number slot) →
       (number : ℕ) → number < size → After number (server_in new number)
   each_replaced Before After size before here there others number below = elim (cases_eq number server) [
     | inl same ↦ subst (λ (n : ℕ). After n (server_in new n)) (sym same) (subst (After server) (sym are.here) here)
@@ -62,12 +61,14 @@ module _ (old new : List (Option Server)) (server following : ℕ) (made : Serve
     | inl here ↦
         let empty : length (buffer_of (server_in new last)) ≡ 0 =
         ap (λ (n : ℕ). length (buffer_of (server_in new n))) here
-        ∙ (ap (λ (o : Option Server). length (buffer_of o)) are.here ∙ ap (λ (list : List Withheld). length list) none) in
+        ∙ (ap (λ (o : Option Server). length (buffer_of o)) are.here ∙ ap
+        (λ (list : List Withheld). length list) none) in
         omega (arith, empty)
     | inr differs ↦
         let same : length (buffer_of (server_in new last)) ≡ length (buffer_of (server_in old last)) =
         elim (cases_eq last following) [
-          | inl there ↦ subst (λ (n : ℕ). length (buffer_of (server_in new n)) ≡ length (buffer_of (server_in old n))) (sym there)
+          | inl there ↦ subst (λ (n : ℕ). length (buffer_of (server_in new n)) ≡ length (buffer_of (server_in old n)))
+              (sym there)
               (ap (λ (list : List Withheld). length list)
               (same_buffer (server_in old following) (server_in new following) (are.dropped apart)))
           | inr apart_too ↦ ap (λ (o : Option Server). length (buffer_of o)) (are.others last differs apart_too)
@@ -80,11 +81,13 @@ module _ (setting : Setting) (state : ChainState) (server : ℕ) (undone : List 
   after = next setting state (event.Recover server undone)
 
   pub up_again : after.up server ≡ true
-  up_again = with_at_cases (λ (up : Bool). up ≡ true) state.up server true server (λ same. refl) (λ differs. absurd (differs refl))
+  up_again = with_at_cases (λ (up : Bool). up ≡ true) state.up server true server (λ same. refl)
+      (λ differs. absurd (differs refl))
 
   -- the live server after has dropped messages
   pub slot_dropped : (old new : Option Server) →
-      ((before later : Server) → IsServerAt setting state (following_live setting state server) before → HasDropped before later →
+      ((before later : Server) → IsServerAt setting state (following_live setting state server) before →
+      HasDropped before later →
       IsServerAt setting after (following_live setting state server) later) →
       state.up (following_live setting state server) ≡ true →
       IsSlot setting state (following_live setting state server) old → SlotHasDropped old new →
@@ -109,12 +112,14 @@ module _ (setting : Setting) (state : ChainState) (server : ℕ) (undone : List 
       IsLink setting state link queue → IsLink setting after link (record queue { messages = []; gap = gap })) →
       ((gap : Bool) → next_of (servers setting) link ≢ following_live setting state server → gap ≡ after.gap link →
       IsLink setting state link queue → IsLink setting after link (record queue { gap = gap })) →
-      IsLink setting state link queue → IsLink setting after link (cut_off (servers setting) server following link queue)
+      IsLink setting state link queue →
+      IsLink setting after link (cut_off (servers setting) server following link queue)
   link_cut following link queue there into others is =
       let gap : gap_in following link queue.gap ≡ after.gap link =
       ap (λ (number : ℕ). gap_in number link queue.gap) there
       ∙ ap (λ (b : Bool). gap_in (following_live setting state server) link b) is.gap in
-      elim (next_of (servers setting) link == following) as (λ (t : Bool). (next_of (servers setting) link == following) ≡ t →
+      elim (next_of (servers setting) link == following) as
+      (λ (t : Bool). (next_of (servers setting) link == following) ≡ t →
       IsLink setting after link
       (record queue { messages = if t then [] else queue.messages; gap = gap_in following link queue.gap })) [
         | true ↦ λ same. into (gap_in following link queue.gap) (eqb-true _ _ same ∙ there) gap is

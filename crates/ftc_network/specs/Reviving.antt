@@ -11,7 +11,8 @@ use Rattle.ftc_server.specs.Standing.{is_later_member}
 use Rattle.ftc_server.specs.Steps.{IsRevived}
 use Rattle.ftc_vector.specs.Commits.{all_merged}
 
--- of a group: what the server before has, where the group's head lies up to that one, and else what the server after has
+-- of a group: what the server before has, where the group's head lies up to that one, and else what the server after
+-- has
 abbrev pub got_of : RingShape → ℕ → Server → Server → ℕ → Held
 got_of ring server previous following group =
     if nat_le (apart ring.servers previous.id server) (apart ring.servers group server)
@@ -27,7 +28,8 @@ new_of ring server previous following group =
 abbrev pub news : RingShape → ℕ → Server → Server → List GroupReplica
 news ring server previous following = each_below (new_of ring server previous following) ring.servers
 
--- the server begins anew with what it gets of its own group and of those that it is a later member of, and with what both know
+-- the server begins anew with what it gets of its own group and of those that it is a later member of, and with what
+-- both know
 abbrev pub IsAnew : RingShape → ℕ → Rule → ℕ → Server → Server → Server → Type 0
 IsAnew ring server rule partitions previous following new =
     IsRevived ring server rule partitions (got_of ring server previous following server)

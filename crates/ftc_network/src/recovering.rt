@@ -91,12 +91,7 @@ fn drop_unready_at(slot: &mut Option<Server>)
 }
 
 /// The new server takes its place, and the live server after it drops the messages that lack a log.
-fn replace(
-    servers: &mut Vec<Option<Server>>,
-    server: ServerId,
-    following: ServerId,
-    new: Server,
-)
+fn replace(servers: &mut Vec<Option<Server>>, server: ServerId, following: ServerId, new: Server)
     requires server { server < length servers.old.items }
     requires following { following < length servers.old.items }
     requires ready { may_drop (server_in servers.old.items following) ≡ true }
@@ -156,7 +151,8 @@ impl Network {
         near: &Neighbours,
     ) -> Result<(VisitNames, Server), NoMemory>
         requires allowed { ∥ IsRecovering server rule.now self.now ∥₁ }
-        requires near { AreNear self.now.ring.servers self.now.servers.items server near.now.previous near.now.following }
+        requires near { AreNear self.now.ring.servers self.now.servers.items server near.now.previous
+            near.now.following }
         ensures undone { IfOk result (λ made. (setting : Setting) (state : ChainState) → IsRunState setting state →
             IsNextLine state.lines (Recover state.entered server) → IsNetwork setting state self.now →
             made.0 ≡ undone_visits setting state server) }
@@ -167,7 +163,6 @@ impl Network {
     {
         order_of_a_state();
         the_live();
-        recoveries();
         let previous = self.live(near.previous);
         let following = self.live(near.following);
         let undone = self.visits.undone(alloc, near.previous, following)?;

@@ -112,7 +112,15 @@ fn got_all(
     let mut replicas = GroupReplicas::new(alloc);
     for number in 0..ring.servers() {
         let group = ServerId::new(number).unwrap();
-        add_group(&mut replicas, alloc, ring, server, group, previous, following)?;
+        add_group(
+            &mut replicas,
+            alloc,
+            ring,
+            server,
+            group,
+            previous,
+            following,
+        )?;
     }
     Ok(replicas)
 }

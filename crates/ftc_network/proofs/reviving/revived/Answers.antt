@@ -1,4 +1,4 @@
-use Rattle.std.proofs.Common.{◌≡◌, ◌∙◌, ◌&&◌, ◌<◌, ℕ, Bool, true, nat_lt, List, ap, subst, sym}
+use Rattle.std.proofs.Common.{◌≡◌, ◌∙◌, ◌&&◌, ℕ, Bool, true, List, ap, subst, sym}
 use Rattle.std.specs.List.{list_all}
 use Rattle.std.proofs.lemmas.Bool.{lt-ltb}
 use Rattle.ftc_server.specs.declared.recovering.GroupReplica.{GroupReplica}
@@ -15,6 +15,11 @@ revive-requires-clause-others c =
     subst (λ (replicas : List GroupReplica). list_all (is_of_later ring server) replicas ≡ true)
     (sym c.in_ok-others.ensures)
     (all_new (λ (group : ℕ). is_later_member ring group server)
-    (λ (group : ℕ). record { group = group; replica = got_of ring server c.args.previous.now c.args.following.now group })
+    (λ (group : ℕ). record {
+      group = group;
+      replica =
+          got_of ring server c.args.previous.now c.args.following.now group;
+    })
     (is_of_later ring server) ring.servers
-    (λ group below later. ap (λ (b : Bool). b && is_later_member ring group server) (lt-ltb group ring.servers below) ∙ later))
+    (λ group below later. ap (λ (b : Bool). b && is_later_member ring group server) (lt-ltb group ring.servers below)
+    ∙ later))

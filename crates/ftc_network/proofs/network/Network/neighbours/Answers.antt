@@ -9,6 +9,8 @@ returns-clause-some c =
     let live = is_live c.down-down.result in
     let up = is_up c.args.self.now.servers.items in
     record {
-      before = before_by size live up c.args.server c.down-down.ensures c.in_ok-live_before.field-0 c.in_ok-live_before.ensures.nearest;
-      after = after_by size live up c.args.server c.down-down.ensures c.in_ok-live_after.field-0 c.in_ok-live_after.ensures.nearest;
+      before = before_by size live up c.args.server c.down-down.ensures c.in_ok-live_before.field-0
+          c.in_ok-live_before.ensures.nearest;
+      after = after_by size live up c.args.server c.down-down.ensures c.in_ok-live_after.field-0
+          c.in_ok-live_after.ensures.nearest;
     }
