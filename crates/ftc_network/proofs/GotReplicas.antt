@@ -159,8 +159,10 @@ pub are_got : (setting : Setting) (state : ChainState) (server : ℕ) (previous 
     (news (shape setting) server previous following)
 are_got setting state server previous following inside before after sources =
     let test = λ (group : ℕ). is_later_member (shape setting) group server in
-    let make : ℕ → GroupReplica = λ group. record
-    { group = group; replica = got_of (shape setting) server previous following group } in
+    let make : ℕ → GroupReplica = λ group. record {
+      group = group;
+      replica = got_of (shape setting) server previous following group;
+    } in
     let got = λ (group : ℕ) (below : group < servers setting) (member : is_member setting group server ≡ true).
     got_is setting state (shape setting) server previous following group refl below before after
     (sources.near group below member) (sources.far group below member) in

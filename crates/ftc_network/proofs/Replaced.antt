@@ -61,8 +61,8 @@ module _ (old new : List (Option Server)) (server following : ℕ) (made : Serve
     | inl here ↦
         let empty : length (buffer_of (server_in new last)) ≡ 0 =
         ap (λ (n : ℕ). length (buffer_of (server_in new n))) here
-        ∙ (ap (λ (o : Option Server). length (buffer_of o)) are.here ∙ ap
-        (λ (list : List Withheld). length list) none) in
+        ∙ (ap (λ (o : Option Server). length (buffer_of o)) are.here
+        ∙ ap (λ (list : List Withheld). length list) none) in
         omega (arith, empty)
     | inr differs ↦
         let same : length (buffer_of (server_in new last)) ≡ length (buffer_of (server_in old last)) =

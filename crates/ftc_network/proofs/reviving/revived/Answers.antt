@@ -17,8 +17,7 @@ revive-requires-clause-others c =
     (all_new (λ (group : ℕ). is_later_member ring group server)
     (λ (group : ℕ). record {
       group = group;
-      replica =
-          got_of ring server c.args.previous.now c.args.following.now group;
+      replica = got_of ring server c.args.previous.now c.args.following.now group;
     })
     (is_of_later ring server) ring.servers
     (λ group below later. ap (λ (b : Bool). b && is_later_member ring group server) (lt-ltb group ring.servers below)

@@ -87,22 +87,19 @@ returns-clause-ok c setting state run due line rule is =
     let last : IsServerAt setting state (following_live setting state server) following.0 =
     subst (λ (n : ℕ). IsServerAt setting state n following.0) after_is
     (up_at setting state (parts_of old) is near.following following.0 live.after.within following.1).at in
-    let sources = sources_are setting state server
-    (c.order_of_a_state.ensures setting state run).admissible down.0 down.1
+    let sources = sources_are setting state server (c.order_of_a_state.ensures setting state run).admissible down.0 down.1
     (subst (IsLiveBefore (servers setting) state.up server) before_is live.before)
     (subst (IsLiveAfter (servers setting) state.up server) after_is live.after)
     c.recoveries.ensures.from_before c.recoveries.ensures.from_after c.recoveries.ensures.after_is_member in
     let anew = anew_in setting server c.args.rule.now previous.0 following.0 made old.ring old.partitions is.ring rule
-    is.partitions
-    (c.in_ok-undone.ensures.new previous.0 following.0 previous.1 following.1) in
+    is.partitions (c.in_ok-undone.ensures.new previous.0 following.0 previous.1 following.1) in
     record {
       undone_is = undone_is;
       stands = record {
         ring = is.ring;
         partitions = is.partitions;
         servers_are = each_replaced old.servers.items c.replace.new.servers.items server near.following made
-            c.replace.ensures
-            live.after.other (IsSlot setting state) (IsSlot setting after) (servers setting) is.servers_are
+            c.replace.ensures live.after.other (IsSlot setting state) (IsSlot setting after) (servers setting) is.servers_are
             (record {
               up = up_again setting state server undone;
               at = c.what_revive_makes.ensures setting state server undone previous.0 following.0 made
@@ -116,8 +113,7 @@ returns-clause-ok c setting state run due line rule is =
             (slot_dropped setting state server undone (server_in old.servers.items near.following)
             (server_in c.replace.new.servers.items near.following)
             (λ before later at has_dropped. c.what_drop_unready_does.ensures setting state server undone before later
-            run legal
-            behind.1 at has_dropped) behind.2
+            run legal behind.1 at has_dropped) behind.2
             (subst (λ (n : ℕ). IsSlot setting state n (server_in old.servers.items near.following)) after_is
             (is.servers_are near.following live.after.within)) done))
             (λ number slot differs apart stays. c.servers_beside.ensures setting state event number slot run legal
