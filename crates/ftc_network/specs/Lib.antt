@@ -5,5 +5,6 @@ pub mod Pulling
 pub mod Released
 pub mod Sending
 pub mod Recovering
+pub mod Reviving
 pub mod Visiting
 pub mod Opening

@@ -12,7 +12,9 @@ mod network;
 mod opening;
 mod places;
 mod pulling;
+mod recovering;
 mod releasing;
+mod reviving;
 mod taking;
 mod visiting;
 
