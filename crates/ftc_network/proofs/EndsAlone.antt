@@ -13,7 +13,7 @@ use Rattle.ftc_server.specs.Replicas.{may_rise}
 use Rattle.ftc_server.specs.Slots.{ask_of}
 use Rattle.ftc_server.specs.State.{ServerState, state_of}
 use Rattle.ftc_server.specs.Steps.{EndsVisit}
-use Rattle.ftc_txn.specs.Head.{HeadState, RunsUnwounded}
+use Rattle.ftc_txn.specs.Head.{HeadState}
 use Rattle.ftc_txn.specs.Slots.{Running, slot_at, restarted}
 use Rattle.ftc_txn.proofs.Kept.{slot_other}
 use Rattle.ftc_network.specs.Visiting.{StandsFor, IsUnderWay, VisitsWhole}
@@ -47,6 +47,7 @@ module _ (first old new : Server) (worker packet count : ℕ) (is : IsUnderWay f
       record {
         before = old;
         stands = is.stands;
+        withheld = ap (λ (s : ServerState). s.buffer.items) ends.4.rest ∙ is.withheld;
         running = running;
         runs = ends.2;
         packet_is = ap (λ (r : Running). r.packet) this ∙ is.packet_is;
@@ -63,6 +64,7 @@ module _ (first old new : Server) (worker packet count : ℕ) (is : IsUnderWay f
       let same : new.head ≡ old.head = ap (λ (s : ServerState). s.head) ends.4 in (
         record {
           stands = λ setting state number at. stays setting state number (is.stands setting state number at);
+          withheld = ap (λ (s : ServerState). s.buffer.items) ends.4 ∙ is.withheld;
           rise = ap (λ (h : HeadState). may_rise h.vector) same ∙ is.rise;
           running = is.running;
           runs = record {

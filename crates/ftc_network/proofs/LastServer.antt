@@ -1,5 +1,5 @@
 -- What is withheld behind the last server.
-use Rattle.std.proofs.Common.{◌≡◌, ◌+◌, ◌-◌, ℕ, true, false, sym, ap, subst, arith}
+use Rattle.std.proofs.Common.{◌≡◌, ◌+◌, ◌-◌, ℕ, true, false, subst, arith}
 use Rattle.ftc_protocol.specs.Drive.{IsNoneDue}
 use Rattle.ftc_protocol.specs.Orderly.{IsOrderly}
 use Rattle.ftc_protocol.specs.Setting.{Setting, servers}

@@ -1,15 +1,13 @@
 -- That a message has a frame, and which work is to be done, where it is known only that this is so.
-use Rattle.std.proofs.Common.{◌≡◌, ◌∙◌, ◌<◌, ◌≤◌, ◌&&◌, ◌||◌, ◌+◌, ℕ, zero, suc, Bool, true, false, not, List, [], ◌∷◌, Option, Some, None, length, refl, sym, ap, subst}
-use Rattle.std.proofs.Math.Bool.{Bool-set}
+use Rattle.std.proofs.Common.{◌≡◌, ◌∙◌, ◌&&◌, ◌||◌, ℕ, zero, suc, Bool, true, false, List, [], ◌∷◌, Option, Some, None, refl, ap}
+use Rattle.std.proofs.Math.Bool.{Bool-set, or-true}
 use Rattle.std.proofs.Math.Logic.{∥∥₁_elim}
-use Rattle.std.specs.Prelude.{IfSome, IsSome, is_some}
+use Rattle.std.specs.Prelude.{is_some}
 use Rattle.std.specs.List.{AllByRecursion, list_all, list_any}
-use Rattle.ftc_base.specs.declared.limits.TheConstants.{MOST_CAPTURED}
 use Rattle.ftc_message.specs.Bounds.{MarksSome}
 use Rattle.ftc_message.specs.declared.message.Message.{Message}
 use Rattle.ftc_message.specs.declared.need.Need.{Need}
 use Rattle.ftc_message.specs.Logged.{Logged}
-use Rattle.ftc_message.specs.WellFormed.{IsWellFormed}
 use Rattle.ftc_vector.specs.Vector.{mark_at}
 use Rattle.ftc_server.specs.declared.work.Work.{Work}
 use Rattle.ftc_server.specs.declared.work.Work.TheVariants.{Apply, Visit, Send, Carry}
@@ -39,15 +37,11 @@ work_is_send work some from = told_send work (∥∥₁_elim some (Bool-set _ _)
 abbrev is_marked : List (Option ℕ) → Bool
 is_marked marks = list_any (λ (mark : Option ℕ). is_some mark) marks
 
-or_true : (b : Bool) → b || true ≡ true
-or_true true = refl
-or_true false = refl
-
 marked_at : (marks : List (Option ℕ)) (partition : ℕ) → is_some (mark_at marks partition) ≡ true → is_marked marks ≡ true
 marked_at [] partition is = absurd cc
 marked_at (mark ∷ marks) zero is = ap (λ b. b || is_marked marks) is
 marked_at (mark ∷ marks) (suc partition) is =
-    ap (λ b. is_some mark || b) (marked_at marks partition is) ∙ or_true (is_some mark)
+    ap (λ b. is_some mark || b) (marked_at marks partition is) ∙ or-true (is_some mark)
 
 first_mark : (marks : List (Option ℕ)) → is_marked marks ≡ true →
     (partition : ℕ) × (is_some (mark_at marks partition) ≡ true)
@@ -72,7 +66,7 @@ and_right true b both = both
 and_right false b both = absurd cc
 
 module _ {A : Type 0} (Fact : A → Type 0) (test : A → Bool) where
-  all_pass : ((item : A) → Fact item → test item ≡ true) → (items : List A) → AllByRecursion Fact items →
+  pub all_pass : ((item : A) → Fact item → test item ≡ true) → (items : List A) → AllByRecursion Fact items →
       list_all test items ≡ true
   all_pass tells [] all = refl
   all_pass tells (item ∷ items) all =

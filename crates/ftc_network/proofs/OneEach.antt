@@ -1,5 +1,5 @@
 -- A network of which one server and one link are changed, and what stands at a place of it.
-use Rattle.std.proofs.Common.{◌≡◌, ◌≢◌, ◌∙◌, ◌<◌, ℕ, Bool, true, false, Option, Some, None, length, slice_set, sym, ap, subst, arith}
+use Rattle.std.proofs.Common.{◌≡◌, ◌≢◌, ◌∙◌, ◌<◌, ℕ, Bool, Option, Some, None, length, slice_set, sym, ap, subst, arith}
 use Rattle.std.specs.Prelude.{is_some}
 use Rattle.ftc_link.specs.Queue.{Queue}
 use Rattle.ftc_protocol.specs.Setting.{Setting, servers}

@@ -3,7 +3,6 @@ use Rattle.std.proofs.Common.{◌≡◌, ◌≢◌, ◌<◌, ◌≤◌, ◌∙�
 use Rattle.std.proofs.lemmas.Bool.{cases_eq}
 use Rattle.std.proofs.lemmas.List.{get_or_read}
 use Rattle.ftc_edge.specs.declared.buffer.Withheld.{Withheld}
-use Rattle.ftc_journal.specs.declared.event.Event.{Event}
 use Rattle.ftc_link.specs.Queue.{Queue}
 use Rattle.ftc_protocol.specs.Setting.{Setting, servers}
 use Rattle.ftc_protocol.specs.State.{ChainState}

@@ -1,18 +1,18 @@
 -- What a slot reads where no other slot runs anything.
-use Rattle.std.proofs.Common.{◌≡◌, ◌≢◌, ◌∙◌, ◌+◌, ◌++◌, ◌∷◌, ◌&&◌, ◌||◌, not, ℕ, Bool, true, false, List, [], length, Option, Some, None, inl, inr, refl, sym, ap, subst, arith, length-append}
+use Rattle.std.proofs.Common.{◌≡◌, ◌∙◌, ◌+◌, ◌++◌, ◌∷◌, ◌&&◌, ◌||◌, not, ℕ, Bool, true, false, List, [], length, Some, inl, inr, refl, sym, ap, length-append}
 use Rattle.std.specs.Prelude.{◌==◌}
 use Rattle.std.proofs.lemmas.Bool.{false≢true, eq-eqb, cases_eq}
 use Rattle.ftc_base.specs.declared.ask.Answer.{Answer}
 use Rattle.ftc_base.specs.declared.ask.Ask.TheVariants.{Read}
 use Rattle.ftc_base.specs.Partition.{partition_of}
-use Rattle.ftc_locks.specs.Locks.{Locks, conflicts, holds, holds_exclusively, HoldsNothing}
+use Rattle.ftc_locks.specs.Locks.{Locks, conflicts, HoldsNothing}
 use Rattle.ftc_server.specs.declared.server.Server.{Server}
 use Rattle.ftc_server.specs.Looks.{ask_in}
 use Rattle.ftc_server.specs.Replicas.{may_rise}
-use Rattle.ftc_server.specs.Steps.{Reads, HasRead}
-use Rattle.ftc_txn.specs.Head.{HeadState, IsHead, RunsUnwounded}
-use Rattle.ftc_txn.specs.Slots.{Running, slot_at, answered, wounded_by}
-use Rattle.ftc_txn.specs.Steps.{Reads as HeadReads}
+use Rattle.ftc_server.specs.State.{ServerState}
+use Rattle.ftc_server.specs.Steps.{Reads}
+use Rattle.ftc_txn.specs.Head.{HeadState, IsHead}
+use Rattle.ftc_txn.specs.Slots.{Running, slot_at, answered}
 use Rattle.ftc_txn.specs.declared.answers.ReadAnswer.{ReadAnswer}
 use Rattle.ftc_txn.specs.declared.answers.ReadAnswer.TheVariants.{Value, Blocked, Wounded, Idle, NotAsked}
 use Rattle.ftc_network.specs.Visiting.{StandsFor, IsUnderWay}
@@ -58,6 +58,7 @@ module _ (first old new : Server) (worker packet count : ℕ) (key : List ℕ) (
       let answer : Answer = record { key = key; value = value } in
       record {
         stands = λ setting state number at. stays (Value value) reads setting state number (is.stands setting state number at);
+        withheld = ap (λ (s : ServerState). s.buffer.items) reads.rest ∙ is.withheld;
         rise = ap (λ (h : HeadState). may_rise h.vector) done.rest ∙ is.rise;
         running = answered running answer;
         runs = record { slot = done.answered; unwounded = reads.head.1.unwounded };

@@ -1,5 +1,5 @@
 -- The packets that are left when one leaves.
-use Rattle.std.proofs.Common.{◌≡◌, ◌+◌, ◌++◌, ◌∷◌, ◌∙◌, ℕ, List, length, refl, sym, ap, arith, length-append}
+use Rattle.std.proofs.Common.{◌≡◌, ◌+◌, ◌++◌, ◌∷◌, ℕ, List, length, ap, arith, length-append}
 use Rattle.ftc_edge.specs.declared.buffer.Withheld.{Withheld}
 use Rattle.ftc_edge.specs.Due.{without_due, IsFirstOf}
 

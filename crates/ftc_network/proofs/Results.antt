@@ -1,5 +1,5 @@
 -- What holds of results and options that have a value.
-use Rattle.std.proofs.Common.{◌≡◌, Bool, false, true, Result, Ok, Err, Option, Some, None, refl, sym, subst}
+use Rattle.std.proofs.Common.{◌≡◌, false, Result, Ok, Err, Option, Some, None, refl, sym, subst}
 use Rattle.std.specs.Prelude.{OnOk, OnErr, IfSome, option_map, is_some}
 
 pub on_ok : {A E : Type 0} (result : Result A E) (Fact Other : Type 0) → (Fact → Other) → OnOk result Fact → OnOk result Other

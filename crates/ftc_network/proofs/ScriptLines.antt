@@ -1,5 +1,5 @@
 -- The lines of a script that are left behind one.
-use Rattle.std.proofs.Common.{◌≡◌, ◌+◌, ◌∙◌, ℕ, zero, suc, List, [], ◌∷◌, drop, refl, sym, ap, arith}
+use Rattle.std.proofs.Common.{◌≡◌, ◌+◌, ◌∙◌, ℕ, zero, suc, List, [], ◌∷◌, drop, refl, ap, arith}
 use Rattle.ftc_protocol.specs.Next.{lines_behind}
 use Rattle.ftc_script.specs.declared.line.ScriptLine.{ScriptLine}
 

@@ -1,8 +1,9 @@
 -- The link that a message leaves a server by.
-use Rattle.std.proofs.Common.{◌≡◌, ◌≢◌, ◌<◌, ◌∙◌, ◌+◌, ◌==◌, ◌&&◌, ◌||◌, ◌++◌, ◌∷◌, ℕ, Bool, true, false, not, List, [], Option, Some, None, refl, sym, ap, subst, cond, arith}
+use Rattle.std.proofs.Common.{◌≡◌, ◌≢◌, ◌<◌, ◌∙◌, ◌+◌, ◌==◌, ◌&&◌, ◌||◌, ◌++◌, ◌∷◌, ℕ, Bool, true, false, not, [], Option, Some, None, refl, sym, ap, cond, arith}
 use Rattle.std.proofs.lemmas.Bool.{eq-eqb}
 use Rattle.std.proofs.lemmas.Bool.Decides.{nat_tests}
 use Rattle.std.specs.Prelude.{nat_lt, is_some}
+use Rattle.std.proofs.Math.Bool.{or-true, or-false}
 use Rattle.std.specs.Option.{option_map}
 use Rattle.ftc_journal.specs.declared.event.Event.TheVariants as event
 use Rattle.ftc_link.specs.Queue.{Queue}
@@ -70,14 +71,6 @@ is_sent_where setting state server origin old message is sends =
     ∙ (ap (λ (r : RingShape). is_last r old.id && (r.failures == 0)) (sym is.ring)
     ∙ isnt_silent (is_last old.ring old.id && (old.ring.failures == 0)) old (found origin old.held.items) message sends))
 
-or_false : (b : Bool) → b || false ≡ b
-or_false true = refl
-or_false false = refl
-
-or_true : (b : Bool) → b || true ≡ true
-or_true true = refl
-or_true false = refl
-
 -- the link stands for what is there after it, where each way of leaving is known
 module _ (setting : Setting) (state : ChainState) (server origin : ℕ) (queue : Queue)
     (link : IsLink setting state server queue) where
@@ -95,7 +88,7 @@ module _ (setting : Setting) (state : ChainState) (server origin : ℕ) (queue :
   nothing lost silent away =
       away queue.gap (ap (λ b. b && not (is_away setting state server lost)) silent)
       (link.gap ∙ sym (gap_after setting state lost server origin
-      ∙ (ap (λ b. state.gap server || (b && is_away setting state server lost)) silent ∙ or_false (state.gap server))))
+      ∙ (ap (λ b. state.gap server || (b && is_away setting state server lost)) silent ∙ or-false (state.gap server))))
 
   gone : (lost : Bool) → is_sent setting server ≡ true → is_away setting state server lost ≡ true → GoesAway lost →
       Stands lost (record queue { gap = true })
@@ -103,7 +96,7 @@ module _ (setting : Setting) (state : ChainState) (server origin : ℕ) (queue :
       away true (ap (λ b. b && not (is_away setting state server lost)) sends ∙ ap not is)
       (sym (gap_after setting state lost server origin
       ∙ (ap (λ b. state.gap server || (b && is_away setting state server lost)) sends
-      ∙ (ap (λ b. state.gap server || b) is ∙ or_true (state.gap server)))))
+      ∙ (ap (λ b. state.gap server || b) is ∙ or-true (state.gap server)))))
 
   pub after_sending : (lost : Option ℕ) (up : Bool) (message : Option SentMessage) →
       up ≡ state.up (next_of (servers setting) server) →

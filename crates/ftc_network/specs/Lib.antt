@@ -1,8 +1,10 @@
 pub mod Parts
 pub mod Stand
 pub mod Events
+pub mod Pulling
 pub mod Released
 pub mod Sending
 pub mod Recovering
 pub mod Reviving
 pub mod Visiting
+pub mod Opening

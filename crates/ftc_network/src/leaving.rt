@@ -1,6 +1,6 @@
 //! A message leaves a server.
 
-ghost use Rattle.std.specs.Prelude.{◌≡◌, ◌≤◌, ◌<◌, ◌+◌, ◌^◌, ℕ, true, OnOk, OnErr, IfSome, length};
+ghost use Rattle.std.specs.Prelude.{◌≡◌, ◌≤◌, ◌<◌, ◌+◌, ℕ, true, OnOk, OnErr, IfSome, length};
 ghost use Rattle.std.specs.Option.{is_some};
 ghost use Rattle.ftc_base.specs.declared.limits.TheConstants.{MOST_CAPTURED};
 ghost use Rattle.ftc_ring.specs.Ring.{next_of};

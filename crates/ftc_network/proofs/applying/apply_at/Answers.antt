@@ -1,14 +1,9 @@
-use Rattle.std.proofs.Common.{◌≡◌, true, Some, ap, sym, subst, ◌∙◌}
-use Rattle.std.specs.Prelude.{OnOk}
-use Rattle.ftc_edge.specs.Due.{WithheldPackets}
+use Rattle.std.proofs.Common.{true, ap, sym, subst, ◌∙◌}
 use Rattle.ftc_journal.specs.declared.event.Event.{Event}
 use Rattle.ftc_journal.specs.declared.event.Event.TheVariants as event
-use Rattle.ftc_protocol.specs.Setting.{Setting}
-use Rattle.ftc_protocol.specs.State.{ChainState}
 use Rattle.ftc_server.specs.Looks.{may_apply_in}
 use Rattle.ftc_server.specs.Replicas.{replica_at, may_rise_in}
 use Rattle.ftc_server.specs.State.{ServerState}
-use Rattle.ftc_network.specs.Events.{SlotFollows}
 use Rattle.ftc_network.specs.Parts.{buffer_of}
 use Rattle.ftc_network.specs.Stand.{IsSlot, IsUp}
 use Rattle.ftc_network.proofs.Allowed.{at_up}

@@ -1,4 +1,4 @@
-use Rattle.std.proofs.Common.{◌≡◌, ◌∙◌, List, ℕ, false, Some, refl, ap, sym, subst}
+use Rattle.std.proofs.Common.{◌∙◌, List, ℕ, false, Some, refl, ap, sym, subst}
 use Rattle.ftc_journal.specs.declared.event.Event.TheVariants as event
 use Rattle.ftc_message.specs.declared.message.Message.{Message as SentMessage}
 use Rattle.ftc_protocol.specs.Setting.{packet_at}

@@ -1,10 +1,8 @@
-use Rattle.std.proofs.Common.{◌≡◌, ◌∙◌, ℕ, true, false, Option, Some, None, sym, ap, subst}
+use Rattle.std.proofs.Common.{◌≡◌, ◌∙◌, true, false, sym, ap, subst}
 use Rattle.std.proofs.Math.Bool.{Bool-set}
 use Rattle.std.proofs.Math.Logic.{∥∥₁_elim}
 use Rattle.std.specs.Prelude.{is_some}
-use Rattle.ftc_message.specs.declared.message.Message.{Message}
 use Rattle.ftc_protocol.specs.Next.{next}
-use Rattle.ftc_server.specs.declared.server.Server.{Server}
 use Rattle.ftc_server.specs.State.{ServerState}
 use Rattle.ftc_standing.specs.Stand.{IsLink}
 use Rattle.ftc_standing.specs.View.{leaving}

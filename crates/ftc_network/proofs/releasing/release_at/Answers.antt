@@ -1,16 +1,14 @@
 use Rattle.std.proofs.Common.{◌≡◌, ◌∙◌, ◌+◌, ℕ, List, Some, None, length, sym, ap, subst}
 use Rattle.ftc_edge.specs.declared.buffer.Freed.{Freed}
 use Rattle.ftc_edge.specs.declared.buffer.Withheld.{Withheld}
-use Rattle.ftc_edge.specs.Due.{freed, first_due, without_due}
+use Rattle.ftc_edge.specs.Due.{freed, first_due}
 use Rattle.ftc_journal.specs.declared.event.Event.TheVariants as event
 use Rattle.ftc_protocol.specs.Legal.{IsLegal}
 use Rattle.ftc_protocol.specs.Next.{next}
-use Rattle.ftc_protocol.specs.Orderly.{IsOrderly}
 use Rattle.ftc_protocol.specs.Setting.{Setting, servers}
 use Rattle.ftc_protocol.specs.State.{ChainState}
 use Rattle.ftc_protocol.specs.Run.{IsRunState}
-use Rattle.ftc_server.specs.State.{ServerState, state_of}
-use Rattle.ftc_txn.specs.Slots.{slot_at}
+use Rattle.ftc_server.specs.State.{ServerState}
 use Rattle.ftc_network.specs.Parts.{buffer_of}
 use Rattle.ftc_network.specs.Stand.{IsSlot, IsUp}
 use Rattle.ftc_network.specs.Released.{IsReleased}

@@ -1,10 +1,11 @@
-use Rattle.std.proofs.Common.{◌≡◌, ◌≢◌, ◌∙◌, ◌<◌, ℕ, Bool, true, false, List, Option, Some, None, length, slice_set, inl, inr, refl, sym, ap, subst, length-set}
+use Rattle.std.proofs.Common.{◌≡◌, ◌∙◌, ℕ, Bool, true, List, Option, Some, None, length, slice_set, inl, inr, refl, sym, ap, length-set}
 use Rattle.std.specs.Prelude.{is_some, ◌&&◌, ◌==◌, not}
 use Rattle.std.proofs.lemmas.Bool.{cases_lt, false≢true}
 use Rattle.std.proofs.lemmas.List.{get_or_past}
 use Rattle.ftc_server.specs.Replicas.{may_rise}
 use Rattle.ftc_server.specs.Slots.{runs_packet}
-use Rattle.ftc_txn.specs.Head.{HeadState, next_age, some_run}
+use Rattle.ftc_server.specs.State.{ServerState}
+use Rattle.ftc_txn.specs.Head.{HeadState, next_age}
 use Rattle.ftc_txn.specs.Slots.{Running, slot_at, packet_of, begun}
 use Rattle.ftc_txn.proofs.Kept.{slot_set, slot_other}
 use Rattle.ftc_network.proofs.IdleSlots.{none_any}
@@ -40,6 +41,7 @@ returns-clause-runs c runs =
     record {
       stands = λ setting state number is. c.what_stays.ensures.begun setting state number c.args.worker c.args.packet old new is
           c.begin.ensures.begun;
+      withheld = ap (λ (s : ServerState). s.buffer.items) c.begin.ensures.begun.rest;
       rise = ap (λ (head : HeadState). may_rise head.vector) c.begin.ensures.begun.head ∙ c.requires.rise;
       running = start;
       runs = record {

@@ -1,6 +1,5 @@
 use Rattle.std.proofs.Common.{◌≡◌, ◌≢◌, ◌∙◌, sym, ap}
 use Rattle.ftc_server.specs.declared.answers.CommitAnswer.TheVariants.{Done}
-use Rattle.ftc_base.specs.declared.ask.Answer.{Answer}
 use Rattle.ftc_txn.specs.Slots.{Running, slot_at}
 use Rattle.ftc_network.proofs.EndsAlone.{if_there, done_whole, unfinished_goes_on, others_stay_idle}
 use Rattle.ftc_network.proofs.visiting.visit_whole.Goals as goal

@@ -1,10 +1,10 @@
-use Rattle.std.proofs.Common.{◌≡◌, ◌∙◌, ◌<◌, ◌-◌, ℕ, length, refl, sym, ap, subst, arith}
+use Rattle.std.proofs.Common.{◌≡◌, ◌∙◌, ◌<◌, ◌-◌, length, refl, sym, ap, subst, arith}
 use Rattle.ftc_journal.specs.declared.event.Event.{Event}
 use Rattle.ftc_journal.specs.declared.event.Event.TheVariants as event
 use Rattle.ftc_protocol.specs.Next.{next}
 use Rattle.ftc_protocol.specs.Setting.{servers}
 use Rattle.ftc_ring.specs.Ring.{RingShape}
-use Rattle.ftc_network.specs.Parts.{parts_of, server_in, buffer_of}
+use Rattle.ftc_network.specs.Parts.{parts_of, buffer_of}
 use Rattle.ftc_network.specs.Stand.{IsSlot}
 use Rattle.ftc_network.proofs.Allowed.{slot_allowed}
 use Rattle.ftc_network.proofs.OneServer.{one_server, read_server, still_server, same_withheld}

@@ -1,14 +1,14 @@
-use Rattle.std.proofs.Common.{◌≡◌, ◌≢◌, ◌∙◌, ◌<◌, ℕ, Bool, true, false, Option, Some, None, [], length, refl, sym, ap, subst, arith}
+use Rattle.std.proofs.Common.{◌≡◌, ◌∙◌, ◌<◌, ℕ, Bool, true, false, None, [], length, refl, sym, ap, subst, arith}
 use Rattle.std.proofs.lemmas.List.{get_or_read}
 use Rattle.std.proofs.Math.Logic.{∥∥₁_map}
 use Rattle.std.specs.Prelude.{is_some}
 use Rattle.ftc_protocol.specs.Next.{next}
 use Rattle.ftc_protocol.specs.Setting.{servers}
-use Rattle.ftc_ring.specs.Ring.{RingShape, next_of}
+use Rattle.ftc_ring.specs.Ring.{RingShape}
 use Rattle.ftc_standing.specs.Stand.{IsLink}
 use Rattle.ftc_standing.specs.View.{leaving}
 use Rattle.ftc_visits.specs.Made.{keeps_visits}
-use Rattle.ftc_network.specs.Parts.{parts_of, server_in, link_in}
+use Rattle.ftc_network.specs.Parts.{parts_of}
 use Rattle.ftc_network.specs.Stand.{IsSlot}
 use Rattle.ftc_network.proofs.OneEach.{one_each, slot_there, link_there, receiver_up}
 use Rattle.ftc_network.proofs.Results.{on_ok, on_err_both}

@@ -87,7 +87,8 @@ returns-clause-ok c setting state run due line rule is =
     let last : IsServerAt setting state (following_live setting state server) following.0 =
     subst (λ (n : ℕ). IsServerAt setting state n following.0) after_is
     (up_at setting state (parts_of old) is near.following following.0 live.after.within following.1).at in
-    let sources = sources_are setting state server (c.order_of_a_state.ensures setting state run).admissible down.0 down.1
+    let orderly = c.order_of_a_state.ensures setting state run in
+    let sources = sources_are setting state server orderly.admissible down.0 down.1
     (subst (IsLiveBefore (servers setting) state.up server) before_is live.before)
     (subst (IsLiveAfter (servers setting) state.up server) after_is live.after)
     c.recoveries.ensures.from_before c.recoveries.ensures.from_after c.recoveries.ensures.after_is_member in
@@ -99,7 +100,8 @@ returns-clause-ok c setting state run due line rule is =
         ring = is.ring;
         partitions = is.partitions;
         servers_are = each_replaced old.servers.items c.replace.new.servers.items server near.following made
-            c.replace.ensures live.after.other (IsSlot setting state) (IsSlot setting after) (servers setting) is.servers_are
+            c.replace.ensures live.after.other (IsSlot setting state) (IsSlot setting after) (servers setting)
+            is.servers_are
             (record {
               up = up_again setting state server undone;
               at = c.what_revive_makes.ensures setting state server undone previous.0 following.0 made

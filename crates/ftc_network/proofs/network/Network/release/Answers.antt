@@ -1,16 +1,12 @@
-use Rattle.std.proofs.Common.{◌≡◌, ◌∙◌, ◌+◌, ◌-◌, ◌<◌, ℕ, Option, None, length, refl, sym, ap, subst, arith}
+use Rattle.std.proofs.Common.{◌≡◌, ◌+◌, ◌-◌, ◌<◌, None, length, refl, sym, ap, subst, arith}
 use Rattle.std.proofs.lemmas.List.{get_or_read}
-use Rattle.ftc_edge.specs.declared.buffer.Freed.{Freed}
 use Rattle.ftc_journal.specs.declared.event.Event.{Event}
 use Rattle.ftc_journal.specs.declared.event.Event.TheVariants as event
 use Rattle.ftc_protocol.specs.Next.{next}
-use Rattle.ftc_protocol.specs.Setting.{Setting, servers}
-use Rattle.ftc_protocol.specs.State.{ChainState}
-use Rattle.ftc_protocol.specs.Run.{IsRunState}
+use Rattle.ftc_protocol.specs.Setting.{servers}
 use Rattle.ftc_ring.specs.Ring.{RingShape}
 use Rattle.ftc_network.specs.Parts.{parts_of, server_in}
-use Rattle.ftc_network.specs.Released.{IsReleased}
-use Rattle.ftc_network.specs.Stand.{IsSlot, IsNetwork}
+use Rattle.ftc_network.specs.Stand.{IsSlot}
 use Rattle.ftc_network.proofs.OneServer.{one_server}
 use Rattle.ftc_network.proofs.Results.{if_some}
 use Rattle.ftc_network.proofs.network.Network.release.Goals as goal

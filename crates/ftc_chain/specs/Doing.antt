@@ -1,0 +1,54 @@
+-- What a job does to a network.
+use Rattle.std.specs.Prelude.{ℕ, ◌≡◌, ◌<◌, ◌-◌, ◌^◌, Bool, true, false, length}
+use Rattle.ftc_journal.specs.declared.event.Event.{Event}
+use Rattle.ftc_journal.specs.declared.job.Job.{Job}
+use Rattle.ftc_journal.specs.declared.job.Job.TheVariants as job
+use Rattle.ftc_protocol.specs.Jobs.{event_of, IsLegalJob}
+use Rattle.ftc_protocol.specs.Legal.{IsLegal}
+use Rattle.ftc_protocol.specs.Next.{next}
+use Rattle.ftc_protocol.specs.Run.{IsRunState}
+use Rattle.ftc_protocol.specs.Setting.{Setting, setting_of}
+use Rattle.ftc_protocol.specs.State.{ChainState}
+use Rattle.ftc_serial.specs.Packets.{bytes_of}
+use Rattle.ftc_network.specs.declared.network.Network.{Network}
+use Rattle.ftc_network.specs.Stand.{IsNetwork}
+use Rattle.ftc_chain.specs.declared.given.Given.{Given}
+
+abbrev pub setting_by : Given → Setting
+setting_by given = setting_of given.spec.now (bytes_of given.packets.now) given.script.now
+
+-- the script was accepted for the ring of the chain and for as many packets
+pub record IsGiven (given : Given) : Type 0 where
+  pub ring : given.script.now.ring
+      ≡ record { servers = length given.spec.now.rules; failures = given.spec.now.failures }
+  pub packets : given.script.now.packets ≡ length given.packets.now
+
+abbrev pub is_visit : Job → Bool
+is_visit (job.Visit server packet) = true
+is_visit other = false
+
+-- its event is the job with nothing added: a visit takes a slot besides, a recovery a list
+abbrev pub is_plain : Job → Bool
+is_plain (job.Visit server packet) = false
+is_plain (job.Recover server) = false
+is_plain other = true
+
+-- The job is legal in a state to which a run of few events leads, and for which the network stands.
+pub record MayDo (setting : Setting) (job : Job) (network : Network) : Type 0 where
+  pub state : ChainState
+  pub run : IsRunState setting state
+  pub legal : IsLegalJob setting state job
+  pub few : state.events < 2 ^ 64 - 1
+  pub stands : IsNetwork setting state network
+
+-- What stood for a state in which the job is legal stands for the state after its event, which is this one.
+abbrev pub HasDone : Setting → ℕ → Job → Event → Network → Network → Type 0
+HasDone setting slot job event old new = (state : ChainState) → IsRunState setting state →
+    IsLegalJob setting state job → IsNetwork setting state old →
+    (event ≡ event_of setting state slot job) × ∥ IsNetwork setting (next setting state event) new ∥₁
+
+-- the same where nothing is said of the event
+abbrev pub IsDone : Setting → ℕ → Job → Network → Network → Type 0
+IsDone setting slot job old new = (state : ChainState) → IsRunState setting state →
+    IsLegalJob setting state job → IsNetwork setting state old →
+    ∥ IsNetwork setting (next setting state (event_of setting state slot job)) new ∥₁

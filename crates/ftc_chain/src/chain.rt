@@ -1,0 +1,199 @@
+//! The chain.
+
+ghost use Rattle.std.specs.Prelude.{◌≡◌, ◌↔◌, [], ◌∷◌, ◌++◌, true, false, length, OnOk, OnErr, IfOk, IfSome, IsNone};
+ghost use Rattle.ftc_base.specs.declared.limits.TheConstants.{FINISHING_SLOT};
+ghost use Rattle.ftc_journal.specs.declared.job.Job.TheVariants as job;
+ghost use Rattle.ftc_serial.specs.Packets.{bytes_of};
+ghost use Rattle.ftc_chain.specs.Doing.{is_visit};
+
+use crate::course::Course;
+use crate::given::Given;
+use crate::releasing::release_due;
+use ftc_base::{NoMemory, PacketNo, ServerId, WorkerId};
+use ftc_jobs::{first_job, is_legal};
+use ftc_journal::{Event, Job, Journal};
+use ftc_mbox::ChainSpec;
+use ftc_network::Network;
+use ftc_pcap::Packets;
+use ftc_protocol::{accepted, every_moment, few_propagates, releases};
+use ftc_script::Script;
+use std::alloc::Global;
+use std::marker::Model;
+
+/// A chain of servers on the packets of a capture, with a script of crashes, recoveries and losses. A contract sees what
+/// it was given and its events so far.
+#[derive(Drop)]
+pub struct Chain<'a> {
+    given: Given<'a>,
+    course: Course,
+}
+
+impl<'a> Model for Chain<'a> {
+    ghost use Rattle.ftc_serial.specs.Packets.{bytes_of};
+    ghost use Rattle.ftc_machine.specs.RunSoFar.{RunSoFar};
+    ghost use Rattle.ftc_chain.specs.Course.{IsResting};
+    ghost use Rattle.ftc_chain.specs.Doing.{IsGiven, setting_by};
+
+    ghost Value = { RunSoFar };
+
+    ghost view = { λ chain. record {
+      chain = chain.given.spec.now;
+      packets = bytes_of chain.given.packets.now;
+      script = chain.given.script.now;
+      journal = chain.course.journal.items;
+    } };
+
+    ghost invariant = { λ chain. IsGiven chain.given × ∥ IsResting (setting_by chain.given) chain.course ∥₁ };
+}
+
+impl<'a> Chain<'a> {
+    ghost use Rattle.ftc_machine.specs.RunSoFar.{setting_in, state_of};
+    ghost use Rattle.ftc_chain.specs.Course.{HasMade};
+    ghost use Rattle.ftc_protocol.specs.Jobs.{IsLegalJob, IsFirstJob};
+    ghost use Rattle.ftc_protocol.specs.Moment.{IsSound};
+    ghost use Rattle.ftc_protocol.specs.Run.{IsRun, IsFinished};
+    ghost use Rattle.ftc_protocol.specs.Setting.{IsSetting};
+
+    /// The chain before its first event. The script was accepted for the chain's ring and for as many packets.
+    pub fn new(
+        alloc: Global,
+        spec: &'a ChainSpec,
+        packets: &'a Packets,
+        script: &'a Script,
+    ) -> Result<Chain<'a>, NoMemory>
+        requires ring { script.now.ring ≡ record { servers = length spec.now.rules; failures = spec.now.failures } }
+        requires packets { script.now.packets ≡ length packets.now }
+        ensures { IfOk result (λ chain. chain ≡ record {
+          chain = spec.now;
+          packets = bytes_of packets.now;
+          script = script.now;
+          journal = [];
+        }) }
+    {
+        accepted();
+        let _ = spec.rules();
+        let network = Network::new(alloc, *script.ring(), spec)?;
+        Ok(Chain {
+            given: Given {
+                alloc,
+                spec,
+                packets,
+                script,
+            },
+            course: Course {
+                journal: Journal::new(alloc),
+                network,
+            },
+        })
+    }
+
+    /// The chain of middleboxes.
+    pub fn spec(&self) -> &ChainSpec
+        ensures { result.now ≡ self.now.chain }
+    {
+        self.given.spec
+    }
+
+    /// The packets of the capture.
+    pub fn packets(&self) -> &Packets
+        ensures { bytes_of result.now ≡ self.now.packets }
+    {
+        self.given.packets
+    }
+
+    /// The script of crashes, recoveries and losses.
+    pub fn script(&self) -> &Script
+        ensures { result.now ≡ self.now.script }
+    {
+        self.given.script
+    }
+
+    /// The first job in the order of jobs. None where the run is finished.
+    pub fn next(&self) -> Option<Job>
+        ensures first { IfSome result (λ job. ∥ IsFirstJob (setting_in self.now) (state_of self.now) job ∥₁) }
+        ensures none { IsNone result → ∥ IsFinished (setting_in self.now) (state_of self.now) ∥₁ }
+    {
+        accepted();
+        few_propagates();
+        let packets = self.given.packets.len() as u32;
+        first_job(&self.course.network, self.given.script, packets)
+    }
+
+    /// Whether no event is legal any more.
+    pub fn finished(&self) -> bool
+        ensures finished { result ≡ true → ∥ IsFinished (setting_in self.now) (state_of self.now) ∥₁ }
+        ensures unfinished { result ≡ false → IsFinished (setting_in self.now) (state_of self.now) → ⊥ }
+    {
+        self.next().is_none()
+    }
+
+    /// Whether a job is legal.
+    pub fn legal(&self, job: &Job) -> bool
+        ensures yes { result ≡ true → ∥ IsLegalJob (setting_in self.now) (state_of self.now) job.now ∥₁ }
+        ensures no { result ≡ false → IsLegalJob (setting_in self.now) (state_of self.now) job.now → ⊥ }
+    {
+        accepted();
+        few_propagates();
+        let packets = self.given.packets.len() as u32;
+        is_legal(&self.course.network, self.given.script, packets, job)
+    }
+
+    /// Makes the event of a job other than a visit, and the releases that are due after it. A refused call leaves the run
+    /// as it was.
+    pub fn step(&mut self, job: &Job) -> Result<(), NoMemory>
+        requires other { is_visit job.now ≡ false }
+        requires legal { ∥ IsLegalJob (setting_in self.old) (state_of self.old) job.now ∥₁ }
+        ensures ok { OnOk result (∥ HasMade FINISHING_SLOT job.now self.old self.new ∥₁) }
+        ensures err { OnErr result (self.new ≡ self.old) }
+    {
+        releases();
+        self.course.make_room()?;
+        let event = self.given.happen(&mut self.course.network, job)?;
+        self.course.journal.push(event)?;
+        release_due(&mut self.course);
+        Ok(())
+    }
+
+    /// Makes the visit of a packet at a server in a worker's slot, from its begin to its commit, and the releases that are
+    /// due after it. A refused call leaves the run as it was.
+    pub fn visit(
+        &mut self,
+        worker: WorkerId,
+        server: ServerId,
+        packet: PacketNo,
+    ) -> Result<(), NoMemory>
+        requires { ∥ IsLegalJob (setting_in self.old) (state_of self.old) (job.Visit server packet) ∥₁ }
+        ensures ok { OnOk result (∥ HasMade worker (job.Visit server packet) self.old self.new ∥₁) }
+        ensures err { OnErr result (self.new ≡ self.old) }
+    {
+        releases();
+        self.course.make_room()?;
+        self.given
+            .visit(&mut self.course.network, worker, server, packet)?;
+        self.course.journal.push(Event::Visit {
+            server,
+            packet,
+            worker,
+        })?;
+        release_due(&mut self.course);
+        Ok(())
+    }
+
+    /// Its events so far.
+    pub fn journal(&self) -> &Journal
+        ensures same { result.now.items ≡ self.now.journal }
+        ensures run { ∥ IsRun (setting_in self.now) self.now.journal ∥₁ }
+        ensures setting { ∥ IsSetting (setting_in self.now) ∥₁ }
+    {
+        &self.course.journal
+    }
+
+    /// What holds at every moment of a run holds of its state: the serial run of the visits that stand exists and released
+    /// what was released, and each first live member of a group has that run's content.
+    pub fn moment(&self)
+        ensures { ∥ IsSound (setting_in self.now) (state_of self.now) ∥₁ }
+    {
+        every_moment();
+        let _ = self.journal();
+    }
+}

@@ -1,0 +1,12 @@
+//! A chain of servers, driven job by job. What happened to it is its journal, a run of the protocol, and what its servers
+//! have stands for the state to which that run leads.
+#![tactic(auto)]
+
+mod chain;
+mod course;
+mod events;
+mod given;
+mod happening;
+mod releasing;
+
+pub use chain::Chain;

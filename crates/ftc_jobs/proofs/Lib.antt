@@ -1,0 +1,11 @@
+mod ApplyNow
+mod Begins
+mod Chosen
+mod FirstWork
+mod LinesInOrder
+mod NextLine
+mod Sizes
+mod Standing
+mod Tests
+mod WorkAt
+mod WorkInTurn

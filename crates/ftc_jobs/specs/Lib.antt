@@ -1,0 +1,6 @@
+pub mod Rest
+pub mod Turn
+pub mod Lines
+pub mod Quiet
+pub mod Applies
+pub mod Works

@@ -1,0 +1,15 @@
+//! What the servers of a chain may do next, and in which order it is done where nobody chooses.
+#![tactic(auto)]
+
+mod applies;
+mod first;
+mod legal;
+mod lines;
+mod links;
+mod places;
+mod quiet;
+mod tasks;
+mod works;
+
+pub use first::first_job;
+pub use legal::is_legal;

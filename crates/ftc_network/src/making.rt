@@ -1,0 +1,82 @@
+//! A visit is made, and stands among those that were.
+
+ghost use Rattle.std.specs.Prelude.{◌≡◌, IfOk, OnOk, OnErr};
+ghost use Rattle.ftc_journal.specs.declared.event.Event.TheVariants as event;
+ghost use Rattle.ftc_network.specs.Events.{IsAllowed, IsAllowedAt, StandsStill, SlotStandsStill};
+ghost use Rattle.ftc_network.specs.Parts.{buffer_of, withheld_in};
+ghost use Rattle.ftc_network.specs.Visiting.{FollowsVisit, SlotFollowsVisit};
+
+use crate::laws::servers_beside;
+use crate::network::Network;
+use crate::places::place_of;
+use crate::visiting::visit_whole;
+use ftc_base::{NoMemory, PacketNo, ServerId, WorkerId};
+use ftc_mbox::Plan;
+use ftc_refinement::{what_a_commit_does, what_a_commit_wants, what_work_says, where_events_are};
+use ftc_server::Server;
+use ftc_standing::links_stand_still;
+use ftc_visits::{MadeVisit, a_made_visit_is_added, made};
+
+/// The middlebox of a server takes a packet. The answer is the visit with what it needs.
+fn visit_at(
+    slot: &mut Option<Server>,
+    worker: WorkerId,
+    server: ServerId,
+    packet: PacketNo,
+    plan: &Plan,
+) -> Result<MadeVisit, NoMemory>
+    requires { ∥ IsAllowedAt (event.Visit server packet worker) server slot.old ∥₁ }
+    ensures ok { IfOk result (SlotFollowsVisit worker server packet slot.old slot.new) }
+    ensures err { OnErr result (SlotStandsStill server slot.old slot.new) }
+    ensures buffer { OnOk result (buffer_of slot.new ≡ buffer_of slot.old) }
+{
+    where_events_are();
+    what_work_says();
+    what_a_commit_wants();
+    what_a_commit_does();
+    a_made_visit_is_added();
+    match slot {
+        Some(live) => {
+            let answers = visit_whole(live, worker, packet, plan)?;
+            Ok(made(
+                &answers,
+                live.partitions,
+                live.id,
+                packet,
+                live.head.vector(),
+            ))
+        }
+        None => unreachable!(),
+    }
+}
+
+impl Network {
+    /// The middlebox of a server takes a packet, in a worker's slot. The plan is used where it is that of the packet and
+    /// of what it reads; else the rule is asked.
+    pub fn visit(
+        &mut self,
+        worker: WorkerId,
+        server: ServerId,
+        packet: PacketNo,
+        plan: &Plan,
+    ) -> Result<(), NoMemory>
+        requires { ∥ IsAllowed (event.Visit server packet worker) self.old ∥₁ }
+        ensures ok { OnOk result (FollowsVisit worker server packet self.old self.new) }
+        ensures err { OnErr result (StandsStill self.old self.new) }
+        ensures withheld { OnOk result (withheld_in self.new ≡ withheld_in self.old) }
+    {
+        where_events_are();
+        servers_beside();
+        links_stand_still();
+        self.visits.reserve(1)?;
+        let visit = visit_at(
+            &mut self.servers[place_of(server)],
+            worker,
+            server,
+            packet,
+            plan,
+        )?;
+        self.visits.add(visit);
+        Ok(())
+    }
+}
