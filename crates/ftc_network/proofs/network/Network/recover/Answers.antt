@@ -20,16 +20,15 @@ use Rattle.ftc_network.proofs.GotReplicas.{sources_are, anew_in, are_got}
 use Rattle.ftc_network.proofs.NearServers.{alone_by, some_of, up_in, within_ring, within_setting, near_live, previous_is, following_is, up_at}
 use Rattle.ftc_network.proofs.Replaced.{slot_ready, each_replaced, fewer_withheld, up_again, slot_dropped, link_cut}
 use Rattle.ftc_network.proofs.ScriptLines.{lines_left}
-use Rattle.ftc_network.proofs.Truncated.{less_by}
+use Rattle.ftc_network.proofs.Untold.{is_below}
 use Rattle.ftc_network.proofs.network.Network.recover.Goals as goal
 
 pub neighbours-requires : goal.neighbours-requires
 neighbours-requires c =
-    less_by c.args.server c.args.self.now.ring.servers (λ given.
+    is_below c.args.server c.args.self.now.ring.servers c.requires.allowed (λ given.
     within_ring given.setting given.state (parts_of c.args.self.now) given.stands c.args.server
     ((c.order_of_a_state.ensures given.setting given.state given.run).recoveries given.state.entered c.args.server
     given.line).0)
-    c.requires.allowed
 
 pub returns-in_default-clause-ok : goal.returns-in_default-clause-ok
 returns-in_default-clause-ok c setting state run due line rule is =
@@ -44,11 +43,10 @@ returns-in_default-clause-ok c setting state run due line rule is =
 pub replace-requires-clause-server : goal.replace-requires-clause-server
 replace-requires-clause-server c =
     let old = c.args.self.now in
-    let below = less_by c.args.server old.ring.servers (λ given.
+    let below = is_below c.args.server old.ring.servers c.requires.allowed (λ given.
     within_ring given.setting given.state (parts_of old) given.stands c.args.server
     ((c.order_of_a_state.ensures given.setting given.state given.run).recoveries given.state.entered c.args.server
-    given.line).0)
-    c.requires.allowed in
+    given.line).0) in
     omega (arith, below, old.each_server)
 
 pub replace-requires-clause-ready : goal.replace-requires-clause-ready
