@@ -22,7 +22,8 @@ use Rattle.ftc_network.proofs.GroupNews.{all_made, found_made, once_made}
 use Rattle.ftc_network.proofs.SharedGroups.{kept_is}
 
 keys_in : (setting : Setting) (state : ChainState) (number : ℕ) (server : Server) →
-    IsServerAt setting state number server → (group : ℕ) (slot : Option Held) → IsReplicaSlot setting state number server.known group slot →
+    IsServerAt setting state number server → (group : ℕ) (slot : Option Held) →
+    IsReplicaSlot setting state number server.known group slot →
     (replica_or_own server slot).partitions ≡ setting.partitions
 keys_in setting state number server is group None none = server.head_partitions ∙ is.partitions
 keys_in setting state number server is group (Some replica) there = there.2.keys
