@@ -1,7 +1,7 @@
 -- What a new server gets of each group, as the state has it.
-use Rattle.std.proofs.Common.{◌≡◌, ◌≢◌, ◌<◌, ◌≤◌, ◌+◌, ◌-◌, ◌==◌, ◌∙◌, ℕ, Bool, true, false, not, nat_le, Option, Some, None, refl, sym, ap, subst, inl, inr, arith}
+use Rattle.std.proofs.Common.{◌≡◌, ◌≢◌, ◌<◌, ◌≤◌, ◌+◌, ◌-◌, ◌==◌, ◌∙◌, ℕ, Bool, true, false, not, nat_le, Option, Some, None, refl, sym, ap, subst, arith}
 use Rattle.std.specs.Prelude.{if◌then◌else◌}
-use Rattle.std.proofs.lemmas.Bool.{eqb-true, eqb-false, leb-true, leb-false, le-leb, eq-eqb, ne_eqb, and_parts, and_from, both_ways, not-true}
+use Rattle.std.proofs.lemmas.Bool.{leb-true, leb-false, le-leb, eq-eqb, ne_eqb, and_parts, and_from, both_ways, not-true}
 use Rattle.ftc_mbox.specs.declared.rule.Rule.{Rule}
 use Rattle.ftc_protocol.specs.Recovery.{previous_live, following_live}
 use Rattle.ftc_protocol.specs.Setting.{Setting, servers, shape, rule_at, is_member}
@@ -18,42 +18,23 @@ use Rattle.ftc_server.specs.Replicas.{replica_at}
 use Rattle.ftc_server.specs.Standing.{is_later_member}
 use Rattle.ftc_standing.specs.Stand.{IsReplicaSlot, replica_kept, got_by}
 use Rattle.ftc_network.specs.Reviving.{got_of, news, IsAnew}
-use Rattle.ftc_network.proofs.NewReplicas.{each_new, new_found, new_once}
+use Rattle.ftc_network.proofs.GroupNews.{all_made, found_made, once_made}
+use Rattle.ftc_network.proofs.SharedGroups.{kept_is}
 
-module _ (setting : Setting) (state : ChainState) (number : ℕ) (server : Server)
-    (is : IsServerAt setting state number server)
-    (group : ℕ) (below : group < servers setting) where
-  keys_in : (slot : Option Held) → IsReplicaSlot setting state number server.known group slot →
-      (replica_or_own server slot).partitions ≡ setting.partitions
-  keys_in None none = server.head_partitions ∙ is.partitions
-  keys_in (Some replica) there = there.2.keys
+keys_in : (setting : Setting) (state : ChainState) (number : ℕ) (server : Server) →
+    IsServerAt setting state number server → (group : ℕ) (slot : Option Held) →
+    IsReplicaSlot setting state number server.known group slot →
+    (replica_or_own server slot).partitions ≡ setting.partitions
+keys_in setting state number server is group None none = server.head_partitions ∙ is.partitions
+keys_in setting state number server is group (Some replica) there = there.2.keys
 
-  -- what a server has of a group has the partitions of the setting
-  pub keys_are : (replica_in server group).partitions ≡ setting.partitions
-  keys_are = keys_in (replica_at server.others.items group) (is.stands.replicas.others group below)
-
-  own_in : (slot : Option Held) → IsReplicaSlot setting state number server.known group slot → group ≡ number →
-      Some (replica_or_own server None) ≡ Some (replica_or_own server slot)
-  own_in None none same = refl
-  own_in (Some replica) there same = absurd (there.1 same)
-
-  later_in : (slot : Option Held) → IsReplicaSlot setting state number server.known group slot → group ≢ number →
-      is_member setting group number ≡ true → slot ≡ Some (replica_or_own server slot)
-  later_in None (inl isnt) differs member = absurd cc
-  later_in None (inr same) differs member = absurd (differs same)
-  later_in (Some replica) there differs member = refl
-
-  -- what it keeps of a group that it is a member of
-  pub kept_is : is_member setting group number ≡ true →
-      replica_kept number (contents_of server) group ≡ Some (replica_in server group)
-  kept_is member =
-      let slot = replica_at server.others.items group in
-      let there = is.stands.replicas.others group below in
-      elim (group == number) as (λ (t : Bool). (group == number) ≡ t →
-      (if t then Some (replica_or_own server None) else slot) ≡ Some (replica_or_own server slot)) [
-        | true ↦ λ same. own_in slot there (eqb-true group number same)
-        | false ↦ λ differs. later_in slot there (eqb-false group number differs) member
-      ] refl
+-- what a server has of a group has the partitions of the setting
+keys_are : (setting : Setting) (state : ChainState) (number : ℕ) (server : Server) →
+    IsServerAt setting state number server → (group : ℕ) → group < servers setting →
+    (replica_in server group).partitions ≡ setting.partitions
+keys_are setting state number server is group below =
+    keys_in setting state number server is group (replica_at server.others.items group)
+    (is.stands.replicas.others group below)
 
 -- what is got has the partitions of the setting
 pub got_keys : (setting : Setting) (state : ChainState) (ring : RingShape) (server first last : ℕ)
@@ -168,17 +149,17 @@ are_got setting state server previous following inside before after sources =
     (sources.near group below member) (sources.far group below member) in
     record {
       head = got server inside (own_member setting server);
-      each = each_new test make (IsGot setting state server previous following) (servers setting) (λ group below later.
+      each = all_made test make (IsGot setting state server previous following) (servers setting) (λ group below later.
           let parts = later_parts setting group server later in record {
             inside = below;
             member = parts.1;
             later = parts.0;
             replica = got group below parts.1;
           });
-      once = new_once test make (servers setting) (λ number. refl);
+      once = once_made test make (λ number. refl) (servers setting);
       all = λ group below member later. (
         make group,
-        new_found test make group (servers setting) (λ number. refl) below
+        found_made test make (λ number. refl) (servers setting) group below
             (and_from (not (group == server)) (is_member setting group server)
             (ap not (ne_eqb group server later)) member),
       );

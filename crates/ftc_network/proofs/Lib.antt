@@ -10,7 +10,6 @@ mod LastServer
 mod MessageForms
 mod NearServers
 mod NewNetwork
-mod NewReplicas
 mod OneEach
 mod OneServer
 mod PullWanted
@@ -22,5 +21,4 @@ mod Results
 mod ScriptLines
 mod SentAlong
 mod SharedGroups
-mod Truncated
 mod Untold

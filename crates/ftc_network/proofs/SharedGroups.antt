@@ -79,6 +79,23 @@ has_later setting state number server is group inside =
     ∙ (ap (λ (ring : RingShape). is_later_member ring group server.id) is.ring
     ∙ ap (λ n. is_later_member (shape setting) group n) is.number_is)
 
+-- what it keeps of a group that it is a member of
+pub kept_is : (setting : Setting) (state : ChainState) (number : ℕ) (server : Server) →
+    IsServerAt setting state number server → (group : ℕ) → group < servers setting →
+    is_member setting group number ≡ true →
+    replica_kept number (contents_of server) group ≡ Some (replica_in server group)
+kept_is setting state number server is group inside member =
+    elim (group == number) as (λ b. (group == number) ≡ b →
+    (if b then Some (replica_or_own server None) else replica_at server.others.items group)
+    ≡ Some (replica_in server group)) [
+      | true ↦ λ own. ap (λ (r : Held). Some r) (sym (own_if_none server (replica_at server.others.items group)
+          (has_later setting state number server is group inside
+          ∙ ap (λ b. not b && is_member setting group number) own)))
+      | false ↦ λ other. its_replica server (replica_at server.others.items group)
+          (has_later setting state number server is group inside
+          ∙ and_from (not (group == number)) (is_member setting group number) (ap not other) member)
+    ] refl
+
 module _ (c : Setting) (s : ChainState) (h : IsSteadyState c s) (link : ℕ) (legal : IsLegal c s (Pull link))
     (sender old : Server) (sends : IsServerAt c s link sender) (is : IsServerAt c s (next_of (servers c) link) old)
     (group : ℕ) (inside : group < servers c) (shared : is_shared c group link (next_of (servers c) link) ≡ true) where
@@ -103,15 +120,7 @@ module _ (c : Setting) (s : ChainState) (h : IsSteadyState c s) (link : ℕ) (le
       ∙ and_from (not (group == receiver)) (is_member c group receiver) members.1 both.1)
 
   pub theirs_is : replica_kept link (contents_of sender) group ≡ Some theirs
-  theirs_is = elim (group == link) as (λ b. (group == link) ≡ b →
-      (if b then Some (replica_or_own sender None) else replica_at sender.others.items group) ≡ Some theirs) [
-        | true ↦ λ own. ap (λ (r : Held). Some r) (sym (own_if_none sender (replica_at sender.others.items group)
-            (has_later c s link sender sends group inside
-            ∙ ap (λ b. not b && is_member c group link) own)))
-        | false ↦ λ other. its_replica sender (replica_at sender.others.items group)
-            (has_later c s link sender sends group inside
-            ∙ and_from (not (group == link)) (is_member c group link) (ap not other) both.0)
-      ] refl
+  theirs_is = kept_is c s link sender sends group inside both.0
 
   few : group < MOST_SERVERS
   few = few_servers c s h group inside

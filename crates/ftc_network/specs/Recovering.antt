@@ -21,8 +21,8 @@ use Rattle.ftc_network.specs.declared.network.Network.{Network}
 use Rattle.ftc_network.specs.Parts.{server_in}
 use Rattle.ftc_network.specs.Stand.{IsNetwork}
 
--- The script's next line, which is due, has the server begin anew with that rule, in a state to which a run of few events
--- leads, and for which the network stands.
+-- The script's next line, which is due, has the server begin anew with that rule, in a state to which a run of few
+-- events leads, and for which the network stands.
 pub record IsRecovering (server : ℕ) (rule : Rule) (network : Network) : Type 0 where
   pub setting : Setting
   pub state : ChainState
@@ -34,8 +34,8 @@ pub record IsRecovering (server : ℕ) (rule : Rule) (network : Network) : Type 
   pub stands : IsNetwork setting state network
 
 -- these are the visits that this undoes, and the network stands for the state after it
-pub record HasRecovered (setting : Setting) (state : ChainState) (server : ℕ) (undone : List VisitName) (new : Network) :
-    Type 0 where
+pub record HasRecovered (setting : Setting) (state : ChainState) (server : ℕ) (undone : List VisitName)
+    (new : Network) : Type 0 where
   pub undone_is : undone ≡ undone_visits setting state server
   pub stands : IsNetwork setting (next setting state (event.Recover server undone)) new
 

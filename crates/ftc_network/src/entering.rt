@@ -70,11 +70,7 @@ fn enter_at(
 }
 
 /// Server 0 holds a message that begins without a packet.
-fn propagate_at(
-    slot: &mut Option<Server>,
-    alloc: Global,
-    origin: PacketNo,
-) -> Result<(), NoMemory>
+fn propagate_at(slot: &mut Option<Server>, alloc: Global, origin: PacketNo) -> Result<(), NoMemory>
     requires { ∥ IsAllowedAt (event.Propagate origin) 0 slot.old ∥₁ }
     ensures ok { OnOk result (SlotFollows (event.Propagate origin) 0 slot.old slot.new) }
     ensures err { OnErr result (SlotStandsStill 0 slot.old slot.new) }

@@ -20,16 +20,15 @@ use Rattle.ftc_network.proofs.GotReplicas.{sources_are, anew_in, are_got}
 use Rattle.ftc_network.proofs.NearServers.{alone_by, some_of, up_in, within_ring, within_setting, near_live, previous_is, following_is, up_at}
 use Rattle.ftc_network.proofs.Replaced.{slot_ready, each_replaced, fewer_withheld, up_again, slot_dropped, link_cut}
 use Rattle.ftc_network.proofs.ScriptLines.{lines_left}
-use Rattle.ftc_network.proofs.Truncated.{less_by}
+use Rattle.ftc_network.proofs.Untold.{is_below}
 use Rattle.ftc_network.proofs.network.Network.recover.Goals as goal
 
 pub neighbours-requires : goal.neighbours-requires
 neighbours-requires c =
-    less_by c.args.server c.args.self.now.ring.servers (λ given.
+    is_below c.args.server c.args.self.now.ring.servers c.requires.allowed (λ given.
     within_ring given.setting given.state (parts_of c.args.self.now) given.stands c.args.server
     ((c.order_of_a_state.ensures given.setting given.state given.run).recoveries given.state.entered c.args.server
     given.line).0)
-    c.requires.allowed
 
 pub returns-in_default-clause-ok : goal.returns-in_default-clause-ok
 returns-in_default-clause-ok c setting state run due line rule is =
@@ -44,11 +43,10 @@ returns-in_default-clause-ok c setting state run due line rule is =
 pub replace-requires-clause-server : goal.replace-requires-clause-server
 replace-requires-clause-server c =
     let old = c.args.self.now in
-    let below = less_by c.args.server old.ring.servers (λ given.
+    let below = is_below c.args.server old.ring.servers c.requires.allowed (λ given.
     within_ring given.setting given.state (parts_of old) given.stands c.args.server
     ((c.order_of_a_state.ensures given.setting given.state given.run).recoveries given.state.entered c.args.server
-    given.line).0)
-    c.requires.allowed in
+    given.line).0) in
     omega (arith, below, old.each_server)
 
 pub replace-requires-clause-ready : goal.replace-requires-clause-ready
@@ -87,7 +85,8 @@ returns-clause-ok c setting state run due line rule is =
     let last : IsServerAt setting state (following_live setting state server) following.0 =
     subst (λ (n : ℕ). IsServerAt setting state n following.0) after_is
     (up_at setting state (parts_of old) is near.following following.0 live.after.within following.1).at in
-    let sources = sources_are setting state server (c.order_of_a_state.ensures setting state run).admissible down.0 down.1
+    let orderly = c.order_of_a_state.ensures setting state run in
+    let sources = sources_are setting state server orderly.admissible down.0 down.1
     (subst (IsLiveBefore (servers setting) state.up server) before_is live.before)
     (subst (IsLiveAfter (servers setting) state.up server) after_is live.after)
     c.recoveries.ensures.from_before c.recoveries.ensures.from_after c.recoveries.ensures.after_is_member in
@@ -99,7 +98,8 @@ returns-clause-ok c setting state run due line rule is =
         ring = is.ring;
         partitions = is.partitions;
         servers_are = each_replaced old.servers.items c.replace.new.servers.items server near.following made
-            c.replace.ensures live.after.other (IsSlot setting state) (IsSlot setting after) (servers setting) is.servers_are
+            c.replace.ensures live.after.other (IsSlot setting state) (IsSlot setting after) (servers setting)
+            is.servers_are
             (record {
               up = up_again setting state server undone;
               at = c.what_revive_makes.ensures setting state server undone previous.0 following.0 made

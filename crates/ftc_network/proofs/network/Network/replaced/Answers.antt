@@ -5,27 +5,26 @@ use Rattle.ftc_network.specs.Parts.{parts_of}
 use Rattle.ftc_network.specs.Reviving.{got_of}
 use Rattle.ftc_network.proofs.GotReplicas.{got_keys}
 use Rattle.ftc_network.proofs.NearServers.{within_ring, within_setting, near_live, previous_is, following_is, up_at}
-use Rattle.ftc_network.proofs.Truncated.{less_by, same_by}
+use Rattle.ftc_network.proofs.Untold.{is_below, is_same}
 use Rattle.ftc_network.proofs.network.Network.replaced.Goals as goal
 
 pub revived-requires-clause-server : goal.revived-requires-clause-server
 revived-requires-clause-server c =
-    less_by c.args.server c.args.self.now.ring.servers (λ given.
+    is_below c.args.server c.args.self.now.ring.servers c.requires.allowed (λ given.
     within_ring given.setting given.state (parts_of c.args.self.now) given.stands c.args.server
     ((c.order_of_a_state.ensures given.setting given.state given.run).recoveries given.state.entered c.args.server
     given.line).0)
-    c.requires.allowed
 
 pub revived-requires-clause-previous : goal.revived-requires-clause-previous
 revived-requires-clause-previous c =
     let near = c.args.near.now in
     let previous = c.live-previous.result.now in
-    less_by previous.id c.args.self.now.ring.servers (λ given.
+    is_below previous.id c.args.self.now.ring.servers c.requires.allowed (λ given.
     let below = within_setting given.setting given.state (parts_of c.args.self.now) given.stands near.previous
     c.requires.near.before.within in
     let up = up_at given.setting given.state (parts_of c.args.self.now) given.stands near.previous previous below
     c.live-previous.ensures in
-    omega (arith, up.at.number_is, c.requires.near.before.within)) c.requires.allowed
+    omega (arith, up.at.number_is, c.requires.near.before.within))
 
 pub revived-requires-clause-own : goal.revived-requires-clause-own
 revived-requires-clause-own c =
@@ -34,7 +33,7 @@ revived-requires-clause-own c =
     let server = c.args.server in
     let previous = c.live-previous.result.now in
     let following = c.live-following.result.now in
-    same_by (got_of old.ring server previous following server).partitions old.partitions (λ given.
+    is_same (got_of old.ring server previous following server).partitions old.partitions c.requires.allowed (λ given.
     let below = ((c.order_of_a_state.ensures given.setting given.state given.run).recoveries given.state.entered server
     given.line).0 in
     let before = up_at given.setting given.state (parts_of old) given.stands near.previous previous
@@ -45,7 +44,7 @@ revived-requires-clause-own c =
     c.live-following.ensures in
     got_keys given.setting given.state old.ring server near.previous near.following previous following before.at
     after.at server
-    old.partitions below given.stands.partitions) c.requires.allowed
+    old.partitions below given.stands.partitions)
 
 pub returns-clause-undone : goal.returns-clause-undone
 returns-clause-undone c setting state run line is =
