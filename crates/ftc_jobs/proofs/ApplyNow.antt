@@ -44,7 +44,7 @@ use Rattle.ftc_refinement.proofs.Ring.{each_named}
 use Rattle.ftc_refinement.proofs.VisitCalls.{changes_nothing, changes_some}
 use Rattle.ftc_refinement.proofs.Works.{held_in}
 use Rattle.ftc_jobs.specs.Applies.{had_if_smaller, has_writes, may_apply_now, may_apply_of, smaller_had, writes_some}
-use Rattle.ftc_jobs.proofs.Tests.{all_so, both, from_both, so_of_all}
+use Rattle.ftc_jobs.proofs.TwoParts.{all_so, both, from_both, so_of_all}
 
 -- ---- what the test says of a server
 

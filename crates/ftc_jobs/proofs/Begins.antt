@@ -15,7 +15,7 @@ use Rattle.ftc_network.specs.Stand.{IsSlot}
 use Rattle.ftc_jobs.specs.Quiet.{all_clear, all_up, came_by_ring, has_forwarded, holds_nothing, is_clear, is_wanted, may_begin, none_held}
 use Rattle.ftc_jobs.specs.Rest.{IsResting}
 use Rattle.ftc_jobs.proofs.Sizes.{size_of}
-use Rattle.ftc_jobs.proofs.Tests.{all_of, all_so, both, each_of, first_part, from_both, length_none, length_some, negated, none_in, second_part, so_of_all, some_in, some_part}
+use Rattle.ftc_jobs.proofs.TwoParts.{all_of, all_so, both, each_of, first_part, from_both, length_none, length_some, negated, none_in, second_part, so_of_all, some_in, some_part}
 
 -- ---- one server
 
