@@ -1,9 +1,7 @@
 -- The test of whether a message may begin without a packet says that it may.
-use Rattle.std.proofs.Common.{◌≡◌, ◌≢◌, ◌∙◌, ◌<◌, ◌-◌, ◌+◌, ◌&&◌, ◌==◌, ◌⊎◌, ℕ, Bool, true, false, not, List, [], Option, Some, None, length, refl, sym, ap, subst, inl, inr, arith}
+use Rattle.std.proofs.Common.{◌≡◌, ◌∙◌, ◌<◌, ◌-◌, ◌+◌, ◌&&◌, ◌==◌, ℕ, true, false, not, [], Option, Some, None, length, refl, sym, ap, subst, inl, inr, arith}
 use Rattle.std.specs.Prelude.{is_some, nat_lt}
-use Rattle.ftc_edge.specs.declared.buffer.Withheld.{Withheld}
 use Rattle.ftc_link.specs.Queue.{Queue}
-use Rattle.ftc_ring.specs.Ring.{IsRing}
 use Rattle.ftc_protocol.specs.Setting.{Setting, servers, count}
 use Rattle.ftc_protocol.specs.State.{ChainState}
 use Rattle.ftc_server.specs.declared.held.HeldMessage.{HeldMessage}
@@ -121,13 +119,13 @@ module _ (setting : Setting) (state : ChainState) (network : Network) (rest : Is
             (subst (λ (slot : Option Server). came_by_ring slot ≡ true) first.1 parts.0);
         some = elim (some_part (has_forwarded (slots 0))
             (nat_lt 0 (withheld_in network) && (none_held network && all_clear network)) others.1) [
-          | inl forwarded ↦ inl (some_in first.0.forwarder
-              (subst (λ (slot : Option Server). has_forwarded slot ≡ true) first.1 forwarded))
-          | inr still ↦
-              let withheld = both (nat_lt 0 (withheld_in network)) (none_held network && all_clear network) still in
-              let quiet = both (none_held network) (all_clear network) withheld.1 in
-              inr (stalled withheld.0 quiet.0 quiet.1)
-        ];
+              | inl forwarded ↦ inl (some_in first.0.forwarder
+                  (subst (λ (slot : Option Server). has_forwarded slot ≡ true) first.1 forwarded))
+              | inr still ↦
+                  let withheld = both (nat_lt 0 (withheld_in network)) (none_held network && all_clear network) still in
+                  let quiet = both (none_held network) (all_clear network) withheld.1 in
+                  inr (stalled withheld.0 quiet.0 quiet.1)
+            ];
         origin_is = origin_is;
       }
 

@@ -1,4 +1,4 @@
-use Rattle.std.proofs.Common.{◌≡◌, ◌∙◌, ◌&&◌, ◌⊎◌, Bool, true, false, not, refl, sym, ap, inl, inr}
+use Rattle.std.proofs.Common.{◌∙◌, not, sym, ap}
 use Rattle.std.proofs.lemmas.Bool.{true≢false}
 use Rattle.ftc_journal.specs.declared.job.Job.TheVariants as job
 use Rattle.ftc_protocol.specs.Jobs.{IsLegalJob}
