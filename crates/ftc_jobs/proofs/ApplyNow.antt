@@ -1,7 +1,7 @@
 -- The test of whether a log may be applied says that its apply may happen.
 use Rattle.std.proofs.Common.{◌≡◌, ◌∙◌, ◌<◌, ◌==◌, ◌&&◌, ◌||◌, ◌∷◌, ℕ, Bool, true, false, not, List, [], Option, Some, None, length, refl, sym, ap, subst, lt-ltb, arith}
-use Rattle.std.specs.Prelude.{◌↔◌, nat_lt}
-use Rattle.std.specs.List.{AllByRecursion, find, list_all}
+use Rattle.std.specs.Prelude.{nat_lt}
+use Rattle.std.specs.List.{find}
 use Rattle.std.specs.Option.{option_map}
 use Rattle.std.proofs.lemmas.Bool.{eqb-true, ne_eqb, true≢false}
 use Rattle.std.proofs.lemmas.Bool.Decides.{nat_tests}
@@ -18,7 +18,7 @@ use Rattle.ftc_protocol.specs.Known.{ServerHas}
 use Rattle.ftc_protocol.specs.Legal.{MayHappen}
 use Rattle.ftc_protocol.specs.Orderly.{IsOrderly}
 use Rattle.ftc_protocol.specs.Setting.{Setting}
-use Rattle.ftc_protocol.specs.State.{ChainState, Message, Held}
+use Rattle.ftc_protocol.specs.State.{ChainState}
 use Rattle.ftc_protocol.specs.Trace.{IsChanging}
 use Rattle.ftc_protocol.specs.Visits.{In}
 use Rattle.ftc_protocol.proofs.TraceLemmas.{stands_map}
@@ -44,7 +44,7 @@ use Rattle.ftc_refinement.proofs.Ring.{each_named}
 use Rattle.ftc_refinement.proofs.VisitCalls.{changes_nothing, changes_some}
 use Rattle.ftc_refinement.proofs.Works.{held_in}
 use Rattle.ftc_jobs.specs.Applies.{had_if_smaller, has_writes, may_apply_now, may_apply_of, smaller_had, writes_some}
-use Rattle.ftc_jobs.proofs.Tests.{all_so, both, from_both, so_of_all}
+use Rattle.ftc_jobs.proofs.TwoParts.{all_so, both, from_both, so_of_all}
 
 -- ---- what the test says of a server
 

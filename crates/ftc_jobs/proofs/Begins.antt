@@ -1,9 +1,7 @@
 -- The test of whether a message may begin without a packet says that it may.
-use Rattle.std.proofs.Common.{◌≡◌, ◌≢◌, ◌∙◌, ◌<◌, ◌-◌, ◌+◌, ◌&&◌, ◌==◌, ◌⊎◌, ℕ, Bool, true, false, not, List, [], Option, Some, None, length, refl, sym, ap, subst, inl, inr, arith}
+use Rattle.std.proofs.Common.{◌≡◌, ◌∙◌, ◌<◌, ◌-◌, ◌+◌, ◌&&◌, ◌==◌, ℕ, true, false, not, [], Option, Some, None, length, refl, sym, ap, subst, inl, inr, arith}
 use Rattle.std.specs.Prelude.{is_some, nat_lt}
-use Rattle.ftc_edge.specs.declared.buffer.Withheld.{Withheld}
 use Rattle.ftc_link.specs.Queue.{Queue}
-use Rattle.ftc_ring.specs.Ring.{IsRing}
 use Rattle.ftc_protocol.specs.Setting.{Setting, servers, count}
 use Rattle.ftc_protocol.specs.State.{ChainState}
 use Rattle.ftc_server.specs.declared.held.HeldMessage.{HeldMessage}
@@ -15,7 +13,7 @@ use Rattle.ftc_network.specs.Stand.{IsSlot}
 use Rattle.ftc_jobs.specs.Quiet.{all_clear, all_up, came_by_ring, has_forwarded, holds_nothing, is_clear, is_wanted, may_begin, none_held}
 use Rattle.ftc_jobs.specs.Rest.{IsResting}
 use Rattle.ftc_jobs.proofs.Sizes.{size_of}
-use Rattle.ftc_jobs.proofs.Tests.{all_of, all_so, both, each_of, first_part, from_both, length_none, length_some, negated, none_in, second_part, so_of_all, some_in, some_part}
+use Rattle.ftc_jobs.proofs.TwoParts.{all_of, all_so, both, each_of, first_part, from_both, length_none, length_some, negated, none_in, second_part, so_of_all, some_in, some_part}
 
 -- ---- one server
 
@@ -121,13 +119,13 @@ module _ (setting : Setting) (state : ChainState) (network : Network) (rest : Is
             (subst (λ (slot : Option Server). came_by_ring slot ≡ true) first.1 parts.0);
         some = elim (some_part (has_forwarded (slots 0))
             (nat_lt 0 (withheld_in network) && (none_held network && all_clear network)) others.1) [
-          | inl forwarded ↦ inl (some_in first.0.forwarder
-              (subst (λ (slot : Option Server). has_forwarded slot ≡ true) first.1 forwarded))
-          | inr still ↦
-              let withheld = both (nat_lt 0 (withheld_in network)) (none_held network && all_clear network) still in
-              let quiet = both (none_held network) (all_clear network) withheld.1 in
-              inr (stalled withheld.0 quiet.0 quiet.1)
-        ];
+              | inl forwarded ↦ inl (some_in first.0.forwarder
+                  (subst (λ (slot : Option Server). has_forwarded slot ≡ true) first.1 forwarded))
+              | inr still ↦
+                  let withheld = both (nat_lt 0 (withheld_in network)) (none_held network && all_clear network) still in
+                  let quiet = both (none_held network) (all_clear network) withheld.1 in
+                  inr (stalled withheld.0 quiet.0 quiet.1)
+            ];
         origin_is = origin_is;
       }
 

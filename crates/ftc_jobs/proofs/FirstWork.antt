@@ -1,8 +1,8 @@
 -- The messages that stand before the first one with work.
-use Rattle.std.proofs.Common.{◌≡◌, ◌∙◌, ◌++◌, ◌∷◌, ℕ, Bool, true, false, List, [], Option, Some, None, refl, sym, ap, subst, cond, inl, inr}
+use Rattle.std.proofs.Common.{◌≡◌, ◌∙◌, ◌++◌, ◌∷◌, ℕ, true, false, List, [], Option, Some, None, refl, sym, ap, subst, cond, inl, inr}
 use Rattle.std.specs.List.{AllByRecursion, find}
 use Rattle.std.specs.Option.{option_map}
-use Rattle.std.proofs.lemmas.Option.{none-some, same_Some}
+use Rattle.std.proofs.lemmas.Option.{same_Some}
 use Rattle.std.proofs.lemmas.Bool.{eq-eqb, true≢false}
 use Rattle.ftc_replica.specs.Held.{Held}
 use Rattle.ftc_serial.specs.Words.{AnyOf}
@@ -86,9 +86,9 @@ found_before P origin (item ∷ items) rest all any =
     (held : HeldMessage) × (cond b (Some item) (found origin (items ++ rest)) ≡ Some held) × P held) [
       | true ↦ λ is. (item, refl, all.0)
       | false ↦ λ isnt. found_before P origin items rest all.1 (elim any [
-          | inl here ↦ absurd (true≢false (sym (eq-eqb item.message.origin origin here) ∙ isnt))
-          | inr later ↦ later
-        ])
+        | inl here ↦ absurd (true≢false (sym (eq-eqb item.message.origin origin here) ∙ isnt))
+        | inr later ↦ later
+      ])
     ] refl
 
 -- ---- the origin of the first

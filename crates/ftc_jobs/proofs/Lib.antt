@@ -6,6 +6,6 @@ mod LinesInOrder
 mod NextLine
 mod Sizes
 mod Standing
-mod Tests
+mod TwoParts
 mod WorkAt
 mod WorkInTurn

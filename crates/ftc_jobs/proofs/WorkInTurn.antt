@@ -26,8 +26,7 @@ module _ (setting : Setting) (state : ChainState) (server origin : ℕ) (no_pull
   work_in_turn (job.Lose at own) work =
       at_its_place (λ a o. job.Lose a o) at own work.0 work.1 (no_pull, idle, (refl, refl, work.2, work.3, work.4))
   work_in_turn (job.Carry own) work =
-      subst (λ (o : ℕ). IsInTurn setting state (job.Carry o)) (sym work.1)
-      (
+      subst (λ (o : ℕ). IsInTurn setting state (job.Carry o)) (sym work.1) (
         no_pull,
         subst (λ (s : ℕ). AreIdleBefore setting state s origin) work.0 idle,
         subst (λ (s : ℕ). IsWork setting state s origin (job.Carry origin)) work.0

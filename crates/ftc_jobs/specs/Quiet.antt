@@ -1,5 +1,5 @@
 -- Whether a message may begin without a packet, by what the servers and links have.
-use Rattle.std.specs.Prelude.{ℕ, ◌==◌, ◌&&◌, ◌||◌, Bool, true, false, not, nat_lt, length, Option, Some, None, is_some}
+use Rattle.std.specs.Prelude.{◌==◌, ◌&&◌, ◌||◌, Bool, true, false, not, nat_lt, length, Option, Some, None, is_some}
 use Rattle.std.specs.List.{list_all}
 use Rattle.ftc_link.specs.Queue.{Queue}
 use Rattle.ftc_server.specs.declared.held.HeldMessage.{HeldMessage}

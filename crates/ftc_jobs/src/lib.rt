@@ -13,3 +13,6 @@ mod works;
 
 pub use first::first_job;
 pub use legal::is_legal;
+
+#[cfg(test)]
+mod tests;

@@ -94,7 +94,8 @@ fn first_slot(network: &Network) -> &Option<Server>
 fn is_wanted(network: &Network) -> bool
     ensures { result ≡ is_wanted network.now }
 {
-    has_forwarded(first_slot(network)) || (network.withheld() > 0 && none_held(network) && all_clear(network))
+    has_forwarded(first_slot(network))
+        || (network.withheld() > 0 && none_held(network) && all_clear(network))
 }
 
 /// Whether a message may begin without a packet, where all packets have entered.

@@ -1,7 +1,6 @@
-use Rattle.std.proofs.Common.{◌≡◌, ◌∙◌, Some, None, sym, ap}
+use Rattle.std.proofs.Common.{◌∙◌, sym, ap}
 use Rattle.std.specs.Option.{option_copied}
 use Rattle.std.proofs.lemmas.Bool.{true≢false}
-use Rattle.ftc_network.specs.Parts.{server_in}
 use Rattle.ftc_jobs.proofs.Standing.{is_down_there, is_up_there}
 use Rattle.ftc_jobs.proofs.applies.may_apply.Goals as goal
 

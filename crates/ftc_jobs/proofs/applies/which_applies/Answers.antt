@@ -1,4 +1,3 @@
-use Rattle.std.proofs.Common.{◌≡◌}
 use Rattle.ftc_message.specs.Logged.{Logged}
 use Rattle.ftc_replica.specs.Held.{Held}
 use Rattle.ftc_jobs.proofs.ApplyNow.{applicable, may_happen, test_of_legal}

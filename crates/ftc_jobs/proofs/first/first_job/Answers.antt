@@ -1,9 +1,8 @@
 use Rattle.std.proofs.Common.{subst}
 use Rattle.std.proofs.lemmas.Option.{IfSome_then}
-use Rattle.ftc_journal.specs.declared.job.Job.{Job}
 use Rattle.ftc_protocol.specs.State.{ChainState}
 use Rattle.ftc_protocol.specs.Drive.{IsNoneDue}
-use Rattle.ftc_protocol.specs.Jobs.{IsFirstJob, IsInTurn, IsLegalJob}
+use Rattle.ftc_protocol.specs.Jobs.{IsFirstJob, IsInTurn}
 use Rattle.ftc_protocol.specs.Run.{IsFinished}
 use Rattle.ftc_jobs.specs.Turn.{IsNothingLegal}
 use Rattle.ftc_jobs.proofs.first.first_job.Goals as goal

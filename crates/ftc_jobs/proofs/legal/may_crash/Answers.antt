@@ -1,4 +1,4 @@
-use Rattle.std.proofs.Common.{◌≡◌, ◌∙◌, ℕ, true, Some, refl, sym, ap, subst}
+use Rattle.std.proofs.Common.{◌≡◌, ◌∙◌, ℕ, refl, sym, ap, subst}
 use Rattle.std.proofs.lemmas.Option.{none-some, same_Some}
 use Rattle.ftc_journal.specs.declared.job.Job.TheVariants as job
 use Rattle.ftc_protocol.specs.Jobs.{IsLegalJob}
@@ -16,9 +16,11 @@ returns-in-Some c setting state packets rest =
     let next = (says line).0 c.in-Some.is in (
       (λ test.
           let crash = c.is_crash.ensures.0 test in
-          let due : crash.0 ≡ state.entered = sym (ap at_of crash.1) ∙ next.1 in
-          (subst (λ (n : ℕ). IsNextLine state.lines (Crash n c.args.server)) due
-          (subst (λ (l : ScriptLine). IsNextLine state.lines l) crash.1 next.0), λ other. rest.resting.none_due)),
+          let due : crash.0 ≡ state.entered = sym (ap at_of crash.1) ∙ next.1 in (
+            subst (λ (n : ℕ). IsNextLine state.lines (Crash n c.args.server)) due
+                (subst (λ (l : ScriptLine). IsNextLine state.lines l) crash.1 next.0),
+            λ other. rest.resting.none_due,
+          )),
       (λ legal. c.is_crash.ensures.1 (
         state.entered,
         same_Some line (Crash state.entered c.args.server)

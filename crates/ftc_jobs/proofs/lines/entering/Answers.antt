@@ -1,4 +1,4 @@
-use Rattle.std.proofs.Common.{◌≡◌, ◌∙◌, ◌<◌, ℕ, Some, None, refl, sym, ap, subst, arith}
+use Rattle.std.proofs.Common.{◌∙◌, ◌<◌, ℕ, Some, refl, sym, ap, subst}
 use Rattle.std.proofs.lemmas.Option.{none-some, same_Some}
 use Rattle.ftc_journal.specs.declared.job.Job.TheVariants as job
 use Rattle.ftc_protocol.specs.Setting.{count}
@@ -23,8 +23,12 @@ returns-in-None c setting state rest packet =
     let few : state.entered < count setting = subst (λ (n : ℕ). n < count setting) entered_is
     (subst (λ (n : ℕ). network.entered < n) rest.packets_are c.if-network-packets.false) in
     let legal : IsLegalJob setting state (job.Enter state.entered) = (
-      (refl, few, none_for state.lines state.entered order
-      (λ line next at. none-some line (sym c.in-None.is ∙ (c.next_line.ensures setting state c.args.packets rest line).1 (next, at)))),
+      (
+        refl,
+        few,
+        none_for state.lines state.entered order
+            (λ line next at. none-some line (sym c.in-None.is ∙ (c.next_line.ensures setting state c.args.packets rest line).1 (next, at))),
+      ),
       λ other. rest.resting.none_due,
     ) in (
       (λ same. subst (λ (n : ℕ). IsLegalJob setting state (job.Enter n)) (sym entered_is ∙ same_Some network.entered packet same)

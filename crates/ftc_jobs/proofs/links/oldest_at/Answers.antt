@@ -1,9 +1,8 @@
-use Rattle.std.proofs.Common.{◌≡◌, ◌∙◌, ◌<◌, ◌∷◌, ℕ, List, [], Some, None, refl, sym, ap, subst}
+use Rattle.std.proofs.Common.{◌≡◌, ◌∙◌, ◌<◌, ◌∷◌, ℕ, [], Some, refl, sym, ap, subst}
 use Rattle.std.specs.Option.{option_map}
 use Rattle.std.proofs.lemmas.Option.{none-some, same_Some}
 use Rattle.ftc_journal.specs.declared.job.Job.TheVariants as job
 use Rattle.ftc_link.specs.Queue.{Queue, oldest_of}
-use Rattle.ftc_message.specs.declared.message.Message.{Message}
 use Rattle.ftc_protocol.specs.Setting.{servers}
 use Rattle.ftc_protocol.specs.Jobs.{IsLegalJob}
 use Rattle.ftc_standing.specs.Stand.{IsLink, origin_of}
@@ -25,14 +24,14 @@ returns c setting state origin rest =
     (c.oldest.result ≡ Some origin → IsLegalJob setting state (job.Take link origin))
     × (IsLegalJob setting state (job.Take link origin) → c.oldest.result ≡ Some origin)) [
       | [] ↦ λ none said. (
-          (λ same. absurd (none-some origin (sym said ∙ same))),
-          (λ legal. absurd (c.what_a_link_offers.ensures.none setting state link origin queue rest.run is none legal)),
-        )
+        (λ same. absurd (none-some origin (sym said ∙ same))),
+        (λ legal. absurd (c.what_a_link_offers.ensures.none setting state link origin queue rest.run is none legal)),
+      )
       | sent ∷ others ↦ λ some said. (
-          (λ same. subst (λ (o : ℕ). IsLegalJob setting state (job.Take link o))
-              (same_Some sent.origin origin (sym said ∙ same))
-              (c.what_a_link_offers.ensures.oldest setting state link queue sent others rest.run rest.none_due is some)),
-          (λ legal. said ∙ ap (λ (o : ℕ). Some o)
-              (sym (c.what_a_link_offers.ensures.only setting state link origin queue sent others rest.run is some legal))),
-        )
+        (λ same. subst (λ (o : ℕ). IsLegalJob setting state (job.Take link o))
+            (same_Some sent.origin origin (sym said ∙ same))
+            (c.what_a_link_offers.ensures.oldest setting state link queue sent others rest.run rest.none_due is some)),
+        (λ legal. said ∙ ap (λ (o : ℕ). Some o)
+            (sym (c.what_a_link_offers.ensures.only setting state link origin queue sent others rest.run is some legal))),
+      )
     ] refl told

@@ -1,14 +1,8 @@
-use Rattle.std.proofs.Common.{◌≡◌, ◌∙◌, ◌+◌, ◌<◌, ◌^◌, ◌↔◌, ℕ, true, false, Some, None, sym, ap, subst, arith}
+use Rattle.std.proofs.Common.{◌≡◌, ◌∙◌, ◌+◌, ℕ, Some, sym, ap, arith}
 use Rattle.std.proofs.lemmas.Bool.{true≢false}
 use Rattle.std.proofs.lemmas.Option.{none-some, same_Some}
-use Rattle.ftc_journal.specs.declared.job.Job.TheVariants as job
-use Rattle.ftc_protocol.specs.Jobs.{IsLegalJob}
-use Rattle.ftc_protocol.specs.Setting.{Setting, count}
-use Rattle.ftc_protocol.specs.State.{ChainState}
-use Rattle.ftc_refinement.specs.Slots.{IsToPropagate}
-use Rattle.ftc_network.specs.declared.network.Network.{Network}
+use Rattle.ftc_protocol.specs.Setting.{count}
 use Rattle.ftc_network.specs.Parts.{link_in, server_in}
-use Rattle.ftc_jobs.specs.Quiet.{may_begin}
 use Rattle.ftc_jobs.proofs.Begins.{may_be, must_be, slots_stand}
 use Rattle.ftc_jobs.proofs.quiet.propagating.Goals as goal
 use Rattle.ftc_jobs.proofs.quiet.propagating.Goals.{else-network-packets-via-then-network-packets+else-may_begin, else-network-packets-via-else-network-packets}

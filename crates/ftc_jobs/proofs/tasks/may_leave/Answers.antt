@@ -1,10 +1,7 @@
 use Rattle.std.proofs.Common.{◌∙◌, sym}
-use Rattle.std.specs.Prelude.{◌↔◌}
-use Rattle.ftc_journal.specs.declared.job.Job.TheVariants as job
-use Rattle.ftc_protocol.specs.Jobs.{IsLegalJob}
 use Rattle.ftc_protocol.specs.Legal.{MayLeave}
 use Rattle.ftc_protocol.specs.State.{Message}
-use Rattle.ftc_server.specs.declared.work.Work.TheVariants.{Visit, Send, Carry}
+use Rattle.ftc_server.specs.declared.work.Work.TheVariants.{Send}
 use Rattle.ftc_network.specs.Parts.{server_in}
 use Rattle.ftc_jobs.specs.Works.{work_at}
 use Rattle.ftc_jobs.proofs.Chosen.{found_none}

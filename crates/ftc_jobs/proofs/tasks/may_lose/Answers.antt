@@ -4,7 +4,7 @@ use Rattle.ftc_journal.specs.declared.job.Job.TheVariants as job
 use Rattle.ftc_protocol.specs.Jobs.{IsLegalJob}
 use Rattle.ftc_protocol.specs.Legal.{is_sent}
 use Rattle.ftc_jobs.proofs.Chosen.{untrue}
-use Rattle.ftc_jobs.proofs.Tests.{both, from_both}
+use Rattle.ftc_jobs.proofs.TwoParts.{both, from_both}
 use Rattle.ftc_jobs.proofs.tasks.may_lose.Goals as goal
 
 pub returns-then-may_leave : goal.returns-then-may_leave

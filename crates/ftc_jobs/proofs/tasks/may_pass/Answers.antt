@@ -1,10 +1,10 @@
-use Rattle.std.proofs.Common.{◌≡◌, ◌∙◌, ◌&&◌, ◌⊎◌, Bool, true, false, not, refl, sym, ap, inl, inr}
+use Rattle.std.proofs.Common.{◌∙◌, not, sym, ap}
 use Rattle.std.proofs.lemmas.Bool.{true≢false}
 use Rattle.ftc_journal.specs.declared.job.Job.TheVariants as job
 use Rattle.ftc_protocol.specs.Jobs.{IsLegalJob}
 use Rattle.ftc_protocol.specs.Legal.{is_sent}
 use Rattle.ftc_jobs.proofs.Chosen.{untrue}
-use Rattle.ftc_jobs.proofs.Tests.{either, negated, neither}
+use Rattle.ftc_jobs.proofs.TwoParts.{either, negated, neither}
 use Rattle.ftc_jobs.proofs.tasks.may_pass.Goals as goal
 
 pub returns-then-may_leave : goal.returns-then-may_leave

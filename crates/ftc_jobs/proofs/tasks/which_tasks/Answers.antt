@@ -1,11 +1,10 @@
-use Rattle.std.proofs.Common.{◌≡◌, ◌∙◌, ℕ, Bool, true, false, Some, refl, sym, ap, subst, cond}
+use Rattle.std.proofs.Common.{◌≡◌, ◌∙◌, Bool, true, false, Some, sym, ap, subst, cond}
 use Rattle.std.proofs.lemmas.Bool.{true≢false}
 use Rattle.ftc_base.specs.declared.limits.TheConstants.{FINISHING_SLOT}
 use Rattle.ftc_journal.specs.declared.job.Job.TheVariants as job
 use Rattle.ftc_protocol.specs.Jobs.{IsLegalJob, IsWork}
 use Rattle.ftc_protocol.specs.Legal.{MayLeave}
 use Rattle.ftc_protocol.specs.State.{ChainState, Message}
-use Rattle.ftc_server.specs.declared.work.Work.{Work}
 use Rattle.ftc_server.specs.declared.work.Work.TheVariants.{Visit, Send, Carry}
 use Rattle.ftc_server.specs.Looks.{work_in}
 use Rattle.ftc_server.specs.Work.{is_waiting, work_for_found}

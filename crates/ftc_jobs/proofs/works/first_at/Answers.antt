@@ -1,16 +1,12 @@
 use Rattle.std.proofs.Common.{◌≡◌, ◌∙◌, ◌<◌, ◌++◌, ◌∷◌, ℕ, false, List, Option, Some, None, sym, ap, subst}
 use Rattle.std.specs.Option.{option_copied}
 use Rattle.std.proofs.lemmas.Bool.{true≢false}
-use Rattle.ftc_protocol.specs.Setting.{servers}
-use Rattle.ftc_protocol.specs.State.{Message}
 use Rattle.ftc_protocol.specs.Jobs.{since_of}
 use Rattle.ftc_server.specs.declared.held.HeldMessage.{HeldMessage}
-use Rattle.ftc_server.specs.declared.server.Server.{Server}
 use Rattle.ftc_server.specs.declared.work.Work.{Work}
 use Rattle.ftc_server.specs.Holding.{found}
-use Rattle.ftc_server.specs.Looks.{work_in}
 use Rattle.ftc_server.specs.Work.{first_with_work, work_for_found, work_for}
-use Rattle.ftc_jobs.proofs.FirstWork.{IsPassed, IsFirstOf, all_passed, first_of, found_before, no_first, so_of_found, some_first}
+use Rattle.ftc_jobs.proofs.FirstWork.{IsPassed, all_passed, first_of, found_before, no_first, so_of_found, some_first}
 use Rattle.ftc_jobs.proofs.Standing.{is_down_there, is_up_there}
 use Rattle.ftc_jobs.proofs.works.first_at.Goals as goal
 

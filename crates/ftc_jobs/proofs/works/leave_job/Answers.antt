@@ -1,7 +1,6 @@
-use Rattle.std.proofs.Common.{◌≡◌, ◌∙◌, ◌&&◌, ◌⊎◌, Bool, true, false, refl, sym, inl, inr}
-use Rattle.std.proofs.lemmas.Bool.{true≢false}
+use Rattle.std.proofs.Common.{◌∙◌, sym}
 use Rattle.ftc_protocol.specs.Legal.{is_sent}
-use Rattle.ftc_jobs.proofs.Tests.{both, either}
+use Rattle.ftc_jobs.proofs.TwoParts.{both, either}
 use Rattle.ftc_jobs.proofs.works.leave_job.Goals as goal
 
 pub returns-then-is_lost : goal.returns-then-is_lost

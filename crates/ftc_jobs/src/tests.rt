@@ -1,0 +1,111 @@
+ghost use Rattle.std.specs.Prelude.{◌≡◌, []};
+
+use crate::{first_job, is_legal};
+use ftc_base::{Bytes, NoMemory, PacketNo, ServerId};
+use ftc_journal::Job;
+use ftc_link::Link;
+use ftc_mbox::Rule;
+use ftc_message::{Logs, Message, Needs};
+use ftc_network::Network;
+use ftc_ring::Ring;
+use ftc_script::read_script;
+use ftc_server::Server;
+use ftc_vector::Commits;
+use ftc_visits::MadeVisits;
+use std::alloc::Global;
+use std::test::Fail;
+
+/// A message with nothing but that packet.
+fn message(alloc: Global, origin: PacketNo, packet: Option<Bytes>) -> Message
+    ensures logs { result.logs ≡ [] }
+    ensures needs { result.needs ≡ [] }
+{
+    Message {
+        origin,
+        packet,
+        logs: Logs::new(alloc),
+        needs: Needs::new(alloc),
+        commits: Commits::new(),
+    }
+}
+
+/// Two servers, one of which may be down. The first holds that packet, if any, and its link may have a gap.
+fn pair(alloc: Global, packet: Option<Bytes>, gap: bool) -> Result<Network, NoMemory> {
+    let ring = Ring::new(2, 1).unwrap();
+    let (one, two) = (ServerId::new(0).unwrap(), ServerId::new(1).unwrap());
+    let mut first = Server::new(alloc, &ring, one, &Rule::Pass, 1)?;
+    let second = Server::new(alloc, &ring, two, &Rule::Pass, 1)?;
+    if packet.is_some() {
+        first.make_room(0)?;
+        first.take(message(alloc, 0, packet), false);
+    }
+    let mut servers = Vec::new(alloc);
+    servers.push(Some(first))?;
+    servers.push(Some(second))?;
+    let mut onward = Link::new(alloc, one);
+    onward.set_gap(gap);
+    let mut links = Vec::new(alloc);
+    links.push(onward)?;
+    links.push(Link::new(alloc, two))?;
+    Ok(Network {
+        ring,
+        partitions: 1,
+        servers,
+        links,
+        entered: 0,
+        done: 0,
+        propagates: 0,
+        visits: MadeVisits::new(alloc),
+    })
+}
+
+#[test]
+fn a_packet_enters_and_then_nothing_is_left(rt: HostRuntime) -> Result<(), Fail> {
+    let mut network = pair(rt.alloc(), None, false)?;
+    let ring = Ring::new(2, 1).unwrap();
+    let Ok(script) = read_script(rt.alloc(), b"", &ring, 1) else {
+        return Err(Fail::new("refused"));
+    };
+    let enter = Job::Enter { packet: 0 };
+    assert_eq!(rt; first_job(&network, &script, 1), Some(enter));
+    assert!(rt; is_legal(&network, &script, 1, &enter));
+    assert!(rt; !is_legal(&network, &script, 1, &Job::Enter { packet: 1 }));
+    network.entered = 1;
+    assert_eq!(rt; first_job(&network, &script, 1), None);
+    Ok(())
+}
+
+#[test]
+fn a_held_packet_is_visited_before_others_enter(rt: HostRuntime) -> Result<(), Fail> {
+    let mut network = pair(rt.alloc(), Some(Bytes::new(rt.alloc())), false)?;
+    network.entered = 1;
+    let ring = Ring::new(2, 1).unwrap();
+    let Ok(script) = read_script(rt.alloc(), b"lose 0 0", &ring, 2) else {
+        return Err(Fail::new("refused"));
+    };
+    let server = ServerId::new(0).unwrap();
+    let visit = Job::Visit { server, packet: 0 };
+    assert_eq!(rt; first_job(&network, &script, 2), Some(visit));
+    assert!(rt; is_legal(&network, &script, 2, &visit));
+    assert!(rt; !is_legal(&network, &script, 2, &Job::Lose { server, origin: 0 }));
+    assert!(rt; is_legal(&network, &script, 2, &Job::Enter { packet: 1 }));
+    Ok(())
+}
+
+#[test]
+fn pulls_come_before_lines_of_the_script(rt: HostRuntime) -> Result<(), Fail> {
+    let network = pair(rt.alloc(), None, false)?;
+    let ring = Ring::new(2, 1).unwrap();
+    let text = b"at 0 crash 1\nat 0 recover 1\n".as_slice();
+    let Ok(script) = read_script(rt.alloc(), text, &ring, 1) else {
+        return Err(Fail::new("refused"));
+    };
+    let (link, server) = (ServerId::new(0).unwrap(), ServerId::new(1).unwrap());
+    let crash = Job::Crash { server };
+    assert_eq!(rt; first_job(&network, &script, 1), Some(crash));
+    assert!(rt; !is_legal(&network, &script, 1, &Job::Recover { server }));
+    let torn = pair(rt.alloc(), None, true)?;
+    assert_eq!(rt; first_job(&torn, &script, 1), Some(Job::Pull { link }));
+    assert!(rt; is_legal(&torn, &script, 1, &crash));
+    Ok(())
+}
