@@ -1,6 +1,6 @@
 //! The events of jobs.
 
-ghost use Rattle.std.specs.Prelude.{◌≡◌, ◌⊎◌, ℕ, IfSome, IsNone};
+ghost use Rattle.std.specs.Prelude.{◌≡◌, ℕ, false, IfSome, IsNone};
 ghost use Rattle.ftc_journal.specs.declared.job.Job.TheVariants as job;
 ghost use Rattle.ftc_protocol.specs.Jobs.{event_of};
 ghost use Rattle.ftc_protocol.specs.Setting.{Setting};
