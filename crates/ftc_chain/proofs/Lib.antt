@@ -1,1 +1,2 @@
+mod AtRest
 mod Releases

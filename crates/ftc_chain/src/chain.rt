@@ -15,7 +15,7 @@ use ftc_journal::{Event, Job, Journal};
 use ftc_mbox::ChainSpec;
 use ftc_network::Network;
 use ftc_pcap::Packets;
-use ftc_protocol::{accepted, every_moment, few_propagates, releases};
+use ftc_protocol::{accepted, every_moment, few_propagates, first_job as order_of_jobs, releases};
 use ftc_script::Script;
 use std::alloc::Global;
 use std::marker::Model;
@@ -115,6 +115,7 @@ impl<'a> Chain<'a> {
     {
         accepted();
         few_propagates();
+        let _ = self.given.script.ring();
         let packets = self.given.packets.len() as u32;
         first_job(&self.course.network, self.given.script, packets)
     }
@@ -124,6 +125,7 @@ impl<'a> Chain<'a> {
         ensures finished { result ≡ true → ∥ IsFinished (setting_in self.now) (state_of self.now) ∥₁ }
         ensures unfinished { result ≡ false → IsFinished (setting_in self.now) (state_of self.now) → ⊥ }
     {
+        order_of_jobs();
         self.next().is_none()
     }
 
@@ -134,6 +136,7 @@ impl<'a> Chain<'a> {
     {
         accepted();
         few_propagates();
+        let _ = self.given.script.ring();
         let packets = self.given.packets.len() as u32;
         is_legal(&self.course.network, self.given.script, packets, job)
     }
