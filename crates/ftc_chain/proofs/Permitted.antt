@@ -1,5 +1,5 @@
 -- What a network may be asked to do where a job is legal, and that the job is done by it.
-use Rattle.std.proofs.Common.{◌≡◌, ◌<◌, ◌+◌, ℕ, true, false, Bool, Result, Ok, Err, Option, OnOk, IfOk, refl, sym, ap, subst}
+use Rattle.std.proofs.Common.{◌≡◌, ◌<◌, ℕ, true, Bool, List, Result, Ok, Err, OnOk, IfOk, sym, subst}
 use Rattle.std.proofs.Math.Bool.{Bool-set}
 use Rattle.std.proofs.Math.Logic.{∥∥₁_elim, ∥∥₁_map}
 use Rattle.std.proofs.lemmas.Bool.{ltb-true, lt-ltb}
@@ -8,11 +8,12 @@ use Rattle.ftc_journal.specs.declared.event.Event.TheVariants as event
 use Rattle.ftc_journal.specs.declared.job.Job.{Job}
 use Rattle.ftc_journal.specs.declared.job.Job.TheVariants as job
 use Rattle.ftc_base.specs.declared.limits.TheConstants.{FINISHING_SLOT}
-use Rattle.ftc_protocol.specs.Jobs.{event_of, IsLegalJob}
+use Rattle.ftc_protocol.specs.Jobs.{event_of, IsLegalJob, IsWithin}
 use Rattle.ftc_protocol.specs.Legal.{IsLegal}
 use Rattle.ftc_protocol.specs.Next.{next}
-use Rattle.ftc_protocol.specs.Setting.{Setting}
-use Rattle.ftc_protocol.specs.State.{ChainState}
+use Rattle.ftc_protocol.specs.Run.{IsRunState, IsRun, state_after}
+use Rattle.ftc_protocol.specs.Setting.{Setting, IsSetting}
+use Rattle.ftc_protocol.specs.State.{ChainState, opening}
 use Rattle.ftc_standing.specs.View.{leaving}
 use Rattle.ftc_network.specs.declared.network.Network.{Network}
 use Rattle.ftc_network.specs.Events.{IsAllowed, Follows}
@@ -67,3 +68,11 @@ pub if_ok : {A E : Type 0} (result : Result A E) (Fact Other : A → Type 0) →
     IfOk result Fact → IfOk result Other
 if_ok (Ok value) Fact Other from fact = from value fact
 if_ok (Err fault) Fact Other from fact = tt
+
+-- a job that is legal in the state to which a run leads has the numbers of servers and messages
+pub within_of : (setting : Setting) (state : ChainState) (job : Job) → IsRunState setting state →
+    ((journal : List Event) → IsSetting setting → IsRun setting journal →
+    IsLegalJob setting (state_after setting (opening setting) journal) job → IsWithin setting job) →
+    IsLegalJob setting state job → IsWithin setting job
+within_of setting state job run within legal = within run.journal run.right run.run
+    (subst (λ (s : ChainState). IsLegalJob setting s job) (sym run.reaches) legal)

@@ -24,6 +24,10 @@ pub bytes_at : (packets : List Packet) (place : ℕ) (packet : Packet) → slice
 bytes_at packets place packet same = sym (get_or_from_slice_get (bytes_of packets) place packet.bytes []
     (slice_get-map (λ (p : Packet). p.bytes) packets place ∙ ap (option_map (λ (p : Packet). p.bytes)) same))
 
+-- there are as many as packets
+pub few_bytes : (packets : List Packet) (most : ℕ) → length packets ≤ most → length (bytes_of packets) ≤ most
+few_bytes packets most few = omega (arith, few, length-map packets (λ (p : Packet). p.bytes))
+
 -- of packets that entered
 pub room_to_enter : (setting : Setting) (packet : ℕ) (network : Network) (most : ℕ) → count setting ≤ most →
     ∥ MayDo setting (job.Enter packet) network ∥₁ → network.entered < most
