@@ -1,5 +1,5 @@
 -- What a network may be asked to do where a job is legal, and that the job is done by it.
-use Rattle.std.proofs.Common.{◌≡◌, ◌<◌, ℕ, true, Bool, List, Result, Ok, Err, OnOk, IfOk, sym, subst}
+use Rattle.std.proofs.Common.{◌≡◌, ◌<◌, ℕ, true, Bool, List, Result, Ok, Err, OnOk, IfOk, refl, sym, subst}
 use Rattle.std.proofs.Math.Bool.{Bool-set}
 use Rattle.std.proofs.Math.Logic.{∥∥₁_elim, ∥∥₁_map}
 use Rattle.std.proofs.lemmas.Bool.{ltb-true, lt-ltb}
@@ -21,10 +21,10 @@ use Rattle.ftc_network.specs.Stand.{IsNetwork}
 use Rattle.ftc_chain.specs.Doing.{MayDo, IsDone}
 
 -- an event that is legal where the job is
-pub allowed : (setting : Setting) (job : Job) (event : Event) (network : Network) →
+pub allowed_where : (setting : Setting) (job : Job) (event : Event) (network : Network) →
     ((state : ChainState) → IsLegalJob setting state job → IsLegal setting state event) →
     ∥ MayDo setting job network ∥₁ → ∥ IsAllowed event network ∥₁
-allowed setting job event network legal may = ∥∥₁_map may (λ given. record {
+allowed_where setting job event network legal may = ∥∥₁_map may (λ given. record {
   setting = setting;
   state = given.state;
   run = given.run;
@@ -34,6 +34,13 @@ allowed setting job event network legal may = ∥∥₁_map may (λ given. recor
 })
 
 -- the job's event
+pub allowed : (setting : Setting) (job : Job) (event : Event) (network : Network) →
+    ((state : ChainState) → event ≡ event_of setting state FINISHING_SLOT job) →
+    ∥ MayDo setting job network ∥₁ → ∥ IsAllowed event network ∥₁
+allowed setting job event network same =
+    allowed_where setting job event network (λ state. subst (IsLegal setting state) (sym (same state)))
+
+-- the job is done by its event
 pub done : {A E : Type 0} (result : Result A E) (setting : Setting) (job : Job) (event : Event)
     (old new : Network) → ((state : ChainState) → event ≡ event_of setting state FINISHING_SLOT job) →
     OnOk result (Follows event old new) → OnOk result (IsDone setting FINISHING_SLOT job old new)
@@ -41,6 +48,12 @@ done (Err fault) setting job event old new same follows = tt
 done (Ok value) setting job event old new same follows = λ state run legal is.
     ∣ subst (λ (e : Event). IsNetwork setting (next setting state e) new) (same state)
     (follows setting state run (subst (IsLegal setting state) (sym (same state)) legal) is) ∣₁
+
+-- a job that is another was done with it
+pub done_as : {A E : Type 0} (result : Result A E) (setting : Setting) (job other : Job) (old new : Network) → job ≡ other →
+    OnOk result (IsDone setting FINISHING_SLOT other old new) → OnOk result (IsDone setting FINISHING_SLOT job old new)
+done_as result setting job other old new same =
+    subst (λ (j : Job). OnOk result (IsDone setting FINISHING_SLOT j old new)) (sym same)
 
 -- a number is below another in the state
 pub is_below : (setting : Setting) (job : Job) (network : Network) (number most : ℕ) →
@@ -58,7 +71,7 @@ pub may_leave : (setting : Setting) (server origin : ℕ) (network : Network) (l
     ∥ MayDo setting (job.Lose server origin) network ∥₁ → ∥ IsAllowed (leaving lost server origin) network ∥₁
 may_leave setting server origin network lost same may =
     subst (λ (b : Bool). ∥ IsAllowed (leaving b server origin) network ∥₁) (sym same)
-    (allowed setting (job.Lose server origin) (event.Lose server origin) network (λ state legal. legal) may)
+    (allowed setting (job.Lose server origin) (event.Lose server origin) network (λ state. refl) may)
 
 pub on_ok : {A E : Type 0} (result : Result A E) (Fact Other : Type 0) → (Fact → Other) → OnOk result Fact → OnOk result Other
 on_ok (Ok value) Fact Other from fact = from fact

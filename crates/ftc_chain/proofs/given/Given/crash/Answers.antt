@@ -1,4 +1,4 @@
-use Rattle.std.proofs.Common.{◌≡◌, ◌<◌, ◌≤◌, length, arith}
+use Rattle.std.proofs.Common.{◌≡◌, ◌<◌, ◌≤◌, length, refl, arith}
 use Rattle.ftc_journal.specs.declared.event.Event.TheVariants as event
 use Rattle.ftc_journal.specs.declared.job.Job.TheVariants as job
 use Rattle.ftc_script.specs.declared.line.ScriptLine.TheVariants.{Crash}
@@ -10,7 +10,7 @@ use Rattle.ftc_chain.proofs.given.Given.crash.Goals as goal
 pub crash-requires-clause-allowed : goal.crash-requires-clause-allowed
 crash-requires-clause-allowed c =
     allowed (setting_by c.args.self.now) (job.Crash c.args.server) (event.Crash c.args.server) c.args.network.now
-    (λ state legal. legal) c.requires
+    (λ state. refl) c.requires
 
 pub crash-requires-clause-room : goal.crash-requires-clause-room
 crash-requires-clause-room c =
