@@ -1,13 +1,10 @@
 -- The counts of a network have room where a job is legal.
-use Rattle.std.proofs.Common.{◌≡◌, ◌<◌, ◌≤◌, ◌+◌, ◌∙◌, ◌^◌, ℕ, zero, suc, List, [], ◌∷◌, Some, drop, length, map, slice_get, slice_index_or, refl, sym, ap, subst, arith}
+use Rattle.std.proofs.Common.{◌≡◌, ◌<◌, ◌≤◌, ◌∙◌, ℕ, zero, suc, List, [], ◌∷◌, Some, drop, length, slice_get, slice_index_or, sym, ap, subst, arith}
 use Rattle.std.proofs.lemmas.List.{length-map}
-use Rattle.std.proofs.lemmas.Option.{slice_get-map, get_or_from_slice_get, slice_get_within}
+use Rattle.std.proofs.lemmas.Option.{slice_get-map, get_or_from_slice_get}
 use Rattle.std.specs.Option.{option_map}
-use Rattle.ftc_base.specs.declared.limits.TheConstants.{MOST_RECORDS}
-use Rattle.ftc_journal.specs.declared.job.Job.{Job}
 use Rattle.ftc_journal.specs.declared.job.Job.TheVariants as job
 use Rattle.ftc_pcap.specs.declared.packets.Packet.{Packet}
-use Rattle.ftc_protocol.specs.Jobs.{IsLegalJob, IsWithin}
 use Rattle.ftc_protocol.specs.Legal.{IsNextLine}
 use Rattle.ftc_protocol.specs.Measure.{most_messages}
 use Rattle.ftc_protocol.specs.Setting.{Setting, count}

@@ -13,9 +13,11 @@ returns c =
     record {
       ok = λ state run legal is.
           let same : c.in-Some.event ≡ event_of setting state FINISHING_SLOT c.args.job.now =
-          c.in-Some.ensures.event setting state FINISHING_SLOT in
-          (same, subst (λ (e : Event). ∥ IsNetwork setting (next setting state e) c.happen_plainly.new.network ∥₁) (sym same)
-          (c.in_ok-happen_plainly.ensures.ok state run legal is));
+          c.in-Some.ensures.event setting state FINISHING_SLOT in (
+            same,
+            subst (λ (e : Event). ∥ IsNetwork setting (next setting state e) c.happen_plainly.new.network ∥₁) (sym same)
+                (c.in_ok-happen_plainly.ensures.ok state run legal is),
+          );
       err = tt;
       withheld = c.in_ok-happen_plainly.ensures.withheld;
     }

@@ -1,11 +1,8 @@
-use Rattle.std.proofs.Common.{◌≡◌, ◌∙◌, Bool, true, is_some, ap, subst, Option, ℕ}
-use Rattle.ftc_journal.specs.declared.event.Event.{Event}
-use Rattle.ftc_journal.specs.declared.event.Event.TheVariants as event
+use Rattle.std.proofs.Common.{◌∙◌, Bool, is_some, ap, Option, ℕ}
 use Rattle.ftc_journal.specs.declared.job.Job.TheVariants as job
-use Rattle.ftc_network.specs.Events.{Follows}
 use Rattle.ftc_standing.specs.View.{leaving}
 use Rattle.ftc_chain.specs.Doing.{setting_by}
-use Rattle.ftc_chain.proofs.Permitted.{done, is_true, may_leave, on_ok}
+use Rattle.ftc_chain.proofs.Permitted.{done, is_true, may_leave}
 use Rattle.ftc_chain.proofs.given.Given.lose.Goals as goal
 
 pub leave-requires : goal.leave-requires
