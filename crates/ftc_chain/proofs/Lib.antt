@@ -1,2 +1,5 @@
 mod AtRest
+mod Made
+mod Permitted
 mod Releases
+mod Rooms

@@ -15,7 +15,7 @@ use ftc_journal::{Event, Job, Journal};
 use ftc_mbox::ChainSpec;
 use ftc_network::Network;
 use ftc_pcap::Packets;
-use ftc_protocol::{accepted, every_moment, few_propagates, first_job as order_of_jobs, releases};
+use ftc_protocol::{accepted, every_moment, few_propagates, first_job as order_of_jobs, jobs_of_events, releases};
 use ftc_script::Script;
 use std::alloc::Global;
 use std::marker::Model;
@@ -169,6 +169,7 @@ impl<'a> Chain<'a> {
         ensures ok { OnOk result (∥ HasMade worker (job.Visit server packet) self.old self.new ∥₁) }
         ensures err { OnErr result (self.new ≡ self.old) }
     {
+        jobs_of_events();
         releases();
         self.course.make_room()?;
         self.given

@@ -63,6 +63,7 @@ impl<'a> Given<'a> {
         ensures err { OnErr result (StandsStill network.old network.new) }
         ensures withheld { OnOk result (withheld_in network.new ≤ withheld_in network.old) }
     {
+        jobs_of_events();
         let _ = self.script.steps();
         let rule = self.spec.rules().at(usize::from(server.number()));
         network.recover(self.alloc, server, rule)

@@ -1,0 +1,151 @@
+-- A chain after one job more.
+use Rattle.std.proofs.Common.{◌≡◌, ◌∙◌, ◌++◌, [], ◌∷◌, ℕ, List, refl, sym, ap, subst, append_assoc}
+use Rattle.std.proofs.Math.Logic.{∥∥₁_elim, ∥∥₁_map, ∥∥₁_map₂, ∥∥₁_prop}
+use Rattle.ftc_journal.specs.declared.event.Event.{Event}
+use Rattle.ftc_journal.specs.declared.job.Job.{Job}
+use Rattle.ftc_machine.specs.RunSoFar.{RunSoFar, setting_in, state_of}
+use Rattle.ftc_network.specs.declared.network.Network.{Network}
+use Rattle.ftc_network.specs.Events.{StandsStill}
+use Rattle.ftc_network.specs.Stand.{IsNetwork}
+use Rattle.ftc_protocol.specs.Drive.{IsNoneDue, AreReleases}
+use Rattle.ftc_protocol.specs.Jobs.{event_of, IsLegalJob}
+use Rattle.ftc_protocol.specs.Legal.{IsLegal}
+use Rattle.ftc_protocol.specs.Next.{next}
+use Rattle.ftc_protocol.specs.Run.{IsRun, state_after}
+use Rattle.ftc_protocol.specs.Setting.{Setting}
+use Rattle.ftc_protocol.specs.State.{ChainState, opening}
+use Rattle.ftc_serial.specs.Packets.{bytes_of}
+use Rattle.ftc_chain.specs.declared.course.Course.{Course}
+use Rattle.ftc_chain.specs.declared.given.Given.{Given}
+use Rattle.ftc_chain.specs.Course.{IsCourse, IsResting, HasReleased, HasMade, state_by}
+use Rattle.ftc_chain.specs.Doing.{HasDone, setting_by}
+use Rattle.ftc_chain.proofs.Releases.{one_event, state_and, is_run_state}
+
+-- what a contract sees of a chain with these parts
+abbrev pub run_of : Given → Course → RunSoFar
+run_of given course = record {
+  chain = given.spec.now;
+  packets = bytes_of given.packets.now;
+  script = given.script.now;
+  journal = course.journal.items;
+}
+
+-- the state after a list of events and another
+state_both : (setting : Setting) (state : ChainState) (one other : List Event) →
+    state_after setting state (one ++ other) ≡ state_after setting (state_after setting state one) other
+state_both setting state [] other = refl
+state_both setting state (event ∷ one) other = state_both setting (next setting state event) one other
+
+-- what came of the job's event in between, and the releases after it
+pub record IsBetween (given : Given) (slot : ℕ) (job : Job) (old mid : Course) : Type 0 where
+  pub legal : IsLegal (setting_by given) (state_by (setting_by given) old.journal.items)
+      (event_of (setting_by given) (state_by (setting_by given) old.journal.items) slot job)
+  pub grown : mid.journal.items
+      ≡ old.journal.items ++ event_of (setting_by given) (state_by (setting_by given) old.journal.items) slot job ∷ []
+  pub stands : IsNetwork (setting_by given) (next (setting_by given) (state_by (setting_by given) old.journal.items)
+      (event_of (setting_by given) (state_by (setting_by given) old.journal.items) slot job)) mid.network
+
+module _ (given : Given) (slot : ℕ) (job : Job) (old mid new : Course) (is : IsResting (setting_by given) old)
+    (between : IsBetween given slot job old mid)
+    (released : IsCourse (setting_by given) mid → HasReleased (setting_by given) mid new) where
+  mid_is : IsCourse (setting_by given) mid
+  mid_is = one_event (setting_by given) old mid _ is.course_is between.legal between.grown between.stands
+
+  pub rests : ((state : ChainState) (events : List Event) → AreReleases (setting_by given) state events →
+      IsNoneDue (setting_by given) (state_after (setting_by given) state events)) → IsResting (setting_by given) new
+  rests ends =
+      let done = released mid_is in
+      record {
+        course_is = done.course_is;
+        none_due = subst (IsNoneDue (setting_by given))
+            (sym (ap (state_by (setting_by given)) done.grown
+            ∙ state_both (setting_by given) (opening (setting_by given)) mid.journal.items done.releases))
+            (ends (state_by (setting_by given) mid.journal.items) done.releases done.due);
+      }
+
+  pub has_made : HasMade slot job (run_of given old) (run_of given new)
+  has_made =
+      let done = released mid_is in
+      let setting : Setting = setting_by given in
+      let state : ChainState = state_by setting old.journal.items in
+      let event : Event = event_of setting state slot job in
+      record {
+        releases = done.releases;
+        due = subst (λ (s : ChainState). AreReleases setting s done.releases)
+            (ap (state_by setting) between.grown ∙ state_and setting (opening setting) old.journal.items event) done.due;
+        grown = ap (λ (journal : List Event). record {
+          chain = given.spec.now;
+          packets = bytes_of given.packets.now;
+          script = given.script.now;
+          journal = journal;
+        }) (done.grown ∙ (ap (λ (journal : List Event). journal ++ done.releases) between.grown
+            ∙ append_assoc old.journal.items (event ∷ []) done.releases));
+      }
+
+-- a chain before a job: it rests, and the job is legal
+pub before : (given : Given) (course : Course) (job : Job) (run : RunSoFar) → run_of given course ≡ run →
+    ∥ IsResting (setting_by given) course ∥₁ → ∥ IsLegalJob (setting_in run) (state_of run) job ∥₁ →
+    ∥ IsResting (setting_by given) course
+    × IsLegalJob (setting_by given) (state_by (setting_by given) course.journal.items) job ∥₁
+before given course job run same resting legal =
+    ∥∥₁_map₂ resting
+    (subst (λ (r : RunSoFar). ∥ IsLegalJob (setting_in r) (state_of r) job ∥₁) (sym same) legal) (λ is may. (is, may))
+
+-- what a network did for a job stands between
+pub did_between : (given : Given) (slot : ℕ) (job : Job) (old room mid : Course) (event : Event) →
+    IsResting (setting_by given) old →
+    IsLegalJob (setting_by given) (state_by (setting_by given) old.journal.items) job →
+    IsLegal (setting_by given) (state_by (setting_by given) old.journal.items)
+    (event_of (setting_by given) (state_by (setting_by given) old.journal.items) slot job) →
+    room.journal.items ≡ old.journal.items → room.network ≡ old.network →
+    mid.journal.items ≡ room.journal.items ++ event ∷ [] → HasDone (setting_by given) slot job event room.network mid.network →
+    ∥ IsBetween given slot job old mid ∥₁
+did_between given slot job old room mid event is may legal same same_network grown done =
+    let setting : Setting = setting_by given in
+    let state : ChainState = state_by setting old.journal.items in
+    let did = done state (is_run_state setting old is.course_is) may
+    (subst (IsNetwork setting state) (sym same_network) is.course_is.stands) in
+    ∥∥₁_map did.1 (λ stands. record {
+      legal = legal;
+      grown = grown ∙ (ap (λ (journal : List Event). journal ++ event ∷ []) same
+          ∙ ap (λ (e : Event). old.journal.items ++ e ∷ []) did.0);
+      stands = subst (λ (e : Event). IsNetwork setting (next setting state e) mid.network) did.0 stands;
+    })
+
+-- a chain after a job, in whatever slot, and the releases that are due
+pub stepped : (given : Given) (slot : ℕ) (job : Job) (old room mid new : Course) (event : Event) (run : RunSoFar) →
+    run_of given old ≡ run → ∥ IsResting (setting_by given) old ∥₁ →
+    ∥ IsLegalJob (setting_in run) (state_of run) job ∥₁ →
+    ((setting : Setting) (state : ChainState) → IsLegalJob setting state job →
+    IsLegal setting state (event_of setting state slot job)) →
+    room.journal.items ≡ old.journal.items → room.network ≡ old.network →
+    mid.journal.items ≡ room.journal.items ++ event ∷ [] →
+    HasDone (setting_by given) slot job event room.network mid.network →
+    ((setting : Setting) → IsCourse setting mid → HasReleased setting mid new) →
+    ((setting : Setting) (state : ChainState) (events : List Event) → AreReleases setting state events →
+    IsNoneDue setting (state_after setting state events)) →
+    ∥ IsResting (setting_by given) new × HasMade slot job run (run_of given new) ∥₁
+stepped given slot job old room mid new event run same resting legal in_slot same_journal same_network grown done released ends =
+    ∥∥₁_elim (before given old job run same resting legal) ∥∥₁_prop (λ both.
+    ∥∥₁_map (did_between given slot job old room mid event both.0 both.1 
+    (in_slot (setting_by given) (state_by (setting_by given) old.journal.items) both.1) same_journal same_network grown
+    done)
+    (λ between. (
+      rests given slot job old mid new both.0 between (released (setting_by given)) (ends (setting_by given)),
+      subst (λ (r : RunSoFar). HasMade slot job r (run_of given new)) same
+          (has_made given slot job old mid new both.0 between (released (setting_by given))),
+    )))
+
+-- a chain that is as it was, but for the room in its journal
+pub still_rests : (setting : Setting) (old new : Course) → new.journal.items ≡ old.journal.items →
+    ((state : ChainState) → IsNetwork setting state old.network → IsNetwork setting state new.network) →
+    IsResting setting old → IsResting setting new
+still_rests setting old new same stands is = record {
+  course_is = record {
+    right = is.course_is.right;
+    run = subst (IsRun setting) (sym same) is.course_is.run;
+    stands = subst (λ (journal : List Event). IsNetwork setting (state_by setting journal) new.network) (sym same)
+        (stands (state_by setting old.journal.items) is.course_is.stands);
+  };
+  none_due = subst (λ (journal : List Event). IsNoneDue setting (state_by setting journal)) (sym same) is.none_due;
+}

@@ -1,0 +1,91 @@
+-- What a network may be asked to do where a job is legal, and that the job is done by it.
+use Rattle.std.proofs.Common.{◌≡◌, ◌<◌, ℕ, true, Bool, List, Result, Ok, Err, OnOk, IfOk, refl, sym, subst}
+use Rattle.std.proofs.Math.Bool.{Bool-set}
+use Rattle.std.proofs.Math.Logic.{∥∥₁_elim, ∥∥₁_map}
+use Rattle.std.proofs.lemmas.Bool.{ltb-true, lt-ltb}
+use Rattle.ftc_journal.specs.declared.event.Event.{Event}
+use Rattle.ftc_journal.specs.declared.event.Event.TheVariants as event
+use Rattle.ftc_journal.specs.declared.job.Job.{Job}
+use Rattle.ftc_journal.specs.declared.job.Job.TheVariants as job
+use Rattle.ftc_base.specs.declared.limits.TheConstants.{FINISHING_SLOT}
+use Rattle.ftc_protocol.specs.Jobs.{event_of, IsLegalJob, IsWithin}
+use Rattle.ftc_protocol.specs.Legal.{IsLegal}
+use Rattle.ftc_protocol.specs.Next.{next}
+use Rattle.ftc_protocol.specs.Run.{IsRunState, IsRun, state_after}
+use Rattle.ftc_protocol.specs.Setting.{Setting, IsSetting}
+use Rattle.ftc_protocol.specs.State.{ChainState, opening}
+use Rattle.ftc_standing.specs.View.{leaving}
+use Rattle.ftc_network.specs.declared.network.Network.{Network}
+use Rattle.ftc_network.specs.Events.{IsAllowed, Follows}
+use Rattle.ftc_network.specs.Stand.{IsNetwork}
+use Rattle.ftc_chain.specs.Doing.{MayDo, IsDone}
+
+-- an event that is legal where the job is
+pub allowed_where : (setting : Setting) (job : Job) (event : Event) (network : Network) →
+    ((state : ChainState) → IsLegalJob setting state job → IsLegal setting state event) →
+    ∥ MayDo setting job network ∥₁ → ∥ IsAllowed event network ∥₁
+allowed_where setting job event network legal may = ∥∥₁_map may (λ given. record {
+  setting = setting;
+  state = given.state;
+  run = given.run;
+  legal = legal given.state given.legal;
+  few = given.few;
+  stands = given.stands;
+})
+
+-- the job's event
+pub allowed : (setting : Setting) (job : Job) (event : Event) (network : Network) →
+    ((state : ChainState) → event ≡ event_of setting state FINISHING_SLOT job) →
+    ∥ MayDo setting job network ∥₁ → ∥ IsAllowed event network ∥₁
+allowed setting job event network same =
+    allowed_where setting job event network (λ state. subst (IsLegal setting state) (sym (same state)))
+
+-- the job is done by its event
+pub done : {A E : Type 0} (result : Result A E) (setting : Setting) (job : Job) (event : Event)
+    (old new : Network) → ((state : ChainState) → event ≡ event_of setting state FINISHING_SLOT job) →
+    OnOk result (Follows event old new) → OnOk result (IsDone setting FINISHING_SLOT job old new)
+done (Err fault) setting job event old new same follows = tt
+done (Ok value) setting job event old new same follows = λ state run legal is.
+    ∣ subst (λ (e : Event). IsNetwork setting (next setting state e) new) (same state)
+    (follows setting state run (subst (IsLegal setting state) (sym (same state)) legal) is) ∣₁
+
+-- a job that is another was done with it
+pub done_as : {A E : Type 0} (result : Result A E) (setting : Setting) (job other : Job) (old new : Network) → job ≡ other →
+    OnOk result (IsDone setting FINISHING_SLOT other old new) → OnOk result (IsDone setting FINISHING_SLOT job old new)
+done_as result setting job other old new same =
+    subst (λ (j : Job). OnOk result (IsDone setting FINISHING_SLOT j old new)) (sym same)
+
+-- a number is below another in the state
+pub is_below : (setting : Setting) (job : Job) (network : Network) (number most : ℕ) →
+    (MayDo setting job network → number < most) → ∥ MayDo setting job network ∥₁ → number < most
+is_below setting job network number most from may =
+    ltb-true number most (∥∥₁_elim may (Bool-set _ _) (λ given. lt-ltb number most (from given)))
+
+-- a test is true in the state
+pub is_true : (setting : Setting) (job : Job) (network : Network) (test : Bool) →
+    (MayDo setting job network → test ≡ true) → ∥ MayDo setting job network ∥₁ → test ≡ true
+is_true setting job network test from may = ∥∥₁_elim may (Bool-set _ _) from
+
+-- a message that its link loses leaves
+pub may_leave : (setting : Setting) (server origin : ℕ) (network : Network) (lost : Bool) → lost ≡ true →
+    ∥ MayDo setting (job.Lose server origin) network ∥₁ → ∥ IsAllowed (leaving lost server origin) network ∥₁
+may_leave setting server origin network lost same may =
+    subst (λ (b : Bool). ∥ IsAllowed (leaving b server origin) network ∥₁) (sym same)
+    (allowed setting (job.Lose server origin) (event.Lose server origin) network (λ state. refl) may)
+
+pub on_ok : {A E : Type 0} (result : Result A E) (Fact Other : Type 0) → (Fact → Other) → OnOk result Fact → OnOk result Other
+on_ok (Ok value) Fact Other from fact = from fact
+on_ok (Err fault) Fact Other from fact = tt
+
+pub if_ok : {A E : Type 0} (result : Result A E) (Fact Other : A → Type 0) → ((value : A) → Fact value → Other value) →
+    IfOk result Fact → IfOk result Other
+if_ok (Ok value) Fact Other from fact = from value fact
+if_ok (Err fault) Fact Other from fact = tt
+
+-- a job that is legal in the state to which a run leads has the numbers of servers and messages
+pub within_of : (setting : Setting) (state : ChainState) (job : Job) → IsRunState setting state →
+    ((journal : List Event) → IsSetting setting → IsRun setting journal →
+    IsLegalJob setting (state_after setting (opening setting) journal) job → IsWithin setting job) →
+    IsLegalJob setting state job → IsWithin setting job
+within_of setting state job run within legal = within run.journal run.right run.run
+    (subst (λ (s : ChainState). IsLegalJob setting s job) (sym run.reaches) legal)

@@ -1,0 +1,59 @@
+use Rattle.std.proofs.Common.{◌≡◌, sym, subst}
+use Rattle.std.proofs.Math.Logic.{∥∥₁_map}
+use Rattle.ftc_base.specs.declared.limits.TheConstants.{FINISHING_SLOT}
+use Rattle.ftc_network.specs.declared.network.Network.{Network}
+use Rattle.ftc_network.specs.Stand.{IsNetwork}
+use Rattle.ftc_chain.specs.declared.course.Course.{Course}
+use Rattle.ftc_chain.specs.Course.{IsResting, HasMade}
+use Rattle.ftc_chain.specs.Doing.{MayDo, setting_by}
+use Rattle.ftc_chain.proofs.AtRest.{may_do}
+use Rattle.ftc_chain.proofs.Made.{run_of, before, stepped, still_rests}
+use Rattle.ftc_chain.proofs.chain.Chain.step.Goals as goal
+
+pub invariant_of-self : goal.invariant_of-self
+invariant_of-self c = (
+  c.self.invariant.0,
+  ∥∥₁_map c.self.invariant.1 (λ is. still_rests (setting_by c.self.inside.given) c.self.inside.course c.make_room.new.self
+      c.make_room.ensures.journal (λ state stands.
+      subst (IsNetwork (setting_by c.self.inside.given) state) (sym c.make_room.ensures.network) stands) is),
+)
+
+pub happen-requires-clause-may : goal.happen-requires-clause-may
+happen-requires-clause-may c =
+    let given = c.self.inside.given in
+    let course = c.self.inside.course in
+    ∥∥₁_map (before given course c.args.job.now c.args.self.now c.self.view_is c.self.invariant.1 c.requires.legal) (λ both.
+    subst (MayDo (setting_by given) c.args.job.now) (sym c.make_room.ensures.network)
+    (may_do (setting_by given) course c.args.job.now c.in_ok-make_room.ensures.few both.0.course_is both.1))
+
+pub invariant_of-self-in_err-event : goal.invariant_of-self-in_err-event
+invariant_of-self-in_err-event c =
+    let given = c.self.inside.given in
+    (
+      c.self.invariant.0,
+      ∥∥₁_map c.self.invariant.1 (λ is. still_rests (setting_by given) c.self.inside.course
+          (record { journal = c.make_room.new.self.journal; network = c.happen.new.network })
+          c.make_room.ensures.journal (λ state stands. c.in_err-event.ensures.err (setting_by given) state
+          (subst (IsNetwork (setting_by given) state) (sym c.make_room.ensures.network) stands)) is),
+    )
+
+pub invariant_of-self-2 : goal.invariant_of-self-2
+invariant_of-self-2 c =
+    let given = c.self.inside.given in
+    (
+      c.self.invariant.0,
+      ∥∥₁_map (stepped given FINISHING_SLOT c.args.job.now c.self.inside.course c.make_room.new.self
+          (record { journal = c.push.new.self; network = c.happen.new.network }) c.release_due.new.course c.in_ok-event.event
+          c.args.self.now c.self.view_is c.self.invariant.1 c.requires.legal (λ setting state legal. legal)
+          c.make_room.ensures.journal c.make_room.ensures.network c.in_ok-push.ensures.ok c.in_ok-event.ensures.ok
+          c.release_due.ensures c.releases.ensures.end) (λ both. both.0),
+    )
+
+pub returns-clause-ok : goal.returns-clause-ok
+returns-clause-ok c =
+    let given = c.self.inside.given in
+    ∥∥₁_map (stepped given FINISHING_SLOT c.args.job.now c.self.inside.course c.make_room.new.self
+    (record { journal = c.push.new.self; network = c.happen.new.network }) c.release_due.new.course c.in_ok-event.event
+    c.args.self.now c.self.view_is c.self.invariant.1 c.requires.legal (λ setting state legal. legal)
+    c.make_room.ensures.journal c.make_room.ensures.network c.in_ok-push.ensures.ok c.in_ok-event.ensures.ok
+    c.release_due.ensures c.releases.ensures.end) (λ both. both.1)

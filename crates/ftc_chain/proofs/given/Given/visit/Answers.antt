@@ -1,0 +1,20 @@
+use Rattle.std.proofs.Common.{sym, ap}
+use Rattle.ftc_journal.specs.declared.event.Event.TheVariants as event
+use Rattle.ftc_journal.specs.declared.job.Job.TheVariants as job
+use Rattle.ftc_chain.specs.Doing.{setting_by}
+use Rattle.ftc_chain.proofs.Permitted.{allowed_where, on_ok}
+use Rattle.ftc_chain.proofs.given.Given.visit.Goals as goal
+
+pub visit-requires : goal.visit-requires
+visit-requires c =
+    let setting = setting_by c.args.self.now in
+    let job = job.Visit c.args.server c.args.packet in
+    allowed_where setting job (event.Visit c.args.server c.args.packet c.args.worker) c.args.network.now
+    (λ state. (c.jobs_of_events.ensures.slots setting state c.args.worker job).1) c.requires
+
+pub returns-clause-ok : goal.returns-clause-ok
+returns-clause-ok c =
+    let setting = setting_by c.args.self.now in
+    let job = job.Visit c.args.server c.args.packet in
+    on_ok c.visit.result _ _ (λ follows state run legal is. follows setting state run
+    ((c.jobs_of_events.ensures.slots setting state c.args.worker job).1 legal) is) c.visit.ensures.ok
