@@ -6,3 +6,6 @@ mod playing;
 
 pub use finishing::finish;
 pub use playing::{play, run};
+
+#[cfg(test)]
+mod tests;

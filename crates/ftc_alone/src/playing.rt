@@ -39,8 +39,8 @@ fn play_one(chain: &mut Chain<'_>, event: &Event) -> Result<(), NoMemory>
     }
 }
 
-/// Makes each event of a schedule whose job is legal where it is met, and passes over the others. After an error a front
-/// of the schedule was played.
+/// Makes each event of a schedule whose job is legal where it is met, and passes over the others. After an error a
+/// front of the schedule was played.
 pub fn play(chain: &mut Chain<'_>, schedule: &Journal) -> Result<(), NoMemory>
     ensures ok { OnOk result (∥ HasPlayed schedule.now.items chain.old chain.new ∥₁) }
     ensures err { OnErr result (∥ HasPlayedSome schedule.now.items chain.old chain.new ∥₁) }
@@ -51,8 +51,8 @@ pub fn play(chain: &mut Chain<'_>, schedule: &Journal) -> Result<(), NoMemory>
     Ok(())
 }
 
-/// Plays a schedule from the opening, and then does what is left in order: the drive of the schedule. After an error the
-/// events so far are a front of it.
+/// Plays a schedule from the opening, and then does what is left in order: the drive of the schedule. After an error
+/// the events so far are a front of it.
 pub fn run(chain: &mut Chain<'_>, schedule: &Journal) -> Result<(), NoMemory>
     requires { chain.old.journal ≡ [] }
     ensures ok { OnOk result (∥ IsDrive (setting_in chain.old) schedule.now.items chain.new.journal ∥₁) }
