@@ -1,0 +1,3 @@
+mod FinishSteps
+mod PlayedParts
+mod Results

@@ -1,0 +1,19 @@
+-- a finish of the run so far is a finish of the first run
+use Rattle.ftc_machine.specs.RunSoFar.{setting_in, state_of}
+use Rattle.ftc_protocol.specs.Measure.{work_left}
+use Rattle.ftc_protocol.specs.Run.{IsRun}
+use Rattle.ftc_protocol.specs.Setting.{IsSetting}
+use Rattle.ftc_alone.specs.Alone.{IsSameGiven}
+use Rattle.ftc_alone.proofs.FinishSteps.{LeadsBack}
+use Rattle.ftc_alone.proofs.finishing.finish.Given as goal
+
+abbrev pub invariant-loop-job : goal.invariant-loop-job
+invariant-loop-job l = record {
+  given : IsSameGiven l.fn.chain l.chain;
+  right : ∥ IsSetting (setting_in l.chain) ∥₁;
+  run : ∥ IsRun (setting_in l.chain) l.chain.journal ∥₁;
+  back : ∥ LeadsBack l.fn.chain l.chain ∥₁;
+}
+
+abbrev pub decreases-loop-job : goal.decreases-loop-job
+decreases-loop-job l = work_left (setting_in l.chain) (state_of l.chain)
