@@ -1,5 +1,5 @@
 -- What is known of a chain between two calls.
-use Rattle.std.proofs.Common.{◌≡◌, ◌∙◌, ◌<◌, ◌≤◌, ◌+◌, ◌-◌, ◌^◌, ℕ, List, [], ◌∷◌, true, Option, Some, None, length, refl, sym, ap, subst, arith}
+use Rattle.std.proofs.Common.{◌≡◌, ◌∙◌, ◌<◌, ◌≤◌, ◌+◌, ◌-◌, ◌^◌, ℕ, List, [], ◌∷◌, true, Option, Some, None, length, refl, sym, subst, arith}
 use Rattle.std.specs.Prelude.{IfSome, is_some}
 use Rattle.std.proofs.Math.Logic.{∥∥₁_elim}
 use Rattle.ftc_base.specs.declared.limits.TheConstants.{MOST_RECORDS}
@@ -15,7 +15,7 @@ use Rattle.ftc_protocol.specs.Measure.{most_messages}
 use Rattle.ftc_protocol.specs.Next.{next}
 use Rattle.ftc_protocol.specs.Counts.{propagates_in, AreFew}
 use Rattle.ftc_protocol.specs.Run.{IsRun, state_after}
-use Rattle.ftc_protocol.specs.Setting.{Setting, IsSetting, count}
+use Rattle.ftc_protocol.specs.Setting.{Setting, IsSetting}
 use Rattle.ftc_protocol.specs.State.{ChainState, opening}
 use Rattle.ftc_chain.specs.declared.course.Course.{Course}
 use Rattle.ftc_chain.specs.declared.given.Given.{Given}

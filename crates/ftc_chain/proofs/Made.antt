@@ -4,8 +4,6 @@ use Rattle.std.proofs.Math.Logic.{∥∥₁_elim, ∥∥₁_map, ∥∥₁_map�
 use Rattle.ftc_journal.specs.declared.event.Event.{Event}
 use Rattle.ftc_journal.specs.declared.job.Job.{Job}
 use Rattle.ftc_machine.specs.RunSoFar.{RunSoFar, setting_in, state_of}
-use Rattle.ftc_network.specs.declared.network.Network.{Network}
-use Rattle.ftc_network.specs.Events.{StandsStill}
 use Rattle.ftc_network.specs.Stand.{IsNetwork}
 use Rattle.ftc_protocol.specs.Drive.{IsNoneDue, AreReleases}
 use Rattle.ftc_protocol.specs.Jobs.{event_of, IsLegalJob}
@@ -127,7 +125,7 @@ pub stepped : (given : Given) (slot : ℕ) (job : Job) (old room mid new : Cours
     ∥ IsResting (setting_by given) new × HasMade slot job run (run_of given new) ∥₁
 stepped given slot job old room mid new event run same resting legal in_slot same_journal same_network grown done released ends =
     ∥∥₁_elim (before given old job run same resting legal) ∥∥₁_prop (λ both.
-    ∥∥₁_map (did_between given slot job old room mid event both.0 both.1 
+    ∥∥₁_map (did_between given slot job old room mid event both.0 both.1
     (in_slot (setting_by given) (state_by (setting_by given) old.journal.items) both.1) same_journal same_network grown
     done)
     (λ between. (

@@ -15,7 +15,9 @@ use ftc_journal::{Event, Job, Journal};
 use ftc_mbox::ChainSpec;
 use ftc_network::Network;
 use ftc_pcap::Packets;
-use ftc_protocol::{accepted, every_moment, few_propagates, first_job as order_of_jobs, jobs_of_events, releases};
+use ftc_protocol::{
+    accepted, every_moment, few_propagates, first_job as order_of_jobs, jobs_of_events, releases,
+};
 use ftc_script::Script;
 use std::alloc::Global;
 use std::marker::Model;

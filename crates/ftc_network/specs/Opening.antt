@@ -2,7 +2,6 @@
 use Rattle.std.specs.Prelude.{ℕ, ◌≡◌, ◌<◌, List, [], false, length, slice_index_or, Option, Some, None}
 use Rattle.ftc_link.specs.Queue.{Queue}
 use Rattle.ftc_mbox.specs.Chain.{Chain}
-use Rattle.ftc_mbox.specs.declared.rule.Rule.{Rule}
 use Rattle.ftc_mbox.specs.declared.rule.Rule.TheVariants.{Pass}
 use Rattle.ftc_protocol.specs.Setting.{Setting}
 use Rattle.ftc_ring.specs.Ring.{RingShape}

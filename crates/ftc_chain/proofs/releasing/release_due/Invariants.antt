@@ -1,4 +1,4 @@
-use Rattle.std.proofs.Common.{ℕ, ◌≤◌}
+use Rattle.std.proofs.Common.{◌≤◌}
 use Rattle.ftc_network.specs.Parts.{withheld_in}
 use Rattle.ftc_protocol.specs.Setting.{Setting}
 use Rattle.ftc_chain.specs.Course.{IsCourse}

@@ -1,4 +1,3 @@
-use Rattle.std.proofs.Common.{ℕ}
 use Rattle.ftc_network.specs.Opening.{AreNewLinks}
 use Rattle.ftc_network.proofs.opening.new_links.Given as goal
 

@@ -1,4 +1,4 @@
-use Rattle.std.proofs.Common.{◌≡◌, ◌∙◌, List, [], Option, Some, None, refl, sym, subst}
+use Rattle.std.proofs.Common.{◌≡◌, ◌∙◌, List, [], Some, None, refl, sym, subst}
 use Rattle.ftc_journal.specs.declared.event.Event.{Event}
 use Rattle.ftc_machine.proofs.RunInputs.{bytes_count}
 use Rattle.ftc_network.specs.Stand.{IsNetwork}
@@ -12,8 +12,7 @@ use Rattle.ftc_chain.proofs.chain.Chain.new.Goals as goal
 pub invariant_of-result : goal.invariant_of-result
 invariant_of-result c =
     let setting : Setting = setting_of c.args.spec.now (bytes_of c.args.packets.now) c.args.script.now in
-    let none : c.new-2.result.items ≡ [] = c.new-2.ensures in
-    (
+    let none : c.new-2.result.items ≡ [] = c.new-2.ensures in (
       record { ring = c.requires.ring; packets = c.requires.packets },
       ∣ record {
         course_is = record {

@@ -1,8 +1,7 @@
-use Rattle.std.proofs.Common.{◌≡◌, ◌∙◌, ◌<◌, ◌^◌, subst, sym, ap}
+use Rattle.std.proofs.Common.{subst}
 use Rattle.std.proofs.Math.Logic.{∥∥₁_map}
 use Rattle.std.specs.Prelude.{IfSome}
 use Rattle.ftc_journal.specs.declared.job.Job.{Job}
-use Rattle.ftc_machine.proofs.RunInputs.{bytes_count}
 use Rattle.ftc_machine.specs.RunSoFar.{RunSoFar, setting_in, state_of}
 use Rattle.ftc_protocol.specs.Jobs.{IsFirstJob}
 use Rattle.ftc_protocol.specs.Run.{IsFinished}

@@ -1,13 +1,10 @@
-use Rattle.std.proofs.Common.{◌≡◌, sym, subst}
+use Rattle.std.proofs.Common.{sym, subst}
 use Rattle.std.proofs.Math.Logic.{∥∥₁_map}
 use Rattle.ftc_base.specs.declared.limits.TheConstants.{FINISHING_SLOT}
-use Rattle.ftc_network.specs.declared.network.Network.{Network}
 use Rattle.ftc_network.specs.Stand.{IsNetwork}
-use Rattle.ftc_chain.specs.declared.course.Course.{Course}
-use Rattle.ftc_chain.specs.Course.{IsResting, HasMade}
 use Rattle.ftc_chain.specs.Doing.{MayDo, setting_by}
 use Rattle.ftc_chain.proofs.AtRest.{may_do}
-use Rattle.ftc_chain.proofs.Made.{run_of, before, stepped, still_rests}
+use Rattle.ftc_chain.proofs.Made.{before, stepped, still_rests}
 use Rattle.ftc_chain.proofs.chain.Chain.step.Goals as goal
 
 pub invariant_of-self : goal.invariant_of-self
@@ -28,8 +25,7 @@ happen-requires-clause-may c =
 
 pub invariant_of-self-in_err-event : goal.invariant_of-self-in_err-event
 invariant_of-self-in_err-event c =
-    let given = c.self.inside.given in
-    (
+    let given = c.self.inside.given in (
       c.self.invariant.0,
       ∥∥₁_map c.self.invariant.1 (λ is. still_rests (setting_by given) c.self.inside.course
           (record { journal = c.make_room.new.self.journal; network = c.happen.new.network })
@@ -39,8 +35,7 @@ invariant_of-self-in_err-event c =
 
 pub invariant_of-self-2 : goal.invariant_of-self-2
 invariant_of-self-2 c =
-    let given = c.self.inside.given in
-    (
+    let given = c.self.inside.given in (
       c.self.invariant.0,
       ∥∥₁_map (stepped given FINISHING_SLOT c.args.job.now c.self.inside.course c.make_room.new.self
           (record { journal = c.push.new.self; network = c.happen.new.network }) c.release_due.new.course c.in_ok-event.event

@@ -1,14 +1,11 @@
-use Rattle.std.proofs.Common.{◌≡◌, refl, sym, subst}
+use Rattle.std.proofs.Common.{refl, sym, subst}
 use Rattle.std.proofs.Math.Logic.{∥∥₁_map}
 use Rattle.ftc_journal.specs.declared.event.Event.TheVariants as event
 use Rattle.ftc_journal.specs.declared.job.Job.TheVariants.{Visit}
-use Rattle.ftc_network.specs.declared.network.Network.{Network}
 use Rattle.ftc_network.specs.Stand.{IsNetwork}
-use Rattle.ftc_chain.specs.declared.course.Course.{Course}
-use Rattle.ftc_chain.specs.Course.{IsResting, HasMade}
 use Rattle.ftc_chain.specs.Doing.{MayDo, setting_by}
 use Rattle.ftc_chain.proofs.AtRest.{may_do}
-use Rattle.ftc_chain.proofs.Made.{run_of, before, stepped, still_rests}
+use Rattle.ftc_chain.proofs.Made.{before, stepped, still_rests}
 use Rattle.ftc_chain.proofs.chain.Chain.visit.Goals as goal
 
 pub invariant_of-self : goal.invariant_of-self
@@ -29,8 +26,7 @@ visit-requires c =
 
 pub invariant_of-self-in_err-visit : goal.invariant_of-self-in_err-visit
 invariant_of-self-in_err-visit c =
-    let given = c.self.inside.given in
-    (
+    let given = c.self.inside.given in (
       c.self.invariant.0,
       ∥∥₁_map c.self.invariant.1 (λ is. still_rests (setting_by given) c.self.inside.course
           (record { journal = c.make_room.new.self.journal; network = c.visit.new.network })
@@ -40,17 +36,16 @@ invariant_of-self-in_err-visit c =
 
 pub invariant_of-self-2 : goal.invariant_of-self-2
 invariant_of-self-2 c =
-    let given = c.self.inside.given in
-    (
+    let given = c.self.inside.given in (
       c.self.invariant.0,
       ∥∥₁_map (stepped given c.args.worker (Visit c.args.server c.args.packet) c.self.inside.course c.make_room.new.self
-          (record { journal = c.push.new.self; network = c.visit.new.network }) c.release_due.new.course 
-    (event.Visit c.args.server c.args.packet c.args.worker)
-          c.args.self.now c.self.view_is c.self.invariant.1 c.requires 
-    (λ setting state legal. (c.jobs_of_events.ensures.slots setting state c.args.worker
-    (Visit c.args.server c.args.packet)).1 legal)
-          c.make_room.ensures.journal c.make_room.ensures.network c.in_ok-push.ensures.ok 
-    (λ state run legal stands. (refl, c.in_ok-visit.ensures.ok state run legal stands))
+          (record { journal = c.push.new.self; network = c.visit.new.network }) c.release_due.new.course
+          (event.Visit c.args.server c.args.packet c.args.worker)
+          c.args.self.now c.self.view_is c.self.invariant.1 c.requires
+          (λ setting state legal. (c.jobs_of_events.ensures.slots setting state c.args.worker
+          (Visit c.args.server c.args.packet)).1 legal)
+          c.make_room.ensures.journal c.make_room.ensures.network c.in_ok-push.ensures.ok
+          (λ state run legal stands. (refl, c.in_ok-visit.ensures.ok state run legal stands))
           c.release_due.ensures c.releases.ensures.end) (λ both. both.0),
     )
 
@@ -58,11 +53,11 @@ pub returns-clause-ok : goal.returns-clause-ok
 returns-clause-ok c =
     let given = c.self.inside.given in
     ∥∥₁_map (stepped given c.args.worker (Visit c.args.server c.args.packet) c.self.inside.course c.make_room.new.self
-    (record { journal = c.push.new.self; network = c.visit.new.network }) c.release_due.new.course 
+    (record { journal = c.push.new.self; network = c.visit.new.network }) c.release_due.new.course
     (event.Visit c.args.server c.args.packet c.args.worker)
-    c.args.self.now c.self.view_is c.self.invariant.1 c.requires 
+    c.args.self.now c.self.view_is c.self.invariant.1 c.requires
     (λ setting state legal. (c.jobs_of_events.ensures.slots setting state c.args.worker
     (Visit c.args.server c.args.packet)).1 legal)
-    c.make_room.ensures.journal c.make_room.ensures.network c.in_ok-push.ensures.ok 
+    c.make_room.ensures.journal c.make_room.ensures.network c.in_ok-push.ensures.ok
     (λ state run legal stands. (refl, c.in_ok-visit.ensures.ok state run legal stands))
     c.release_due.ensures c.releases.ensures.end) (λ both. both.1)

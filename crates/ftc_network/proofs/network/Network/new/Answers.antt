@@ -1,14 +1,11 @@
-use Rattle.std.proofs.Common.{◌≡◌, ◌∙◌, ◌<◌, ℕ, List, [], length, false, refl, sym, ap, subst, arith}
-use Rattle.ftc_link.specs.Queue.{Queue}
+use Rattle.std.proofs.Common.{◌≡◌, ◌∙◌, ℕ, List, length, refl, sym, ap, subst, arith}
 use Rattle.ftc_mbox.specs.declared.rule.Rule.{Rule}
 use Rattle.ftc_protocol.specs.Setting.{servers, shape}
 use Rattle.ftc_protocol.specs.State.{opening}
 use Rattle.ftc_ring.specs.Ring.{RingShape}
 use Rattle.ftc_standing.specs.Stand.{IsLink}
-use Rattle.ftc_visits.specs.declared.visit.MadeVisit.{MadeVisit}
 use Rattle.ftc_visits.specs.Made.{AreMade}
-use Rattle.ftc_network.specs.Opening.{ring_of}
-use Rattle.ftc_network.specs.Parts.{server_in, link_in}
+use Rattle.ftc_network.specs.Parts.{server_in}
 use Rattle.ftc_network.proofs.NewNetwork.{new_slot_stands}
 use Rattle.ftc_network.proofs.network.Network.new.Goals as goal
 
