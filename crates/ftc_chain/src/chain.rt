@@ -22,8 +22,8 @@ use ftc_script::Script;
 use std::alloc::Global;
 use std::marker::Model;
 
-/// A chain of servers on the packets of a capture, with a script of crashes, recoveries and losses. A contract sees what
-/// it was given and its events so far.
+/// A chain of servers on the packets of a capture, with a script of crashes, recoveries and losses. A contract sees
+/// what it was given and its events so far.
 #[derive(Drop)]
 pub struct Chain<'a> {
     given: Given<'a>,
@@ -143,8 +143,8 @@ impl<'a> Chain<'a> {
         is_legal(&self.course.network, self.given.script, packets, job)
     }
 
-    /// Makes the event of a job other than a visit, and the releases that are due after it. A refused call leaves the run
-    /// as it was.
+    /// Makes the event of a job other than a visit, and the releases that are due after it. A refused call leaves the
+    /// run as it was.
     pub fn step(&mut self, job: &Job) -> Result<(), NoMemory>
         requires other { is_visit job.now ≡ false }
         requires legal { ∥ IsLegalJob (setting_in self.old) (state_of self.old) job.now ∥₁ }
@@ -159,8 +159,8 @@ impl<'a> Chain<'a> {
         Ok(())
     }
 
-    /// Makes the visit of a packet at a server in a worker's slot, from its begin to its commit, and the releases that are
-    /// due after it. A refused call leaves the run as it was.
+    /// Makes the visit of a packet at a server in a worker's slot, from its begin to its commit, and the releases that
+    /// are due after it. A refused call leaves the run as it was.
     pub fn visit(
         &mut self,
         worker: WorkerId,
@@ -194,8 +194,8 @@ impl<'a> Chain<'a> {
         &self.course.journal
     }
 
-    /// What holds at every moment of a run holds of its state: the serial run of the visits that stand exists and released
-    /// what was released, and each first live member of a group has that run's content.
+    /// What holds at every moment of a run holds of its state: the serial run of the visits that stand exists and
+    /// released what was released, and each first live member of a group has that run's content.
     pub fn moment(&self)
         ensures { ∥ IsSound (setting_in self.now) (state_of self.now) ∥₁ }
     {

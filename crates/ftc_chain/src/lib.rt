@@ -1,5 +1,5 @@
-//! A chain of servers, driven job by job. What happened to it is its journal, a run of the protocol, and what its servers
-//! have stands for the state to which that run leads.
+//! A chain of servers, driven job by job. What happened to it is its journal, a run of the protocol, and what its
+//! servers have stands for the state to which that run leads.
 #![tactic(auto)]
 
 mod chain;
@@ -10,3 +10,6 @@ mod happening;
 mod releasing;
 
 pub use chain::Chain;
+
+#[cfg(test)]
+mod tests;

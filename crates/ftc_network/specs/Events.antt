@@ -78,7 +78,8 @@ abbrev pub SlotStandsStill : ℕ → Option Server → Option Server → Type 0
 SlotStandsStill number old new =
     (setting : Setting) (state : ChainState) → IsSlot setting state number old → IsSlot setting state number new
 
--- A held message may leave a server, and its link stands for what is queued on it. `up` says whether the receiver is up.
+-- A held message may leave a server, and its link stands for what is queued on it. `up` says whether the receiver is
+-- up.
 pub record IsLeaving (lost : Bool) (server origin : ℕ) (up : Bool) (queue : Queue) (slot : Option Server) : Type 0 where
   pub setting : Setting
   pub state : ChainState

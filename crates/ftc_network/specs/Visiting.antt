@@ -52,8 +52,8 @@ pub record VisitsWhole (old new : Server) (worker packet : ℕ) (answers : List 
   pub visited : HasVisited before new worker running end
   pub idle : AreIdle new
 
--- A server that stood for a state in which the visit is legal stands for the state after it, and where visits were those
--- of the trace, they are it with this one.
+-- A server that stood for a state in which the visit is legal stands for the state after it, and where visits were
+-- those of the trace, they are it with this one.
 abbrev pub SlotFollowsVisit : ℕ → ℕ → ℕ → Option Server → Option Server → MadeVisit → Type 0
 SlotFollowsVisit worker server packet old new visit = (setting : Setting) (state : ChainState) (visits : List MadeVisit) →
     IsRunState setting state → IsLegal setting state (event.Visit server packet worker) →

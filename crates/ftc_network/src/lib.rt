@@ -19,3 +19,6 @@ mod taking;
 mod visiting;
 
 pub use network::Network;
+
+#[cfg(test)]
+mod tests;

@@ -51,8 +51,8 @@ fn visit_at(
 }
 
 impl Network {
-    /// The middlebox of a server takes a packet, in a worker's slot. The plan is used where it is that of the packet and
-    /// of what it reads; else the rule is asked.
+    /// The middlebox of a server takes a packet, in a worker's slot. The plan is used where it is that of the packet
+    /// and of what it reads; else the rule is asked.
     pub fn visit(
         &mut self,
         worker: WorkerId,

@@ -1,0 +1,41 @@
+//! A network at its start.
+
+ghost use Rattle.std.specs.Prelude.{◌≡◌, length, IfSome};
+
+use crate::Network;
+use ftc_base::Items;
+use ftc_mbox::{ChainSpec, Rule};
+use ftc_ring::Ring;
+use std::alloc::Global;
+use std::test::Fail;
+
+/// Two middleboxes that pass everything, of which one may be down.
+fn two_passes(alloc: Global) -> Result<ChainSpec, Fail> {
+    let mut rules = Items::new(alloc);
+    rules.push(Rule::Pass)?;
+    rules.push(Rule::Pass)?;
+    Ok(ChainSpec::new(1, 4, rules))
+}
+
+/// The ring of a chain.
+fn ring_of(spec: &ChainSpec) -> Option<Ring>
+    ensures { IfSome result (λ ring. ring ≡ record { servers = length spec.now.rules; failures = spec.now.failures }) }
+{
+    let servers = spec.rules().len() as u8;
+    Ring::new(servers, spec.failures())
+}
+
+#[test]
+fn all_servers_are_up_and_nothing_is_withheld(rt: HostRuntime) -> Result<(), Fail> {
+    let spec = two_passes(rt.alloc())?;
+    let ring = ring_of(&spec).expect(&rt, "a ring");
+    let mut network = Network::new(rt.alloc(), ring, &spec)?;
+    assert_eq!(rt; network.servers.len(), 2);
+    assert_eq!(rt; network.links.len(), 2);
+    assert!(rt; network.servers.iter().all(|server| server.is_some()));
+    assert_eq!(rt; network.partitions, 4);
+    assert_eq!(rt; network.withheld(), 0);
+    assert!(rt; network.release().is_none());
+    assert!(rt; network.visits.is_empty());
+    Ok(())
+}
