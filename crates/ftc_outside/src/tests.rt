@@ -1,4 +1,6 @@
-use crate::{Desk, DeskError, FailingDesk, FileDesk, MemoryDesk};
+use crate::{CountTap, Desk, DeskError, FailingDesk, FileDesk, ListTap, MemoryDesk, Tap};
+use ftc_base::{Bytes, NoMemory};
+use std::alloc::Global;
 use std::test::Fail;
 use std::{fs, process};
 
@@ -81,5 +83,46 @@ fn a_real_file_is_made_and_added_to_and_fetched(rt: HostRuntime) -> Result<(), F
 fn standard_output_needs_no_make(rt: HostRuntime) -> Result<(), Fail> {
     let mut desk = FileDesk::new(&rt);
     desk.append(rt.alloc(), "-", b"a line on standard output\n")?;
+    Ok(())
+}
+
+/// Tells a tap of two packets, and gives its line.
+fn line_after_two<T: Tap>(alloc: Global, tap: &mut T) -> Result<Bytes, NoMemory> {
+    tap.see(alloc, 4, b"abc")?;
+    tap.see(alloc, 2, b"de")?;
+    tap.line(alloc)
+}
+
+#[test]
+fn taps_say_in_a_line_what_they_were_told(rt: HostRuntime) -> Result<(), Fail> {
+    let alloc = rt.alloc();
+    let mut counts = CountTap::new();
+    assert_eq!(rt;
+        counts.line(alloc)?.as_slice(),
+        b"packets 0 bytes 0".as_slice()
+    );
+    let line = line_after_two(alloc, &mut counts)?;
+    assert_eq!(rt; line.as_slice(), b"packets 2 bytes 5".as_slice());
+    let mut list = ListTap::new(alloc);
+    assert_eq!(rt; list.line(alloc)?.as_slice(), b"list 0".as_slice());
+    let line = line_after_two(alloc, &mut list)?;
+    assert_eq!(rt; line.as_slice(), b"list 2".as_slice());
+    Ok(())
+}
+
+#[test]
+fn a_list_tap_keeps_numbers_and_bytes_in_order(rt: HostRuntime) -> Result<(), Fail> {
+    let alloc = rt.alloc();
+    let mut tap = ListTap::new(alloc);
+    assert!(rt; tap.see(alloc, 4, b"abc")?);
+    assert!(rt; tap.see(alloc, 2, b"")?);
+    let [first, second] = tap.list().as_slice() else {
+        assert!(rt; false, "two records were told");
+        return Ok(());
+    };
+    assert_eq!(rt; first.packet, 4);
+    assert_eq!(rt; first.bytes.as_slice(), b"abc".as_slice());
+    assert_eq!(rt; second.packet, 2);
+    assert_eq!(rt; second.bytes.as_slice(), b"".as_slice());
     Ok(())
 }

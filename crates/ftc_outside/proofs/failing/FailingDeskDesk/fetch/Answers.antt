@@ -1,4 +1,4 @@
-use Rattle.std.proofs.Common.{◌∙◌, subst, ◌≤◌, sym}
+use Rattle.std.proofs.Common.{◌∙◌}
 use Rattle.ftc_outside.proofs.Calls.{stays_sound}
 use Rattle.ftc_outside.proofs.failing.FailingDeskDesk.fetch.Goals as goal
 
