@@ -1,0 +1,5 @@
+pub mod Telling
+pub mod Leaving
+pub mod Growing
+pub mod Ending
+pub mod Meanings

@@ -1,0 +1,9 @@
+pub mod Taps
+pub mod Records
+pub mod Faults
+pub mod Flow
+pub mod Pages
+pub mod Ending
+pub mod GrowingLaws
+pub mod LeavingLaws
+pub mod TurningLaws
