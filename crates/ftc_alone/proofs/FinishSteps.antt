@@ -6,7 +6,7 @@ use Rattle.ftc_base.specs.declared.limits.TheConstants.{FINISHING_SLOT}
 use Rattle.ftc_journal.specs.declared.event.Event.{Event}
 use Rattle.ftc_journal.specs.declared.job.Job.{Job}
 use Rattle.ftc_journal.specs.declared.job.Job.TheVariants as job
-use Rattle.ftc_machine.specs.RunSoFar.{RunSoFar, setting_in, state_of}
+use Rattle.ftc_chain.specs.ChainRun.{ChainRun, setting_in, state_of}
 use Rattle.ftc_protocol.proofs.RunLists.{state_on}
 use Rattle.ftc_protocol.specs.Drive.{event_after, AreReleases, IsFinish}
 use Rattle.ftc_protocol.specs.Jobs.{event_of, IsFirstJob}
@@ -48,7 +48,7 @@ isnt_visit (job.Recover server) not = refl
 isnt_visit (job.Pull link) not = refl
 isnt_visit (job.Propagate origin) not = refl
 
-pub made_in : (slot other : ℕ) (job : Job) (old new : RunSoFar) → is_visit job ≡ false → HasMade slot job old new → HasMade other job old new
+pub made_in : (slot other : ℕ) (job : Job) (old new : ChainRun) → is_visit job ≡ false → HasMade slot job old new → HasMade other job old new
 made_in slot other job old new not made =
     let same = any_slot (setting_in old) (state_of old) slot other job not in
     record {
@@ -58,11 +58,11 @@ made_in slot other job old new not made =
     }
 
 -- what is made leaves what was given
-pub given_made : (slot : ℕ) (job : Job) (old new : RunSoFar) → HasMade slot job old new → IsSameGiven old new
-given_made slot job old new made = made.grown ∙ ap (λ (events : List Event). record old { journal = events }) (ap (λ (run : RunSoFar). run.journal) (sym made.grown))
+pub given_made : (slot : ℕ) (job : Job) (old new : ChainRun) → HasMade slot job old new → IsSameGiven old new
+given_made slot job old new made = made.grown ∙ ap (λ (events : List Event). record old { journal = events }) (ap (λ (run : ChainRun). run.journal) (sym made.grown))
 
-pub given_on : (first now new : RunSoFar) → IsSameGiven first now → IsSameGiven now new → IsSameGiven first new
-given_on first now new one other = other ∙ ap (λ (run : RunSoFar). record run { journal = new.journal }) one
+pub given_on : (first now new : ChainRun) → IsSameGiven first now → IsSameGiven now new → IsSameGiven first new
+given_on first now new one other = other ∙ ap (λ (run : ChainRun). record run { journal = new.journal }) one
 
 -- ---- nearer to the end
 
@@ -78,18 +78,18 @@ module _ (c : Setting) (falls : (before : List Event) (event : Event) → IsRun 
       let there : work_left c (state_by c (before ++ event ∷ another ∷ events)) < work_left c (state_by c (before ++ event ∷ [])) = subst (λ (es : List Event). work_left c (state_by c es) < work_left c (state_by c (before ++ event ∷ []))) same far in
       omega (arith, there, near)
 
-pub nearer : (slot : ℕ) (job : Job) (old new : RunSoFar) → HasMade slot job old new
+pub nearer : (slot : ℕ) (job : Job) (old new : ChainRun) → HasMade slot job old new
     → ((c : Setting) → IsSetting c → (before : List Event) (event : Event) → IsRun c (before ++ event ∷ []) → work_left c (state_after c (opening c) (before ++ event ∷ [])) < work_left c (state_after c (opening c) before))
     → ((c : Setting) (before after : List Event) → IsRun c (before ++ after) → IsRun c before)
     → IsSetting (setting_in old) → IsRun (setting_in new) new.journal → work_left (setting_in new) (state_of new) < work_left (setting_in old) (state_of old)
 nearer slot job old new made falls front right =
-    subst (λ (run : RunSoFar). IsRun (setting_in run) run.journal → work_left (setting_in run) (state_of run) < work_left (setting_in old) (state_of old)) (sym made.grown)
+    subst (λ (run : ChainRun). IsRun (setting_in run) run.journal → work_left (setting_in run) (state_of run) < work_left (setting_in old) (state_of old)) (sym made.grown)
     (less (setting_in old) (falls (setting_in old) right) (front (setting_in old)) old.journal (event_of (setting_in old) (state_of old) slot job) made.releases)
 
 -- ---- back from the end
 
 -- a finish of the later run is one of the first
-abbrev pub LeadsBack : RunSoFar → RunSoFar → Type 0
+abbrev pub LeadsBack : ChainRun → ChainRun → Type 0
 LeadsBack first now = (whole : List Event) → IsFinish (setting_in first) now.journal whole → IsFinish (setting_in first) first.journal whole
 
 abbrev pub Begins : Type 0
@@ -99,21 +99,21 @@ Begins = (c : Setting) (journal whole : List Event) (job : Job) (releases : List
     → IsFinish c ((journal ++ event_after c journal job ∷ []) ++ releases) whole
     → IsFinish c journal whole
 
-pub back_one : Begins → (job : Job) (now new : RunSoFar) → IsFirstJob (setting_in now) (state_of now) job → HasMade FINISHING_SLOT job now new → LeadsBack now new
+pub back_one : Begins → (job : Job) (now new : ChainRun) → IsFirstJob (setting_in now) (state_of now) job → HasMade FINISHING_SLOT job now new → LeadsBack now new
 back_one begun job now new first made whole finish =
     let c : Setting = setting_in now in let event : Event = event_after c now.journal job in
     let on : state_by c (now.journal ++ event ∷ []) ≡ next c (state_of now) event = state_on c now.journal (event ∷ []) (opening c) in
     let due : AreReleases c (state_by c (now.journal ++ event ∷ [])) made.releases = subst (λ (s : ChainState). AreReleases c s made.releases) (sym on) made.due in
-    let grown : new.journal ≡ (now.journal ++ event ∷ []) ++ made.releases = ap (λ (run : RunSoFar). run.journal) made.grown ∙ sym (append_assoc now.journal (event ∷ []) made.releases) in
+    let grown : new.journal ≡ (now.journal ++ event ∷ []) ++ made.releases = ap (λ (run : ChainRun). run.journal) made.grown ∙ sym (append_assoc now.journal (event ∷ []) made.releases) in
     begun c now.journal whole job made.releases first due (subst (λ (events : List Event). IsFinish c events whole) grown finish)
 
-pub back_on : (first now new : RunSoFar) → IsSameGiven first now → LeadsBack first now → LeadsBack now new → LeadsBack first new
+pub back_on : (first now new : ChainRun) → IsSameGiven first now → LeadsBack first now → LeadsBack now new → LeadsBack first new
 back_on first now new same back one whole finish =
     let settings : setting_in now ≡ setting_in first = ap setting_in same in
     back whole (subst (λ (c : Setting). IsFinish c new.journal whole → IsFinish c now.journal whole) settings (one whole) finish)
 
 -- at the end the run is the finish
-pub at_end : (first now : RunSoFar) → IsSameGiven first now → LeadsBack first now
+pub at_end : (first now : ChainRun) → IsSameGiven first now → LeadsBack first now
     → ((c : Setting) (journal : List Event) → IsFinished c (state_after c (opening c) journal) → IsFinish c journal journal)
     → IsFinished (setting_in now) (state_of now) → IsFinish (setting_in first) first.journal now.journal
 at_end first now same back ended finished =
@@ -121,7 +121,7 @@ at_end first now same back ended finished =
     back now.journal (subst (λ (c : Setting). IsFinish c now.journal now.journal) settings (ended (setting_in now) now.journal finished))
 
 -- a run that was on the way to the finish has a front of it
-pub in_finish : (first now : RunSoFar) → IsSameGiven first now → LeadsBack first now
+pub in_finish : (first now : ChainRun) → IsSameGiven first now → LeadsBack first now
     → ((c : Setting) → IsSetting c → (journal : List Event) → IsRun c journal → (whole : List Event) × IsFinish c journal whole)
     → IsSetting (setting_in now) → IsRun (setting_in now) now.journal → IsInFinish (setting_in first) first.journal now.journal
 in_finish first now same back exists right run =

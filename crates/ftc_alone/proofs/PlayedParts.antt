@@ -4,7 +4,7 @@ use Rattle.std.proofs.lemmas.List.{append_assoc, append-nil, take-append-drop}
 use Rattle.ftc_journal.specs.declared.event.Event.{Event}
 use Rattle.ftc_journal.specs.declared.job.Job.{Job}
 use Rattle.ftc_journal.specs.Job.{job_of}
-use Rattle.ftc_machine.specs.RunSoFar.{RunSoFar, setting_in, state_of}
+use Rattle.ftc_chain.specs.ChainRun.{ChainRun, setting_in, state_of}
 use Rattle.ftc_protocol.proofs.RunLists.{state_on}
 use Rattle.ftc_protocol.specs.Drive.{IsPassedOver, IsPlay, IsFinish, IsDrive}
 use Rattle.ftc_protocol.specs.Jobs.{event_of, slot_of, IsLegalJob}
@@ -36,10 +36,10 @@ joined c (event ∷ one) other s events more (inl x) after =
 joined c (event ∷ one) other s events more (inr x) after = inr (x.0, joined c one other s events more x.1 after)
 
 -- the same of runs
-pub played_on : (one other : List Event) (first now new : RunSoFar) → HasPlayed one first now → HasPlayed other now new → HasPlayed (one ++ other) first new
+pub played_on : (one other : List Event) (first now new : ChainRun) → HasPlayed one first now → HasPlayed other now new → HasPlayed (one ++ other) first new
 played_on one other first now new front more =
     let c : Setting = setting_in first in
-    let there : HasPlayed other (record first { journal = first.journal ++ front.played }) new = subst (λ (run : RunSoFar). HasPlayed other run new) front.grown more in
+    let there : HasPlayed other (record first { journal = first.journal ++ front.played }) new = subst (λ (run : ChainRun). HasPlayed other run new) front.grown more in
     let on = state_on c first.journal front.played (opening c) in
     record {
       played = front.played ++ there.played;
@@ -49,10 +49,10 @@ played_on one other first now new front more =
 
 -- ---- nothing, and one event
 
-pub played_nothing : (now : RunSoFar) → HasPlayed [] now now
+pub played_nothing : (now : ChainRun) → HasPlayed [] now now
 played_nothing now = record { played = []; play = refl; grown = ap (λ (es : List Event). record now { journal = es }) (sym (append-nil now.journal)) }
 
-pub played_one : (event : Event) (job : Job) (old new : RunSoFar) → job_of event ≡ Some job → IsLegalJob (setting_in old) (state_of old) job → HasMade (slot_of event) job old new → HasPlayed (event ∷ []) old new
+pub played_one : (event : Event) (job : Job) (old new : ChainRun) → job_of event ≡ Some job → IsLegalJob (setting_in old) (state_of old) job → HasMade (slot_of event) job old new → HasPlayed (event ∷ []) old new
 played_one event job old new is legal made =
     let happened : Event = event_of (setting_in old) (state_of old) (slot_of event) job in
     record {
@@ -64,19 +64,19 @@ played_one event job old new is legal made =
 pub one_job : (one other : Job) → Some one ≡ Some other → one ≡ other
 one_job one other same = cc
 
-pub passed_over : (event : Event) (now : RunSoFar) → IsPassedOver (setting_in now) (state_of now) event → HasPlayed (event ∷ []) now now
+pub passed_over : (event : Event) (now : ChainRun) → IsPassedOver (setting_in now) (state_of now) event → HasPlayed (event ∷ []) now now
 passed_over event now over = record {
   played = [];
   play = inr (over, refl);
   grown = ap (λ (es : List Event). record now { journal = es }) (sym (append-nil now.journal));
 }
 
-pub played_given : (schedule : List Event) (old new : RunSoFar) → HasPlayed schedule old new → IsSameGiven old new
-played_given schedule old new is = is.grown ∙ ap (λ (es : List Event). record old { journal = es }) (ap (λ (run : RunSoFar). run.journal) (sym is.grown))
+pub played_given : (schedule : List Event) (old new : ChainRun) → HasPlayed schedule old new → IsSameGiven old new
+played_given schedule old new is = is.grown ∙ ap (λ (es : List Event). record old { journal = es }) (ap (λ (run : ChainRun). run.journal) (sym is.grown))
 
 -- ---- the events so far
 
-pub played_some : (events : List Event) (place : ℕ) (first now : RunSoFar) → HasPlayed (take place events) first now → HasPlayedSome events first now
+pub played_some : (events : List Event) (place : ℕ) (first now : ChainRun) → HasPlayed (take place events) first now → HasPlayedSome events first now
 played_some events place first now played = record {
   done = take place events;
   front = record { rest = drop place events; parts = sym (take-append-drop place events) };
@@ -95,12 +95,12 @@ one_taken_more events place event within is =
 
 -- ---- the drive of a schedule
 
-module _ (first now : RunSoFar) (opens : first.journal ≡ []) where
+module _ (first now : ChainRun) (opens : first.journal ≡ []) where
   opened : (schedule : List Event) → HasPlayed schedule first now → IsPlay (setting_in first) (opening (setting_in first)) schedule now.journal
   opened schedule is =
       let c : Setting = setting_in first in
       let play : IsPlay c (state_after c (opening c) []) schedule is.played = subst (λ (es : List Event). IsPlay c (state_after c (opening c) es) schedule is.played) opens is.play in
-      let all : now.journal ≡ is.played = ap (λ (run : RunSoFar). run.journal) is.grown ∙ ap (λ (es : List Event). es ++ is.played) opens in
+      let all : now.journal ≡ is.played = ap (λ (run : ChainRun). run.journal) is.grown ∙ ap (λ (es : List Event). es ++ is.played) opens in
       subst (IsPlay c (opening c) schedule) (sym all) play
 
   pub driven : (schedule events : List Event) → HasPlayed schedule first now → IsFinish (setting_in now) now.journal events → IsDrive (setting_in first) schedule events

@@ -1,12 +1,12 @@
 -- What one thread makes of a run.
 use Rattle.std.specs.Prelude.{◌≡◌, ◌++◌, List}
 use Rattle.ftc_journal.specs.declared.event.Event.{Event}
-use Rattle.ftc_machine.specs.RunSoFar.{RunSoFar, setting_in, state_of}
+use Rattle.ftc_chain.specs.ChainRun.{ChainRun, setting_in, state_of}
 use Rattle.ftc_protocol.specs.Drive.{IsPlay, IsFinish, IsDrive}
 use Rattle.ftc_protocol.specs.Setting.{Setting}
 
 -- its chain, packets and script are the same
-abbrev pub IsSameGiven : RunSoFar → RunSoFar → Type 0
+abbrev pub IsSameGiven : ChainRun → ChainRun → Type 0
 IsSameGiven old new = new ≡ record old { journal = new.journal }
 
 -- these events come first in the whole
@@ -27,13 +27,13 @@ pub record IsInDrive (setting : Setting) (schedule events : List Event) : Type 0
   pub front : IsFrontOf whole events
 
 -- the schedule was played from the old run, and what came of that is behind the events of that run
-pub record HasPlayed (schedule : List Event) (old new : RunSoFar) : Type 0 where
+pub record HasPlayed (schedule : List Event) (old new : ChainRun) : Type 0 where
   pub played : List Event
   pub play : IsPlay (setting_in old) (state_of old) schedule played
   pub grown : new ≡ record old { journal = old.journal ++ played }
 
 -- that is so of a front of the schedule
-pub record HasPlayedSome (schedule : List Event) (old new : RunSoFar) : Type 0 where
+pub record HasPlayedSome (schedule : List Event) (old new : ChainRun) : Type 0 where
   pub done : List Event
   pub front : IsFrontOf schedule done
   pub played : HasPlayed done old new

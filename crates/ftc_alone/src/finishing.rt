@@ -1,7 +1,7 @@
 //! What is left is done in order.
 
 ghost use Rattle.std.specs.Prelude.{◌≡◌, OnOk, OnErr};
-ghost use Rattle.ftc_machine.specs.RunSoFar.{setting_in, state_of};
+ghost use Rattle.ftc_chain.specs.ChainRun.{setting_in, state_of};
 ghost use Rattle.ftc_protocol.specs.Drive.{IsFinish};
 ghost use Rattle.ftc_protocol.specs.Jobs.{IsLegalJob};
 ghost use Rattle.ftc_chain.specs.Course.{HasMade};

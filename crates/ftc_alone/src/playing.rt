@@ -1,7 +1,7 @@
 //! A schedule is played.
 
 ghost use Rattle.std.specs.Prelude.{◌≡◌, ◌∷◌, [], OnOk, OnErr};
-ghost use Rattle.ftc_machine.specs.RunSoFar.{setting_in};
+ghost use Rattle.ftc_chain.specs.ChainRun.{setting_in};
 ghost use Rattle.ftc_protocol.specs.Drive.{IsDrive};
 ghost use Rattle.ftc_protocol.specs.Jobs.{slot_of};
 ghost use Rattle.ftc_alone.specs.Alone.{IsSameGiven, IsInDrive, HasPlayed, HasPlayedSome};

@@ -7,7 +7,6 @@ use Rattle.ftc_jobs.specs.Rest.{IsAtRest}
 use Rattle.ftc_journal.specs.declared.event.Event.{Event}
 use Rattle.ftc_journal.specs.declared.event.Event.TheVariants.{Enter, Take, Apply, Visit, Pass, Lose, Carry, Crash, Recover, Pull, Propagate, Release}
 use Rattle.ftc_journal.specs.declared.job.Job.{Job}
-use Rattle.ftc_machine.proofs.RunInputs.{bytes_count}
 use Rattle.ftc_pcap.specs.declared.packets.Packet.{Packet}
 use Rattle.ftc_serial.specs.Packets.{bytes_of}
 use Rattle.ftc_protocol.specs.Jobs.{IsLegalJob}
@@ -22,6 +21,7 @@ use Rattle.ftc_chain.specs.declared.given.Given.{Given}
 use Rattle.ftc_chain.specs.Course.{IsCourse, IsResting, state_by}
 use Rattle.ftc_chain.specs.Doing.{MayDo, setting_by}
 use Rattle.ftc_chain.proofs.Releases.{is_run_state}
+use Rattle.ftc_chain.proofs.Rooms.{bytes_count}
 
 -- what holds of an item that is there, of what may hold of it
 pub if_some : {A : Type 0} (Fact Other : A → Type 0) (option : Option A) → ((item : A) → Fact item → Other item) →

@@ -1,5 +1,8 @@
 mod AtRest
+mod Drained
 mod Made
+mod Outlets
 mod Permitted
 mod Releases
 mod Rooms
+mod UnderWay

@@ -1,13 +1,16 @@
 -- A chain after one job more.
-use Rattle.std.proofs.Common.{◌≡◌, ◌∙◌, ◌++◌, [], ◌∷◌, ℕ, List, refl, sym, ap, subst, append_assoc}
+use Rattle.std.proofs.Common.{◌≡◌, ◌∙◌, ◌++◌, [], ◌∷◌, ℕ, List, take, false, refl, arith, sym, ap, subst, append_assoc}
 use Rattle.std.proofs.Math.Logic.{∥∥₁_elim, ∥∥₁_map, ∥∥₁_map₂, ∥∥₁_prop}
+use Rattle.ftc_base.specs.declared.released.Released.{Released}
 use Rattle.ftc_journal.specs.declared.event.Event.{Event}
 use Rattle.ftc_journal.specs.declared.job.Job.{Job}
-use Rattle.ftc_machine.specs.RunSoFar.{RunSoFar, setting_in, state_of}
+use Rattle.ftc_journal.specs.declared.job.Job.TheVariants.{Enter, Take, Apply, Visit, Pass, Lose, Carry, Crash, Recover, Pull, Propagate}
+use Rattle.ftc_chain.specs.ChainRun.{ChainRun, setting_in, state_of}
 use Rattle.ftc_network.specs.Stand.{IsNetwork}
 use Rattle.ftc_protocol.specs.Drive.{IsNoneDue, AreReleases}
 use Rattle.ftc_protocol.specs.Jobs.{event_of, IsLegalJob}
-use Rattle.ftc_protocol.specs.Legal.{IsLegal}
+use Rattle.ftc_protocol.specs.Legal.{IsLegal, is_release}
+use Rattle.ftc_protocol.specs.Moment.{released_in}
 use Rattle.ftc_protocol.specs.Next.{next}
 use Rattle.ftc_protocol.specs.Run.{IsRun, state_after}
 use Rattle.ftc_protocol.specs.Setting.{Setting}
@@ -17,16 +20,44 @@ use Rattle.ftc_chain.specs.declared.course.Course.{Course}
 use Rattle.ftc_chain.specs.declared.given.Given.{Given}
 use Rattle.ftc_chain.specs.Course.{IsCourse, IsResting, HasReleased, HasMade, state_by}
 use Rattle.ftc_chain.specs.Doing.{HasDone, setting_by}
+use Rattle.ftc_chain.specs.Outlet.{Outgoing, IsOutlet}
+use Rattle.ftc_chain.proofs.Outlets.{few_drained, released_kept, same_front, still_out}
 use Rattle.ftc_chain.proofs.Releases.{one_event, state_and, is_run_state}
 
 -- what a contract sees of a chain with these parts
-abbrev pub run_of : Given → Course → RunSoFar
+abbrev pub run_of : Given → Course → ChainRun
 run_of given course = record {
   chain = given.spec.now;
   packets = bytes_of given.packets.now;
   script = given.script.now;
   journal = course.journal.items;
+  drained = take course.outlet.drained (released_in (state_by (setting_by given) course.journal.items).trace);
 }
+
+-- what it sees of one with another journal and other records that were taken out
+abbrev with_events : Given → List Event → List Released → ChainRun
+with_events given journal drained = record {
+  chain = given.spec.now;
+  packets = bytes_of given.packets.now;
+  script = given.script.now;
+  journal = journal;
+  drained = drained;
+}
+
+-- the event of a job is no release
+pub isnt_release : (setting : Setting) (state : ChainState) (slot : ℕ) (job : Job) →
+    is_release (event_of setting state slot job) ≡ false
+isnt_release setting state slot (Enter packet) = refl
+isnt_release setting state slot (Take link origin) = refl
+isnt_release setting state slot (Apply server origin group packet) = refl
+isnt_release setting state slot (Visit server packet) = refl
+isnt_release setting state slot (Pass server origin) = refl
+isnt_release setting state slot (Lose server origin) = refl
+isnt_release setting state slot (Carry origin) = refl
+isnt_release setting state slot (Crash server) = refl
+isnt_release setting state slot (Recover server) = refl
+isnt_release setting state slot (Pull link) = refl
+isnt_release setting state slot (Propagate origin) = refl
 
 -- the state after a list of events and another
 state_both : (setting : Setting) (state : ChainState) (one other : List Event) →
@@ -42,12 +73,21 @@ pub record IsBetween (given : Given) (slot : ℕ) (job : Job) (old mid : Course)
       ≡ old.journal.items ++ event_of (setting_by given) (state_by (setting_by given) old.journal.items) slot job ∷ []
   pub stands : IsNetwork (setting_by given) (next (setting_by given) (state_by (setting_by given) old.journal.items)
       (event_of (setting_by given) (state_by (setting_by given) old.journal.items) slot job)) mid.network
+  pub waiting : mid.outlet.waiting ≡ old.outlet.waiting
+  pub drained : mid.outlet.drained ≡ old.outlet.drained
 
 module _ (given : Given) (slot : ℕ) (job : Job) (old mid new : Course) (is : IsResting (setting_by given) old)
     (between : IsBetween given slot job old mid)
     (released : IsCourse (setting_by given) mid → HasReleased (setting_by given) mid new) where
   mid_is : IsCourse (setting_by given) mid
-  mid_is = one_event (setting_by given) old mid _ is.course_is between.legal between.grown between.stands
+  mid_is =
+      let setting : Setting = setting_by given in
+      let state : ChainState = state_by setting old.journal.items in
+      let event : Event = event_of setting state slot job in
+      one_event setting old mid event is.course_is between.legal between.grown between.stands
+      (subst (λ (records : List Released). IsOutlet records mid.outlet)
+      (sym (released_kept setting state event (isnt_release setting state slot job)))
+      (still_out (released_in state.trace) old.outlet mid.outlet between.waiting between.drained is.course_is.outlet))
 
   pub rests : ((state : ChainState) (events : List Event) → AreReleases (setting_by given) state events →
       IsNoneDue (setting_by given) (state_after (setting_by given) state events)) → IsResting (setting_by given) new
@@ -71,23 +111,28 @@ module _ (given : Given) (slot : ℕ) (job : Job) (old mid new : Course) (is : I
         releases = done.releases;
         due = subst (λ (s : ChainState). AreReleases setting s done.releases)
             (ap (state_by setting) between.grown ∙ state_and setting (opening setting) old.journal.items event) done.due;
-        grown = ap (λ (journal : List Event). record {
-          chain = given.spec.now;
-          packets = bytes_of given.packets.now;
-          script = given.script.now;
-          journal = journal;
-        }) (done.grown ∙ (ap (λ (journal : List Event). journal ++ done.releases) between.grown
-            ∙ append_assoc old.journal.items (event ∷ []) done.releases));
+        grown =
+            let journal : new.journal.items ≡ old.journal.items ++ event ∷ done.releases =
+            done.grown ∙ (ap (λ (journal : List Event). journal ++ done.releases) between.grown
+            ∙ append_assoc old.journal.items (event ∷ []) done.releases) in
+            ap (λ (events : List Event). with_events given events
+            (take new.outlet.drained (released_in (state_by setting events).trace))) journal
+            ∙ ap (with_events given (old.journal.items ++ event ∷ done.releases))
+            (ap (λ (count : ℕ). take count
+            (released_in (state_by setting (old.journal.items ++ event ∷ done.releases)).trace))
+            (done.drained ∙ between.drained)
+            ∙ same_front setting old.journal.items (event ∷ done.releases) old.outlet.drained
+            (let few = few_drained (released_in state.trace) old.outlet is.course_is.outlet in omega (arith, few)));
       }
 
 -- a chain before a job: it rests, and the job is legal
-pub before : (given : Given) (course : Course) (job : Job) (run : RunSoFar) → run_of given course ≡ run →
+pub before : (given : Given) (course : Course) (job : Job) (run : ChainRun) → run_of given course ≡ run →
     ∥ IsResting (setting_by given) course ∥₁ → ∥ IsLegalJob (setting_in run) (state_of run) job ∥₁ →
     ∥ IsResting (setting_by given) course
     × IsLegalJob (setting_by given) (state_by (setting_by given) course.journal.items) job ∥₁
 before given course job run same resting legal =
     ∥∥₁_map₂ resting
-    (subst (λ (r : RunSoFar). ∥ IsLegalJob (setting_in r) (state_of r) job ∥₁) (sym same) legal) (λ is may. (is, may))
+    (subst (λ (r : ChainRun). ∥ IsLegalJob (setting_in r) (state_of r) job ∥₁) (sym same) legal) (λ is may. (is, may))
 
 -- what a network did for a job stands between
 pub did_between : (given : Given) (slot : ℕ) (job : Job) (old room mid : Course) (event : Event) →
@@ -96,9 +141,10 @@ pub did_between : (given : Given) (slot : ℕ) (job : Job) (old room mid : Cours
     IsLegal (setting_by given) (state_by (setting_by given) old.journal.items)
     (event_of (setting_by given) (state_by (setting_by given) old.journal.items) slot job) →
     room.journal.items ≡ old.journal.items → room.network ≡ old.network →
+    room.outlet.waiting ≡ old.outlet.waiting → room.outlet.drained ≡ old.outlet.drained → mid.outlet ≡ room.outlet →
     mid.journal.items ≡ room.journal.items ++ event ∷ [] → HasDone (setting_by given) slot job event room.network mid.network →
     ∥ IsBetween given slot job old mid ∥₁
-did_between given slot job old room mid event is may legal same same_network grown done =
+did_between given slot job old room mid event is may legal same same_network waiting drained same_outlet grown done =
     let setting : Setting = setting_by given in
     let state : ChainState = state_by setting old.journal.items in
     let did = done state (is_run_state setting old is.course_is) may
@@ -108,42 +154,51 @@ did_between given slot job old room mid event is may legal same same_network gro
       grown = grown ∙ (ap (λ (journal : List Event). journal ++ event ∷ []) same
           ∙ ap (λ (e : Event). old.journal.items ++ e ∷ []) did.0);
       stands = subst (λ (e : Event). IsNetwork setting (next setting state e) mid.network) did.0 stands;
+      waiting = ap (λ (outlet : Outgoing). outlet.waiting) same_outlet ∙ waiting;
+      drained = ap (λ (outlet : Outgoing). outlet.drained) same_outlet ∙ drained;
     })
 
 -- a chain after a job, in whatever slot, and the releases that are due
-pub stepped : (given : Given) (slot : ℕ) (job : Job) (old room mid new : Course) (event : Event) (run : RunSoFar) →
+pub stepped : (given : Given) (slot : ℕ) (job : Job) (old room mid new : Course) (event : Event) (run : ChainRun) →
     run_of given old ≡ run → ∥ IsResting (setting_by given) old ∥₁ →
     ∥ IsLegalJob (setting_in run) (state_of run) job ∥₁ →
     ((setting : Setting) (state : ChainState) → IsLegalJob setting state job →
     IsLegal setting state (event_of setting state slot job)) →
     room.journal.items ≡ old.journal.items → room.network ≡ old.network →
+    room.outlet.waiting ≡ old.outlet.waiting → room.outlet.drained ≡ old.outlet.drained → mid.outlet ≡ room.outlet →
     mid.journal.items ≡ room.journal.items ++ event ∷ [] →
     HasDone (setting_by given) slot job event room.network mid.network →
     ((setting : Setting) → IsCourse setting mid → HasReleased setting mid new) →
     ((setting : Setting) (state : ChainState) (events : List Event) → AreReleases setting state events →
     IsNoneDue setting (state_after setting state events)) →
     ∥ IsResting (setting_by given) new × HasMade slot job run (run_of given new) ∥₁
-stepped given slot job old room mid new event run same resting legal in_slot same_journal same_network grown done released ends =
+stepped given slot job old room mid new event run same resting legal in_slot same_journal same_network waiting drained same_outlet
+    grown done released ends =
     ∥∥₁_elim (before given old job run same resting legal) ∥∥₁_prop (λ both.
     ∥∥₁_map (did_between given slot job old room mid event both.0 both.1
-    (in_slot (setting_by given) (state_by (setting_by given) old.journal.items) both.1) same_journal same_network grown
-    done)
+    (in_slot (setting_by given) (state_by (setting_by given) old.journal.items) both.1) same_journal same_network
+    waiting drained same_outlet grown done)
     (λ between. (
       rests given slot job old mid new both.0 between (released (setting_by given)) (ends (setting_by given)),
-      subst (λ (r : RunSoFar). HasMade slot job r (run_of given new)) same
+      subst (λ (r : ChainRun). HasMade slot job r (run_of given new)) same
           (has_made given slot job old mid new both.0 between (released (setting_by given))),
     )))
 
 -- a chain that is as it was, but for the room in its journal
 pub still_rests : (setting : Setting) (old new : Course) → new.journal.items ≡ old.journal.items →
+    new.outlet.waiting ≡ old.outlet.waiting → new.outlet.drained ≡ old.outlet.drained →
     ((state : ChainState) → IsNetwork setting state old.network → IsNetwork setting state new.network) →
     IsResting setting old → IsResting setting new
-still_rests setting old new same stands is = record {
+still_rests setting old new same waiting drained stands is = record {
   course_is = record {
     right = is.course_is.right;
     run = subst (IsRun setting) (sym same) is.course_is.run;
     stands = subst (λ (journal : List Event). IsNetwork setting (state_by setting journal) new.network) (sym same)
         (stands (state_by setting old.journal.items) is.course_is.stands);
+    outlet = subst (λ (journal : List Event). IsOutlet (released_in (state_by setting journal).trace) new.outlet)
+        (sym same)
+        (still_out (released_in (state_by setting old.journal.items).trace) old.outlet new.outlet waiting drained
+        is.course_is.outlet);
   };
   none_due = subst (λ (journal : List Event). IsNoneDue setting (state_by setting journal)) (sym same) is.none_due;
 }

@@ -22,6 +22,9 @@ bytes_at packets place packet same = sym (get_or_from_slice_get (bytes_of packet
     (slice_get-map (λ (p : Packet). p.bytes) packets place ∙ ap (option_map (λ (p : Packet). p.bytes)) same))
 
 -- there are as many as packets
+pub bytes_count : (packets : List Packet) → length (bytes_of packets) ≡ length packets
+bytes_count packets = length-map packets (λ (p : Packet). p.bytes)
+
 pub few_bytes : (packets : List Packet) (most : ℕ) → length packets ≤ most → length (bytes_of packets) ≤ most
 few_bytes packets most few = omega (arith, few, length-map packets (λ (p : Packet). p.bytes))
 

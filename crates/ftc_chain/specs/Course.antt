@@ -2,25 +2,28 @@
 use Rattle.std.specs.Prelude.{ℕ, ◌≡◌, ◌++◌, ◌∷◌, List}
 use Rattle.ftc_journal.specs.declared.event.Event.{Event}
 use Rattle.ftc_journal.specs.declared.job.Job.{Job}
-use Rattle.ftc_machine.specs.RunSoFar.{RunSoFar, setting_in, state_of}
 use Rattle.ftc_network.specs.Stand.{IsNetwork}
 use Rattle.ftc_protocol.specs.Drive.{IsNoneDue, AreReleases}
 use Rattle.ftc_protocol.specs.Jobs.{event_of}
+use Rattle.ftc_protocol.specs.Moment.{released_in}
 use Rattle.ftc_protocol.specs.Next.{next}
 use Rattle.ftc_protocol.specs.Run.{IsRun, state_after}
 use Rattle.ftc_protocol.specs.Setting.{Setting, IsSetting}
 use Rattle.ftc_protocol.specs.State.{ChainState, opening}
 use Rattle.ftc_chain.specs.declared.course.Course.{Course}
+use Rattle.ftc_chain.specs.ChainRun.{ChainRun, setting_in, state_of}
+use Rattle.ftc_chain.specs.Outlet.{IsOutlet}
 
 -- the state to which these events lead
 abbrev pub state_by : Setting → List Event → ChainState
 state_by setting journal = state_after setting (opening setting) journal
 
--- the journal is a run, and the network stands for its state
+-- the journal is a run, the network stands for its state, and the outlet has what was released
 pub record IsCourse (setting : Setting) (course : Course) : Type 0 where
   pub right : IsSetting setting
   pub run : IsRun setting course.journal.items
   pub stands : IsNetwork setting (state_by setting course.journal.items) course.network
+  pub outlet : IsOutlet (released_in (state_by setting course.journal.items).trace) course.outlet
 
 -- between two calls no release is due
 pub record IsResting (setting : Setting) (course : Course) : Type 0 where
@@ -32,10 +35,11 @@ pub record HasReleased (setting : Setting) (old new : Course) : Type 0 where
   pub releases : List Event
   pub due : AreReleases setting (state_by setting old.journal.items) releases
   pub grown : new.journal.items ≡ old.journal.items ++ releases
+  pub drained : new.outlet.drained ≡ old.outlet.drained
   pub course_is : IsCourse setting new
 
 -- the journal has the job's event at its end, a visit in that slot, and then the releases that are due after it
-pub record HasMade (slot : ℕ) (job : Job) (old new : RunSoFar) : Type 0 where
+pub record HasMade (slot : ℕ) (job : Job) (old new : ChainRun) : Type 0 where
   pub releases : List Event
   pub due : AreReleases (setting_in old)
       (next (setting_in old) (state_of old) (event_of (setting_in old) (state_of old) slot job)) releases

@@ -1,2 +1,5 @@
+pub mod ChainRun
 pub mod Doing
+pub mod Outlet
 pub mod Course
+pub mod Messages

@@ -1,6 +1,6 @@
 //! The chain.
 
-ghost use Rattle.std.specs.Prelude.{◌≡◌, ◌↔◌, [], ◌∷◌, ◌++◌, true, false, length, OnOk, OnErr, IfOk, IfSome, IsNone};
+ghost use Rattle.std.specs.Prelude.{◌≡◌, ◌↔◌, [], ◌∷◌, ◌++◌, true, false, length, take, OnOk, OnErr, IfOk, IfSome, IsNone};
 ghost use Rattle.ftc_base.specs.declared.limits.TheConstants.{FINISHING_SLOT};
 ghost use Rattle.ftc_journal.specs.declared.job.Job.TheVariants as job;
 ghost use Rattle.ftc_serial.specs.Packets.{bytes_of};
@@ -8,22 +8,25 @@ ghost use Rattle.ftc_chain.specs.Doing.{is_visit};
 
 use crate::course::Course;
 use crate::given::Given;
+use crate::messages::messages_in;
+use crate::outlet::Outlet;
 use crate::releasing::release_due;
-use ftc_base::{NoMemory, PacketNo, ServerId, WorkerId};
+use ftc_base::{NoMemory, PacketNo, Released, ServerId, WorkerId};
 use ftc_jobs::{first_job, is_legal};
 use ftc_journal::{Event, Job, Journal};
 use ftc_mbox::ChainSpec;
 use ftc_network::Network;
 use ftc_pcap::Packets;
 use ftc_protocol::{
-    accepted, every_moment, few_propagates, first_job as order_of_jobs, jobs_of_events, releases,
+    accepted, every_moment, few_propagates, first_job as order_of_jobs, jobs_of_events,
+    order_of_a_state, releases,
 };
 use ftc_script::Script;
 use std::alloc::Global;
 use std::marker::Model;
 
 /// A chain of servers on the packets of a capture, with a script of crashes, recoveries and losses. A contract sees
-/// what it was given and its events so far.
+/// what it was given, its events so far, and which released packets were taken out.
 #[derive(Drop)]
 pub struct Chain<'a> {
     given: Given<'a>,
@@ -31,26 +34,31 @@ pub struct Chain<'a> {
 }
 
 impl<'a> Model for Chain<'a> {
+    ghost use Rattle.std.specs.Prelude.{take};
     ghost use Rattle.ftc_serial.specs.Packets.{bytes_of};
-    ghost use Rattle.ftc_machine.specs.RunSoFar.{RunSoFar};
-    ghost use Rattle.ftc_chain.specs.Course.{IsResting};
+    ghost use Rattle.ftc_protocol.specs.Moment.{released_in};
+    ghost use Rattle.ftc_chain.specs.ChainRun.{ChainRun};
+    ghost use Rattle.ftc_chain.specs.Course.{IsResting, state_by};
     ghost use Rattle.ftc_chain.specs.Doing.{IsGiven, setting_by};
 
-    ghost Value = { RunSoFar };
+    ghost Value = { ChainRun };
 
     ghost view = { λ chain. record {
       chain = chain.given.spec.now;
       packets = bytes_of chain.given.packets.now;
       script = chain.given.script.now;
       journal = chain.course.journal.items;
+      drained = take chain.course.outlet.drained
+          (released_in (state_by (setting_by chain.given) chain.course.journal.items).trace);
     } };
 
     ghost invariant = { λ chain. IsGiven chain.given × ∥ IsResting (setting_by chain.given) chain.course ∥₁ };
 }
 
 impl<'a> Chain<'a> {
-    ghost use Rattle.ftc_machine.specs.RunSoFar.{setting_in, state_of};
+    ghost use Rattle.ftc_chain.specs.ChainRun.{setting_in, state_of, released_by};
     ghost use Rattle.ftc_chain.specs.Course.{HasMade};
+    ghost use Rattle.ftc_chain.specs.Messages.{AreUnderWay};
     ghost use Rattle.ftc_protocol.specs.Jobs.{IsLegalJob, IsFirstJob};
     ghost use Rattle.ftc_protocol.specs.Moment.{IsSound};
     ghost use Rattle.ftc_protocol.specs.Run.{IsRun, IsFinished};
@@ -70,6 +78,7 @@ impl<'a> Chain<'a> {
           packets = bytes_of packets.now;
           script = script.now;
           journal = [];
+          drained = [];
         }) }
     {
         accepted();
@@ -85,6 +94,7 @@ impl<'a> Chain<'a> {
             course: Course {
                 journal: Journal::new(alloc),
                 network,
+                outlet: Outlet::new(alloc),
             },
         })
     }
@@ -201,5 +211,37 @@ impl<'a> Chain<'a> {
     {
         every_moment();
         let _ = self.journal();
+    }
+
+    /// How many messages are held and queued.
+    pub fn messages(&self) -> u64
+        ensures { ∥ AreUnderWay (state_of self.now) result ∥₁ }
+    {
+        accepted();
+        few_propagates();
+        order_of_a_state();
+        let _ = self.given.script.ring();
+        let _ = self.given.packets.len();
+        messages_in(&self.course.network)
+    }
+
+    /// Takes the oldest released packet out that wasn't taken out yet. None where all were. The run stays as it was.
+    pub fn drain(&mut self) -> Option<Released>
+        ensures some { IfSome result (λ released.
+            self.new ≡ record self.old { drained = self.old.drained ++ released ∷ [] }) }
+        ensures none { IsNone result → self.new ≡ self.old }
+        ensures all { IsNone result → self.old.drained ≡ released_by self.old }
+        ensures front { self.new.drained ≡ take (length self.new.drained) (released_by self.new) }
+    {
+        let _ = self.course.journal.len();
+        self.course.outlet.take()
+    }
+
+    /// How many released packets were taken out. They are the first that were released.
+    pub fn drained(&self) -> u64
+        ensures count { result ≡ length self.now.drained }
+        ensures front { self.now.drained ≡ take (length self.now.drained) (released_by self.now) }
+    {
+        self.course.outlet.drained()
     }
 }

@@ -7,6 +7,8 @@ mod course;
 mod events;
 mod given;
 mod happening;
+mod messages;
+mod outlet;
 mod releasing;
 
 pub use chain::Chain;

@@ -1,5 +1,5 @@
 -- a finish of the run so far is a finish of the first run
-use Rattle.ftc_machine.specs.RunSoFar.{setting_in, state_of}
+use Rattle.ftc_chain.specs.ChainRun.{setting_in, state_of}
 use Rattle.ftc_protocol.specs.Measure.{work_left}
 use Rattle.ftc_protocol.specs.Run.{IsRun}
 use Rattle.ftc_protocol.specs.Setting.{IsSetting}

@@ -2,7 +2,7 @@ use Rattle.std.proofs.Common.{◌≡◌, false, subst}
 use Rattle.std.proofs.Math.Logic.{∥∥₁_map}
 use Rattle.ftc_base.specs.declared.limits.TheConstants.{FINISHING_SLOT}
 use Rattle.ftc_journal.specs.declared.job.Job.{Job}
-use Rattle.ftc_machine.specs.RunSoFar.{setting_in, state_of}
+use Rattle.ftc_chain.specs.ChainRun.{setting_in, state_of}
 use Rattle.ftc_protocol.specs.Jobs.{IsLegalJob}
 use Rattle.ftc_chain.specs.Course.{HasMade}
 use Rattle.ftc_chain.specs.Doing.{is_visit}

@@ -7,6 +7,7 @@ use Rattle.ftc_chain.proofs.releasing.release_due.Given as goal
 
 abbrev pub invariant-loop-freed : goal.invariant-loop-freed
 invariant-loop-freed l = (withheld_in l.course.network ≤ l.course.journal.spare)
+    × (withheld_in l.course.network ≤ l.course.outlet.spare)
     × ((setting : Setting) → IsCourse setting l.fn.course → IsReleasing setting l.fn.course l.course)
 
 abbrev pub decreases-loop-freed : goal.decreases-loop-freed

@@ -1,6 +1,6 @@
 use Rattle.std.proofs.Common.{◌∙◌, not, ap}
 use Rattle.ftc_protocol.specs.Jobs.{IsFirstJob}
-use Rattle.ftc_machine.specs.RunSoFar.{setting_in, state_of}
+use Rattle.ftc_chain.specs.ChainRun.{setting_in, state_of}
 use Rattle.ftc_chain.proofs.AtRest.{some_cannot}
 use Rattle.ftc_chain.proofs.chain.Chain.finished.Goals as goal
 

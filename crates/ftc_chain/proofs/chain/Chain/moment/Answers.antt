@@ -1,6 +1,6 @@
 use Rattle.std.proofs.Common.{[], sym, subst, append-nil}
 use Rattle.std.proofs.Math.Logic.{∥∥₁_map₂}
-use Rattle.ftc_machine.specs.RunSoFar.{setting_in}
+use Rattle.ftc_chain.specs.ChainRun.{setting_in}
 use Rattle.ftc_protocol.specs.Run.{IsRun}
 use Rattle.ftc_chain.proofs.chain.Chain.moment.Goals as goal
 

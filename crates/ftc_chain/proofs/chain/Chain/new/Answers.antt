@@ -1,12 +1,14 @@
 use Rattle.std.proofs.Common.{◌≡◌, ◌∙◌, List, [], Some, None, refl, sym, subst}
 use Rattle.ftc_journal.specs.declared.event.Event.{Event}
-use Rattle.ftc_machine.proofs.RunInputs.{bytes_count}
 use Rattle.ftc_network.specs.Stand.{IsNetwork}
 use Rattle.ftc_protocol.specs.Drive.{IsNoneDue}
+use Rattle.ftc_protocol.specs.Moment.{released_in}
 use Rattle.ftc_protocol.specs.Run.{IsRun}
 use Rattle.ftc_protocol.specs.Setting.{Setting, setting_of}
 use Rattle.ftc_serial.specs.Packets.{bytes_of}
 use Rattle.ftc_chain.specs.Course.{state_by}
+use Rattle.ftc_chain.specs.Outlet.{IsOutlet}
+use Rattle.ftc_chain.proofs.Rooms.{bytes_count}
 use Rattle.ftc_chain.proofs.chain.Chain.new.Goals as goal
 
 pub invariant_of-result : goal.invariant_of-result
@@ -22,6 +24,8 @@ invariant_of-result c =
           run = subst (IsRun setting) (sym none) tt;
           stands = subst (λ (l : List Event). IsNetwork setting (state_by setting l) c.in_ok-network.network) (sym none)
               (c.in_ok-network.ensures setting (record { rules = refl; failures = refl; partitions = refl }));
+          outlet = subst (λ (l : List Event). IsOutlet (released_in (state_by setting l).trace) c.new-3.result) (sym none)
+              (record { drained = []; count = sym c.new-3.ensures.drained; parts = sym c.new-3.ensures.waiting });
         };
         none_due = subst (λ (l : List Event). IsNoneDue setting (state_by setting l)) (sym none)
             (λ packet withheld due. let there : None ≡ Some withheld = due.0 in absurd cc);

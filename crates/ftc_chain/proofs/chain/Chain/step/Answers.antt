@@ -1,4 +1,4 @@
-use Rattle.std.proofs.Common.{sym, subst}
+use Rattle.std.proofs.Common.{refl, sym, subst}
 use Rattle.std.proofs.Math.Logic.{∥∥₁_map}
 use Rattle.ftc_base.specs.declared.limits.TheConstants.{FINISHING_SLOT}
 use Rattle.ftc_network.specs.Stand.{IsNetwork}
@@ -11,7 +11,7 @@ pub invariant_of-self : goal.invariant_of-self
 invariant_of-self c = (
   c.self.invariant.0,
   ∥∥₁_map c.self.invariant.1 (λ is. still_rests (setting_by c.self.inside.given) c.self.inside.course c.make_room.new.self
-      c.make_room.ensures.journal (λ state stands.
+      c.make_room.ensures.journal c.make_room.ensures.waiting c.make_room.ensures.drained (λ state stands.
       subst (IsNetwork (setting_by c.self.inside.given) state) (sym c.make_room.ensures.network) stands) is),
 )
 
@@ -28,8 +28,8 @@ invariant_of-self-in_err-event c =
     let given = c.self.inside.given in (
       c.self.invariant.0,
       ∥∥₁_map c.self.invariant.1 (λ is. still_rests (setting_by given) c.self.inside.course
-          (record { journal = c.make_room.new.self.journal; network = c.happen.new.network })
-          c.make_room.ensures.journal (λ state stands. c.in_err-event.ensures.err (setting_by given) state
+          (record { journal = c.make_room.new.self.journal; network = c.happen.new.network; outlet = c.make_room.new.self.outlet })
+          c.make_room.ensures.journal c.make_room.ensures.waiting c.make_room.ensures.drained (λ state stands. c.in_err-event.ensures.err (setting_by given) state
           (subst (IsNetwork (setting_by given) state) (sym c.make_room.ensures.network) stands)) is),
     )
 
@@ -38,9 +38,9 @@ invariant_of-self-2 c =
     let given = c.self.inside.given in (
       c.self.invariant.0,
       ∥∥₁_map (stepped given FINISHING_SLOT c.args.job.now c.self.inside.course c.make_room.new.self
-          (record { journal = c.push.new.self; network = c.happen.new.network }) c.release_due.new.course c.in_ok-event.event
+          (record { journal = c.push.new.self; network = c.happen.new.network; outlet = c.make_room.new.self.outlet }) c.release_due.new.course c.in_ok-event.event
           c.args.self.now c.self.view_is c.self.invariant.1 c.requires.legal (λ setting state legal. legal)
-          c.make_room.ensures.journal c.make_room.ensures.network c.in_ok-push.ensures.ok c.in_ok-event.ensures.ok
+          c.make_room.ensures.journal c.make_room.ensures.network c.make_room.ensures.waiting c.make_room.ensures.drained refl c.in_ok-push.ensures.ok c.in_ok-event.ensures.ok
           c.release_due.ensures c.releases.ensures.end) (λ both. both.0),
     )
 
@@ -48,7 +48,7 @@ pub returns-clause-ok : goal.returns-clause-ok
 returns-clause-ok c =
     let given = c.self.inside.given in
     ∥∥₁_map (stepped given FINISHING_SLOT c.args.job.now c.self.inside.course c.make_room.new.self
-    (record { journal = c.push.new.self; network = c.happen.new.network }) c.release_due.new.course c.in_ok-event.event
+    (record { journal = c.push.new.self; network = c.happen.new.network; outlet = c.make_room.new.self.outlet }) c.release_due.new.course c.in_ok-event.event
     c.args.self.now c.self.view_is c.self.invariant.1 c.requires.legal (λ setting state legal. legal)
-    c.make_room.ensures.journal c.make_room.ensures.network c.in_ok-push.ensures.ok c.in_ok-event.ensures.ok
+    c.make_room.ensures.journal c.make_room.ensures.network c.make_room.ensures.waiting c.make_room.ensures.drained refl c.in_ok-push.ensures.ok c.in_ok-event.ensures.ok
     c.release_due.ensures c.releases.ensures.end) (λ both. both.1)

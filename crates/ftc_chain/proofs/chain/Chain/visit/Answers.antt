@@ -12,7 +12,7 @@ pub invariant_of-self : goal.invariant_of-self
 invariant_of-self c = (
   c.self.invariant.0,
   ∥∥₁_map c.self.invariant.1 (λ is. still_rests (setting_by c.self.inside.given) c.self.inside.course c.make_room.new.self
-      c.make_room.ensures.journal (λ state stands.
+      c.make_room.ensures.journal c.make_room.ensures.waiting c.make_room.ensures.drained (λ state stands.
       subst (IsNetwork (setting_by c.self.inside.given) state) (sym c.make_room.ensures.network) stands) is),
 )
 
@@ -29,8 +29,8 @@ invariant_of-self-in_err-visit c =
     let given = c.self.inside.given in (
       c.self.invariant.0,
       ∥∥₁_map c.self.invariant.1 (λ is. still_rests (setting_by given) c.self.inside.course
-          (record { journal = c.make_room.new.self.journal; network = c.visit.new.network })
-          c.make_room.ensures.journal (λ state stands. c.in_err-visit.ensures.err (setting_by given) state
+          (record { journal = c.make_room.new.self.journal; network = c.visit.new.network; outlet = c.make_room.new.self.outlet })
+          c.make_room.ensures.journal c.make_room.ensures.waiting c.make_room.ensures.drained (λ state stands. c.in_err-visit.ensures.err (setting_by given) state
           (subst (IsNetwork (setting_by given) state) (sym c.make_room.ensures.network) stands)) is),
     )
 
@@ -39,12 +39,12 @@ invariant_of-self-2 c =
     let given = c.self.inside.given in (
       c.self.invariant.0,
       ∥∥₁_map (stepped given c.args.worker (Visit c.args.server c.args.packet) c.self.inside.course c.make_room.new.self
-          (record { journal = c.push.new.self; network = c.visit.new.network }) c.release_due.new.course
+          (record { journal = c.push.new.self; network = c.visit.new.network; outlet = c.make_room.new.self.outlet }) c.release_due.new.course
           (event.Visit c.args.server c.args.packet c.args.worker)
           c.args.self.now c.self.view_is c.self.invariant.1 c.requires
           (λ setting state legal. (c.jobs_of_events.ensures.slots setting state c.args.worker
           (Visit c.args.server c.args.packet)).1 legal)
-          c.make_room.ensures.journal c.make_room.ensures.network c.in_ok-push.ensures.ok
+          c.make_room.ensures.journal c.make_room.ensures.network c.make_room.ensures.waiting c.make_room.ensures.drained refl c.in_ok-push.ensures.ok
           (λ state run legal stands. (refl, c.in_ok-visit.ensures.ok state run legal stands))
           c.release_due.ensures c.releases.ensures.end) (λ both. both.0),
     )
@@ -53,11 +53,11 @@ pub returns-clause-ok : goal.returns-clause-ok
 returns-clause-ok c =
     let given = c.self.inside.given in
     ∥∥₁_map (stepped given c.args.worker (Visit c.args.server c.args.packet) c.self.inside.course c.make_room.new.self
-    (record { journal = c.push.new.self; network = c.visit.new.network }) c.release_due.new.course
+    (record { journal = c.push.new.self; network = c.visit.new.network; outlet = c.make_room.new.self.outlet }) c.release_due.new.course
     (event.Visit c.args.server c.args.packet c.args.worker)
     c.args.self.now c.self.view_is c.self.invariant.1 c.requires
     (λ setting state legal. (c.jobs_of_events.ensures.slots setting state c.args.worker
     (Visit c.args.server c.args.packet)).1 legal)
-    c.make_room.ensures.journal c.make_room.ensures.network c.in_ok-push.ensures.ok
+    c.make_room.ensures.journal c.make_room.ensures.network c.make_room.ensures.waiting c.make_room.ensures.drained refl c.in_ok-push.ensures.ok
     (λ state run legal stands. (refl, c.in_ok-visit.ensures.ok state run legal stands))
     c.release_due.ensures c.releases.ensures.end) (λ both. both.1)

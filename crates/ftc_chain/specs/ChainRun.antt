@@ -1,0 +1,28 @@
+-- What a contract sees of a chain: what it was given, its events so far, and which released packets were taken out.
+use Rattle.std.specs.Prelude.{ℕ, List}
+use Rattle.ftc_base.specs.declared.released.Released.{Released}
+use Rattle.ftc_journal.specs.declared.event.Event.{Event}
+use Rattle.ftc_mbox.specs.Chain.{Chain}
+use Rattle.ftc_script.specs.Script.{ScriptShape}
+use Rattle.ftc_protocol.specs.Moment.{released_in}
+use Rattle.ftc_protocol.specs.Run.{state_after}
+use Rattle.ftc_protocol.specs.Setting.{Setting, setting_of}
+use Rattle.ftc_protocol.specs.State.{ChainState, opening}
+
+pub record ChainRun : Type 0 where
+  pub chain : Chain
+  pub packets : List (List ℕ)
+  pub script : ScriptShape
+  pub journal : List Event
+  pub drained : List Released
+
+abbrev pub setting_in : ChainRun → Setting
+setting_in run = setting_of run.chain run.packets run.script
+
+-- the state to which its events lead
+abbrev pub state_of : ChainRun → ChainState
+state_of run = state_after (setting_in run) (opening (setting_in run)) run.journal
+
+-- the records that it released, in order
+abbrev pub released_by : ChainRun → List Released
+released_by run = released_in (state_of run).trace
