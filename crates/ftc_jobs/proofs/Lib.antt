@@ -1,7 +1,9 @@
+mod AllJobs
 mod ApplyNow
 mod Begins
 mod Chosen
 mod FirstWork
+mod JobKinds
 mod LinesInOrder
 mod NextLine
 mod Sizes

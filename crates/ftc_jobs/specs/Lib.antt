@@ -4,3 +4,4 @@ pub mod Lines
 pub mod Quiet
 pub mod Applies
 pub mod Works
+pub mod All

@@ -95,7 +95,7 @@ fn may_apply_now(server: &Server, origin: PacketNo, group: ServerId, packet: Pac
 }
 
 /// A log of a held message may be applied exactly where the server's test says so.
-fn which_applies()
+pub fn which_applies()
     ensures { (setting : Setting) (state : ChainState) (server origin group packet : ℕ) (old : AServer) →
         IsRunState setting state → IsNoneDue setting state → IsServerAt setting state server old →
         (may_apply_now old origin group packet ≡ true)

@@ -76,7 +76,7 @@ fn is_recover(line: ScriptLine, server: ServerId) -> bool
 }
 
 /// Whether the script's next line, where it is due, is the crash of that server.
-fn may_crash(network: &Network, script: &Script, server: ServerId) -> bool
+pub fn may_crash(network: &Network, script: &Script, server: ServerId) -> bool
     ensures { (setting : Setting) (state : ChainState) (packets : ℕ) →
         IsAtRest setting state script.now packets network.now →
         (result ≡ true) ↔ IsLegalJob setting state (job.Crash server) }
@@ -88,7 +88,7 @@ fn may_crash(network: &Network, script: &Script, server: ServerId) -> bool
 }
 
 /// Whether the script's next line, where it is due, is the recovery of that server.
-fn may_recover(network: &Network, script: &Script, server: ServerId) -> bool
+pub fn may_recover(network: &Network, script: &Script, server: ServerId) -> bool
     ensures { (setting : Setting) (state : ChainState) (packets : ℕ) →
         IsAtRest setting state script.now packets network.now →
         (result ≡ true) ↔ IsLegalJob setting state (job.Recover server) }

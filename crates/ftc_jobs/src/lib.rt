@@ -1,6 +1,7 @@
 //! What the servers of a chain may do next, and in which order it is done where nobody chooses.
 #![tactic(auto)]
 
+mod all;
 mod applies;
 mod first;
 mod legal;
@@ -11,6 +12,7 @@ mod quiet;
 mod tasks;
 mod works;
 
+pub use all::{Jobs, all_jobs};
 pub use first::first_job;
 pub use legal::is_legal;
 
