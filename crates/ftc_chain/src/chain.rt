@@ -12,7 +12,7 @@ use crate::messages::messages_in;
 use crate::outlet::Outlet;
 use crate::releasing::release_due;
 use ftc_base::{NoMemory, PacketNo, Released, ServerId, WorkerId};
-use ftc_jobs::{first_job, is_legal};
+use ftc_jobs::{Jobs, all_jobs, first_job, is_legal};
 use ftc_journal::{Event, Job, Journal};
 use ftc_mbox::ChainSpec;
 use ftc_network::Network;
@@ -59,6 +59,7 @@ impl<'a> Chain<'a> {
     ghost use Rattle.ftc_chain.specs.ChainRun.{setting_in, state_of, released_by};
     ghost use Rattle.ftc_chain.specs.Course.{HasMade};
     ghost use Rattle.ftc_chain.specs.Messages.{AreUnderWay};
+    ghost use Rattle.ftc_jobs.specs.All.{AreJobs};
     ghost use Rattle.ftc_protocol.specs.Jobs.{IsLegalJob, IsFirstJob};
     ghost use Rattle.ftc_protocol.specs.Moment.{IsSound};
     ghost use Rattle.ftc_protocol.specs.Run.{IsRun, IsFinished};
@@ -151,6 +152,18 @@ impl<'a> Chain<'a> {
         let _ = self.given.script.ring();
         let packets = self.given.packets.len() as u32;
         is_legal(&self.course.network, self.given.script, packets, job)
+    }
+
+    /// All legal jobs, each once, in no order.
+    pub fn jobs(&self) -> Result<Jobs, NoMemory>
+        ensures { IfOk result (λ jobs. ∥ AreJobs (setting_in self.now) (state_of self.now) jobs ∥₁) }
+    {
+        accepted();
+        few_propagates();
+        let _ = self.given.script.ring();
+        let packets = self.given.packets.len() as u32;
+        let network = &self.course.network;
+        all_jobs(self.given.alloc, network, self.given.script, packets)
     }
 
     /// Makes the event of a job other than a visit, and the releases that are due after it. A refused call leaves the

@@ -12,6 +12,7 @@ mod outlet;
 mod releasing;
 
 pub use chain::Chain;
+pub use ftc_jobs::Jobs;
 
 #[cfg(test)]
 mod tests;
