@@ -7,6 +7,7 @@ use Rattle.std.proofs.Math.Bridge.{le_prop}
 use Rattle.std.proofs.Math.Logic.{∥∥₁_elim, ∥∥₁_map}
 use Rattle.ftc_base.specs.declared.released.Released.{Released}
 use Rattle.ftc_protocol.specs.Moment.{released_in}
+use Rattle.ftc_protocol.specs.Setting.{count}
 use Rattle.ftc_chain.specs.declared.chain.Chain.{the_code}
 use Rattle.ftc_chain.specs.declared.course.Course.{Course}
 use Rattle.ftc_chain.specs.declared.given.Given.{Given}
@@ -80,3 +81,23 @@ module _ (given : Given) (course : Course) (is : ∥ IsResting (setting_by given
       same_runs _ _ (λ rest. ap (λ (list : List Released). record (run_of given course) { drained = list })
       (all_out released course.outlet none rest.course_is.outlet)) in
       ap (λ (run : ChainRun). run.drained) same
+
+  -- no more was taken out than there are packets
+  pub few_taken : ((rest : IsResting (setting_by given) course) → length released ≤ count (setting_by given)) →
+      length (run_of given course).drained ≤ length (run_of given course).packets
+  few_taken fewer = ∥∥₁_elim is le_prop (λ rest.
+      let few = few_drained released course.outlet rest.course_is.outlet in
+      let size = as_many released course.outlet rest.course_is.outlet in
+      let all = fewer rest in
+      omega (arith, few, size, all))
+
+  -- and with one more that is taken out there are still no more
+  pub few_with : (outlet : Outgoing) →
+      ((rest : IsResting (setting_by given) course) → length released ≤ count (setting_by given)) →
+      (IsOutlet released course.outlet → IsOutlet released outlet) →
+      length (run_of given (with_outlet outlet)).drained ≤ length (run_of given course).packets
+  few_with outlet fewer out = ∥∥₁_elim is le_prop (λ rest.
+      let few = few_drained released outlet (out rest.course_is.outlet) in
+      let size = as_many released outlet (out rest.course_is.outlet) in
+      let all = fewer rest in
+      omega (arith, few, size, all))

@@ -3,6 +3,7 @@ mod Drained
 mod Made
 mod Outlets
 mod Permitted
+mod ReleasedOnce
 mod Releases
 mod Rooms
 mod UnderWay

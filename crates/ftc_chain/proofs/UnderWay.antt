@@ -24,10 +24,10 @@ use Rattle.ftc_chain.specs.Messages.{AreUnderWay, held_in, all_held, all_queued,
 
 -- ---- lists of numbers
 
-abbrev IsIn : List ℕ → ℕ → Type 0
+abbrev pub IsIn : List ℕ → ℕ → Type 0
 IsIn numbers number = AnyOf (λ (other : ℕ). other ≡ number) numbers
 
-abbrev AreOnce : List ℕ → Type 0
+abbrev pub AreOnce : List ℕ → Type 0
 AreOnce numbers = EachLater (λ (one other : ℕ). one ≢ other) numbers
 
 in_one : (one other : List ℕ) (number : ℕ) → IsIn one number → IsIn (one ++ other) number
@@ -35,11 +35,11 @@ in_one [] other number is = absurd is
 in_one (first ∷ one) other number (inl same) = inl same
 in_one (first ∷ one) other number (inr later) = inr (in_one one other number later)
 
-in_other : (one other : List ℕ) (number : ℕ) → IsIn other number → IsIn (one ++ other) number
+pub in_other : (one other : List ℕ) (number : ℕ) → IsIn other number → IsIn (one ++ other) number
 in_other [] other number is = is
 in_other (first ∷ one) other number is = inr (in_other one other number is)
 
-in_either : (one other : List ℕ) (number : ℕ) → IsIn (one ++ other) number → IsIn one number ⊎ IsIn other number
+pub in_either : (one other : List ℕ) (number : ℕ) → IsIn (one ++ other) number → IsIn one number ⊎ IsIn other number
 in_either [] other number is = inr is
 in_either (first ∷ one) other number (inl same) = inl (inl same)
 in_either (first ∷ one) other number (inr later) = elim (in_either one other number later) [
@@ -53,7 +53,7 @@ not_in number (first ∷ numbers) isnt =
     ((λ same. isnt (inl (sym same))), not_in number numbers (λ later. isnt (inr later)))
 
 -- two lists without a number in common
-once_both : (one other : List ℕ) → AreOnce one → AreOnce other →
+pub once_both : (one other : List ℕ) → AreOnce one → AreOnce other →
     ((number : ℕ) → IsIn one number → IsIn other number → ⊥) → AreOnce (one ++ other)
 once_both [] other first second apart = second
 once_both (number ∷ one) other first second apart = (
@@ -324,8 +324,8 @@ module _ (setting : Setting) (state : ChainState) (order : IsOrderly setting sta
       let here : from + 0 ≡ from = omega arith in (
         held_of_slot from slot (subst (λ (n : ℕ). IsSlot setting state n slot) here (each 0 (omega arith))),
         held_of_slots (suc from) slots (λ number below.
-        let next : from + suc number ≡ suc from + number = omega arith in
-        subst (λ (n : ℕ). IsSlot setting state n (server_in slots number)) next (each (suc number) (omega (arith, below)))),
+            let next : from + suc number ≡ suc from + number = omega arith in
+            subst (λ (n : ℕ). IsSlot setting state n (server_in slots number)) next (each (suc number) (omega (arith, below)))),
       )
 
   queued_on_links : (from : ℕ) (links : List Queue) →
@@ -337,8 +337,8 @@ module _ (setting : Setting) (state : ChainState) (order : IsOrderly setting sta
       let first = subst (λ (n : ℕ). IsLink setting state n queue) here (each 0 (omega arith)) in (
         arrived_origins _ _ _ _ queue.messages first.queued,
         queued_on_links (suc from) links (λ number below.
-        let next : from + suc number ≡ suc from + number = omega arith in
-        subst (λ (n : ℕ). IsLink setting state n (link_in links number)) next (each (suc number) (omega (arith, below)))),
+            let next : from + suc number ≡ suc from + number = omega arith in
+            subst (λ (n : ℕ). IsLink setting state n (link_in links number)) next (each (suc number) (omega (arith, below)))),
       )
 
   held_apart : (one other origin : ℕ) → IsHeldAt one origin → IsHeldAt other origin → one ≡ other
@@ -406,16 +406,23 @@ module _ (setting : Setting) (state : ChainState) (order : IsOrderly setting sta
         (message, where_there (is_held_by server) (state.message origin) message there test) in
         let below = order.inside server (up_where_held server origin held) in
         in_one (flat (map held_origins network.servers.items)) (flat (map queued_origins network.links.items)) origin
-        ((held_all.each origin).1 (server, omega arith,
-        omega (arith, below, size, network.each_server, length-map network.servers.items held_origins), held))
+        ((held_all.each origin).1 (
+          server,
+          omega arith,
+          omega (arith, below, size, network.each_server, length-map network.servers.items held_origins),
+          held,
+        ))
     in_all origin message (Queued link) there at =
         let size = ap (λ (ring : RingShape). ring.servers) is.ring in
         let test = ap (is_queued_on link) at ∙ eq-eqb link link refl in
         let below = order.links origin link message there at in
         in_other (flat (map held_origins network.servers.items)) (flat (map queued_origins network.links.items)) origin
-        ((queued_all.each origin).1 (link, omega arith,
-        omega (arith, below, size, network.each_link, length-map network.links.items queued_origins),
-        (message, where_there (is_queued_on link) (state.message origin) message there test)))
+        ((queued_all.each origin).1 (
+          link,
+          omega arith,
+          omega (arith, below, size, network.each_link, length-map network.links.items queued_origins),
+          (message, where_there (is_queued_on link) (state.message origin) message there test),
+        ))
 
     -- the count of servers and links is that of the state
     pub under_way : AreUnderWay state (messages_in network)
@@ -451,7 +458,7 @@ module _ (setting : Setting) (state : ChainState) (order : IsOrderly setting sta
 
 -- ---- there are few
 
-all_in : (P : ℕ → Type 0) (numbers : List ℕ) → ((number : ℕ) → IsIn numbers number → P number) → AllByRecursion P numbers
+pub all_in : (P : ℕ → Type 0) (numbers : List ℕ) → ((number : ℕ) → IsIn numbers number → P number) → AllByRecursion P numbers
 all_in P [] each = tt
 all_in P (number ∷ numbers) each = (each number (inl refl), all_in P numbers (λ n is. each n (inr is)))
 

@@ -1,6 +1,6 @@
 //! The chain.
 
-ghost use Rattle.std.specs.Prelude.{◌≡◌, ◌↔◌, [], ◌∷◌, ◌++◌, true, false, length, take, OnOk, OnErr, IfOk, IfSome, IsNone};
+ghost use Rattle.std.specs.Prelude.{◌≡◌, ◌≤◌, [], ◌∷◌, ◌++◌, true, false, length, take, OnOk, OnErr, IfOk, IfSome, IsNone};
 ghost use Rattle.ftc_base.specs.declared.limits.TheConstants.{FINISHING_SLOT};
 ghost use Rattle.ftc_journal.specs.declared.job.Job.TheVariants as job;
 ghost use Rattle.ftc_serial.specs.Packets.{bytes_of};
@@ -18,8 +18,8 @@ use ftc_mbox::ChainSpec;
 use ftc_network::Network;
 use ftc_pcap::Packets;
 use ftc_protocol::{
-    accepted, every_moment, few_propagates, first_job as order_of_jobs, jobs_of_events,
-    order_of_a_state, releases,
+    accepted, every_moment, fates, few_propagates, first_job as order_of_jobs, jobs_of_events,
+    order_of_a_state, releases, runs,
 };
 use ftc_script::Script;
 use std::alloc::Global;
@@ -245,7 +245,11 @@ impl<'a> Chain<'a> {
         ensures none { IsNone result → self.new ≡ self.old }
         ensures all { IsNone result → self.old.drained ≡ released_by self.old }
         ensures front { self.new.drained ≡ take (length self.new.drained) (released_by self.new) }
+        ensures few { length self.new.drained ≤ length self.new.packets }
     {
+        fates();
+        order_of_a_state();
+        runs();
         let _ = self.course.journal.len();
         self.course.outlet.take()
     }
@@ -254,7 +258,11 @@ impl<'a> Chain<'a> {
     pub fn drained(&self) -> u64
         ensures count { result ≡ length self.now.drained }
         ensures front { self.now.drained ≡ take (length self.now.drained) (released_by self.now) }
+        ensures few { length self.now.drained ≤ length self.now.packets }
     {
+        fates();
+        order_of_a_state();
+        runs();
         self.course.outlet.drained()
     }
 }

@@ -7,8 +7,8 @@ use std::alloc::Global;
 use std::collections::VecDeque;
 use std::marker::Model;
 
-/// Released packets that weren't taken out yet, in the order of their release. A contract sees the list of them, for how
-/// many more there is room, and how many were taken out.
+/// Released packets that weren't taken out yet, in the order of their release. A contract sees the list of them, for
+/// how many more there is room, and how many were taken out.
 #[derive(Drop)]
 pub struct Outlet {
     queue: VecDeque<Released>,

@@ -5,7 +5,8 @@ use Rattle.ftc_chain.specs.ChainRun.{ChainRun, released_by}
 use Rattle.ftc_chain.specs.Course.{state_by}
 use Rattle.ftc_chain.specs.Doing.{setting_by}
 use Rattle.ftc_protocol.specs.Moment.{released_in}
-use Rattle.ftc_chain.proofs.Drained.{room_out, rests_out, taken_out, drained_more, drained_all, both_some}
+use Rattle.ftc_chain.proofs.Drained.{room_out, rests_out, taken_out, drained_more, drained_all, both_some, few_with}
+use Rattle.ftc_chain.proofs.ReleasedOnce.{fewer_than_packets}
 use Rattle.ftc_chain.proofs.Made.{run_of}
 use Rattle.ftc_chain.proofs.chain.Chain.drain.Goals as goal
 
@@ -38,3 +39,12 @@ pub returns-clause-all : goal.returns-clause-all
 returns-clause-all c none =
     subst (λ (run : ChainRun). run.drained ≡ released_by run) c.self.view_is
     (drained_all c.self.inside.given c.self.inside.course c.self.invariant.1 (c.take.ensures.none none))
+
+pub returns-clause-few : goal.returns-clause-few
+returns-clause-few c =
+    let given = c.self.inside.given in
+    let course = c.self.inside.course in
+    few_with given course c.self.invariant.1 c.take.new.self
+    (fewer_than_packets given course c.fates.ensures.says c.order_of_a_state.ensures c.runs.ensures.opens c.runs.ensures.next)
+    (taken_out (released_in (state_by (setting_by given) course.journal.items).trace) course.outlet c.take.new.self
+    c.take.result c.take.ensures.some c.take.ensures.count c.take.ensures.same c.take.ensures.uncounted)
