@@ -1,39 +1,12 @@
-mod crashes;
-mod down;
-mod filters;
-mod losses;
+mod make;
 mod play;
-mod readers;
-mod recoveries;
-mod ring;
-mod trial;
-mod undone;
 
-use crate::tests::crashes::CRASHES;
-use crate::tests::down::DOWN;
-use crate::tests::filters::FILTERS;
-use crate::tests::losses::LOSSES;
+use crate::tests::make::{make, play_each_event};
 use crate::tests::play::{changed, play};
-use crate::tests::readers::READERS;
-use crate::tests::recoveries::RECOVERIES;
-use crate::tests::ring::RING;
-use crate::tests::trial::Trial;
-use crate::tests::undone::UNDONE;
+use crate::{TRIALS, Trial};
 use std::alloc::Global;
 use std::process::Abort;
 use std::test::Fail;
-
-/// All trials, by what they are about.
-const TRIALS: [&[Trial]; 8] = [
-    &RING,
-    &LOSSES,
-    &CRASHES,
-    &DOWN,
-    &RECOVERIES,
-    &UNDONE,
-    &READERS,
-    &FILTERS,
-];
 
 /// Plays each of the runs as it is written down.
 fn play_each(rt: &impl Abort, alloc: Global, trials: &[Trial]) -> Result<(), Fail> {
@@ -67,6 +40,38 @@ fn a_changed_run_is_refused_where_it_breaks_a_rule(rt: HostRuntime) -> Result<()
     for trials in TRIALS {
         for trial in trials {
             play_changed(&rt, rt.alloc(), trial)?;
+        }
+    }
+    Ok(())
+}
+
+#[test]
+fn a_chain_makes_each_run_from_its_schedule(rt: HostRuntime) -> Result<(), Fail> {
+    for trials in TRIALS {
+        for trial in trials {
+            let journal = make(&rt, rt.alloc(), trial)?;
+            assert_eq!(rt;
+                journal.as_slice(),
+                trial.journal.as_bytes(),
+                "{}",
+                trial.name
+            );
+        }
+    }
+    Ok(())
+}
+
+#[test]
+fn a_chain_plays_each_run_event_by_event(rt: HostRuntime) -> Result<(), Fail> {
+    for trials in TRIALS {
+        for trial in trials {
+            let journal = play_each_event(&rt, rt.alloc(), trial)?;
+            assert_eq!(rt;
+                journal.as_slice(),
+                trial.journal.as_bytes(),
+                "{}",
+                trial.name
+            );
         }
     }
     Ok(())

@@ -1,6 +1,6 @@
 //! A server stops and is replaced.
 
-use crate::tests::trial::{A, Change, TWO, Trial};
+use crate::trial::{A, Change, TWO, Trial};
 
 pub const CRASHES: [Trial; 4] = [
     Trial {
@@ -8,6 +8,12 @@ pub const CRASHES: [Trial; 4] = [
         chain: TWO,
         script: "at 1 crash 0\nat 1 recover 0\n",
         packets: &[&A, &A],
+        schedule: "ftc-journal 2
+enter 0
+visit 0 0 0
+crash 0
+recover 0
+",
         journal: "ftc-journal 2
 enter 0
 visit 0 0 0
@@ -67,6 +73,12 @@ key 6d0007 0000000000000001
         chain: TWO,
         script: "at 1 crash 0\nat 1 recover 0\n",
         packets: &[&A],
+        schedule: "ftc-journal 2
+enter 0
+visit 0 0 0
+pass 0 0
+crash 0
+",
         journal: "ftc-journal 2
 enter 0
 visit 0 0 0
@@ -121,6 +133,17 @@ key 6d0007 0000000000000001
         chain: TWO,
         script: "at 1 crash 0\nat 1 recover 0\nlose 1 0\n",
         packets: &[&A],
+        schedule: "ftc-journal 2
+enter 0
+visit 0 0 0
+pass 0 0
+take 0 0
+apply 1 0 0 0
+visit 1 0 0
+crash 0
+pass 1 0
+lose 1 0
+",
         journal: "ftc-journal 2
 enter 0
 visit 0 0 0
@@ -172,6 +195,30 @@ key 6d0007 0000000000000001
         chain: TWO,
         script: "at 3 crash 1\nat 3 recover 1\n",
         packets: &[&A, &A, &A],
+        schedule: "ftc-journal 2
+enter 0
+visit 0 0 0
+pass 0 0
+take 0 0
+apply 1 0 0 0
+visit 1 0 0
+pass 1 0
+enter 1
+visit 0 1 0
+pass 0 1
+take 0 1
+apply 1 1 0 1
+visit 1 1 0
+pass 1 1
+enter 2
+visit 0 2 0
+pass 0 2
+take 0 2
+apply 1 2 0 2
+visit 1 2 0
+pass 1 2
+crash 1
+",
         journal: "ftc-journal 2
 enter 0
 visit 0 0 0

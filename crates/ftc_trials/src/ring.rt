@@ -1,6 +1,6 @@
 //! Runs without a fault: logs that ride on messages round the ring.
 
-use crate::tests::trial::{A, Change, THREE, Trial};
+use crate::trial::{A, NO_EVENTS, THREE, Change, Trial};
 
 pub const RING: [Trial; 2] = [
     Trial {
@@ -8,6 +8,7 @@ pub const RING: [Trial; 2] = [
         chain: THREE,
         script: "",
         packets: &[&A, &A],
+        schedule: NO_EVENTS,
         journal: "ftc-journal 2
 enter 0
 visit 0 0 63
@@ -94,6 +95,23 @@ key 6d0007 0000000000000002
         chain: THREE,
         script: "",
         packets: &[&A, &A],
+        schedule: "ftc-journal 2
+enter 0
+enter 1
+visit 0 0 0
+visit 0 1 0
+pass 0 0
+take 0 0
+apply 1 0 0 0
+pass 0 1
+take 0 1
+apply 1 1 0 1
+visit 1 1 0
+pass 1 1
+take 1 1
+apply 2 1 1 1
+apply 2 1 0 1
+",
         journal: "ftc-journal 2
 enter 0
 enter 1

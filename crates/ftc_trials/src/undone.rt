@@ -1,6 +1,6 @@
 //! Visits that no live server has any more, and what goes with them.
 
-use crate::tests::trial::{A, C, Change, D, Trial};
+use crate::trial::{A, C, Change, D, Trial};
 
 pub const UNDONE: [Trial; 3] = [
     Trial {
@@ -8,6 +8,28 @@ pub const UNDONE: [Trial; 3] = [
         chain: "f 3\npartitions 4\nmonitor 8\nmonitor 1\npass\npass\n",
         script: "lose 1 0\nat 2 crash 0\nat 2 crash 1\nat 2 recover 1\nat 2 recover 0\n",
         packets: &[&A, &C],
+        schedule: "ftc-journal 2
+enter 0
+enter 1
+visit 0 0 0
+pass 0 0
+take 0 0
+apply 1 0 0 0
+visit 1 0 0
+lose 1 0
+visit 0 1 0
+pass 0 1
+take 0 1
+apply 1 1 0 1
+visit 1 1 0
+pass 1 1
+take 1 1
+apply 2 1 0 1
+crash 0
+crash 1
+recover 1
+recover 0
+",
         journal: "ftc-journal 2
 enter 0
 enter 1
@@ -94,6 +116,19 @@ store 3 0
         chain: "f 2\npartitions 4\nmonitor 8\npass\nmonitor 8\n",
         script: "at 1 crash 0\nat 1 crash 1\nat 1 recover 1\nat 1 recover 0\n",
         packets: &[&A],
+        schedule: "ftc-journal 2
+enter 0
+visit 0 0 0
+pass 0 0
+take 0 0
+apply 1 0 0 0
+visit 1 0 0
+pass 1 0
+crash 0
+crash 1
+recover 1
+recover 0
+",
         journal: "ftc-journal 2
 enter 0
 visit 0 0 0
@@ -148,6 +183,18 @@ store 2 0
         chain: "f 2\npartitions 1\nnat inside 10.0.0.0/8 outside 203.0.113.5 ports 20000-20009\nmonitor 8\npass\n",
         script: "lose 0 0\nat 2 crash 0\nat 2 recover 0\n",
         packets: &[&A, &D],
+        schedule: "ftc-journal 2
+enter 0
+enter 1
+visit 0 0 0
+lose 0 0
+visit 0 1 0
+pass 0 1
+crash 0
+take 0 1
+visit 1 1 0
+recover 0
+",
         journal: "ftc-journal 2
 enter 0
 enter 1

@@ -1,6 +1,6 @@
 //! Packets that a firewall filters.
 
-use crate::tests::trial::{A, Change, Trial};
+use crate::trial::{A, NO_EVENTS, Change, Trial};
 
 /// A monitor, a firewall that denies everything, and a server that passes everything.
 const FILTER: &str = "f 2\npartitions 4\nmonitor 8\nfirewall\npass\n";
@@ -11,6 +11,7 @@ pub const FILTERS: [Trial; 3] = [
         chain: "f 1\npartitions 4\nmonitor 8\nfirewall\n",
         script: "",
         packets: &[&A],
+        schedule: NO_EVENTS,
         journal: "ftc-journal 2
 enter 0
 visit 0 0 63
@@ -62,6 +63,7 @@ store 1 0
         chain: FILTER,
         script: "lose 1 0\n",
         packets: &[&A],
+        schedule: NO_EVENTS,
         journal: "ftc-journal 2
 enter 0
 visit 0 0 63
@@ -104,6 +106,17 @@ store 2 0
         chain: FILTER,
         script: "at 1 crash 0\nat 1 crash 1\nat 1 recover 0\nat 1 recover 1\n",
         packets: &[&A],
+        schedule: "ftc-journal 2
+enter 0
+visit 0 0 0
+pass 0 0
+take 0 0
+apply 1 0 0 0
+visit 1 0 0
+crash 0
+crash 1
+recover 0
+",
         journal: "ftc-journal 2
 enter 0
 visit 0 0 0

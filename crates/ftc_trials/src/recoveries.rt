@@ -1,7 +1,7 @@
 //! Two servers stop at once and are replaced in one order or the other. Nothing is lost, and the runs have the same
 //! trace.
 
-use crate::tests::trial::{A, Change, Trial};
+use crate::trial::{A, NO_EVENTS, Change, Trial};
 
 /// Four monitors, of which two may be down at once.
 const FOUR: &str = "f 2\npartitions 4\nmonitor 8\nmonitor 8\nmonitor 8\nmonitor 8\n";
@@ -29,6 +29,7 @@ pub const RECOVERIES: [Trial; 2] = [
         chain: FOUR,
         script: "at 1 crash 1\nat 1 crash 2\nat 1 recover 2\nat 1 recover 1\n",
         packets: &[&A, &A],
+        schedule: NO_EVENTS,
         journal: "ftc-journal 2
 enter 0
 visit 0 0 63
@@ -137,6 +138,7 @@ carry 2
         chain: FOUR,
         script: "at 1 crash 1\nat 1 crash 2\nat 1 recover 1\nat 1 recover 2\n",
         packets: &[&A, &A],
+        schedule: NO_EVENTS,
         journal: "ftc-journal 2
 enter 0
 visit 0 0 63

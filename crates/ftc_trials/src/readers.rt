@@ -1,6 +1,6 @@
 //! Visits that only read, and servers that only keep copies.
 
-use crate::tests::trial::{A, Change, D, Trial};
+use crate::trial::{A, D, NO_EVENTS, Change, Trial};
 
 /// An address translator and a server that passes everything. Packet D reads what packet A wrote.
 const TRANSLATOR: &str =
@@ -12,6 +12,7 @@ pub const READERS: [Trial; 3] = [
         chain: TRANSLATOR,
         script: "",
         packets: &[&A, &D],
+        schedule: NO_EVENTS,
         journal: "ftc-journal 2
 enter 0
 visit 0 0 63
@@ -68,6 +69,16 @@ store 1 0
         chain: TRANSLATOR,
         script: "lose 0 0\n",
         packets: &[&A, &D],
+        schedule: "ftc-journal 2
+enter 0
+visit 0 0 0
+lose 0 0
+enter 1
+visit 0 1 0
+pass 0 1
+take 0 1
+visit 1 1 0
+",
         journal: "ftc-journal 2
 enter 0
 visit 0 0 0
@@ -110,6 +121,8 @@ store 1 0
         chain: "f 1\npartitions 64\nmonitor 8\nspare\n",
         script: "",
         packets: &[&A],
+        schedule: "ftc-journal 1
+",
         journal: "ftc-journal 2
 enter 0
 visit 0 0 63

@@ -1,6 +1,6 @@
 //! Messages that a link loses, and the pulls that make good for them.
 
-use crate::tests::trial::{A, Change, TWO, Trial};
+use crate::trial::{A, NO_EVENTS, TWO, Change, Trial};
 
 /// A run in which link 0 loses packet 0.
 const LOST_PACKET: &str = "ftc-journal 2
@@ -46,6 +46,7 @@ pub const LOSSES: [Trial; 5] = [
         chain: TWO,
         script: "lose 0 0\n",
         packets: &[&A, &A],
+        schedule: NO_EVENTS,
         journal: LOST_PACKET,
         report: LOST_PACKET_REPORT,
         broken: &[
@@ -74,6 +75,7 @@ pub const LOSSES: [Trial; 5] = [
         chain: TWO,
         script: "lose 0 0\nlose 0 0\n",
         packets: &[&A, &A],
+        schedule: NO_EVENTS,
         journal: LOST_PACKET,
         report: LOST_PACKET_REPORT,
         broken: &[
@@ -92,6 +94,7 @@ pub const LOSSES: [Trial; 5] = [
         chain: TWO,
         script: "lose 1 1\n",
         packets: &[&A, &A],
+        schedule: NO_EVENTS,
         journal: "ftc-journal 2
 enter 0
 visit 0 0 63
@@ -156,6 +159,7 @@ key 6d0007 0000000000000002
         chain: "f 0\npartitions 4\nmonitor 8\nmonitor 8\n",
         script: "lose 0 0\nlose 1 1\n",
         packets: &[&A, &A],
+        schedule: NO_EVENTS,
         journal: "ftc-journal 2
 enter 0
 visit 0 0 63
@@ -203,6 +207,14 @@ key 6d0007 0000000000000001
         chain: TWO,
         script: "lose 0 0\nlose 0 1\n",
         packets: &[&A, &A],
+        schedule: "ftc-journal 2
+enter 0
+enter 1
+visit 0 1 0
+visit 0 0 0
+lose 0 1
+lose 0 0
+",
         journal: "ftc-journal 2
 enter 0
 enter 1

@@ -6,6 +6,8 @@ pub struct Trial {
     pub chain: &'static str,
     pub script: &'static str,
     pub packets: &'static [&'static [u8]],
+    /// The schedule by which one thread drives the run.
+    pub schedule: &'static str,
     pub journal: &'static str,
     /// The report, once no event is legal any more.
     pub report: &'static str,
@@ -24,6 +26,9 @@ pub enum Change {
     /// Another one stands in its place.
     Instead { event: usize, line: &'static str },
 }
+
+/// A schedule that says nothing.
+pub const NO_EVENTS: &str = "ftc-journal 2\n";
 
 /// UDP datagrams without content: from 10.0.0.5, port 5001, to 198.51.100.7, port 53; the same from
 /// 10.0.0.6; and an answer from there to 203.0.113.5, port 20000. A monitor of eight groups counts the first in

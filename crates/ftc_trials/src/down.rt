@@ -1,6 +1,6 @@
 //! What is lost at a server that is down.
 
-use crate::tests::trial::{A, Change, TWO, Trial};
+use crate::trial::{A, NO_EVENTS, TWO, Change, Trial};
 
 pub const DOWN: [Trial; 2] = [
     Trial {
@@ -8,6 +8,7 @@ pub const DOWN: [Trial; 2] = [
         chain: TWO,
         script: "at 1 crash 0\nat 2 recover 0\n",
         packets: &[&A, &A],
+        schedule: NO_EVENTS,
         journal: "ftc-journal 2
 enter 0
 visit 0 0 63
@@ -68,6 +69,11 @@ key 6d0007 0000000000000001
         chain: TWO,
         script: "at 1 crash 1\nat 1 recover 1\n",
         packets: &[&A],
+        schedule: "ftc-journal 2
+enter 0
+visit 0 0 0
+crash 1
+",
         journal: "ftc-journal 2
 enter 0
 visit 0 0 0
