@@ -7,8 +7,7 @@ use Rattle.ftc_pcap.specs.declared.capture.CaptureFault.{CaptureFault}
 use Rattle.ftc_journal.specs.declared.event.Event.{Event}
 use Rattle.ftc_journal.specs.Reading.{journal_of}
 use Rattle.ftc_mbox.specs.Chain.{Chain}
-use Rattle.ftc_conf.specs.declared.limits.TheConstants.{MOST_FAILURES}
-use Rattle.ftc_conf.specs.Grammar.{chain_within}
+use Rattle.ftc_conf.specs.Grammar.{chain_of}
 use Rattle.ftc_ring.specs.Ring.{RingShape}
 use Rattle.ftc_script.specs.Script.{ScriptShape}
 use Rattle.ftc_script.specs.Grammar.{script_of}
@@ -20,10 +19,9 @@ use Rattle.ftc_check.specs.declared.verdict.Checked.{Checked}
 use Rattle.ftc_check.specs.declared.verdict.Checked.TheVariants.{Yes}
 use Rattle.ftc.specs.declared.status.Status.{Status}
 use Rattle.ftc.specs.declared.status.Status.TheVariants as status
-use Rattle.ftc_words.specs.Command.{Named}
-use Rattle.ftc.specs.declared.limits.TheConstants.{MOST_RUN_FAILURES}
-use Rattle.ftc.specs.Texts.{ring_of, HasChain, HasCapture, AreTexts}
-use Rattle.ftc.specs.Refused.{IsTextRefused, IsWrongChain, IsWrongCapture, IsWrongScript, IsSomeScript, IsWrongJournal, IsNeverWrong, IsRunRefused, IsCheckRefused}
+use Rattle.ftc_words.specs.Command.{Named, Mode, plain, workers, alone}
+use Rattle.ftc.specs.Texts.{ring_of, HasChain, HasCapture, HasSchedule, AreTexts}
+use Rattle.ftc.specs.Refused.{IsTextRefused, IsWrongChain, IsWrongCapture, IsWrongScript, IsWrongSchedule, IsWrongJournal, IsNeverWrong, IsScheduleRefused, IsRunRefused, IsCheckRefused}
 use Rattle.ftc.specs.Done.{Ends}
 use Rattle.ftc.specs.Checking.{IsJudged, AreChecked, IsRightRun, Judges, IsYesOrRefused, IsCheckEnd}
 
@@ -45,23 +43,27 @@ not_refused sound files name IsWrong status.Usage fine no-fault refused = absurd
 not_refused sound files name IsWrong (status.Chain line cause) fine no-fault refused = absurd (fine refused.0 refused.1 refused.2)
 not_refused sound files name IsWrong (status.Capture at cause) fine no-fault refused = absurd (fine refused.0 refused.1 refused.2)
 not_refused sound files name IsWrong (status.Script line cause) fine no-fault refused = absurd (fine refused.0 refused.1 refused.2)
+not_refused sound files name IsWrong (status.Schedule line cause) fine no-fault refused = absurd (fine refused.0 refused.1 refused.2)
+not_refused sound files name IsWrong (status.Ports cause) fine no-fault refused = absurd (fine refused.0 refused.1 refused.2)
 not_refused sound files name IsWrong (status.Journal line cause) fine no-fault refused = absurd (fine refused.0 refused.1 refused.2)
 not_refused sound files name IsWrong (status.Beats line cause) fine no-fault refused = absurd (fine refused.0 refused.1 refused.2)
 not_refused sound files name IsWrong (status.Check verdict) fine no-fault refused = absurd (fine refused.0 refused.1 refused.2)
 not_refused sound files name IsWrong status.DeskFault fine no-fault refused = absurd (no-fault refl)
 not_refused sound files name IsWrong status.NoMemory fine no-fault refused = refl
 
-pub no_chain : (most : ℕ) (text : List ℕ) (chain : Chain) → chain_within most text ≡ Ok chain → (ending : Status) → IsWrongChain most text ending → ⊥
-no_chain most text chain right status.Done wrong = wrong
-no_chain most text chain right status.Usage wrong = wrong
-no_chain most text chain right (status.Chain line cause) wrong = not_both (chain_within most text) chain _ right wrong
-no_chain most text chain right (status.Capture at cause) wrong = wrong
-no_chain most text chain right (status.Script line cause) wrong = wrong
-no_chain most text chain right (status.Journal line cause) wrong = wrong
-no_chain most text chain right (status.Beats line cause) wrong = wrong
-no_chain most text chain right (status.Check verdict) wrong = wrong
-no_chain most text chain right status.DeskFault wrong = wrong
-no_chain most text chain right status.NoMemory wrong = wrong
+pub no_chain : (text : List ℕ) (chain : Chain) → chain_of text ≡ Ok chain → (ending : Status) → IsWrongChain text ending → ⊥
+no_chain text chain right status.Done wrong = wrong
+no_chain text chain right status.Usage wrong = wrong
+no_chain text chain right (status.Chain line cause) wrong = not_both (chain_of text) chain _ right wrong
+no_chain text chain right (status.Capture at cause) wrong = wrong
+no_chain text chain right (status.Script line cause) wrong = wrong
+no_chain text chain right (status.Schedule line cause) wrong = wrong
+no_chain text chain right (status.Ports cause) wrong = wrong
+no_chain text chain right (status.Journal line cause) wrong = wrong
+no_chain text chain right (status.Beats line cause) wrong = wrong
+no_chain text chain right (status.Check verdict) wrong = wrong
+no_chain text chain right status.DeskFault wrong = wrong
+no_chain text chain right status.NoMemory wrong = wrong
 
 no_script : (ring : RingShape) (packets : ℕ) (text : List ℕ) (script : ScriptShape) → script_of ring packets text ≡ Ok script → (ending : Status) → IsWrongScript ring packets text ending → ⊥
 no_script ring packets text script right status.Done wrong = wrong
@@ -69,30 +71,36 @@ no_script ring packets text script right status.Usage wrong = wrong
 no_script ring packets text script right (status.Chain line cause) wrong = wrong
 no_script ring packets text script right (status.Capture at cause) wrong = wrong
 no_script ring packets text script right (status.Script line cause) wrong = not_both (script_of ring packets text) script _ right wrong
+no_script ring packets text script right (status.Schedule line cause) wrong = wrong
+no_script ring packets text script right (status.Ports cause) wrong = wrong
 no_script ring packets text script right (status.Journal line cause) wrong = wrong
 no_script ring packets text script right (status.Beats line cause) wrong = wrong
 no_script ring packets text script right (status.Check verdict) wrong = wrong
 no_script ring packets text script right status.DeskFault wrong = wrong
 no_script ring packets text script right status.NoMemory wrong = wrong
 
-no_some_script : (text : List ℕ) → text ≡ [] → (ending : Status) → IsSomeScript text ending → ⊥
-no_some_script text empty status.Done wrong = wrong
-no_some_script text empty status.Usage wrong = wrong
-no_some_script text empty (status.Chain line cause) wrong = wrong
-no_some_script text empty (status.Capture at cause) wrong = wrong
-no_some_script text empty (status.Script line cause) wrong = wrong.0 empty
-no_some_script text empty (status.Journal line cause) wrong = wrong
-no_some_script text empty (status.Beats line cause) wrong = wrong
-no_some_script text empty (status.Check verdict) wrong = wrong
-no_some_script text empty status.DeskFault wrong = wrong
-no_some_script text empty status.NoMemory wrong = wrong
+no_schedule : (text : List ℕ) (journal : List Event) → journal_of text ≡ Ok journal → (ending : Status) → IsWrongSchedule text ending → ⊥
+no_schedule text journal right status.Done wrong = wrong
+no_schedule text journal right status.Usage wrong = wrong
+no_schedule text journal right (status.Chain line cause) wrong = wrong
+no_schedule text journal right (status.Capture at cause) wrong = wrong
+no_schedule text journal right (status.Script line cause) wrong = wrong
+no_schedule text journal right (status.Schedule line cause) wrong = not_both (journal_of text) journal _ right wrong
+no_schedule text journal right (status.Ports cause) wrong = wrong
+no_schedule text journal right (status.Journal line cause) wrong = wrong
+no_schedule text journal right (status.Beats line cause) wrong = wrong
+no_schedule text journal right (status.Check verdict) wrong = wrong
+no_schedule text journal right status.DeskFault wrong = wrong
+no_schedule text journal right status.NoMemory wrong = wrong
 
-no_journal : (text : List ℕ) (journal : List Event) → journal_of text ≡ Ok journal → (ending : Status) → IsWrongJournal text ending → ⊥
+pub no_journal : (text : List ℕ) (journal : List Event) → journal_of text ≡ Ok journal → (ending : Status) → IsWrongJournal text ending → ⊥
 no_journal text journal right status.Done wrong = wrong
 no_journal text journal right status.Usage wrong = wrong
 no_journal text journal right (status.Chain line cause) wrong = wrong
 no_journal text journal right (status.Capture at cause) wrong = wrong
 no_journal text journal right (status.Script line cause) wrong = wrong
+no_journal text journal right (status.Schedule line cause) wrong = wrong
+no_journal text journal right (status.Ports cause) wrong = wrong
 no_journal text journal right (status.Journal line cause) wrong = not_both (journal_of text) journal _ right wrong
 no_journal text journal right (status.Beats line cause) wrong = wrong
 no_journal text journal right (status.Check verdict) wrong = wrong
@@ -117,6 +125,8 @@ no_capture laws text capture right status.Usage wrong = wrong
 no_capture laws text capture right (status.Chain line cause) wrong = wrong
 no_capture laws text capture right (status.Capture at cause) wrong = laws.no_fault text capture _ right wrong
 no_capture laws text capture right (status.Script line cause) wrong = wrong
+no_capture laws text capture right (status.Schedule line cause) wrong = wrong
+no_capture laws text capture right (status.Ports cause) wrong = wrong
 no_capture laws text capture right (status.Journal line cause) wrong = wrong
 no_capture laws text capture right (status.Beats line cause) wrong = wrong
 no_capture laws text capture right (status.Check verdict) wrong = wrong
@@ -125,18 +135,18 @@ no_capture laws text capture right status.NoMemory wrong = wrong
 
 module _ (laws : Laws) (names : Named) (files : Files) (chain : Chain) (capture : Capture) (script : ScriptShape) (out : List ℕ) (journal : List Event) (report : List ℕ) (checked : AreChecked names files chain capture script out journal report) where
   -- what else the texts may be said to spell is the same
-  chain_reads : (text : List ℕ) → files names.chain ≡ Some text → chain_within MOST_FAILURES text ≡ Ok chain
+  chain_reads : (text : List ℕ) → files names.chain ≡ Some text → chain_of text ≡ Ok chain
   chain_reads text file =
       let has = checked.inputs.chain_right in
-      subst (λ (t : List ℕ). chain_within MOST_FAILURES t ≡ Ok chain) (some_once has.text text (sym has.file ∙ file)) has.right
+      subst (λ (t : List ℕ). chain_of t ≡ Ok chain) (some_once has.text text (sym has.file ∙ file)) has.right
 
   capture_reads : (text : List ℕ) → files names.capture ≡ Some text → Spells text capture
   capture_reads text file =
       let has = checked.inputs.capture_right in
       subst (λ (t : List ℕ). Spells t capture) (some_once has.text text (sym has.file ∙ file)) has.right
 
-  chain_is : (other : Chain) → HasChain MOST_FAILURES names.chain files other → other ≡ chain
-  chain_is other has = ok_once (chain_within MOST_FAILURES has.text) other chain has.right (chain_reads has.text has.file)
+  chain_is : (other : Chain) → HasChain names.chain files other → other ≡ chain
+  chain_is other has = ok_once (chain_of has.text) other chain has.right (chain_reads has.text has.file)
 
   capture_is : (other : Capture) → HasCapture names.capture files other → other ≡ capture
   capture_is other has = laws.one_capture has.text other capture has.right (capture_reads has.text has.file)
@@ -156,7 +166,7 @@ module _ (laws : Laws) (names : Named) (files : Files) (chain : Chain) (capture 
   refused_once : (sound : Type 0) (ending : Status) → (ending ≡ status.DeskFault → ⊥) → IsCheckRefused sound names files ending → ending ≡ status.NoMemory
   refused_once sound ending no-fault refused =
       elim refused [
-        | inl first ↦ not_refused sound files names.chain (IsWrongChain MOST_FAILURES) ending (λ text file. no_chain MOST_FAILURES text chain (chain_reads text file) ending) no-fault first
+        | inl first ↦ not_refused sound files names.chain IsWrongChain ending (λ text file. no_chain text chain (chain_reads text file) ending) no-fault first
         | inr behind ↦ let (other, other_right, refused) = behind in elim refused [
           | inl first ↦ not_refused sound files names.capture IsWrongCapture ending (λ text file. no_capture laws text capture (capture_reads text file) ending) no-fault first
           | inr behind ↦ let (taken, taken_right, refused) = behind in elim refused [
@@ -183,6 +193,8 @@ module _ (laws : Laws) (names : Named) (files : Files) (chain : Chain) (capture 
   judges_all sound (status.Chain line cause) refused no-fault = for_memory sound (status.Chain line cause) no-fault refused
   judges_all sound (status.Capture at cause) refused no-fault = for_memory sound (status.Capture at cause) no-fault refused
   judges_all sound (status.Script line cause) refused no-fault = for_memory sound (status.Script line cause) no-fault refused
+  judges_all sound (status.Schedule line cause) refused no-fault = for_memory sound (status.Schedule line cause) no-fault refused
+  judges_all sound (status.Ports cause) refused no-fault = for_memory sound (status.Ports cause) no-fault refused
   judges_all sound (status.Journal line cause) refused no-fault = for_memory sound (status.Journal line cause) no-fault refused
   judges_all sound (status.Beats line cause) refused no-fault = for_memory sound (status.Beats line cause) no-fault refused
   judges_all sound (status.Check verdict) judged no-fault = tt
@@ -214,6 +226,8 @@ module _ (laws : Laws) (names : Named) (files : Files) (right : IsRightRun names
   agrees sound (status.Chain line cause) fault = absurd (wrong sound (status.Chain line cause) fault (λ same. cc))
   agrees sound (status.Capture at cause) fault = absurd (wrong sound (status.Capture at cause) fault (λ same. cc))
   agrees sound (status.Script line cause) fault = absurd (wrong sound (status.Script line cause) fault (λ same. cc))
+  agrees sound (status.Schedule line cause) fault = absurd (wrong sound (status.Schedule line cause) fault (λ same. cc))
+  agrees sound (status.Ports cause) fault = absurd (wrong sound (status.Ports cause) fault (λ same. cc))
   agrees sound (status.Journal line cause) fault = absurd (wrong sound (status.Journal line cause) fault (λ same. cc))
   agrees sound (status.Beats line cause) fault = absurd (wrong sound (status.Beats line cause) fault (λ same. cc))
   agrees sound (status.Check verdict) judged = absurd (judged.1 (verdict_is laws names files right.judged.chain right.judged.capture right.judged.script right.judged.out right.judged.journal right.judged.report right.judged.checked right.judged.verdict_right verdict judged.0))
@@ -221,36 +235,67 @@ module _ (laws : Laws) (names : Named) (files : Files) (right : IsRightRun names
   agrees sound status.NoMemory judged = tt
 
 -- a run whose texts are right ends done, or for want of memory, or by a fault of the desk
-module _ (laws : Laws) (names : Named) (files : Files) (chain : Chain) (capture : Capture) (texts : AreTexts names files chain capture) where
-  right_chain : (text : List ℕ) → files names.chain ≡ Some text → chain_within MOST_RUN_FAILURES text ≡ Ok chain
-  right_chain text file =
-      let has = texts.chain_right in
-      subst (λ (t : List ℕ). chain_within MOST_RUN_FAILURES t ≡ Ok chain) (some_once has.text text (sym has.file ∙ file)) has.right
+module _ (laws : Laws) (names : Named) (mode : Mode) (files : Files) (chain : Chain) (capture : Capture) (script : ScriptShape) (schedule : List Event)
+    (texts : AreTexts names mode files chain capture script schedule) where
+  text_of_chain : (text : List ℕ) → files names.chain ≡ Some text → chain_of text ≡ Ok chain
+  text_of_chain text file =
+      let has = texts.inputs.chain_right in
+      subst (λ (t : List ℕ). chain_of t ≡ Ok chain) (some_once has.text text (sym has.file ∙ file)) has.right
 
-  right_capture : (text : List ℕ) → files names.capture ≡ Some text → Spells text capture
-  right_capture text file =
-      let has = texts.capture_right in
+  text_of_capture : (text : List ℕ) → files names.capture ≡ Some text → Spells text capture
+  text_of_capture text file =
+      let has = texts.inputs.capture_right in
       subst (λ (t : List ℕ). Spells t capture) (some_once has.text text (sym has.file ∙ file)) has.right
 
-  run_refused_once : (sound : Type 0) (ending : Status) → (ending ≡ status.DeskFault → ⊥) → IsRunRefused sound names files ending → ending ≡ status.NoMemory
+  one_chain : (other : Chain) → HasChain names.chain files other → other ≡ chain
+  one_chain other has = ok_once (chain_of has.text) other chain has.right (text_of_chain has.text has.file)
+
+  the_capture : (other : Capture) → HasCapture names.capture files other → other ≡ capture
+  the_capture other has = laws.one_capture has.text other capture has.right (text_of_capture has.text has.file)
+
+  text_of_script : (other : Chain) (taken : Capture) (text : List ℕ) → other ≡ chain → taken ≡ capture → files names.script ≡ Some text
+      → script_of (ring_of other) (length taken.packets) text ≡ Ok script
+  text_of_script other taken text is also file =
+      let has = texts.inputs.script_right in
+      let same = some_once text has.text (sym file ∙ has.file) in
+      rw (is, also, same) has.right
+
+  schedule_once : (sound : Type 0) (way : Mode) → HasSchedule way files schedule → (ending : Status) → (ending ≡ status.DeskFault → ⊥)
+      → IsScheduleRefused sound way files ending → ending ≡ status.NoMemory
+  schedule_once sound plain has ending no-fault refused = absurd refused
+  schedule_once sound (workers count) has ending no-fault refused = absurd refused
+  schedule_once sound (alone name move) has ending no-fault refused =
+      not_refused sound files name IsWrongSchedule ending
+      (λ text file. no_schedule text schedule (subst (λ (t : List ℕ). journal_of t ≡ Ok schedule) (some_once has.text text (sym has.file ∙ file)) has.right) ending)
+      no-fault refused
+
+  run_refused_once : (sound : Type 0) (ending : Status) → (ending ≡ status.DeskFault → ⊥) → IsRunRefused sound names mode files ending → ending ≡ status.NoMemory
   run_refused_once sound ending no-fault refused =
       elim refused [
-        | inl first ↦ not_refused sound files names.chain (IsWrongChain MOST_RUN_FAILURES) ending (λ text file. no_chain MOST_RUN_FAILURES text chain (right_chain text file) ending) no-fault first
-        | inr behind ↦ elim behind.2 [
-          | inl first ↦ not_refused sound files names.capture IsWrongCapture ending (λ text file. no_capture laws text capture (right_capture text file) ending) no-fault first
-          | inr behind ↦ not_refused sound files names.script IsSomeScript ending (λ text file. no_some_script text (some_once text [] (sym file ∙ texts.script_empty)) ending) no-fault behind.2
+        | inl first ↦ not_refused sound files names.chain IsWrongChain ending (λ text file. no_chain text chain (text_of_chain text file) ending) no-fault first
+        | inr behind ↦ let (other, other_right, refused) = behind in elim refused [
+          | inl first ↦ not_refused sound files names.capture IsWrongCapture ending (λ text file. no_capture laws text capture (text_of_capture text file) ending) no-fault first
+          | inr behind ↦ let (taken, taken_right, refused) = behind in elim refused [
+            | inl first ↦ not_refused sound files names.script (IsWrongScript (ring_of other) (length taken.packets)) ending
+                (λ text file. no_script (ring_of other) (length taken.packets) text script (text_of_script other taken text (one_chain other other_right) (the_capture taken taken_right) file) ending) no-fault first
+            | inr behind ↦ schedule_once sound mode texts.schedule_right ending no-fault behind.2
+          ]
         ]
       ]
 
-  done_or_memory : (sound : Type 0) (new : Files) (ending : Status) → (ending ≡ status.DeskFault → ⊥) → IsRunRefused sound names files ending × SameFiles files new → (ending ≡ status.Done) ⊎ (ending ≡ status.NoMemory)
+  done_or_memory : (sound : Type 0) (new : Files) (ending : Status) → (ending ≡ status.DeskFault → ⊥) → IsRunRefused sound names mode files ending × SameFiles files new
+      → (ending ≡ status.Done) ⊎ (ending ≡ status.NoMemory)
   done_or_memory sound new ending no-fault refused = inr (run_refused_once sound ending no-fault refused.0)
 
-  pub completes : (sound : Type 0) (new : Files) (ending : Status) → Ends sound names files new ending → (ending ≡ status.DeskFault → ⊥) → (ending ≡ status.Done) ⊎ (ending ≡ status.NoMemory)
+  pub completes : (sound : Type 0) (new : Files) (ending : Status) → Ends sound names mode files new ending → (ending ≡ status.DeskFault → ⊥)
+      → (ending ≡ status.Done) ⊎ (ending ≡ status.NoMemory)
   completes sound new status.Done ends no-fault = inl refl
   completes sound new status.Usage ends no-fault = done_or_memory sound new status.Usage no-fault ends
   completes sound new (status.Chain line cause) ends no-fault = done_or_memory sound new (status.Chain line cause) no-fault ends
   completes sound new (status.Capture at cause) ends no-fault = done_or_memory sound new (status.Capture at cause) no-fault ends
   completes sound new (status.Script line cause) ends no-fault = done_or_memory sound new (status.Script line cause) no-fault ends
+  completes sound new (status.Schedule line cause) ends no-fault = done_or_memory sound new (status.Schedule line cause) no-fault ends
+  completes sound new (status.Ports cause) ends no-fault = done_or_memory sound new (status.Ports cause) no-fault ends
   completes sound new (status.Journal line cause) ends no-fault = done_or_memory sound new (status.Journal line cause) no-fault ends
   completes sound new (status.Beats line cause) ends no-fault = done_or_memory sound new (status.Beats line cause) no-fault ends
   completes sound new (status.Check verdict) ends no-fault = done_or_memory sound new (status.Check verdict) no-fault ends

@@ -4,7 +4,6 @@ use Rattle.std.specs.Prelude.{Ok}
 use Rattle.std.specs.Str.{bytes_eq}
 use Rattle.std.specs.List.{AllByRecursion}
 use Rattle.std.proofs.lemmas.Slice.Eq.{bytes_eq-Decides}
-use Rattle.ftc_base.specs.declared.limits.TheConstants.{MOST_SERVERS, MOST_RECORDS}
 use Rattle.ftc_outside.specs.Desk.{Files, SameFiles}
 use Rattle.ftc_outside.specs.declared.desk.DeskError.{DeskError}
 use Rattle.ftc_outside.specs.declared.desk.DeskError.TheVariants as desk
@@ -15,30 +14,28 @@ use Rattle.ftc_journal.specs.Text.{spelling}
 use Rattle.ftc_journal.specs.Reading.{journal_of}
 use Rattle.ftc_journal.specs.Spelling.{IsEvent}
 use Rattle.ftc_mbox.specs.Chain.{Chain}
-use Rattle.ftc_conf.specs.declared.limits.TheConstants.{MOST_FAILURES}
-use Rattle.ftc_conf.specs.Grammar.{chain_within}
 use Rattle.ftc_script.specs.Script.{ScriptShape}
-use Rattle.ftc_script.specs.Grammar.{script_of}
 use Rattle.ftc_serial.specs.Serial.{State}
 use Rattle.ftc_serial.specs.Packets.{bytes_of}
-use Rattle.ftc_serial.specs.Drive.{IsDriven}
 use Rattle.ftc_machine.proofs.RunInputs.{bytes_count}
-use Rattle.ftc_protocol.specs.declared.fate.Fate.{Fate}
 use Rattle.ftc_protocol.specs.declared.fate.Fate.TheVariants as became
+use Rattle.ftc_protocol.specs.Orderly.{IsLostAt}
+use Rattle.ftc_protocol.specs.Run.{state_after}
+use Rattle.ftc_protocol.specs.Setting.{Setting, setting_of}
+use Rattle.ftc_protocol.specs.State.{opening}
 use Rattle.ftc_report.specs.Output.{out_bytes}
-use Rattle.ftc_check.specs.Laws.{WholeRunsAreRight}
-use Rattle.ftc_check.specs.Verdict.{IsWhole}
-use Rattle.ftc_protocol.specs.Whole.{ReleasedVisited}
-use Rattle.ftc.specs.declared.limits.TheConstants.{MOST_RUN_FAILURES}
-use Rattle.ftc_words.specs.Command.{Named}
+use Rattle.ftc_check.specs.Laws.{WholeRunsAreRight, RightRunsAreVisited, RightRunsAreSettled}
+use Rattle.ftc_check.specs.Verdict.{IsVerdict}
+use Rattle.ftc_check.specs.declared.verdict.Checked.TheVariants.{Yes}
+use Rattle.ftc_words.specs.Command.{Named, Mode}
 use Rattle.ftc.specs.Output.{MayHold}
-use Rattle.ftc.specs.Plain.{plain_setting, IsWholeRun}
 use Rattle.ftc.specs.Status.{desk_status}
 use Rattle.ftc.specs.Writing.{IsUnwritten, AreDifferent, AreWritten, AreCutShort}
-use Rattle.ftc.specs.Texts.{ring_of, AreTexts}
+use Rattle.ftc.specs.Texts.{AreTexts}
+use Rattle.ftc.specs.Driven.{IsFinishedDrive}
+use Rattle.ftc.proofs.Moments.{EveryMoment, sound_throughout}
 use Rattle.ftc.specs.Checking.{IsRightRun}
 use Rattle.ftc.specs.Done.{IsDone, IsCutShort, Ends, report_bytes}
-use Rattle.ftc.proofs.EventBounds.{driven_fit}
 
 -- ---- the files with one more
 
@@ -55,33 +52,22 @@ otherwise false one other not = refl
 put_other : (at bytes : List ℕ) (files : Files) (name : List ℕ) → name ≢ at → put at bytes files name ≡ files name
 put_other at bytes files name not = otherwise (bytes_eq name at) (Some bytes) (files name) (λ same. not ((bytes_eq-Decides name at).0 same))
 
-not_inside : (fate : Fate) → (fate ≡ became.Released) ⊎ ((server : ℕ) × (fate ≡ became.Filtered server)) → fate ≢ became.Inside
-not_inside fate (inl is) inside = cc
-not_inside fate (inr (server, is)) inside = cc
-
-not_lost : (fate : Fate) (number : ℕ) → (fate ≡ became.Released) ⊎ ((server : ℕ) × (fate ≡ became.Filtered server)) → fate ≢ became.Lost number
-not_lost fate number (inl is) lost = cc
-not_lost fate number (inr (server, is)) lost = cc
-
 -- the laws of the crates below
 pub record EndLaws : Type 0 where
-  pub wider : (most more : ℕ) (text : List ℕ) (chain : Chain) → most ≤ more → chain_within most text ≡ Ok chain → chain_within more text ≡ Ok chain
-  pub few : (most : ℕ) (text : List ℕ) (chain : Chain) → chain_within most text ≡ Ok chain → (length chain.rules ≤ MOST_SERVERS) × (chain.failures < length chain.rules)
-  pub no_lines : (chain : Chain) (packets : ℕ) → length chain.rules ≤ MOST_SERVERS → chain.failures < length chain.rules → packets ≤ MOST_RECORDS
-      → script_of (ring_of chain) packets [] ≡ Ok (record { ring = ring_of chain; packets = packets; steps = []; loses = [] })
   pub printed : (events : List Event) → AllByRecursion (IsEvent version.Second) events → journal_of (spelling events) ≡ Ok events
   pub right : WholeRunsAreRight
+  pub moments : EveryMoment
+  pub visited : RightRunsAreVisited
+  pub settled : RightRunsAreSettled
+  pub lost : (setting : Setting) (journal : List Event) (packet number : ℕ)
+      → (state_after setting (opening setting) journal).fate packet ≡ became.Lost number → IsLostAt setting journal number
 
--- the run of these texts on one thread
-pub record IsPlainRun (names : Named) (files : Files) (chain : Chain) (capture : Capture) (journal : List Event) (end : State) : Type 0 where
-  pub texts : AreTexts names files chain capture
-  pub driven : IsDriven chain.rules (bytes_of capture.packets) journal end
-  pub visited : ReleasedVisited (length chain.rules) journal
-  pub whole : IsWholeRun chain (bytes_of capture.packets) journal
-
-module _ (laws : EndLaws) (names : Named) (old : Files) (apart : AreDifferent names) (chain : Chain) (capture : Capture) (journal : List Event) (end : State) (run : IsPlainRun names old chain capture journal end) where
-  abbrev script : ScriptShape
-  script = record { ring = ring_of chain; packets = length capture.packets; steps = []; loses = [] }
+module _ (laws : EndLaws) (names : Named) (mode : Mode) (old : Files) (apart : AreDifferent names) (chain : Chain)
+    (capture : Capture) (script : ScriptShape) (schedule journal : List Event) (end : State)
+    (texts : AreTexts names mode old chain capture script schedule)
+    (run : IsFinishedDrive (setting_of chain (bytes_of capture.packets) script) schedule journal end) where
+  abbrev setting : Setting
+  setting = setting_of chain (bytes_of capture.packets) script
 
   abbrev out : List ℕ
   out = out_bytes capture end.released
@@ -89,22 +75,8 @@ module _ (laws : EndLaws) (names : Named) (old : Files) (apart : AreDifferent na
   abbrev report : List ℕ
   report = report_bytes chain capture script journal
 
-  chain_right : chain_within MOST_FAILURES run.texts.chain_right.text ≡ Ok chain
-  chain_right = laws.wider MOST_RUN_FAILURES MOST_FAILURES run.texts.chain_right.text chain (omega arith) run.texts.chain_right.right
-
-  few : (length chain.rules ≤ MOST_SERVERS) × (chain.failures < length chain.rules)
-  few = laws.few MOST_FAILURES run.texts.chain_right.text chain chain_right
-
-  packets_few : length capture.packets ≤ MOST_RECORDS
-  packets_few = run.texts.capture_right.right.right.few
-
-  printed : journal_of (spelling journal) ≡ Ok journal
-  printed = laws.printed journal
-      (subst (AllByRecursion (IsEvent version.Second)) (sym run.driven.events)
-      (driven_fit (length chain.rules) (length (bytes_of capture.packets)) end.place few.0 (rw (bytes_count capture.packets) (omega (arith, packets_few)))))
-
-  whole : IsWhole (plain_setting chain (bytes_of capture.packets)) journal end
-  whole = record { run = ∣ run.whole.legal ∣₁; finished = ∣ run.whole.finished ∣₁; serial = run.driven.run }
+  verdict : IsVerdict setting capture out journal report Yes
+  verdict = laws.right setting capture journal end run.whole
 
   module _ (new : Files) (written : AreWritten names out (spelling journal) report old new) where
     -- a file that a run only read is as it was
@@ -122,34 +94,49 @@ module _ (laws : EndLaws) (names : Named) (old : Files) (apart : AreDifferent na
         report = report;
         checked = record {
           inputs = record {
-            chain_right = record { text = run.texts.chain_right.text; file = still names.chain apart.chain ∙ run.texts.chain_right.file; right = chain_right };
-            capture_right = record { text = run.texts.capture_right.text; file = still names.capture apart.capture ∙ run.texts.capture_right.file; right = run.texts.capture_right.right };
-            script_right = record { text = []; file = still names.script apart.script ∙ run.texts.script_empty; right = laws.no_lines chain (length capture.packets) few.0 few.1 packets_few };
+            chain_right = record {
+              text = texts.inputs.chain_right.text;
+              file = still names.chain apart.chain ∙ texts.inputs.chain_right.file;
+              right = texts.inputs.chain_right.right;
+            };
+            capture_right = record {
+              text = texts.inputs.capture_right.text;
+              file = still names.capture apart.capture ∙ texts.inputs.capture_right.file;
+              right = texts.inputs.capture_right.right;
+            };
+            script_right = record {
+              text = texts.inputs.script_right.text;
+              file = still names.script apart.script ∙ texts.inputs.script_right.file;
+              right = texts.inputs.script_right.right;
+            };
           };
           out_file = written.out_file;
-          journal_right = record { text = spelling journal; file = written.journal_file; right = printed };
+          journal_right = record { text = spelling journal; file = written.journal_file; right = laws.printed journal run.numbers };
           report_file = written.report_file;
         };
-        verdict_right = laws.right (plain_setting chain (bytes_of capture.packets)) capture journal end whole;
+        verdict_right = verdict;
       };
-      visited = ∣ run.visited ∣₁;
-      settled = λ packet below. not_inside _ (run.whole.done packet (rw (bytes_count capture.packets) below));
-      causes = λ packet number below lost.
-          absurd (not_lost _ number (run.whole.done packet (rw (bytes_count capture.packets) below)) lost);
+      sound = sound_throughout laws.moments setting run.right journal run.whole.run;
+      visited = laws.visited setting run.right capture out journal report verdict;
+      settled = λ packet below. laws.settled setting run.right capture out journal report verdict packet
+          (rw (bytes_count capture.packets) below);
+      causes = λ packet number below. laws.lost setting journal packet number;
     }
 
-    done : IsDone names old new
+    done : IsDone names mode old new
     unfolding right
     done = record {
       right = right;
-      chosen = (end, run.driven);
+      schedule = schedule;
+      schedule_right = texts.schedule_right;
+      chosen = run.chosen;
       journal_file = written.journal_file;
       report_file = written.report_file;
       others = written.others;
     }
 
   -- all was written
-  pub ended_done : (text : List ℕ) → text ≡ report → (mid new : Files) → SameFiles old mid → AreWritten names out (spelling journal) text mid new → IsDone names old new
+  pub ended_done : (text : List ℕ) → text ≡ report → (mid new : Files) → SameFiles old mid → AreWritten names out (spelling journal) text mid new → IsDone names mode old new
   ended_done text told mid new same written = done new (record {
     out_file = written.out_file;
     journal_file = written.journal_file;
@@ -175,7 +162,7 @@ module _ (laws : EndLaws) (names : Named) (old : Files) (apart : AreDifferent na
     others = λ name other. put_other names.report report (put names.journal (spelling journal) (put names.out out old)) name other.1.1.0 ∙ (put_other names.journal (spelling journal) (put names.out out old) name other.1.0 ∙ put_other names.out out old name other.0);
   }
 
-  cut_short : (new : Files) → AreCutShort names out (spelling journal) report old new → IsCutShort names old new
+  cut_short : (new : Files) → AreCutShort names out (spelling journal) report old new → IsCutShort names mode old new
   cut_short new cut = record {
     whole = all;
     done = done all all_written;
@@ -200,6 +187,6 @@ module _ (laws : EndLaws) (names : Named) (old : Files) (apart : AreDifferent na
 
   -- the writing was cut short
   pub ended_cut : (text : List ℕ) → text ≡ report → (mid new : Files) → SameFiles old mid → (sound : Type 0) (error : DeskError) → (sound → error ≡ desk.Failed → ⊥)
-      → AreCutShort names out (spelling journal) text mid new → Ends sound names old new (desk_status error)
+      → AreCutShort names out (spelling journal) text mid new → Ends sound names mode old new (desk_status error)
   ended_cut text told mid new same sound desk.Failed safe cut = inr (cut_short new (moved text told mid new same cut), λ s. safe s refl)
   ended_cut text told mid new same sound desk.NoMemory safe cut = inr (cut_short new (moved text told mid new same cut))

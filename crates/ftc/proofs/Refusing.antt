@@ -2,34 +2,46 @@
 use Rattle.std.proofs.Common.{◌≡◌, ◌∙◌, sym, ℕ, List, length, Some, inl, inr}
 use Rattle.ftc_outside.specs.Desk.{Files, SameFiles}
 use Rattle.ftc_check.specs.declared.verdict.Checked.{Checked}
-use Rattle.ftc_words.specs.Command.{Named}
+use Rattle.ftc_words.specs.Command.{Named, Mode, plain, workers, alone}
 use Rattle.ftc.specs.declared.status.Status.{Status}
 use Rattle.ftc.specs.declared.status.Status.TheVariants as status
 use Rattle.ftc_pcap.specs.declared.capture.Capture.{Capture}
 use Rattle.ftc_mbox.specs.Chain.{Chain}
-use Rattle.ftc_conf.specs.declared.limits.TheConstants.{MOST_FAILURES}
 use Rattle.ftc_script.specs.Script.{ScriptShape}
 use Rattle.ftc_journal.specs.declared.event.Event.{Event}
-use Rattle.ftc.specs.declared.limits.TheConstants.{MOST_RUN_FAILURES}
-use Rattle.ftc.specs.Texts.{ring_of, HasChain, HasCapture, HasScript, HasJournal, AreInputs}
-use Rattle.ftc.specs.Refused.{IsTextRefused, IsSomeScript, IsWrongScript, IsWrongJournal, IsNeverWrong, IsRunRefused, IsCheckRefused}
+use Rattle.ftc.specs.Texts.{ring_of, HasChain, HasCapture, HasScript, HasJournal, HasSchedule, AreInputs}
+use Rattle.ftc.specs.Refused.{IsTextRefused, IsWrongScript, IsWrongSchedule, IsWrongJournal, IsNeverWrong, IsScheduleRefused, IsRunRefused, IsCheckRefused}
 use Rattle.ftc.specs.Checking.{Judges}
 use Rattle.ftc.specs.Done.{Ends}
 
-run_isnt_done : (sound : Type 0) (names : Named) (files : Files) → IsRunRefused sound names files status.Done → ⊥
-run_isnt_done sound names files refused = elim refused [ inl first ↦ first.2 | inr behind ↦ elim behind.2 [ inl first ↦ first.2 | inr behind ↦ behind.2.2 ] ]
+schedule_isnt_done : (sound : Type 0) (mode : Mode) (files : Files) → IsScheduleRefused sound mode files status.Done → ⊥
+schedule_isnt_done sound plain files refused = refused
+schedule_isnt_done sound (workers count) files refused = refused
+schedule_isnt_done sound (alone name move) files refused = refused.2
 
-pub ends_refused : (sound : Type 0) (names : Named) (old new : Files) (ending : Status) → IsRunRefused sound names old ending → SameFiles old new → Ends sound names old new ending
-ends_refused sound names old new status.Done refused same = absurd (run_isnt_done sound names old refused)
-ends_refused sound names old new status.Usage refused same = (refused, same)
-ends_refused sound names old new (status.Chain line cause) refused same = (refused, same)
-ends_refused sound names old new (status.Capture at cause) refused same = (refused, same)
-ends_refused sound names old new (status.Script line cause) refused same = (refused, same)
-ends_refused sound names old new (status.Journal line cause) refused same = (refused, same)
-ends_refused sound names old new (status.Beats line cause) refused same = (refused, same)
-ends_refused sound names old new (status.Check verdict) refused same = (refused, same)
-ends_refused sound names old new status.DeskFault refused same = inl (refused, same)
-ends_refused sound names old new status.NoMemory refused same = inl same
+run_isnt_done : (sound : Type 0) (names : Named) (mode : Mode) (files : Files) → IsRunRefused sound names mode files status.Done → ⊥
+run_isnt_done sound names mode files refused = elim refused [
+  | inl first ↦ first.2
+  | inr behind ↦ elim behind.2 [
+    | inl first ↦ first.2
+    | inr behind ↦ elim behind.2 [ inl first ↦ first.2 | inr behind ↦ schedule_isnt_done sound mode files behind.2 ]
+  ]
+]
+
+pub ends_refused : (sound : Type 0) (names : Named) (mode : Mode) (old new : Files) (ending : Status) → IsRunRefused sound names mode old ending
+    → SameFiles old new → Ends sound names mode old new ending
+ends_refused sound names mode old new status.Done refused same = absurd (run_isnt_done sound names mode old refused)
+ends_refused sound names mode old new status.Usage refused same = (refused, same)
+ends_refused sound names mode old new (status.Chain line cause) refused same = (refused, same)
+ends_refused sound names mode old new (status.Capture at cause) refused same = (refused, same)
+ends_refused sound names mode old new (status.Script line cause) refused same = (refused, same)
+ends_refused sound names mode old new (status.Schedule line cause) refused same = (refused, same)
+ends_refused sound names mode old new (status.Ports cause) refused same = (refused, same)
+ends_refused sound names mode old new (status.Journal line cause) refused same = (refused, same)
+ends_refused sound names mode old new (status.Beats line cause) refused same = (refused, same)
+ends_refused sound names mode old new (status.Check verdict) refused same = (refused, same)
+ends_refused sound names mode old new status.DeskFault refused same = inl (refused, same)
+ends_refused sound names mode old new status.NoMemory refused same = inl same
 
 check_isnt_done : (sound : Type 0) (names : Named) (files : Files) → IsCheckRefused sound names files status.Done → ⊥
 check_isnt_done sound names files refused = elim refused [
@@ -63,6 +75,8 @@ judges_refused sound names files status.Usage refused = refused
 judges_refused sound names files (status.Chain line cause) refused = refused
 judges_refused sound names files (status.Capture at cause) refused = refused
 judges_refused sound names files (status.Script line cause) refused = refused
+judges_refused sound names files (status.Schedule line cause) refused = refused
+judges_refused sound names files (status.Ports cause) refused = refused
 judges_refused sound names files (status.Journal line cause) refused = refused
 judges_refused sound names files (status.Beats line cause) refused = refused
 judges_refused sound names files (status.Check verdict) refused = absurd (check_isnt_judged sound names files verdict refused)
@@ -78,6 +92,8 @@ refused_before sound now-sound old new name IsWrong status.Usage stays same refu
 refused_before sound now-sound old new name IsWrong (status.Chain line cause) stays same refused = (refused.0, sym (same name) ∙ refused.1, refused.2)
 refused_before sound now-sound old new name IsWrong (status.Capture at cause) stays same refused = (refused.0, sym (same name) ∙ refused.1, refused.2)
 refused_before sound now-sound old new name IsWrong (status.Script line cause) stays same refused = (refused.0, sym (same name) ∙ refused.1, refused.2)
+refused_before sound now-sound old new name IsWrong (status.Schedule line cause) stays same refused = (refused.0, sym (same name) ∙ refused.1, refused.2)
+refused_before sound now-sound old new name IsWrong (status.Ports cause) stays same refused = (refused.0, sym (same name) ∙ refused.1, refused.2)
 refused_before sound now-sound old new name IsWrong (status.Journal line cause) stays same refused = (refused.0, sym (same name) ∙ refused.1, refused.2)
 refused_before sound now-sound old new name IsWrong (status.Beats line cause) stays same refused = (refused.0, sym (same name) ∙ refused.1, refused.2)
 refused_before sound now-sound old new name IsWrong (status.Check verdict) stays same refused = (refused.0, sym (same name) ∙ refused.1, refused.2)
@@ -95,11 +111,32 @@ journal_before name old new journal same has = record { text = has.text; file = 
 
 -- ---- a text behind those that are right
 
-pub script_refused : (sound : Type 0) (names : Named) (files : Files) (chain : Chain) (capture : Capture) (ending : Status) → HasChain MOST_RUN_FAILURES names.chain files chain → HasCapture names.capture files capture
-    → IsTextRefused sound files names.script IsSomeScript ending → IsRunRefused sound names files ending
-script_refused sound names files chain capture ending chain_right capture_right refused = inr (chain, chain_right, inr (capture, capture_right, refused))
+pub script_refused : (sound : Type 0) (names : Named) (mode : Mode) (files : Files) (chain : Chain) (capture : Capture) (ending : Status)
+    → HasChain names.chain files chain → HasCapture names.capture files capture
+    → IsTextRefused sound files names.script (IsWrongScript (ring_of chain) (length capture.packets)) ending
+    → IsRunRefused sound names mode files ending
+script_refused sound names mode files chain capture ending chain_right capture_right refused =
+    inr (chain, chain_right, inr (capture, capture_right, inl refused))
 
-pub whole_script_refused : (sound : Type 0) (names : Named) (files : Files) (chain : Chain) (capture : Capture) (ending : Status) → HasChain MOST_FAILURES names.chain files chain → HasCapture names.capture files capture
+pub schedule_refused : (sound : Type 0) (names : Named) (mode : Mode) (files : Files) (chain : Chain) (capture : Capture) (script : ScriptShape) (ending : Status)
+    → AreInputs names files chain capture script → IsScheduleRefused sound mode files ending → IsRunRefused sound names mode files ending
+schedule_refused sound names mode files chain capture script ending inputs refused =
+    inr (chain, inputs.chain_right, inr (capture, inputs.capture_right, inr (script, inputs.script_right, refused)))
+
+-- what was said of the schedule as it is now, of the schedule as it was
+pub schedule_refused_before : (sound now-sound : Type 0) (mode : Mode) (old new : Files) (ending : Status) → (sound → now-sound) → SameFiles old new
+    → IsScheduleRefused now-sound mode new ending → IsScheduleRefused sound mode old ending
+schedule_refused_before sound now-sound plain old new ending stays same refused = refused
+schedule_refused_before sound now-sound (workers count) old new ending stays same refused = refused
+schedule_refused_before sound now-sound (alone name move) old new ending stays same refused =
+    refused_before sound now-sound old new name IsWrongSchedule ending stays same refused
+
+pub schedule_before : (mode : Mode) (old new : Files) (schedule : List Event) → SameFiles old new → HasSchedule mode new schedule → HasSchedule mode old schedule
+schedule_before plain old new schedule same has = has
+schedule_before (workers count) old new schedule same has = has
+schedule_before (alone name move) old new schedule same has = journal_before name old new schedule same has
+
+pub whole_script_refused : (sound : Type 0) (names : Named) (files : Files) (chain : Chain) (capture : Capture) (ending : Status) → HasChain names.chain files chain → HasCapture names.capture files capture
     → IsTextRefused sound files names.script (IsWrongScript (ring_of chain) (length capture.packets)) ending → IsCheckRefused sound names files ending
 whole_script_refused sound names files chain capture ending chain_right capture_right refused = inr (chain, chain_right, inr (capture, capture_right, inl refused))
 

@@ -18,5 +18,5 @@ no_memory_ended sound None files = λ name. refl
 no_memory_ended sound (Some (run names mode)) files = inl (λ name. refl)
 no_memory_ended sound (Some (make packets seed capture)) files = λ name. refl
 no_memory_ended sound (Some (check names)) files = (tt, λ name. refl)
-no_memory_ended sound (Some (ports chain capture journal server)) files = λ name. refl
+no_memory_ended sound (Some (ports chain capture journal server)) files = inl (λ name. refl)
 no_memory_ended sound (Some (watch limit chain capture beats script)) files = inl (λ name. refl)

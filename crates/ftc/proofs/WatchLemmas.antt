@@ -8,8 +8,7 @@ use Rattle.ftc_outside.specs.declared.desk.DeskError.TheVariants as desk
 use Rattle.ftc_pcap.specs.declared.capture.Capture.{Capture}
 use Rattle.ftc_pcap.specs.Grammar.{Spells}
 use Rattle.ftc_mbox.specs.Chain.{Chain}
-use Rattle.ftc_conf.specs.declared.limits.TheConstants.{MOST_FAILURES}
-use Rattle.ftc_conf.specs.Grammar.{chain_within}
+use Rattle.ftc_conf.specs.Grammar.{chain_of}
 use Rattle.ftc_ring.specs.Ring.{RingShape}
 use Rattle.ftc_script.specs.Grammar.{script_of}
 use Rattle.ftc_watch.specs.Beats.{BeatsShape}
@@ -55,7 +54,7 @@ beats_before name old new ring packets beats same has = record {
 }
 
 pub beats_refused : (sound : Type 0) (names : WatchNamed) (files : Files) (chain : Chain) (capture : Capture)
-    (ending : Status) → HasChain MOST_FAILURES names.chain files chain → HasCapture names.capture files capture
+    (ending : Status) → HasChain names.chain files chain → HasCapture names.capture files capture
     → IsTextRefused sound files names.beats (IsWrongBeats (ring_of chain) (length capture.packets)) ending
     → IsWatchRefused sound names files ending
 beats_refused sound names files chain capture ending chain_right capture_right refused = inr (
@@ -75,6 +74,8 @@ watch_refused sound limit names old new status.Usage refused same = (refused, sa
 watch_refused sound limit names old new (status.Chain line cause) refused same = (refused, same)
 watch_refused sound limit names old new (status.Capture at cause) refused same = (refused, same)
 watch_refused sound limit names old new (status.Script line cause) refused same = (refused, same)
+watch_refused sound limit names old new (status.Schedule line cause) refused same = (refused, same)
+watch_refused sound limit names old new (status.Ports cause) refused same = (refused, same)
 watch_refused sound limit names old new (status.Journal line cause) refused same = (refused, same)
 watch_refused sound limit names old new (status.Beats line cause) refused same = (refused, same)
 watch_refused sound limit names old new (status.Check verdict) refused same = (refused, same)
@@ -221,6 +222,8 @@ no_beats ring packets text beats right status.Usage wrong = wrong
 no_beats ring packets text beats right (status.Chain line cause) wrong = wrong
 no_beats ring packets text beats right (status.Capture at cause) wrong = wrong
 no_beats ring packets text beats right (status.Script line cause) wrong = wrong
+no_beats ring packets text beats right (status.Schedule line cause) wrong = wrong
+no_beats ring packets text beats right (status.Ports cause) wrong = wrong
 no_beats ring packets text beats right (status.Journal line cause) wrong = wrong
 no_beats ring packets text beats right (status.Beats line cause) wrong = not_both
     (beats_of ring packets text) beats _ right wrong
@@ -230,10 +233,10 @@ no_beats ring packets text beats right status.NoMemory wrong = wrong
 
 module _ (laws : Laws) (names : WatchNamed) (files : Files) (beats : BeatsShape)
     (given : AreBeats names files beats) where
-  chain_reads : (text : List ℕ) → files names.chain ≡ Some text → chain_within MOST_FAILURES text ≡ Ok given.chain
+  chain_reads : (text : List ℕ) → files names.chain ≡ Some text → chain_of text ≡ Ok given.chain
   chain_reads text file =
       let has = given.chain_right in
-      subst (λ (t : List ℕ). chain_within MOST_FAILURES t ≡ Ok given.chain) (some_once has.text text (sym has.file
+      subst (λ (t : List ℕ). chain_of t ≡ Ok given.chain) (some_once has.text text (sym has.file
       ∙ file)) has.right
 
   capture_reads : (text : List ℕ) → files names.capture ≡ Some text → Spells text given.capture
@@ -241,8 +244,8 @@ module _ (laws : Laws) (names : WatchNamed) (files : Files) (beats : BeatsShape)
       let has = given.capture_right in
       subst (λ (t : List ℕ). Spells t given.capture) (some_once has.text text (sym has.file ∙ file)) has.right
 
-  chain_is : (other : Chain) → HasChain MOST_FAILURES names.chain files other → other ≡ given.chain
-  chain_is other has = ok_once (chain_within MOST_FAILURES has.text) other given.chain has.right
+  chain_is : (other : Chain) → HasChain names.chain files other → other ≡ given.chain
+  chain_is other has = ok_once (chain_of has.text) other given.chain has.right
       (chain_reads has.text has.file)
 
   capture_is : (other : Capture) → HasCapture names.capture files other → other ≡ given.capture
@@ -259,8 +262,8 @@ module _ (laws : Laws) (names : WatchNamed) (files : Files) (beats : BeatsShape)
       → IsWatchRefused sound names files ending → ending ≡ status.NoMemory
   refused_once sound ending no-fault refused =
       elim refused [
-        | inl first ↦ not_refused sound files names.chain (IsWrongChain MOST_FAILURES) ending
-            (λ text file. no_chain MOST_FAILURES text given.chain (chain_reads text file) ending) no-fault first
+        | inl first ↦ not_refused sound files names.chain IsWrongChain ending
+            (λ text file. no_chain text given.chain (chain_reads text file) ending) no-fault first
         | inr behind ↦ let (other, other_right, refused) = behind in elim refused [
           | inl first ↦ not_refused sound files names.capture IsWrongCapture ending
               (λ text file. no_capture laws text given.capture (capture_reads text file) ending) no-fault first
@@ -287,6 +290,10 @@ module _ (laws : Laws) (names : WatchNamed) (files : Files) (beats : BeatsShape)
       (status.Capture at cause) no-fault ends
   watch_completes sound limit new (status.Script line cause) ends no-fault = for_memory sound new
       (status.Script line cause) no-fault ends
+  watch_completes sound limit new (status.Schedule line cause) ends no-fault = for_memory sound new
+      (status.Schedule line cause) no-fault ends
+  watch_completes sound limit new (status.Ports cause) ends no-fault = for_memory sound new
+      (status.Ports cause) no-fault ends
   watch_completes sound limit new (status.Journal line cause) ends no-fault = for_memory sound new
       (status.Journal line cause) no-fault ends
   watch_completes sound limit new (status.Beats line cause) ends no-fault = for_memory sound new

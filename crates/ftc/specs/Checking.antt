@@ -1,5 +1,5 @@
 -- What the check of a run's files says.
-use Rattle.std.specs.Prelude.{◌≡◌, ◌≢◌, ◌<◌, ℕ, List, length, Some}
+use Rattle.std.specs.Prelude.{◌≡◌, ◌≢◌, ◌<◌, ◌++◌, ℕ, List, length, Some}
 use Rattle.ftc_outside.specs.Desk.{Files}
 use Rattle.ftc_pcap.specs.declared.capture.Capture.{Capture}
 use Rattle.ftc_script.specs.Script.{ScriptShape}
@@ -7,7 +7,8 @@ use Rattle.ftc_journal.specs.declared.event.Event.{Event}
 use Rattle.ftc_mbox.specs.Chain.{Chain}
 use Rattle.ftc_serial.specs.Packets.{bytes_of}
 use Rattle.ftc_protocol.specs.declared.fate.Fate.TheVariants as became
-use Rattle.ftc_protocol.specs.Setting.{setting_of}
+use Rattle.ftc_protocol.specs.Moment.{IsSound}
+use Rattle.ftc_protocol.specs.Setting.{Setting, setting_of}
 use Rattle.ftc_protocol.specs.State.{ChainState, opening}
 use Rattle.ftc_protocol.specs.Run.{state_after}
 use Rattle.ftc_protocol.specs.Orderly.{IsLostAt}
@@ -44,11 +45,18 @@ pub record IsJudged (names : Named) (files : Files) (verdict : Checked) : Type 0
   pub checked : AreChecked names files chain capture script out journal report
   pub verdict_right : IsVerdict (setting_of chain (bytes_of capture.packets) script) capture out journal report verdict
 
--- The files are those of one run. Each released packet has visited all middleboxes, and none of these visits was undone;
+-- After each front of the journal the serial run of the visits that stand exists and released what was released, the first live
+-- member of each group has that run's content, and all visits of a released packet stand.
+abbrev pub IsSoundThroughout : Setting → List Event → Type 0
+IsSoundThroughout setting journal =
+    (before after : List Event) → journal ≡ before ++ after → ∥ IsSound setting (state_after setting (opening setting) before) ∥₁
+
+-- The files are those of one run, and at every moment of it nothing behind a released packet was lost. Each released packet has visited all middleboxes, and none of these visits was undone;
 -- each packet was released, filtered or lost; and one that is lost went away by the event of its fate's number, which
 -- could lose something where it stands.
 pub record IsRightRun (names : Named) (files : Files) : Type 0 where
   pub judged : IsJudged names files Yes
+  pub sound : IsSoundThroughout (setting_of judged.chain (bytes_of judged.capture.packets) judged.script) judged.journal
   pub visited : ∥ ReleasedVisited (length judged.chain.rules) judged.journal ∥₁
   pub settled : (packet : ℕ) → packet < length judged.capture.packets →
       (state_of judged.chain judged.capture judged.script judged.journal).fate packet ≢ became.Inside

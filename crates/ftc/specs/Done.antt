@@ -6,31 +6,34 @@ use Rattle.ftc_journal.specs.declared.event.Event.{Event}
 use Rattle.ftc_journal.specs.Text.{spelling}
 use Rattle.ftc_mbox.specs.Chain.{Chain}
 use Rattle.ftc_script.specs.Script.{ScriptShape}
-use Rattle.ftc_serial.specs.Serial.{State}
 use Rattle.ftc_serial.specs.Packets.{bytes_of}
-use Rattle.ftc_serial.specs.Drive.{IsDriven}
 use Rattle.ftc_protocol.specs.Setting.{setting_of}
+use Rattle.ftc_protocol.specs.Drive.{IsDrive}
 use Rattle.ftc_report.specs.Report.{report_of}
 use Rattle.ftc.specs.declared.status.Status.{Status}
 use Rattle.ftc.specs.declared.status.Status.TheVariants as status
-use Rattle.ftc_words.specs.Command.{Named}
+use Rattle.ftc_words.specs.Command.{Named, Mode}
 use Rattle.ftc.specs.Output.{MayHold, SameElsewhere, written_by}
 use Rattle.ftc.specs.Refused.{IsRunRefused}
+use Rattle.ftc.specs.Texts.{HasSchedule}
 use Rattle.ftc.specs.Checking.{IsRightRun}
 
--- The one part that varies: which of the finished runs a run leaves. As yet it is the one that drives packet after packet on one thread.
-abbrev pub IsChosen : Chain → Capture → List Event → Type 0
-IsChosen chain capture journal = (end : State) × IsDriven chain.rules (bytes_of capture.packets) journal end
+-- The one part that varies: which of the finished runs a run leaves. It is the one that one thread drives by a schedule.
+abbrev pub IsChosen : Chain → Capture → ScriptShape → List Event → List Event → Type 0
+IsChosen chain capture script schedule journal =
+    ∥ IsDrive (setting_of chain (bytes_of capture.packets) script) schedule journal ∥₁
 
 -- the report of a journal; there are no taps
 abbrev pub report_bytes : Chain → Capture → ScriptShape → List Event → List ℕ
 report_bytes chain capture script journal = report_of (setting_of chain (bytes_of capture.packets) script) journal []
 
 -- What a run leaves that is done: the files of one run, as a check says of them, which is the chosen one. The journal's text is the
--- printed one, and the report ends with the lines of the taps.
-pub record IsDone (names : Named) (old new : Files) : Type 0 where
+-- printed one, and there are no taps.
+pub record IsDone (names : Named) (mode : Mode) (old new : Files) : Type 0 where
   pub right : IsRightRun names new
-  pub chosen : IsChosen right.judged.chain right.judged.capture right.judged.journal
+  pub schedule : List Event
+  pub schedule_right : HasSchedule mode old schedule
+  pub chosen : IsChosen right.judged.chain right.judged.capture right.judged.script schedule right.judged.journal
   pub journal_file : new names.journal ≡ Some (spelling right.judged.journal)
   pub report_file : new names.report ≡ Some (report_bytes right.judged.chain right.judged.capture right.judged.script right.judged.journal)
   pub others : SameElsewhere (written_by names) old new
@@ -41,9 +44,9 @@ IsFrontOf name old new whole = (bytes : List ℕ) × (whole name ≡ Some bytes)
 
 -- What a run leaves that was cut short in its writing: fronts of what a run that is done would have left. The journal was begun
 -- only behind all of OUT, and the report only behind both.
-pub record IsCutShort (names : Named) (old new : Files) : Type 0 where
+pub record IsCutShort (names : Named) (mode : Mode) (old new : Files) : Type 0 where
   pub whole : Files
-  pub done : IsDone names old whole
+  pub done : IsDone names mode old whole
   pub out_file : IsFrontOf names.out old new whole
   pub journal_file : IsFrontOf names.journal old new whole
   pub report_file : IsFrontOf names.report old new whole
@@ -53,8 +56,9 @@ pub record IsCutShort (names : Named) (old new : Files) : Type 0 where
 
 -- How a run with these names ends. A run that fails has changed nothing yet, or was cut short. Where the desk is sound, it fails
 -- only where the first text that is not right is missing.
-abbrev pub Ends : Type 0 → Named → Files → Files → Status → Type 0
-Ends sound names old new status.Done = IsDone names old new
-Ends sound names old new status.DeskFault = (IsRunRefused sound names old status.DeskFault × SameFiles old new) ⊎ (IsCutShort names old new × (sound → ⊥))
-Ends sound names old new status.NoMemory = SameFiles old new ⊎ IsCutShort names old new
-Ends sound names old new refused = IsRunRefused sound names old refused × SameFiles old new
+abbrev pub Ends : Type 0 → Named → Mode → Files → Files → Status → Type 0
+Ends sound names mode old new status.Done = IsDone names mode old new
+Ends sound names mode old new status.DeskFault =
+    (IsRunRefused sound names mode old status.DeskFault × SameFiles old new) ⊎ (IsCutShort names mode old new × (sound → ⊥))
+Ends sound names mode old new status.NoMemory = SameFiles old new ⊎ IsCutShort names mode old new
+Ends sound names mode old new refused = IsRunRefused sound names mode old refused × SameFiles old new

@@ -1,9 +1,7 @@
 pub mod Status
-pub mod Running
 pub mod Ended
 pub mod Output
-pub mod Plain
-pub mod Fate
+pub mod Driven
 pub mod Texts
 pub mod Checking
 pub mod Refused
@@ -11,3 +9,4 @@ pub mod Writing
 pub mod Done
 pub mod Answers
 pub mod Watching
+pub mod Porting

@@ -2,18 +2,15 @@
 use Rattle.std.specs.Prelude.{◌≡◌, ◌≢◌, ◌⊎◌, ℕ, List, [], length, Some, None, Err}
 use Rattle.ftc_outside.specs.Desk.{Files}
 use Rattle.ftc_mbox.specs.Chain.{Chain}
-use Rattle.ftc_conf.specs.Grammar.{chain_within}
-use Rattle.ftc_conf.specs.declared.limits.TheConstants.{MOST_FAILURES}
+use Rattle.ftc_conf.specs.Grammar.{chain_of}
 use Rattle.ftc_pcap.specs.Grammar.{IsFault}
 use Rattle.ftc_pcap.specs.declared.capture.Capture.{Capture}
 use Rattle.ftc_ring.specs.Ring.{RingShape}
 use Rattle.ftc_script.specs.Grammar.{script_of}
 use Rattle.ftc_script.specs.Script.{ScriptShape}
-use Rattle.ftc_script.specs.declared.fault.ScriptCause.TheVariants as script
 use Rattle.ftc_journal.specs.Reading.{journal_of}
 use Rattle.ftc_journal.specs.declared.event.Event.{Event}
-use Rattle.ftc_words.specs.Command.{Named}
-use Rattle.ftc.specs.declared.limits.TheConstants.{MOST_RUN_FAILURES}
+use Rattle.ftc_words.specs.Command.{Named, Mode, alone}
 use Rattle.ftc.specs.declared.status.Status.{Status}
 use Rattle.ftc.specs.declared.status.Status.TheVariants as status
 use Rattle.ftc.specs.Texts.{ring_of, HasChain, HasCapture, HasScript, HasJournal}
@@ -28,9 +25,9 @@ IsTextRefused sound files name IsWrong status.NoMemory = Unit {0}
 IsTextRefused sound files name IsWrong ending = (text : List ℕ) × (files name ≡ Some text) × IsWrong text ending
 
 -- the first fault of each kind of text
-abbrev pub IsWrongChain : ℕ → List ℕ → Status → Type 0
-IsWrongChain most text (status.Chain line cause) = chain_within most text ≡ Err (record { line = line; cause = cause })
-IsWrongChain most text other = ⊥
+abbrev pub IsWrongChain : List ℕ → Status → Type 0
+IsWrongChain text (status.Chain line cause) = chain_of text ≡ Err (record { line = line; cause = cause })
+IsWrongChain text other = ⊥
 
 abbrev pub IsWrongCapture : List ℕ → Status → Type 0
 IsWrongCapture text (status.Capture at cause) = IsFault text (record { at = at; cause = cause })
@@ -40,10 +37,10 @@ abbrev pub IsWrongScript : RingShape → ℕ → List ℕ → Status → Type 0
 IsWrongScript ring packets text (status.Script line cause) = script_of ring packets text ≡ Err (record { line = line; cause = cause })
 IsWrongScript ring packets text other = ⊥
 
--- as yet, for a run: a script that says something
-abbrev pub IsSomeScript : List ℕ → Status → Type 0
-IsSomeScript text (status.Script line cause) = (text ≢ []) × (line ≡ 1) × (cause ≡ script.Word)
-IsSomeScript text other = ⊥
+-- a schedule is spelled as a journal is
+abbrev pub IsWrongSchedule : List ℕ → Status → Type 0
+IsWrongSchedule text (status.Schedule line cause) = journal_of text ≡ Err (record { line = line; cause = cause })
+IsWrongSchedule text other = ⊥
 
 abbrev pub IsWrongJournal : List ℕ → Status → Type 0
 IsWrongJournal text (status.Journal line cause) = journal_of text ≡ Err (record { line = line; cause = cause })
@@ -55,16 +52,24 @@ IsNeverWrong text ending = ⊥
 
 -- ---- the texts of each command in order: a text is refused, or it is right and one behind it is refused
 
-abbrev pub IsRunRefused : Type 0 → Named → Files → Status → Type 0
-IsRunRefused sound names files ending =
-    IsTextRefused sound files names.chain (IsWrongChain MOST_RUN_FAILURES) ending
-    ⊎ ((chain : Chain) × HasChain MOST_RUN_FAILURES names.chain files chain × (IsTextRefused sound files names.capture IsWrongCapture ending
-    ⊎ ((capture : Capture) × HasCapture names.capture files capture × IsTextRefused sound files names.script IsSomeScript ending)))
+-- the schedule, where a run has one
+abbrev pub IsScheduleRefused : Type 0 → Mode → Files → Status → Type 0
+IsScheduleRefused sound (alone name move) files ending = IsTextRefused sound files name IsWrongSchedule ending
+IsScheduleRefused sound other files ending = ⊥
+
+abbrev pub IsRunRefused : Type 0 → Named → Mode → Files → Status → Type 0
+IsRunRefused sound names mode files ending =
+    IsTextRefused sound files names.chain IsWrongChain ending
+    ⊎ ((chain : Chain) × HasChain names.chain files chain × (IsTextRefused sound files names.capture IsWrongCapture ending
+    ⊎ ((capture : Capture) × HasCapture names.capture files capture
+    × (IsTextRefused sound files names.script (IsWrongScript (ring_of chain) (length capture.packets)) ending
+    ⊎ ((read : ScriptShape) × HasScript names.script files chain (length capture.packets) read
+    × IsScheduleRefused sound mode files ending)))))
 
 abbrev pub IsCheckRefused : Type 0 → Named → Files → Status → Type 0
 IsCheckRefused sound names files ending =
-    IsTextRefused sound files names.chain (IsWrongChain MOST_FAILURES) ending
-    ⊎ ((chain : Chain) × HasChain MOST_FAILURES names.chain files chain × (IsTextRefused sound files names.capture IsWrongCapture ending
+    IsTextRefused sound files names.chain IsWrongChain ending
+    ⊎ ((chain : Chain) × HasChain names.chain files chain × (IsTextRefused sound files names.capture IsWrongCapture ending
     ⊎ ((capture : Capture) × HasCapture names.capture files capture × (IsTextRefused sound files names.script (IsWrongScript (ring_of chain) (length capture.packets)) ending
     ⊎ ((read : ScriptShape) × HasScript names.script files chain (length capture.packets) read × (IsTextRefused sound files names.out IsNeverWrong ending
     ⊎ ((out : List ℕ) × (files names.out ≡ Some out) × (IsTextRefused sound files names.journal IsWrongJournal ending

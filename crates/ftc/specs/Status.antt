@@ -20,6 +20,8 @@ use Rattle.ftc_watch.specs.declared.fault.BeatsCause.TheVariants as beats
 use Rattle.ftc_watch.specs.declared.fault.BeatsFault.{BeatsFault}
 use Rattle.ftc_check.specs.declared.verdict.Checked.{Checked}
 use Rattle.ftc_check.specs.declared.verdict.Checked.TheVariants as checked
+use Rattle.ftc_audit.specs.declared.cause.PortsCause.{PortsCause}
+use Rattle.ftc_audit.specs.declared.cause.PortsCause.TheVariants as ports
 use Rattle.ftc.specs.declared.status.Status.{Status}
 use Rattle.ftc.specs.declared.status.Status.TheVariants as status
 
@@ -69,11 +71,13 @@ code_of status.Usage = 2
 code_of (status.Chain line cause) = 3
 code_of (status.Capture at cause) = 3
 code_of (status.Script line cause) = 3
+code_of (status.Schedule line cause) = 3
 code_of (status.Journal line cause) = 3
 code_of (status.Beats line cause) = 3
 code_of status.DeskFault = 4
 code_of status.NoMemory = 5
 code_of (status.Check verdict) = 6
+code_of (status.Ports cause) = 7
 
 -- the line of a fault at a place of that kind
 abbrev pub fault_line : List ℕ → ℕ → ℕ → List ℕ
@@ -87,6 +91,11 @@ verdict_line checked.Unfinished = codes "check: unfinished"
 verdict_line (checked.OutDiffers at) = codes "check: out byte " ++ decimal at
 verdict_line (checked.ReportDiffers at) = codes "check: report byte " ++ decimal at
 
+-- the line of what is wrong with a port table
+abbrev pub ports_line : PortsCause → List ℕ
+ports_line ports.NotNat = codes "ports: not a nat"
+ports_line (ports.BadStep place) = codes "ports: step " ++ decimal place
+
 -- the line on standard error, without a line feed
 abbrev pub line_of : Status → List ℕ
 line_of status.Done = []
@@ -94,9 +103,11 @@ line_of status.Usage = codes "usage: ftc run CHAIN SCRIPT CAPTURE OUT JOURNAL RE
 line_of (status.Chain line cause) = fault_line (codes "chain: line") line (chain_number cause)
 line_of (status.Capture at cause) = fault_line (codes "capture: byte") at (capture_number cause)
 line_of (status.Script line cause) = fault_line (codes "script: line") line (script.code_of cause)
+line_of (status.Schedule line cause) = fault_line (codes "schedule: line") line (journal_number cause)
 line_of (status.Journal line cause) = fault_line (codes "journal: line") line (journal_number cause)
 line_of (status.Beats line cause) = fault_line (codes "beats: line") line (beats_number cause)
 line_of (status.Check verdict) = verdict_line verdict
+line_of (status.Ports cause) = ports_line cause
 line_of status.DeskFault = codes "desk: failed"
 line_of status.NoMemory = codes "memory: refused"
 
@@ -124,6 +135,15 @@ script_status refuse.NoMemory = status.NoMemory
 abbrev pub journal_status : Refuse JournalFault → Status
 journal_status (refuse.Bad fault) = status.Journal fault.line fault.cause
 journal_status refuse.NoMemory = status.NoMemory
+
+-- a schedule is a journal's text
+abbrev pub schedule_status : Refuse JournalFault → Status
+schedule_status (refuse.Bad fault) = status.Schedule fault.line fault.cause
+schedule_status refuse.NoMemory = status.NoMemory
+
+abbrev pub ports_status : Refuse PortsCause → Status
+ports_status (refuse.Bad cause) = status.Ports cause
+ports_status refuse.NoMemory = status.NoMemory
 
 abbrev pub beats_status : Refuse BeatsFault → Status
 beats_status (refuse.Bad fault) = status.Beats fault.line fault.cause

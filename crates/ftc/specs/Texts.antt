@@ -4,32 +4,24 @@ use Rattle.ftc_outside.specs.Desk.{Files}
 use Rattle.ftc_pcap.specs.Grammar.{Spells}
 use Rattle.ftc_pcap.specs.declared.capture.Capture.{Capture}
 use Rattle.ftc_mbox.specs.Chain.{Chain}
-use Rattle.ftc_conf.specs.Grammar.{chain_within}
-use Rattle.ftc_conf.specs.declared.limits.TheConstants.{MOST_FAILURES}
+use Rattle.ftc_conf.specs.Grammar.{chain_of}
 use Rattle.ftc_ring.specs.Ring.{RingShape}
 use Rattle.ftc_script.specs.Script.{ScriptShape}
 use Rattle.ftc_script.specs.Grammar.{script_of}
 use Rattle.ftc_journal.specs.Reading.{journal_of}
 use Rattle.ftc_journal.specs.declared.event.Event.{Event}
-use Rattle.ftc_words.specs.Command.{Named}
-use Rattle.ftc.specs.declared.limits.TheConstants.{MOST_RUN_FAILURES}
+use Rattle.ftc_words.specs.Command.{Named, Mode, alone}
 
--- The file of that name spells this chain, of whose servers at most so many may be down at once; or this capture.
-pub record HasChain (most : ℕ) (name : List ℕ) (files : Files) (chain : Chain) : Type 0 where
+-- The file of that name spells this chain, or this capture.
+pub record HasChain (name : List ℕ) (files : Files) (chain : Chain) : Type 0 where
   pub text : List ℕ
   pub file : files name ≡ Some text
-  pub right : chain_within most text ≡ Ok chain
+  pub right : chain_of text ≡ Ok chain
 
 pub record HasCapture (name : List ℕ) (files : Files) (capture : Capture) : Type 0 where
   pub text : List ℕ
   pub file : files name ≡ Some text
   pub right : Spells text capture
-
--- What a run is given: as yet a chain whose servers may not be down, and an empty script.
-pub record AreTexts (names : Named) (files : Files) (chain : Chain) (capture : Capture) : Type 0 where
-  pub chain_right : HasChain MOST_RUN_FAILURES names.chain files chain
-  pub capture_right : HasCapture names.capture files capture
-  pub script_empty : files names.script ≡ Some []
 
 -- the ring of a chain
 abbrev pub ring_of : Chain → RingShape
@@ -48,6 +40,16 @@ pub record HasJournal (name : List ℕ) (files : Files) (journal : List Event) :
 
 -- A chain, a capture and a script that are right.
 pub record AreInputs (names : Named) (files : Files) (chain : Chain) (capture : Capture) (script : ScriptShape) : Type 0 where
-  pub chain_right : HasChain MOST_FAILURES names.chain files chain
+  pub chain_right : HasChain names.chain files chain
   pub capture_right : HasCapture names.capture files capture
   pub script_right : HasScript names.script files chain (length capture.packets) script
+
+-- the schedule by which a chain is run: the events of the file that is named, and none where none is
+abbrev pub HasSchedule : Mode → Files → List Event → Type 0
+HasSchedule (alone name move) files schedule = HasJournal name files schedule
+HasSchedule other files schedule = schedule ≡ []
+
+-- What a run is given.
+pub record AreTexts (names : Named) (mode : Mode) (files : Files) (chain : Chain) (capture : Capture) (script : ScriptShape) (schedule : List Event) : Type 0 where
+  pub inputs : AreInputs names files chain capture script
+  pub schedule_right : HasSchedule mode files schedule

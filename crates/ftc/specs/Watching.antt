@@ -3,7 +3,6 @@ use Rattle.std.specs.Prelude.{◌≡◌, ◌⊎◌, ℕ, List, [], ◌∷◌, le
 use Rattle.ftc_outside.specs.Desk.{Files, SameFiles, GrewAt, MayHaveGrownAt}
 use Rattle.ftc_pcap.specs.declared.capture.Capture.{Capture}
 use Rattle.ftc_mbox.specs.Chain.{Chain}
-use Rattle.ftc_conf.specs.declared.limits.TheConstants.{MOST_FAILURES}
 use Rattle.ftc_ring.specs.Ring.{RingShape}
 use Rattle.ftc_script.specs.Script.{ScriptShape}
 use Rattle.ftc_script.specs.Plain.{plain_text, steps_in}
@@ -47,7 +46,7 @@ pub record HasBeats (name : List ℕ) (files : Files) (ring : RingShape) (packet
 pub record AreBeats (names : WatchNamed) (files : Files) (beats : BeatsShape) : Type 0 where
   pub chain : Chain
   pub capture : Capture
-  pub chain_right : HasChain MOST_FAILURES names.chain files chain
+  pub chain_right : HasChain names.chain files chain
   pub capture_right : HasCapture names.capture files capture
   pub beats_right : HasBeats names.beats files (ring_of chain) (length capture.packets) beats
 
@@ -59,8 +58,8 @@ IsWrongBeats ring packets text other = ⊥
 -- a text is refused, or it is right and one behind it is refused
 abbrev pub IsWatchRefused : Type 0 → WatchNamed → Files → Status → Type 0
 IsWatchRefused sound names files ending =
-    IsTextRefused sound files names.chain (IsWrongChain MOST_FAILURES) ending
-    ⊎ ((chain : Chain) × HasChain MOST_FAILURES names.chain files chain
+    IsTextRefused sound files names.chain IsWrongChain ending
+    ⊎ ((chain : Chain) × HasChain names.chain files chain
     × (IsTextRefused sound files names.capture IsWrongCapture ending
     ⊎ ((capture : Capture) × HasCapture names.capture files capture × IsTextRefused sound files names.beats
     (IsWrongBeats (ring_of chain) (length capture.packets)) ending)))

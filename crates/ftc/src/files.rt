@@ -2,24 +2,21 @@
 
 ghost use Rattle.std.specs.Prelude.{◌≡◌, ◌≢◌, ◌≤◌, length, Err, IfOk, IfErr};
 ghost use Rattle.ftc_outside.specs.Desk.{SameFiles, Rose};
-ghost use Rattle.ftc_ring.specs.Ring.{IsRing};
 ghost use Rattle.ftc_script.specs.Script.{IsScript};
-ghost use Rattle.ftc.specs.Answers.{IsCheckAnswer};
+ghost use Rattle.ftc.specs.Answers.{IsJournalAnswer, IsCheckAnswer};
 ghost use Rattle.ftc_words.specs.Shown.{named_of};
-ghost use Rattle.ftc.specs.Texts.{ring_of, HasScript, HasJournal};
+ghost use Rattle.ftc.specs.Texts.{ring_of, HasJournal};
 ghost use Rattle.ftc.specs.Checking.{AreChecked};
-ghost use Rattle.ftc.specs.Refused.{IsTextRefused, IsWrongScript, IsWrongJournal, IsCheckRefused};
+ghost use Rattle.ftc.specs.Refused.{IsTextRefused, IsWrongJournal, IsCheckRefused};
 
 use crate::status::Status;
-use crate::texts::{fetch_capture, fetch_chain};
+use crate::texts::{fetch_capture, fetch_chain, fetch_script};
 use ftc_base::Bytes;
-use ftc_conf::limits::MOST_FAILURES;
 use ftc_journal::{Journal, read};
 use ftc_mbox::ChainSpec;
 use ftc_outside::Desk;
 use ftc_pcap::Capture;
-use ftc_ring::Ring;
-use ftc_script::{Script, accepted, read_script};
+use ftc_script::Script;
 use ftc_words::Names;
 use std::alloc::Global;
 
@@ -34,51 +31,12 @@ pub struct RunFiles {
     pub report: Bytes,
 }
 
-/// The ring of a chain.
-pub fn ring_of(spec: &ChainSpec) -> Ring
-    ensures same { result ≡ ring_of spec.now }
-    ensures right { IsRing result }
-{
-    match Ring::new(spec.rules().len() as u8, spec.failures()) {
-        Some(ring) => ring,
-        None => unreachable!(),
-    }
-}
-
-/// Fetches and reads the script of a run of this chain on so many packets.
-fn fetch_script<D: Desk>(
-    alloc: Global,
-    name: &str,
-    spec: &ChainSpec,
-    packets: u32,
-    desk: &mut D,
-) -> Result<Script, Status>
-    ensures accepted { D.tells desk.old → IfOk result (HasScript name.now (D.file desk.old) spec.now packets) }
-    ensures ring { IfOk result (λ script. script.ring ≡ ring_of spec.now) }
-    ensures packets { IfOk result (λ script. script.packets ≡ packets) }
-    ensures right { IfOk result IsScript }
-    ensures refused { D.tells desk.old → IfErr result (IsTextRefused (D.sound desk.old) (D.file desk.old) name.now (IsWrongScript (ring_of spec.now) packets)) }
-    ensures known { IfErr result (λ ending. ending ≢ Status.Usage) }
-    ensures answer { IfErr result IsCheckAnswer }
-    ensures files { D.tells desk.old → SameFiles (D.file desk.old) (D.file desk.new) }
-    ensures tells { D.tells desk.old → D.tells desk.new }
-    ensures sound { D.sound desk.old → D.sound desk.new }
-    ensures count { D.faults desk.old ≤ D.faults desk.new }
-    ensures cause { result ≡ Err Status.DeskFault → Rose (D.faults desk.old) (D.faults desk.new) }
-    ensures still { result ≢ Err Status.DeskFault → D.faults desk.new ≡ D.faults desk.old }
-{
-    accepted();
-    let text = desk.fetch(alloc, name)?;
-    let script = read_script(alloc, text.as_slice(), &ring_of(spec), packets)?;
-    Ok(script)
-}
-
 /// Fetches and reads the journal.
-fn fetch_journal<D: Desk>(alloc: Global, name: &str, desk: &mut D) -> Result<Journal, Status>
+pub fn fetch_journal<D: Desk>(alloc: Global, name: &str, desk: &mut D) -> Result<Journal, Status>
     ensures accepted { D.tells desk.old → IfOk result (λ journal. HasJournal name.now (D.file desk.old) journal.items) }
     ensures refused { D.tells desk.old → IfErr result (IsTextRefused (D.sound desk.old) (D.file desk.old) name.now IsWrongJournal) }
     ensures known { IfErr result (λ ending. ending ≢ Status.Usage) }
-    ensures answer { IfErr result IsCheckAnswer }
+    ensures answer { IfErr result IsJournalAnswer }
     ensures files { D.tells desk.old → SameFiles (D.file desk.old) (D.file desk.new) }
     ensures tells { D.tells desk.old → D.tells desk.new }
     ensures sound { D.sound desk.old → D.sound desk.new }
@@ -112,7 +70,7 @@ pub fn read_files<D: Desk>(
     ensures cause { result ≡ Err Status.DeskFault → Rose (D.faults desk.old) (D.faults desk.new) }
     ensures still { result ≢ Err Status.DeskFault → D.faults desk.new ≡ D.faults desk.old }
 {
-    let spec = fetch_chain(alloc, names.chain, MOST_FAILURES, desk)?;
+    let spec = fetch_chain(alloc, names.chain, desk)?;
     let capture = fetch_capture(alloc, names.capture, desk)?;
     let packets = capture.packets.len() as u32;
     let script = fetch_script(alloc, names.script, &spec, packets, desk)?;

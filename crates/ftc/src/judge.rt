@@ -11,7 +11,7 @@ use crate::status::Status;
 use ftc_base::NoMemory;
 use ftc_check::{Checked, check, right_runs};
 use ftc_outside::Desk;
-use ftc_protocol::{accepted, losses};
+use ftc_protocol::{accepted, every_moment, losses};
 use ftc_words::Names;
 use std::alloc::Global;
 
@@ -35,6 +35,7 @@ pub fn judge<D: Desk>(alloc: Global, names: Names<'_>, desk: &mut D) -> Status
     let _ = files.spec.rules();
     right_runs();
     losses();
+    every_moment();
     let (out, report) = (files.out.as_slice(), files.report.as_slice());
     let (spec, capture) = (&files.spec, &files.capture);
     match check(

@@ -4,10 +4,9 @@
 mod drive;
 mod files;
 mod judge;
-mod limits;
+mod numbers;
 mod output;
-mod protocol;
-mod report;
+mod porting;
 mod status;
 mod telling;
 mod texts;

@@ -2,8 +2,9 @@
 
 ghost use Rattle.std.specs.Prelude.{◌≡◌, IfOk, string_bytes};
 ghost use Rattle.ftc.specs.declared.status.Status.TheVariants as status;
-ghost use Rattle.ftc.specs.Status.{chain_number, capture_number, journal_number, beats_number, code_of, fault_line, verdict_line, line_of, desk_status, chain_status, capture_status, script_status, journal_status, beats_status};
+ghost use Rattle.ftc.specs.Status.{chain_number, capture_number, journal_number, beats_number, code_of, fault_line, verdict_line, ports_line, line_of, desk_status, chain_status, capture_status, script_status, journal_status, schedule_status, ports_status, beats_status};
 
+use ftc_audit::PortsCause;
 use ftc_base::{Bytes, NoMemory, Refuse};
 use ftc_check::Checked;
 use ftc_conf::{ChainCause, ChainFault};
@@ -22,10 +23,14 @@ pub enum Status {
     Chain { line: u64, cause: ChainCause },
     Capture { at: u64, cause: CaptureCause },
     Script { line: u32, cause: ScriptCause },
+    /// A schedule has the causes of a journal.
+    Schedule { line: u64, cause: JournalCause },
     Journal { line: u64, cause: JournalCause },
     Beats { line: u32, cause: BeatsCause },
     /// What a check says, other than Yes: a check that says Yes is done.
     Check { verdict: Checked },
+    /// Why there is no port table.
+    Ports { cause: PortsCause },
     DeskFault,
     NoMemory,
 }
@@ -74,6 +79,16 @@ fn verdict_words(alloc: Global, verdict: Checked) -> Result<String, AllocError>
     }
 }
 
+/// The line of what is wrong with a port table.
+fn ports_words(alloc: Global, cause: PortsCause) -> Result<String, AllocError>
+    ensures { IfOk result (λ text. string_bytes text ≡ ports_line cause) }
+{
+    match cause {
+        PortsCause::NotNat => format!(in alloc; "ports: not a nat"),
+        PortsCause::BadStep { place } => format!(in alloc; "ports: step {place}"),
+    }
+}
+
 /// The line of a status.
 fn words(alloc: Global, status: Status) -> Result<String, AllocError>
     ensures { IfOk result (λ text. string_bytes text ≡ line_of status) }
@@ -92,6 +107,9 @@ fn words(alloc: Global, status: Status) -> Result<String, AllocError>
         Status::Script { line, cause } => {
             fault_words(alloc, "script: line", u64::from(line), cause.code())
         }
+        Status::Schedule { line, cause } => {
+            fault_words(alloc, "schedule: line", line, journal_number(cause))
+        }
         Status::Journal { line, cause } => {
             fault_words(alloc, "journal: line", line, journal_number(cause))
         }
@@ -99,6 +117,7 @@ fn words(alloc: Global, status: Status) -> Result<String, AllocError>
             fault_words(alloc, "beats: line", u64::from(line), beats_number(cause))
         }
         Status::Check { verdict } => verdict_words(alloc, verdict),
+        Status::Ports { cause } => ports_words(alloc, cause),
         Status::DeskFault => format!(in alloc; "desk: failed"),
         Status::NoMemory => format!(in alloc; "memory: refused"),
     }
@@ -115,11 +134,13 @@ impl Status {
             Status::Chain { .. }
             | Status::Capture { .. }
             | Status::Script { .. }
+            | Status::Schedule { .. }
             | Status::Journal { .. }
             | Status::Beats { .. } => 3,
             Status::DeskFault => 4,
             Status::NoMemory => 5,
             Status::Check { .. } => 6,
+            Status::Ports { .. } => 7,
         }
     }
 
@@ -193,6 +214,27 @@ impl From<Refuse<JournalFault>> for Status {
     fn from(refusal: Refuse<JournalFault>) -> Status {
         match refusal {
             Refuse::Bad(JournalFault { line, cause }) => Status::Journal { line, cause },
+            Refuse::NoMemory => Status::NoMemory,
+        }
+    }
+}
+
+/// How a command ends whose schedule is refused.
+pub fn schedule_status(refusal: Refuse<JournalFault>) -> Status
+    ensures { result ≡ schedule_status refusal }
+{
+    match refusal {
+        Refuse::Bad(JournalFault { line, cause }) => Status::Schedule { line, cause },
+        Refuse::NoMemory => Status::NoMemory,
+    }
+}
+
+impl From<Refuse<PortsCause>> for Status {
+    ghost from_gives = { λ refusal ending. ending ≡ ports_status refusal };
+
+    fn from(refusal: Refuse<PortsCause>) -> Status {
+        match refusal {
+            Refuse::Bad(cause) => Status::Ports { cause },
             Refuse::NoMemory => Status::NoMemory,
         }
     }

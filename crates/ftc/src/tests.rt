@@ -1,9 +1,11 @@
 mod checks;
 mod frames;
+mod ports;
 mod refusals;
 mod runs;
 mod statuses;
 mod watches;
+mod worked;
 
 use ftc_base::Bytes;
 use ftc_outside::MemoryDesk;

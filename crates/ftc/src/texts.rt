@@ -1,21 +1,23 @@
 //! Fetching and reading the texts of a run.
 
-ghost use Rattle.std.specs.Prelude.{◌≡◌, ◌≢◌, ◌≤◌, [], Some, Err, IfOk, IfErr, OnOk};
+ghost use Rattle.std.specs.Prelude.{◌≡◌, ◌≢◌, ◌≤◌, length, Err, IfOk, IfErr};
 ghost use Rattle.ftc_outside.specs.Desk.{SameFiles, Rose};
-ghost use Rattle.ftc.specs.Answers.{IsInputAnswer, IsRunAnswer};
-ghost use Rattle.ftc_words.specs.Shown.{named_of};
-ghost use Rattle.ftc.specs.declared.limits.TheConstants.{MOST_RUN_FAILURES};
-ghost use Rattle.ftc.specs.Texts.{HasChain, HasCapture, AreTexts};
-ghost use Rattle.ftc.specs.Refused.{IsTextRefused, IsWrongChain, IsWrongCapture, IsSomeScript, IsRunRefused};
+ghost use Rattle.ftc_ring.specs.Ring.{IsRing};
+ghost use Rattle.ftc_script.specs.Script.{IsScript};
+ghost use Rattle.ftc.specs.Answers.{IsInputAnswer, IsScriptAnswer, IsRunAnswer};
+ghost use Rattle.ftc_words.specs.Shown.{named_of, shown_mode};
+ghost use Rattle.ftc.specs.Texts.{ring_of, HasChain, HasCapture, HasScript, HasSchedule, AreTexts};
+ghost use Rattle.ftc.specs.Refused.{IsTextRefused, IsWrongChain, IsWrongCapture, IsWrongScript, IsScheduleRefused, IsRunRefused};
 
-use crate::limits::MOST_RUN_FAILURES;
-use crate::status::Status;
-use ftc_conf::{bounded, read_chain_within};
+use crate::status::{Status, schedule_status};
+use ftc_conf::read_chain;
+use ftc_journal::{Journal, read};
 use ftc_mbox::ChainSpec;
 use ftc_outside::Desk;
 use ftc_pcap::{Capture, read_capture};
-use ftc_script::ScriptCause;
-use ftc_words::Names;
+use ftc_ring::Ring;
+use ftc_script::{Script, accepted, read_script};
+use ftc_words::{Mode, Names};
 use std::alloc::Global;
 
 /// What the texts of a run say.
@@ -23,18 +25,25 @@ use std::alloc::Global;
 pub struct Texts {
     pub spec: ChainSpec,
     pub capture: Capture,
+    pub script: Script,
+    pub schedule: Journal,
 }
 
-/// Fetches and reads the chain. It is refused where more servers than so many may be down at once.
-pub fn fetch_chain<D: Desk>(
-    alloc: Global,
-    name: &str,
-    most: u8,
-    desk: &mut D,
-) -> Result<ChainSpec, Status>
-    ensures accepted { D.tells desk.old → IfOk result (HasChain most name.now (D.file desk.old)) }
-    ensures within { IfOk result (λ spec. spec.failures ≤ most) }
-    ensures refused { D.tells desk.old → IfErr result (IsTextRefused (D.sound desk.old) (D.file desk.old) name.now (IsWrongChain most)) }
+/// The ring of a chain.
+pub fn ring_of(spec: &ChainSpec) -> Ring
+    ensures same { result ≡ ring_of spec.now }
+    ensures right { IsRing result }
+{
+    match Ring::new(spec.rules().len() as u8, spec.failures()) {
+        Some(ring) => ring,
+        None => unreachable!(),
+    }
+}
+
+/// Fetches and reads the chain.
+pub fn fetch_chain<D: Desk>(alloc: Global, name: &str, desk: &mut D) -> Result<ChainSpec, Status>
+    ensures accepted { D.tells desk.old → IfOk result (HasChain name.now (D.file desk.old)) }
+    ensures refused { D.tells desk.old → IfErr result (IsTextRefused (D.sound desk.old) (D.file desk.old) name.now IsWrongChain) }
     ensures known { IfErr result (λ ending. ending ≢ Status.Usage) }
     ensures answer { IfErr result IsInputAnswer }
     ensures files { D.tells desk.old → SameFiles (D.file desk.old) (D.file desk.new) }
@@ -44,9 +53,8 @@ pub fn fetch_chain<D: Desk>(
     ensures cause { result ≡ Err Status.DeskFault → Rose (D.faults desk.old) (D.faults desk.new) }
     ensures still { result ≢ Err Status.DeskFault → D.faults desk.new ≡ D.faults desk.old }
 {
-    bounded();
     let text = desk.fetch(alloc, name)?;
-    let spec = read_chain_within(alloc, text.as_slice(), most)?;
+    let spec = read_chain(alloc, text.as_slice())?;
     Ok(spec)
 }
 
@@ -68,12 +76,21 @@ pub fn fetch_capture<D: Desk>(alloc: Global, name: &str, desk: &mut D) -> Result
     Ok(capture)
 }
 
-/// Fetches the script. As yet every script that says something is refused.
-fn fetch_script<D: Desk>(alloc: Global, name: &str, desk: &mut D) -> Result<(), Status>
-    ensures accepted { D.tells desk.old → OnOk result (D.file desk.old name.now ≡ Some []) }
-    ensures refused { D.tells desk.old → IfErr result (IsTextRefused (D.sound desk.old) (D.file desk.old) name.now IsSomeScript) }
+/// Fetches and reads the script of a run of this chain on so many packets.
+pub fn fetch_script<D: Desk>(
+    alloc: Global,
+    name: &str,
+    spec: &ChainSpec,
+    packets: u32,
+    desk: &mut D,
+) -> Result<Script, Status>
+    ensures accepted { D.tells desk.old → IfOk result (HasScript name.now (D.file desk.old) spec.now packets) }
+    ensures ring { IfOk result (λ script. script.ring ≡ ring_of spec.now) }
+    ensures packets { IfOk result (λ script. script.packets ≡ packets) }
+    ensures right { IfOk result IsScript }
+    ensures refused { D.tells desk.old → IfErr result (IsTextRefused (D.sound desk.old) (D.file desk.old) name.now (IsWrongScript (ring_of spec.now) packets)) }
     ensures known { IfErr result (λ ending. ending ≢ Status.Usage) }
-    ensures answer { IfErr result IsRunAnswer }
+    ensures answer { IfErr result IsScriptAnswer }
     ensures files { D.tells desk.old → SameFiles (D.file desk.old) (D.file desk.new) }
     ensures tells { D.tells desk.old → D.tells desk.new }
     ensures sound { D.sound desk.old → D.sound desk.new }
@@ -81,19 +98,16 @@ fn fetch_script<D: Desk>(alloc: Global, name: &str, desk: &mut D) -> Result<(), 
     ensures cause { result ≡ Err Status.DeskFault → Rose (D.faults desk.old) (D.faults desk.new) }
     ensures still { result ≢ Err Status.DeskFault → D.faults desk.new ≡ D.faults desk.old }
 {
+    accepted();
     let text = desk.fetch(alloc, name)?;
-    if text.is_empty() {
-        return Ok(());
-    }
-    let cause = ScriptCause::Word;
-    Err(Status::Script { line: 1, cause })
+    let script = read_script(alloc, text.as_slice(), &ring_of(spec), packets)?;
+    Ok(script)
 }
 
-/// Fetches and reads chain, capture and script in this order, each before the next.
-pub fn read_texts<D: Desk>(alloc: Global, names: Names<'_>, desk: &mut D) -> Result<Texts, Status>
-    ensures accepted { D.tells desk.old → IfOk result (λ texts. AreTexts (named_of names.entry) (D.file desk.old) texts.spec texts.capture) }
-    ensures plain { IfOk result (λ texts. texts.spec.failures ≡ 0) }
-    ensures refused { D.tells desk.old → IfErr result (IsRunRefused (D.sound desk.old) (named_of names.entry) (D.file desk.old)) }
+/// Fetches and reads the schedule, where a run has one. A run without one has the empty schedule.
+fn fetch_schedule<D: Desk>(alloc: Global, mode: Mode<'_>, desk: &mut D) -> Result<Journal, Status>
+    ensures accepted { D.tells desk.old → IfOk result (λ schedule. HasSchedule (shown_mode mode.entry) (D.file desk.old) schedule.items) }
+    ensures refused { D.tells desk.old → IfErr result (IsScheduleRefused (D.sound desk.old) (shown_mode mode.entry) (D.file desk.old)) }
     ensures known { IfErr result (λ ending. ending ≢ Status.Usage) }
     ensures answer { IfErr result IsRunAnswer }
     ensures files { D.tells desk.old → SameFiles (D.file desk.old) (D.file desk.new) }
@@ -103,8 +117,45 @@ pub fn read_texts<D: Desk>(alloc: Global, names: Names<'_>, desk: &mut D) -> Res
     ensures cause { result ≡ Err Status.DeskFault → Rose (D.faults desk.old) (D.faults desk.new) }
     ensures still { result ≢ Err Status.DeskFault → D.faults desk.new ≡ D.faults desk.old }
 {
-    let spec = fetch_chain(alloc, names.chain, MOST_RUN_FAILURES, desk)?;
+    let Mode::Alone { schedule, .. } = mode else {
+        return Ok(Journal::new(alloc));
+    };
+    let text = desk.fetch(alloc, schedule)?;
+    match read(alloc, text.as_slice()) {
+        Ok(events) => Ok(events),
+        Err(refusal) => Err(schedule_status(refusal)),
+    }
+}
+
+/// Fetches and reads chain, capture, script and schedule in this order, each before the next.
+pub fn read_texts<D: Desk>(
+    alloc: Global,
+    names: Names<'_>,
+    mode: Mode<'_>,
+    desk: &mut D,
+) -> Result<Texts, Status>
+    ensures accepted { D.tells desk.old → IfOk result (λ texts. AreTexts (named_of names.entry) (shown_mode mode.entry) (D.file desk.old) texts.spec texts.capture texts.script texts.schedule.items) }
+    ensures ring { IfOk result (λ texts. texts.script.ring ≡ ring_of texts.spec) }
+    ensures packets { IfOk result (λ texts. texts.script.packets ≡ length texts.capture.packets) }
+    ensures refused { D.tells desk.old → IfErr result (IsRunRefused (D.sound desk.old) (named_of names.entry) (shown_mode mode.entry) (D.file desk.old)) }
+    ensures known { IfErr result (λ ending. ending ≢ Status.Usage) }
+    ensures answer { IfErr result IsRunAnswer }
+    ensures files { D.tells desk.old → SameFiles (D.file desk.old) (D.file desk.new) }
+    ensures tells { D.tells desk.old → D.tells desk.new }
+    ensures sound { D.sound desk.old → D.sound desk.new }
+    ensures count { D.faults desk.old ≤ D.faults desk.new }
+    ensures cause { result ≡ Err Status.DeskFault → Rose (D.faults desk.old) (D.faults desk.new) }
+    ensures still { result ≢ Err Status.DeskFault → D.faults desk.new ≡ D.faults desk.old }
+{
+    let spec = fetch_chain(alloc, names.chain, desk)?;
     let capture = fetch_capture(alloc, names.capture, desk)?;
-    fetch_script(alloc, names.script, desk)?;
-    Ok(Texts { spec, capture })
+    let packets = capture.packets.len() as u32;
+    let script = fetch_script(alloc, names.script, &spec, packets, desk)?;
+    let schedule = fetch_schedule(alloc, mode, desk)?;
+    Ok(Texts {
+        spec,
+        capture,
+        script,
+        schedule,
+    })
 }

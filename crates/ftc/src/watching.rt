@@ -7,11 +7,9 @@ ghost use Rattle.ftc.specs.Answers.{IsWatchAnswer};
 ghost use Rattle.ftc.specs.Refused.{IsTextRefused};
 ghost use Rattle.ftc.specs.Watching.{watched_by, HasBeats, AreBeats, IsWrongBeats, IsWatchRefused, AreMade, AreMadeShort, WatchEnds};
 
-use crate::files::ring_of;
 use crate::output::write_text;
 use crate::status::Status;
-use crate::texts::{fetch_capture, fetch_chain};
-use ftc_conf::limits::MOST_FAILURES;
+use crate::texts::{fetch_capture, fetch_chain, ring_of};
 use ftc_outside::{Desk, DeskError};
 use ftc_ring::Ring;
 use ftc_watch::{Beats, Watched, makes_a_script, read_beats, summary, watch};
@@ -69,7 +67,7 @@ fn read_watched<D: Desk>(
     ensures cause { result ≡ Err Status.DeskFault → Rose (D.faults desk.old) (D.faults desk.new) }
     ensures still { result ≢ Err Status.DeskFault → D.faults desk.new ≡ D.faults desk.old }
 {
-    let spec = fetch_chain(alloc, names.chain, MOST_FAILURES, desk)?;
+    let spec = fetch_chain(alloc, names.chain, desk)?;
     let capture = fetch_capture(alloc, names.capture, desk)?;
     let packets = capture.packets.len() as u32;
     let beats = fetch_beats(alloc, names.beats, &ring_of(&spec), packets, desk)?;

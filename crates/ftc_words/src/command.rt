@@ -74,8 +74,10 @@ impl Command<'_> {
         ensures { result ≡ spec_is_built (shown self.now) }
     {
         match self {
-            Command::Run { mode, .. } => matches!(mode, Mode::Plain),
-            Command::Check { .. } | Command::Watch { .. } => true,
+            Command::Run { mode, .. } => {
+                matches!(mode, Mode::Plain | Mode::Alone { moved: None, .. })
+            }
+            Command::Check { .. } | Command::Ports { .. } | Command::Watch { .. } => true,
             _ => false,
         }
     }

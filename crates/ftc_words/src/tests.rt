@@ -130,12 +130,31 @@ fn words_of_no_command(rt: HostRuntime) {
 fn commands_that_are_not_built(rt: HostRuntime) -> Result<(), Fail> {
     let cases: [&[&str]; 3] = [
         &["make", "1", "0", "p"],
-        &["run", "c", "s", "p", "o", "j", "r", "--alone", "e"],
-        &["ports", "c", "p", "j", "0"],
+        &["run", "c", "s", "p", "o", "j", "r", "--workers", "4"],
+        &[
+            "run", "c", "s", "p", "o", "j", "r", "--alone", "e", "--move", "1", "f",
+        ],
     ];
     for words in cases {
         assert!(rt; command_of(words).is_none());
         assert!(rt; read_command(rt.alloc(), words)?.is_none());
+    }
+    Ok(())
+}
+
+#[test]
+fn a_run_by_a_schedule_is_read(rt: HostRuntime) -> Result<(), Fail> {
+    let words = ["run", "--alone", "e", "c", "s", "p", "o", "j", "r"];
+    match read_command(rt.alloc(), &words)? {
+        Some(Command::Run {
+            names,
+            mode: Mode::Alone { schedule, moved },
+        }) => {
+            assert_eq!(rt; names.chain, "c");
+            assert_eq!(rt; schedule, "e");
+            assert!(rt; moved.is_none());
+        }
+        _ => assert!(rt; false),
     }
     Ok(())
 }

@@ -14,7 +14,7 @@ use std::process::Abort;
 use std::test::Fail;
 
 /// The words of a check.
-const CHECK: [&str; 7] = [
+pub const CHECK: [&str; 7] = [
     "check", "chain", "script", "capture", "out", "journal", "report",
 ];
 

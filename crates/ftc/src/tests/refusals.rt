@@ -4,6 +4,7 @@ use crate::status::Status;
 use crate::tests::frames::DATAGRAM;
 use crate::tests::{HEADER, MONITOR, WORDS, capture_of, desk_of};
 use crate::top::run;
+use ftc_base::ServerId;
 use ftc_conf::ChainCause;
 use ftc_outside::{FailingDesk, MemoryDesk};
 use ftc_pcap::CaptureCause;
@@ -58,18 +59,40 @@ fn a_cut_capture(rt: HostRuntime) -> Result<(), Fail> {
     is_refused(&rt, desk, Status::Capture { at: 24, cause })
 }
 
+/// Three monitors, of which one may be down.
+const THREE: &[u8] = b"f 1\npartitions 4\nmonitor 8\nmonitor 8\nmonitor 8\n";
+
 #[test]
-fn a_script_that_says_something(rt: HostRuntime) -> Result<(), Fail> {
-    let mut desk = desk_of(&rt, MONITOR, &HEADER)?;
-    desk.put("script", b"\nlose 0 0\n")?;
-    let cause = ScriptCause::Word;
-    is_refused(&rt, desk, Status::Script { line: 1, cause })
+fn faulty_scripts(rt: HostRuntime) -> Result<(), Fail> {
+    let group = ServerId::new(1).expect(&rt, "a group");
+    let server = ServerId::new(2).expect(&rt, "a server");
+    let cases: [(&[u8], u32, ScriptCause); 5] = [
+        (
+            b"at 0 crash 1\nat 0 crash 2\n",
+            2,
+            ScriptCause::GroupGone { group },
+        ),
+        (b"at 0 crash 2\n", 2, ScriptCause::LeftDown { server }),
+        (b"at 0 recover 0\n", 1, ScriptCause::NotDown),
+        (b"fail 0\n", 1, ScriptCause::Word),
+        (b"\nlose 3 0\n", 2, ScriptCause::Link),
+    ];
+    let capture = capture_of(&rt, &[&DATAGRAM])?;
+    for (script, line, cause) in cases {
+        let mut desk = desk_of(&rt, THREE, capture.as_slice())?;
+        desk.put("script", script)?;
+        is_refused(&rt, desk, Status::Script { line, cause })?;
+    }
+    Ok(())
 }
 
 #[test]
 fn words_that_are_no_command(rt: HostRuntime) -> Result<(), Fail> {
-    let cases: [&[&str]; 8] = [
+    let cases: [&[&str]; 11] = [
         &["run", "a", "b", "c", "d", "e", "e"],
+        &["run", "a", "b", "c", "d", "e", "f", "--alone"],
+        &["run", "a", "b", "c", "d", "e", "f", "--alone", "f"],
+        &["run", "--alone", "g", "a", "b", "c", "d", "e", "f", "--alone", "h"],
         &["run", "a", "b", "c", "d", "e", "-"],
         &["run", "a", "b", "c", "d", "e", "f", "g"],
         &["run", "a", "b", "c", "d", "e", ""],

@@ -2,6 +2,7 @@
 
 use crate::status::Status;
 use crate::telling::tell;
+use ftc_audit::PortsCause;
 use ftc_check::Checked;
 use ftc_conf::ChainCause;
 use ftc_journal::JournalCause;
@@ -15,7 +16,7 @@ fn codes_and_lines(rt: HostRuntime) -> Result<(), Fail> {
     let chain = ChainCause::SpareOrder;
     let capture = CaptureCause::Cut;
     let script = ScriptCause::Word;
-    let cases: [(Status, u8, &[u8]); 13] = [
+    let cases: [(Status, u8, &[u8]); 16] = [
         (Status::Done, 0, b""),
         (
             Status::Usage,
@@ -45,6 +46,14 @@ fn codes_and_lines(rt: HostRuntime) -> Result<(), Fail> {
             },
             3,
             b"script: line 1: cause 1",
+        ),
+        (
+            Status::Schedule {
+                line: 1,
+                cause: JournalCause::Header,
+            },
+            3,
+            b"schedule: line 1: cause 1",
         ),
         (
             Status::Journal {
@@ -91,6 +100,20 @@ fn codes_and_lines(rt: HostRuntime) -> Result<(), Fail> {
             },
             6,
             b"check: report byte 0",
+        ),
+        (
+            Status::Ports {
+                cause: PortsCause::NotNat,
+            },
+            7,
+            b"ports: not a nat",
+        ),
+        (
+            Status::Ports {
+                cause: PortsCause::BadStep { place: 12 },
+            },
+            7,
+            b"ports: step 12",
         ),
     ];
     for (status, code, line) in cases {

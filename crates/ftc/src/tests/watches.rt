@@ -1,7 +1,8 @@
 //! Watches over heartbeats.
 
 use crate::status::Status;
-use crate::tests::capture_of;
+use crate::tests::checks::CHECK;
+use crate::tests::{WORDS, capture_of};
 use crate::tests::frames::DATAGRAM;
 use crate::top::run;
 use ftc_outside::{FailingDesk, MemoryDesk};
@@ -35,6 +36,9 @@ fn a_silent_server_is_fenced(rt: HostRuntime) -> Result<(), Fail> {
     assert_eq!(rt; run(&rt, &WATCH, &mut desk), Status::Done);
     assert_eq!(rt; desk.get("script"), Some(SCRIPT));
     assert_eq!(rt; desk.get("-"), Some(TOLD));
+    // The script is one by which the same chain runs.
+    assert_eq!(rt; run(&rt, &WORDS, &mut desk), Status::Done);
+    assert_eq!(rt; run(&rt, &CHECK, &mut desk), Status::Done);
     Ok(())
 }
 

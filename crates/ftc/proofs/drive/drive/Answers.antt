@@ -1,59 +1,48 @@
-use Rattle.std.proofs.Common.{◌≡◌, ℕ, ◌≤◌, List, length, sym, ◌∙◌, arith, subst, add-one}
-use Rattle.std.proofs.lemmas.List.{length-map}
-use Rattle.ftc_mbox.specs.declared.rule.Rule.{Rule}
-use Rattle.ftc_serial.specs.Serial.{State}
-use Rattle.ftc_serial.specs.Trace.{trace_of}
-use Rattle.ftc_serial.specs.Held.{rules_of, state_of}
+use Rattle.std.proofs.Common.{◌≡◌, ◌∙◌, ap, sym, subst, ℕ, List, Some}
+use Rattle.std.specs.List.{AllByRecursion}
+use Rattle.std.specs.Prelude.{IsSome}
+use Rattle.ftc_journal.specs.declared.event.Event.{Event}
+use Rattle.ftc_journal.specs.declared.form.Version.TheVariants as version
+use Rattle.ftc_journal.specs.Spelling.{IsEvent}
+use Rattle.ftc_machine.proofs.RunInputs.{bytes_count}
+use Rattle.ftc_chain.specs.ChainRun.{setting_in}
+use Rattle.ftc_protocol.specs.Drive.{IsDrive}
+use Rattle.ftc_protocol.specs.Setting.{Setting, IsSetting, setting_of}
+use Rattle.ftc_report.proofs.Ended.{has_end}
+use Rattle.ftc_serial.specs.Held.{state_of}
 use Rattle.ftc_serial.specs.Packets.{bytes_of}
-use Rattle.ftc.proofs.Driving.{Driving, Drives, driving_start, driving_more, waits_first, driven, released_visited}
-use Rattle.ftc.specs.Running.{HasCome}
+use Rattle.ftc_serial.specs.Serial.{opening, serial_run}
+use Rattle.ftc_serial.specs.Trace.{trace_of}
+use Rattle.ftc_serial.specs.declared.step.Step.{Step}
+use Rattle.ftc.proofs.DriveLemmas.{is_run, finished_drive}
 use Rattle.ftc.proofs.drive.drive.Goals as goal
 
-pub loop-packet-init : goal.loop-packet-init
-loop-packet-init c = record {
-  rules = c.in_ok-serial.ensures.rules;
-  end = c.len-packet-end.ensures.same;
-  within = omega arith;
-  driving = subst (λ (state : State). Driving c.args.spec.now.rules (bytes_of c.args.packets.now) 0 c.new-journal.result.items state) (sym c.in_ok-serial.ensures.opening)
-      (rw c.new-journal.ensures (driving_start c.args.spec.now.rules (bytes_of c.args.packets.now)));
-}
-
-pub drive_packet-requires : goal.drive_packet-requires
-drive_packet-requires c =
-    let some : 1 ≤ length c.args.spec.now.rules = subst (λ (rules : List Rule). 1 ≤ length rules) c.in_ok-serial.ensures.rules c.in_ok-serial.ensures.some in
-    subst (λ (rules : List Rule). HasCome (length rules) 0 ((state_of c.loop-packet.serial).place c.loop-packet.packet)) (sym c.loop-packet.invariant.rules)
-    (waits_first c.args.spec.now.rules (bytes_of c.args.packets.now) c.loop-packet.packet c.loop-packet.packet c.loop-packet.journal.items (state_of c.loop-packet.serial) some c.loop-packet.invariant.driving (omega arith) (rw (length-map c.args.packets.now (λ p. p.bytes)) (omega (arith, c.loop-packet-test.true, c.len-packet-end.ensures.same))))
-
-drives : (c : goal.In_ok-drive_packet) → Drives c.args.spec.now.rules c.loop-packet.packet c.loop-packet.journal.items (state_of c.loop-packet.serial) c.drive_packet.new.journal.items (state_of c.drive_packet.new.serial)
-drives c =
-    let told : Drives (rules_of c.loop-packet.serial) c.loop-packet.packet c.loop-packet.journal.items (state_of c.loop-packet.serial) c.drive_packet.new.journal.items (state_of c.drive_packet.new.serial) = record {
-      settled = c.in_ok-drive_packet.ensures.settled;
-      events = c.in_ok-drive_packet.ensures.events;
-      goes_on = c.in_ok-drive_packet.ensures.goes_on;
-      others = c.in_ok-drive_packet.ensures.others;
-    } in
-    subst (λ (rules : List Rule). Drives rules c.loop-packet.packet c.loop-packet.journal.items (state_of c.loop-packet.serial) c.drive_packet.new.journal.items (state_of c.drive_packet.new.serial)) c.loop-packet.invariant.rules told
-
-pub loop-packet-preserved : goal.loop-packet-preserved
-loop-packet-preserved c = record {
-  rules = c.in_ok-drive_packet.ensures.rules ∙ c.loop-packet.invariant.rules;
-  end = c.loop-packet.invariant.end;
-  within = omega (arith, c.loop-packet-test.true);
-  driving = rw add-one (driving_more c.args.spec.now.rules (bytes_of c.args.packets.now) c.loop-packet.packet c.loop-packet.journal.items c.drive_packet.new.journal.items (state_of c.loop-packet.serial) (state_of c.drive_packet.new.serial) c.loop-packet.invariant.driving (drives c));
-}
-
--- all packets have been driven through
-at_end : (c : goal.After-loop-packet) → Driving c.args.spec.now.rules (bytes_of c.args.packets.now) (length (bytes_of c.args.packets.now)) c.loop-packet.journal.items (state_of c.loop-packet.serial)
-at_end c =
-    let all : c.loop-packet.packet ≡ length (bytes_of c.args.packets.now) = rw (length-map c.args.packets.now (λ p. p.bytes)) (omega (arith, c.loop-packet-test.false, c.loop-packet.auto.packet-end, c.len-packet-end.ensures.same)) in
-    subst (λ (count : ℕ). Driving c.args.spec.now.rules (bytes_of c.args.packets.now) count c.loop-packet.journal.items (state_of c.loop-packet.serial)) all c.loop-packet.invariant.driving
+pub chain_after-requires : goal.chain_after-requires
+chain_after-requires c =
+    let texts = c.args.texts.now in
+    let packets : List (List ℕ) = bytes_of texts.capture.packets in
+    let setting : Setting = setting_of texts.spec packets texts.script in
+    let journal : List Event = c.run.new.chain.journal in
+    let right : IsSetting setting = c.accepted.ensures.setting texts.spec packets texts.script c.rules.ensures.bounds c.ring.ensures.accepted
+        c.requires.ring (c.requires.packets ∙ sym (bytes_count texts.capture.packets)) in
+    let chosen : ∥ IsDrive setting texts.schedule.items journal ∥₁ =
+        subst (λ (given : Setting). ∥ IsDrive given texts.schedule.items journal ∥₁) (ap setting_in c.in_ok-chain.ensures) c.in_ok-run.ensures.ok in
+    let steps : c.in_ok-trace.trace ≡ trace_of journal = c.in_ok-trace.ensures ∙ ap trace_of c.journal-journal.ensures.same in
+    subst (λ (taken : List Step). IsSome (serial_run texts.spec.rules (opening packets) taken)) (sym steps)
+    (has_end setting journal c.serial_of_a_run.ensures ∣ right ∣₁ (is_run c.drive.ensures.run setting texts.schedule.items journal chosen))
 
 pub returns-clause-driven : goal.returns-clause-driven
-returns-clause-driven c = driven c.args.spec.now.rules (bytes_of c.args.packets.now) c.loop-packet.journal.items (state_of c.loop-packet.serial) (at_end c)
-
-pub returns-clause-visited : goal.returns-clause-visited
-returns-clause-visited c = released_visited c.args.spec.now.rules (bytes_of c.args.packets.now) c.loop-packet.packet c.loop-packet.journal.items (state_of c.loop-packet.serial) c.loop-packet.invariant.driving
-
-pub returns-clause-writable : goal.returns-clause-writable
-returns-clause-writable c = c.released_fit.ensures c.args.spec.now.rules (trace_of c.loop-packet.journal.items) (state_of c.loop-packet.serial)
-    (driven c.args.spec.now.rules (bytes_of c.args.packets.now) c.loop-packet.journal.items (state_of c.loop-packet.serial) (at_end c)).run
+returns-clause-driven c =
+    let texts = c.args.texts.now in
+    let packets : List (List ℕ) = bytes_of texts.capture.packets in
+    let setting : Setting = setting_of texts.spec packets texts.script in
+    let journal : List Event = c.run.new.chain.journal in
+    let right : IsSetting setting = c.accepted.ensures.setting texts.spec packets texts.script c.rules.ensures.bounds c.ring.ensures.accepted
+        c.requires.ring (c.requires.packets ∙ sym (bytes_count texts.capture.packets)) in
+    let chosen : ∥ IsDrive setting texts.schedule.items journal ∥₁ =
+        subst (λ (given : Setting). ∥ IsDrive given texts.schedule.items journal ∥₁) (ap setting_in c.in_ok-chain.ensures) c.in_ok-run.ensures.ok in
+    let steps : c.in_ok-trace.trace ≡ trace_of journal = c.in_ok-trace.ensures ∙ ap trace_of c.journal-journal.ensures.same in
+    finished_drive c.drive.ensures.run setting texts.schedule.items journal (state_of c.in_ok-serial.serial) right chosen
+    (subst (λ (taken : List Step). serial_run texts.spec.rules (opening packets) taken ≡ Some (state_of c.in_ok-serial.serial)) steps
+    c.in_ok-serial.ensures.state)
+    (subst (λ (events : List Event). AllByRecursion (IsEvent version.Second) events) c.journal-journal.ensures.same c.numbers_fit.ensures)

@@ -4,6 +4,7 @@ use Rattle.ftc_machine.proofs.RunInputs.{bytes_count}
 use Rattle.ftc_protocol.specs.Setting.{Setting, IsSetting, setting_of}
 use Rattle.ftc_check.specs.Verdict.{IsVerdict}
 use Rattle.ftc_check.specs.declared.verdict.Checked.TheVariants.{Yes}
+use Rattle.ftc.proofs.Moments.{sound_throughout}
 use Rattle.ftc.proofs.Refusing.{judges_refused}
 use Rattle.ftc.proofs.judge.judge.Goals as goal
 
@@ -30,6 +31,7 @@ returns-in-Ok-Yes-clause-judges g c = λ tells.
         checked = c.in-Ok.ensures.accepted tells;
         verdict_right = verdict;
       };
+      sound = sound_throughout c.every_moment.ensures setting is files.journal.items verdict.whole.run;
       visited = c.right_runs.ensures.visited setting is files.capture files.out files.journal.items files.report verdict;
       settled = λ packet below. c.right_runs.ensures.settled setting is files.capture files.out files.journal.items files.report verdict packet (rw (bytes_count files.capture.packets) below);
       causes = λ packet number below. c.losses.ensures.place setting files.journal.items packet number;

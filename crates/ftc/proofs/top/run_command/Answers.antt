@@ -1,12 +1,14 @@
-use Rattle.std.proofs.Common.{◌≡◌, true, Some, subst}
+use Rattle.std.proofs.Common.{◌≡◌, ℕ, true, Some, subst}
 use Rattle.std.specs.List.{list_all}
 use Rattle.ftc_words.specs.declared.command.Command.{Command}
 use Rattle.ftc_words.specs.Given.{is_name}
 use Rattle.ftc_words.specs.Command.{are_distinct, files_of, named_by, IsWithin}
 use Rattle.ftc_words.specs.Shown.{named_of, shown_mode, shown}
+use Rattle.ftc.specs.Porting.{port_names, PortsEnd}
 use Rattle.ftc.specs.Ended.{HasTexts, HasFiles, HasRightRun, WasLeft}
 use Rattle.ftc.proofs.Agreeing.{Laws, agrees, completes, judges_all}
 use Rattle.ftc.proofs.DistinctLemmas.{run_differs}
+use Rattle.ftc.proofs.PortLemmas.{ports_complete, some_is}
 use Rattle.ftc.proofs.WatchLemmas.{no_output, watch_completes}
 use Rattle.ftc.proofs.top.run_command.Goals as goal
 
@@ -22,8 +24,8 @@ returns-in-Run-clause-complete g c = λ tells texts still.
       no_fault = c.one_fault.ensures.none;
       one_verdict = c.one_verdict.ensures;
     } in
-    let (chain, capture, are) = subst (λ (command : Command). HasTexts (Some (shown command)) (g.D.Desk.file c.args.desk.now)) c.in-Run.is texts in
-    completes laws _ (g.D.Desk.file c.args.desk.now) chain capture are _ _ c.run_names.result (c.run_names.ensures.ends tells) (λ failed. still (c.run_names.ensures.cause failed))
+    let (chain, capture, script, schedule, are) = subst (λ (command : Command). HasTexts (Some (shown command)) (g.D.Desk.file c.args.desk.now)) c.in-Run.is texts in
+    completes laws _ _ (g.D.Desk.file c.args.desk.now) chain capture script schedule are _ _ c.run_names.result (c.run_names.ensures.ends tells) (λ failed. still (c.run_names.ensures.cause failed))
 
 pub returns-in-Check-clause-complete_check : goal.returns-in-Check-clause-complete_check
 returns-in-Check-clause-complete_check g c = λ tells files still.
@@ -53,7 +55,7 @@ returns-in-Check-clause-agrees g c = λ tells files.
       one_verdict = c.one_verdict.ensures;
     } in
     let left = subst (λ (command : Command). WasLeft (Some (shown command)) (g.D.Desk.file c.args.desk.now)) c.in-Check.is files in
-    agrees laws _ (g.D.Desk.file c.args.desk.now) left.1.right _ c.judge.result (c.judge.ensures.judges tells)
+    agrees laws _ (g.D.Desk.file c.args.desk.now) left.2.right _ c.judge.result (c.judge.ensures.judges tells)
 
 pub watch_beats-requires : goal.watch_beats-requires
 watch_beats-requires g c = record {
@@ -70,3 +72,18 @@ returns-in-Watch-clause-complete g c = λ tells texts still.
     } in
     let (beats, given) = subst (λ (command : Command). HasTexts (Some (shown command)) (g.D.Desk.file c.args.desk.now)) c.in-Watch.is texts in
     watch_completes laws _ (g.D.Desk.file c.args.desk.now) beats given _ _ _ c.watch_beats.result (c.watch_beats.ensures.ends tells) (λ failed. still (c.watch_beats.ensures.cause failed))
+
+pub returns-in-Ports-clause-complete : goal.returns-in-Ports-clause-complete
+returns-in-Ports-clause-complete g c = λ tells texts still.
+    let laws : Laws = record {
+      one_capture = c.one_reading.ensures;
+      no_fault = c.one_fault.ensures.none;
+      one_verdict = c.one_verdict.ensures;
+    } in
+    let (lines, given) = subst (λ (command : Command). HasTexts (Some (shown command)) (g.D.Desk.file c.args.desk.now)) c.in-Ports.is texts in
+    let names = port_names c.in-Ports.chain.now c.in-Ports.capture.now c.in-Ports.journal.now in
+    let same : c.unwrap.result ≡ c.in-Ports.server = some_is c.new.result c.unwrap.result c.in-Ports.server c.unwrap.ensures c.new.ensures.same in
+    let ends = subst (λ (server : ℕ). PortsEnd (g.D.Desk.sound c.args.desk.now) names server (g.D.Desk.file c.args.desk.now)
+        (g.D.Desk.file c.tell_ports.new.desk) c.tell_ports.result) same (c.tell_ports.ensures.ends tells) in
+    ports_complete laws names c.in-Ports.server (g.D.Desk.file c.args.desk.now) lines given _ _ c.tell_ports.result ends
+    (λ failed. still (c.tell_ports.ensures.cause failed))
