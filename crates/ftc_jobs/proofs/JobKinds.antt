@@ -81,6 +81,7 @@ none_before logs before after log rise parts any =
     not_behind : (one log : Logged) → one.origin ≡ log.origin → one.group ≡ log.group → IsBehind one.origin one.group log → ⊥
     not_behind one log origin group (inl less) = omega (arith, origin, less)
     not_behind one log origin group (inr same) = let less = same.1 in omega (arith, group, less)
+
     at_item : (before : List Logged) (item : Logged) (after : List Logged) →
         AllByRecursion (λ (one : Logged). IsBehind one.origin one.group log) (before ++ item ∷ after) →
         IsBehind item.origin item.group log
@@ -96,6 +97,7 @@ same_apply server origin one other same = (ap packet_in same, ap group_in same)
     packet_in : Job → ℕ
     packet_in (Apply at own group packet) = packet
     packet_in other = 0
+
     group_in : Job → ℕ
     group_in (Apply at own group packet) = group
     group_in other = 0
@@ -267,11 +269,13 @@ module _ (setting : Setting) (state : ChainState) where
         early : (job : Job) → IsOfLogs server origin logs job ⊎ (Visit server origin ≡ job) → kind_of job ≤ 1
         early job (inl of) = let is = (apply_of_logs job of).1 in omega (arith, is)
         early job (inr same) = let is = kind_is (Visit server origin) job 1 same refl in omega (arith, is)
+
         earlier : (job : Job) → (IsOfLogs server origin logs job ⊎ (Visit server origin ≡ job)) ⊎ (Pass server origin ≡ job) →
             kind_of job ≤ 2
         earlier job (inl (inl of)) = let is = (apply_of_logs job of).1 in omega (arith, is)
         earlier job (inl (inr same)) = let is = kind_is (Visit server origin) job 1 same refl in omega (arith, is)
         earlier job (inr same) = let is = kind_is (Pass server origin) job 2 same refl in omega (arith, is)
+
         earliest : (job : Job) →
             ((IsOfLogs server origin logs job ⊎ (Visit server origin ≡ job)) ⊎ (Pass server origin ≡ job))
             ⊎ (Lose server origin ≡ job) → kind_of job ≤ 3
@@ -339,6 +343,7 @@ module _ (setting : Setting) (state : ChainState) where
       to : (job : Job) → (Pull link ≡ job) ⊎ ((origin : ℕ) × (job ≡ Take link origin)) → IsOfLink link job
       to job (inl is) = subst (IsOfLink link) is refl
       to job (inr is) = subst (IsOfLink link) (sym is.1) refl
+
       from : (job : Job) → IsOfLink link job → (Pull link ≡ job) ⊎ ((origin : ℕ) × (job ≡ Take link origin))
       from (Pull other) is = inl (ap (λ (l : ℕ). Pull l) (sym is))
       from (Take other origin) is = inr (origin, ap (λ (l : ℕ). Take l origin) is)
@@ -429,6 +434,7 @@ module _ (setting : Setting) (state : ChainState) where
           IsOfLogs server origin (take place logs ++ log ∷ []) job
       to job (inl of) = any_one _ (take place logs) (log ∷ []) of
       to job (inr same) = any_other _ (take place logs) (log ∷ []) (inl same)
+
       from : (job : Job) → IsOfLogs server origin (take place logs ++ log ∷ []) job →
           IsOfLogs server origin (take place logs) job ⊎ (job ≡ Apply server origin log.group log.origin)
       from job of = elim (any_either _ (take place logs) (log ∷ []) of) [
@@ -462,6 +468,7 @@ module _ (setting : Setting) (state : ChainState) where
           IsOfHeld server (take place items ++ held ∷ []) job
       to job (inl of) = any_one _ (take place items) (held ∷ []) of
       to job (inr own) = any_other _ (take place items) (held ∷ []) (inl own)
+
       from : (job : Job) → IsOfHeld server (take place items ++ held ∷ []) job →
           IsOfHeld server (take place items) job ⊎ IsOfMessage server held.message.origin job
       from job of = elim (any_either _ (take place items) (held ∷ []) of) [
@@ -510,9 +517,11 @@ module _ (setting : Setting) (state : ChainState) where
       few_kinds (Recover at) of = absurd of.1
       few_kinds (Pull link) of = absurd of.1
       few_kinds (Propagate origin) of = absurd of.1
+
       many_kinds : (job : Job) → (Crash server ≡ job) ⊎ (Recover server ≡ job) → 5 ≤ kind_of job
       many_kinds job (inl is) = let kind = ap kind_of (sym is) in omega (arith, kind)
       many_kinds job (inr is) = let kind = ap kind_of (sym is) in omega (arith, kind)
+
       of_messages : (job : Job) → IsOfMessages server job → IsOfServer server job
       of_messages (Apply at own group packet) of = of
       of_messages (Visit at packet) of = of
@@ -525,10 +534,12 @@ module _ (setting : Setting) (state : ChainState) where
       of_messages (Recover at) of = absurd of.1
       of_messages (Pull link) of = of
       of_messages (Propagate origin) of = of
+
       to : (job : Job) → ((Crash server ≡ job) ⊎ (Recover server ≡ job)) ⊎ IsOfMessages server job → IsOfServer server job
       to job (inl (inl is)) = subst (IsOfServer server) is refl
       to job (inl (inr is)) = subst (IsOfServer server) is refl
       to job (inr of) = of_messages job of
+
       from : (job : Job) → IsOfServer server job → ((Crash server ≡ job) ⊎ (Recover server ≡ job)) ⊎ IsOfMessages server job
       from (Crash at) is = inl (inl (ap (λ (s : ℕ). Crash s) (sym is)))
       from (Recover at) is = inl (inr (ap (λ (s : ℕ). Recover s) (sym is)))
@@ -615,6 +626,7 @@ module _ (setting : Setting) (state : ChainState) where
       early : (job : Job) → IsOfLinks job ⊎ IsOfServers job → group_of job ≤ 1
       early job (inl of) = let is = link_group job of in omega (arith, is)
       early job (inr of) = let is = server_group job of in omega (arith, is)
+
       earlier : (job : Job) → (IsOfLinks job ⊎ IsOfServers job) ⊎ IsEnter job → group_of job ≤ 2
       earlier job (inl of) = let is = early job of in omega (arith, is)
       earlier job (inr of) = let is = ap group_of of.1 in omega (arith, is)

@@ -1,6 +1,6 @@
 //! What is lost at a server that is down.
 
-use crate::trial::{A, NO_EVENTS, TWO, Change, Trial};
+use crate::trial::{A, Change, NO_EVENTS, TWO, Trial};
 
 pub const DOWN: [Trial; 2] = [
     Trial {

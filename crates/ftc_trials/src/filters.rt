@@ -1,6 +1,6 @@
 //! Packets that a firewall filters.
 
-use crate::trial::{A, NO_EVENTS, Change, Trial};
+use crate::trial::{A, Change, NO_EVENTS, Trial};
 
 /// A monitor, a firewall that denies everything, and a server that passes everything.
 const FILTER: &str = "f 2\npartitions 4\nmonitor 8\nfirewall\npass\n";

@@ -12,8 +12,6 @@ mod ring;
 mod trial;
 mod undone;
 
-pub use trial::{A, C, Change, D, NO_EVENTS, Trial};
-
 use crashes::CRASHES;
 use down::DOWN;
 use filters::FILTERS;
@@ -21,6 +19,7 @@ use losses::LOSSES;
 use readers::READERS;
 use recoveries::RECOVERIES;
 use ring::RING;
+pub use trial::{A, C, Change, D, NO_EVENTS, Trial};
 use undone::UNDONE;
 
 /// All trials, by what they are about.

@@ -1,6 +1,6 @@
 //! Messages that a link loses, and the pulls that make good for them.
 
-use crate::trial::{A, NO_EVENTS, TWO, Change, Trial};
+use crate::trial::{A, Change, NO_EVENTS, TWO, Trial};
 
 /// A run in which link 0 loses packet 0.
 const LOST_PACKET: &str = "ftc-journal 2

@@ -1,6 +1,6 @@
 //! Visits that only read, and servers that only keep copies.
 
-use crate::trial::{A, D, NO_EVENTS, Change, Trial};
+use crate::trial::{A, Change, D, NO_EVENTS, Trial};
 
 /// An address translator and a server that passes everything. Packet D reads what packet A wrote.
 const TRANSLATOR: &str =

@@ -1,7 +1,7 @@
 //! Two servers stop at once and are replaced in one order or the other. Nothing is lost, and the runs have the same
 //! trace.
 
-use crate::trial::{A, NO_EVENTS, Change, Trial};
+use crate::trial::{A, Change, NO_EVENTS, Trial};
 
 /// Four monitors, of which two may be down at once.
 const FOUR: &str = "f 2\npartitions 4\nmonitor 8\nmonitor 8\nmonitor 8\nmonitor 8\n";

@@ -1,6 +1,6 @@
 //! Runs without a fault: logs that ride on messages round the ring.
 
-use crate::trial::{A, NO_EVENTS, THREE, Change, Trial};
+use crate::trial::{A, Change, NO_EVENTS, THREE, Trial};
 
 pub const RING: [Trial; 2] = [
     Trial {

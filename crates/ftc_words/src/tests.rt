@@ -146,10 +146,12 @@ fn commands_that_are_not_built(rt: HostRuntime) -> Result<(), Fail> {
 fn a_run_by_a_schedule_is_read(rt: HostRuntime) -> Result<(), Fail> {
     let words = ["run", "--alone", "e", "c", "s", "p", "o", "j", "r"];
     match read_command(rt.alloc(), &words)? {
-        Some(Command::Run {
-            names,
-            mode: Mode::Alone { schedule, moved },
-        }) => {
+        Some(
+            Command::Run {
+                names,
+                mode: Mode::Alone { schedule, moved },
+            },
+        ) => {
             assert_eq!(rt; names.chain, "c");
             assert_eq!(rt; schedule, "e");
             assert!(rt; moved.is_none());

@@ -52,7 +52,10 @@ fn what_has_no_table(rt: HostRuntime) -> Result<(), Fail> {
     assert_eq!(rt; desk.get("-"), None);
     desk.put("journal", b"ftc-journal 2\nvisit\n")?;
     let (line, cause) = (2, JournalCause::Word);
-    assert_eq!(rt; run(&rt, &PORTS, &mut desk), Status::Journal { line, cause });
+    assert_eq!(rt;
+        run(&rt, &PORTS, &mut desk),
+        Status::Journal { line, cause }
+    );
     Ok(())
 }
 

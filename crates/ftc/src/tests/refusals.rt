@@ -92,7 +92,9 @@ fn words_that_are_no_command(rt: HostRuntime) -> Result<(), Fail> {
         &["run", "a", "b", "c", "d", "e", "e"],
         &["run", "a", "b", "c", "d", "e", "f", "--alone"],
         &["run", "a", "b", "c", "d", "e", "f", "--alone", "f"],
-        &["run", "--alone", "g", "a", "b", "c", "d", "e", "f", "--alone", "h"],
+        &[
+            "run", "--alone", "g", "a", "b", "c", "d", "e", "f", "--alone", "h",
+        ],
         &["run", "a", "b", "c", "d", "e", "-"],
         &["run", "a", "b", "c", "d", "e", "f", "g"],
         &["run", "a", "b", "c", "d", "e", ""],

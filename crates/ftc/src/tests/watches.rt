@@ -2,8 +2,8 @@
 
 use crate::status::Status;
 use crate::tests::checks::CHECK;
-use crate::tests::{WORDS, capture_of};
 use crate::tests::frames::DATAGRAM;
+use crate::tests::{WORDS, capture_of};
 use crate::top::run;
 use ftc_outside::{FailingDesk, MemoryDesk};
 use ftc_watch::BeatsCause;

@@ -12,15 +12,7 @@ use std::test::Fail;
 
 /// The words of a run by a schedule.
 const ALONE: [&str; 9] = [
-    "run",
-    "chain",
-    "script",
-    "capture",
-    "out",
-    "journal",
-    "report",
-    "--alone",
-    "schedule",
+    "run", "chain", "script", "capture", "out", "journal", "report", "--alone", "schedule",
 ];
 
 /// A desk with the texts of a trial.
@@ -60,7 +52,12 @@ fn a_finished_journal_is_its_own_schedule(rt: HostRuntime) -> Result<(), Fail> {
             let mut desk = trial_desk(&rt, trial)?;
             desk.put("schedule", trial.journal.as_bytes())?;
             assert_eq!(rt; run(&rt, &ALONE, &mut desk), Status::Done, "{}", trial.name);
-            assert_eq!(rt; desk.get("journal"), Some(trial.journal.as_bytes()), "{}", trial.name);
+            assert_eq!(rt;
+                desk.get("journal"),
+                Some(trial.journal.as_bytes()),
+                "{}",
+                trial.name
+            );
         }
     }
     Ok(())
@@ -69,7 +66,11 @@ fn a_finished_journal_is_its_own_schedule(rt: HostRuntime) -> Result<(), Fail> {
 /// Two monitors, each of which has the counts of the other, and one packet.
 fn pair_desk<R: AllocGlobal>(rt: &R) -> Result<MemoryDesk, Fail> {
     let capture = capture_of(rt, &[&A])?;
-    desk_of(rt, b"f 1\npartitions 4\nmonitor 8\nmonitor 8\n", capture.as_slice())
+    desk_of(
+        rt,
+        b"f 1\npartitions 4\nmonitor 8\nmonitor 8\n",
+        capture.as_slice(),
+    )
 }
 
 #[test]
@@ -104,13 +105,20 @@ fn what_a_schedule_cannot_ask_is_passed_over(rt: HostRuntime) -> Result<(), Fail
 fn schedules_that_are_refused(rt: HostRuntime) -> Result<(), Fail> {
     let cases: [(&[u8], u64, JournalCause); 3] = [
         (b"", 1, JournalCause::Header),
-        (b"ftc-journal 2\nenter 0\ntake 16 0\n", 3, JournalCause::Range),
+        (
+            b"ftc-journal 2\nenter 0\ntake 16 0\n",
+            3,
+            JournalCause::Range,
+        ),
         (b"ftc-journal 2\nenter 0", 2, JournalCause::Cut),
     ];
     for (schedule, line, cause) in cases {
         let mut desk = pair_desk(&rt)?;
         desk.put("schedule", schedule)?;
-        assert_eq!(rt; run(&rt, &ALONE, &mut desk), Status::Schedule { line, cause });
+        assert_eq!(rt;
+            run(&rt, &ALONE, &mut desk),
+            Status::Schedule { line, cause }
+        );
         assert_eq!(rt; desk.get("out"), None);
     }
     let mut desk = pair_desk(&rt)?;

@@ -84,6 +84,6 @@ returns-in-Ports-clause-complete g c = λ tells texts still.
     let names = port_names c.in-Ports.chain.now c.in-Ports.capture.now c.in-Ports.journal.now in
     let same : c.unwrap.result ≡ c.in-Ports.server = some_is c.new.result c.unwrap.result c.in-Ports.server c.unwrap.ensures c.new.ensures.same in
     let ends = subst (λ (server : ℕ). PortsEnd (g.D.Desk.sound c.args.desk.now) names server (g.D.Desk.file c.args.desk.now)
-        (g.D.Desk.file c.tell_ports.new.desk) c.tell_ports.result) same (c.tell_ports.ensures.ends tells) in
+    (g.D.Desk.file c.tell_ports.new.desk) c.tell_ports.result) same (c.tell_ports.ensures.ends tells) in
     ports_complete laws names c.in-Ports.server (g.D.Desk.file c.args.desk.now) lines given _ _ c.tell_ports.result ends
     (λ failed. still (c.tell_ports.ensures.cause failed))

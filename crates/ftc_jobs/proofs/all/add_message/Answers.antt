@@ -9,7 +9,6 @@ use Rattle.ftc_jobs.proofs.JobKinds.{apply_of_message, message_jobs}
 use Rattle.ftc_jobs.proofs.Standing.{is_up_there}
 use Rattle.ftc_jobs.proofs.all.add_message.Goals as goal
 
-
 pub returns : goal.returns
 returns c = on_ok c.add_if-4.result _ _ (λ grown setting state packets live rest slot there.
     let network = c.args.network.now in
