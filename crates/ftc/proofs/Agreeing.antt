@@ -1,5 +1,5 @@
 -- What a check says of files that are those of one run: nothing but Yes.
-use Rattle.std.proofs.Common.{◌≡◌, ◌∙◌, ◌⊎◌, inl, inr, refl, sym, subst, ℕ, List, [], length, Some, Result, Ok, Err}
+use Rattle.std.proofs.Common.{◌≡◌, ◌∙◌, ◌⊎◌, inl, inr, refl, sym, subst, ℕ, List, length, Some, Result, Ok, Err}
 use Rattle.ftc_outside.specs.Desk.{Files, SameFiles}
 use Rattle.ftc_pcap.specs.Grammar.{Spells, IsFault}
 use Rattle.ftc_pcap.specs.declared.capture.Capture.{Capture}

@@ -1,5 +1,5 @@
 -- The drive of a schedule is a finished run.
-use Rattle.std.proofs.Common.{◌≡◌, ◌∙◌, List, Some}
+use Rattle.std.proofs.Common.{◌≡◌, List, Some}
 use Rattle.std.proofs.Math.Logic.{∥∥₁_map}
 use Rattle.std.specs.List.{AllByRecursion}
 use Rattle.ftc_journal.specs.declared.event.Event.{Event}

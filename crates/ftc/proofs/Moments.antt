@@ -1,5 +1,5 @@
 -- What holds at every moment holds after each front of a journal that is a run.
-use Rattle.std.proofs.Common.{◌≡◌, List, ◌++◌, subst}
+use Rattle.std.proofs.Common.{List, ◌++◌, subst}
 use Rattle.std.proofs.Math.Logic.{∥∥₁_map}
 use Rattle.ftc_journal.specs.declared.event.Event.{Event}
 use Rattle.ftc_protocol.specs.Moment.{IsSound}

@@ -1,5 +1,5 @@
 -- Why the texts of a command are refused. They are read one behind another, and the first that isn't right says why.
-use Rattle.std.specs.Prelude.{◌≡◌, ◌≢◌, ◌⊎◌, ℕ, List, [], length, Some, None, Err}
+use Rattle.std.specs.Prelude.{◌≡◌, ◌⊎◌, ℕ, List, length, Some, None, Err}
 use Rattle.ftc_outside.specs.Desk.{Files}
 use Rattle.ftc_mbox.specs.Chain.{Chain}
 use Rattle.ftc_conf.specs.Grammar.{chain_of}

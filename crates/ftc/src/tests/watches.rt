@@ -36,7 +36,20 @@ fn a_silent_server_is_fenced(rt: HostRuntime) -> Result<(), Fail> {
     assert_eq!(rt; run(&rt, &WATCH, &mut desk), Status::Done);
     assert_eq!(rt; desk.get("script"), Some(SCRIPT));
     assert_eq!(rt; desk.get("-"), Some(TOLD));
-    // The script is one by which the same chain runs.
+    Ok(())
+}
+
+#[test]
+fn a_run_takes_the_script_of_a_watch(rt: HostRuntime) -> Result<(), Fail> {
+    let beats = b"ftc-beats 1\ntick 0 0 1\ntick 1 1\ntick 1 1\ntick 2 0 1\n";
+    let words = ["watch", "2", "chain", "capture", "beats", "script"];
+    let mut desk = beats_desk(&rt, beats)?;
+    assert_eq!(rt; run(&rt, &words, &mut desk), Status::Done);
+    assert_eq!(rt; desk.get("script"), Some(SCRIPT));
+    assert_eq!(rt;
+        desk.get("-"),
+        Some(b"ftc-watch 1\nfenced 1\nrefused 0\n".as_slice())
+    );
     assert_eq!(rt; run(&rt, &WORDS, &mut desk), Status::Done);
     assert_eq!(rt; run(&rt, &CHECK, &mut desk), Status::Done);
     Ok(())

@@ -1,4 +1,4 @@
-use Rattle.std.proofs.Common.{◌≡◌, ◌∙◌, ap, sym, subst, rules, List, IfErr}
+use Rattle.std.proofs.Common.{◌≡◌, ◌∙◌, subst, rules, List, IfErr}
 use Rattle.std.proofs.lemmas.Result.{IfErr-weaker}
 use Rattle.ftc_audit.specs.Table.{IsTableOf, IsCause}
 use Rattle.ftc_audit.specs.declared.cause.PortsCause.{PortsCause}

@@ -1,4 +1,4 @@
-use Rattle.std.proofs.Common.{◌≡◌, ◌∙◌, ap, refl, Err}
+use Rattle.std.proofs.Common.{◌∙◌, ap, refl, Err}
 use Rattle.ftc_outside.specs.Desk.{Files}
 use Rattle.ftc.specs.Porting.{ports_by}
 use Rattle.ftc.proofs.PortLemmas.{ports_refused, ports_cut}
