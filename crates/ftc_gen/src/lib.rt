@@ -2,9 +2,11 @@
 #![tactic(auto)]
 
 mod capture;
+mod laws;
 mod packet;
 
 pub use capture::generate;
+pub use laws::is_a_capture;
 
 #[cfg(test)]
 mod tests;
