@@ -1,7 +1,5 @@
-mod make;
 mod play;
 
-use crate::tests::make::{make, play_each_event};
 use crate::tests::play::{changed, play};
 use crate::{TRIALS, Trial};
 use std::alloc::Global;
@@ -40,38 +38,6 @@ fn a_changed_run_is_refused_where_it_breaks_a_rule(rt: HostRuntime) -> Result<()
     for trials in TRIALS {
         for trial in trials {
             play_changed(&rt, rt.alloc(), trial)?;
-        }
-    }
-    Ok(())
-}
-
-#[test]
-fn a_chain_makes_each_run_from_its_schedule(rt: HostRuntime) -> Result<(), Fail> {
-    for trials in TRIALS {
-        for trial in trials {
-            let journal = make(&rt, rt.alloc(), trial)?;
-            assert_eq!(rt;
-                journal.as_slice(),
-                trial.journal.as_bytes(),
-                "{}",
-                trial.name
-            );
-        }
-    }
-    Ok(())
-}
-
-#[test]
-fn a_chain_plays_each_run_event_by_event(rt: HostRuntime) -> Result<(), Fail> {
-    for trials in TRIALS {
-        for trial in trials {
-            let journal = play_each_event(&rt, rt.alloc(), trial)?;
-            assert_eq!(rt;
-                journal.as_slice(),
-                trial.journal.as_bytes(),
-                "{}",
-                trial.name
-            );
         }
     }
     Ok(())

@@ -17,7 +17,7 @@ use std::process::Abort;
 use std::test::Fail;
 
 /// The packets with these bytes.
-pub fn packets_of(rt: &impl Abort, alloc: Global, all: &[&[u8]]) -> Result<Packets, Fail> {
+fn packets_of(rt: &impl Abort, alloc: Global, all: &[&[u8]]) -> Result<Packets, Fail> {
     let mut packets = Packets::new(alloc);
     for held in all {
         let mut bytes = Bytes::new(alloc);
@@ -53,12 +53,12 @@ fn end_of(
 }
 
 /// Why a trial was not played: one of its texts is refused.
-pub fn refusal(trial: &Trial, text: &str) -> Fail {
+fn refusal(trial: &Trial, text: &str) -> Fail {
     Fail::new(format_args!("{}: the {text} is refused", trial.name))
 }
 
 /// The ring of a chain.
-pub fn ring_of(spec: &ChainSpec) -> Option<Ring>
+fn ring_of(spec: &ChainSpec) -> Option<Ring>
     ensures { IfSome result (λ ring. ring ≡ record { servers = length spec.now.rules; failures = spec.now.failures }) }
 {
     let servers = spec.rules().len() as u8;
@@ -66,7 +66,7 @@ pub fn ring_of(spec: &ChainSpec) -> Option<Ring>
 }
 
 /// The script of a trial, for its ring and for so many packets.
-pub fn script_of(alloc: Global, trial: &Trial, ring: &Ring, packets: u32) -> Result<Script, Fail>
+fn script_of(alloc: Global, trial: &Trial, ring: &Ring, packets: u32) -> Result<Script, Fail>
     ensures ring { IfOk result (λ script. script.ring ≡ ring.now) }
     ensures packets { IfOk result (λ script. script.packets ≡ packets) }
 {
@@ -98,7 +98,7 @@ pub fn play(rt: &impl Abort, alloc: Global, trial: &Trial, journal: &[u8]) -> Re
 }
 
 /// The lines of a text.
-pub fn lines_of(alloc: Global, text: &str) -> Result<Vec<&[u8]>, Fail> {
+fn lines_of(alloc: Global, text: &str) -> Result<Vec<&[u8]>, Fail> {
     let mut lines = Vec::new(alloc);
     let mut rest = text.as_bytes();
     while let Some((line, behind)) = split_line(rest) {
@@ -109,7 +109,7 @@ pub fn lines_of(alloc: Global, text: &str) -> Result<Vec<&[u8]>, Fail> {
 }
 
 /// The text of these lines.
-pub fn text_of(alloc: Global, lines: &[&[u8]]) -> Result<Bytes, Fail> {
+fn text_of(alloc: Global, lines: &[&[u8]]) -> Result<Bytes, Fail> {
     let mut text = Bytes::new(alloc);
     for line in lines {
         text.append(line)?;
