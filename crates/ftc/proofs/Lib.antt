@@ -8,3 +8,4 @@ pub mod Unread
 pub mod Refusing
 pub mod WatchLemmas
 pub mod PortLemmas
+pub mod MakeLemmas

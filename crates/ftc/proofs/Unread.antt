@@ -16,7 +16,7 @@ no_memory_answered (Some (watch limit chain capture beats script)) = tt
 pub no_memory_ended : (sound : Type 0) (command : Option Command) (files : Files) → HasEnded sound command files files status.NoMemory
 no_memory_ended sound None files = λ name. refl
 no_memory_ended sound (Some (run names mode)) files = inl (λ name. refl)
-no_memory_ended sound (Some (make packets seed capture)) files = λ name. refl
+no_memory_ended sound (Some (make packets seed capture)) files = inl (λ name. refl)
 no_memory_ended sound (Some (check names)) files = (tt, λ name. refl)
 no_memory_ended sound (Some (ports chain capture journal server)) files = inl (λ name. refl)
 no_memory_ended sound (Some (watch limit chain capture beats script)) files = inl (λ name. refl)

@@ -51,6 +51,13 @@ IsWatchAnswer (status.Check verdict) = ⊥
 IsWatchAnswer (status.Ports cause) = ⊥
 IsWatchAnswer other = Unit {0}
 
+-- a made capture is read from no file
+abbrev pub IsMakeAnswer : Status → Type 0
+IsMakeAnswer status.Done = Unit {0}
+IsMakeAnswer status.DeskFault = Unit {0}
+IsMakeAnswer status.NoMemory = Unit {0}
+IsMakeAnswer other = ⊥
+
 abbrev pub IsPortsAnswer : Status → Type 0
 IsPortsAnswer status.Usage = ⊥
 IsPortsAnswer (status.Script line cause) = ⊥

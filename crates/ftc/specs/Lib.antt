@@ -10,3 +10,4 @@ pub mod Done
 pub mod Answers
 pub mod Watching
 pub mod Porting
+pub mod Making

@@ -4,6 +4,7 @@
 mod drive;
 mod files;
 mod judge;
+mod making;
 mod numbers;
 mod output;
 mod porting;

@@ -17,6 +17,7 @@ ghost use Rattle.ftc.specs.Ended.{asked, IsAnswer, HasEnded, HasTexts, HasFiles,
 
 use crate::drive::{Driven, drive, report_of};
 use crate::judge::judge;
+use crate::making::make_capture;
 use crate::output::{write_journal, write_out, write_text};
 use crate::porting::{PortNames, tell_ports};
 use crate::status::Status;
@@ -115,6 +116,11 @@ fn run_command<D: Desk>(alloc: Global, command: &Command<'_>, desk: &mut D) -> S
     match command {
         Command::Run { names, mode } => run_names(alloc, *names, *mode, desk),
         Command::Check { names } => judge(alloc, *names, desk),
+        Command::Make {
+            packets,
+            seed,
+            capture,
+        } => make_capture(alloc, *packets, *seed, *capture, desk),
         Command::Ports {
             chain,
             capture,
@@ -143,7 +149,6 @@ fn run_command<D: Desk>(alloc: Global, command: &Command<'_>, desk: &mut D) -> S
             };
             watch_beats(alloc, names, *limit, desk)
         }
-        _ => unreachable!(),
     }
 }
 

@@ -14,7 +14,7 @@ use Rattle.ftc_protocol.specs.Run.{state_after}
 use Rattle.ftc_store.specs.Store.{Content}
 use Rattle.ftc_report.specs.Contents.{contents_after}
 use Rattle.ftc_report.specs.Report.{report_of}
-use Rattle.ftc_report.specs.Text.{is_released, is_filtered, is_lost, count_line, head, fate_line, value_text, key_line, store_line, store_lines, report_text}
+use Rattle.ftc_report.specs.Text.{is_released, is_filtered, is_lost, count_line, count_lines, head, fate_line, value_text, key_line, store_line, store_lines, report_text}
 use Rattle.ftc_check.specs.Taps.{IsWithoutTaps}
 use Rattle.ftc_check.proofs.Lines.{HasNoFeed}
 use Rattle.ftc_check.proofs.Plain.{plain_word, plain_decimal, plain_hex}
@@ -26,23 +26,24 @@ count_starts what count is = goes_on (what ++ codes " ") (decimal count) (goes_o
 keeps_count : (what : List ℕ) (count : ℕ) → IsOther what → KeepsOwn (count_line what count)
 keeps_count what count is = keeps_line ((what ++ codes " ") ++ decimal count) (count_starts what count is)
 
-keeps_head : (fates : List Fate) → KeepsOwn (head fates)
-unfolding head
-keeps_head fates =
-    let title = codes "ftc-report 1\n" in
+keeps_counts : (fates : List Fate) → KeepsOwn (count_lines fates)
+unfolding count_lines
+keeps_counts fates =
     let packets = count_line (codes "packets") (length fates) in
     let released = count_line (codes "released") (count_by is_released fates) in
     let filtered = count_line (codes "filtered") (count_by is_filtered fates) in
     let lost = count_line (codes "lost") (count_by is_lost fates) in
-    keeps_both (title ++ packets ++ released ++ filtered) lost
-    (keeps_both (title ++ packets ++ released) filtered
-    (keeps_both (title ++ packets) released
-    (keeps_both title packets
-    (keeps_line (codes "ftc-report 1") (begins (codes "ftc-report 1") refl (λ rest. refl)))
-    (keeps_count (codes "packets") (length fates) (begins (codes "packets") refl (λ rest. refl))))
+    keeps_both (packets ++ released ++ filtered) lost
+    (keeps_both (packets ++ released) filtered
+    (keeps_both packets released
+    (keeps_count (codes "packets") (length fates) (begins (codes "packets") refl (λ rest. refl)))
     (keeps_count (codes "released") (count_by is_released fates) (begins (codes "released") refl (λ rest. refl))))
     (keeps_count (codes "filtered") (count_by is_filtered fates) (begins (codes "filtered") refl (λ rest. refl))))
     (keeps_count (codes "lost") (count_by is_lost fates) (begins (codes "lost") refl (λ rest. refl)))
+
+keeps_head : (fates : List Fate) → KeepsOwn (head fates)
+keeps_head fates = keeps_both (codes "ftc-report 1\n") (count_lines fates)
+    (keeps_line (codes "ftc-report 1") (begins (codes "ftc-report 1") refl (λ rest. refl))) (keeps_counts fates)
 
 fate_starts : (packet : ℕ) → IsOther (codes "fate " ++ decimal packet)
 fate_starts packet = goes_on (codes "fate ") (decimal packet) (begins (codes "fate ") refl (λ rest. refl)) (plain_decimal packet)

@@ -30,7 +30,7 @@ all_records (suc place) seed =
     (one_record place seed ∙ sym (append-nil (record_bytes false (packet_at seed place))))
     ∙ sym (flat_map-append (record_bytes false) (packets seed place) (packet_at seed place ∷ [])))
 
-counted : (count seed : ℕ) → length (packets seed count) ≡ count
+pub counted : (count seed : ℕ) → length (packets seed count) ≡ count
 counted zero seed = refl
 counted (suc place) seed = length-append (packets seed place) (packet_at seed place ∷ []) ∙ (ap (λ (n : ℕ). n + 1) (counted place seed) ∙ omega arith)
 

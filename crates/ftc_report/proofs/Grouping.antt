@@ -3,7 +3,7 @@ use Rattle.std.proofs.Common.{◌≡◌, ℕ, List, ◌++◌, append_assoc, ap}
 use Rattle.std.specs.Prelude.{codes, decimal, length, count_by}
 use Rattle.hex.specs.Hex.{encode_lower}
 use Rattle.ftc_protocol.specs.declared.fate.Fate.{Fate}
-use Rattle.ftc_report.specs.Text.{is_released, is_filtered, is_lost, head, value_text, key_line}
+use Rattle.ftc_report.specs.Text.{is_released, is_filtered, is_lost, count_lines, value_text, key_line}
 
 of_four : (a b c d : List ℕ) → a ++ (b ++ (c ++ d)) ≡ ((a ++ b) ++ c) ++ d
 of_four a b c d = simp append_assoc
@@ -16,9 +16,9 @@ of_counts : (a b c d feed r f l : List ℕ)
     → a ++ ((feed ++ r) ++ (b ++ ((feed ++ f) ++ (c ++ ((feed ++ l) ++ (d ++ feed)))))) ≡ (((a ++ feed) ++ (r ++ (b ++ feed))) ++ (f ++ (c ++ feed))) ++ (l ++ (d ++ feed))
 of_counts a b c d feed r f l = simp append_assoc
 
-pub of_head : (fates : List Fate) (packets released filtered lost : ℕ) → packets ≡ length fates → released ≡ count_by is_released fates → filtered ≡ count_by is_filtered fates → lost ≡ count_by is_lost fates
-    → codes "ftc-report 1\npackets " ++ (decimal packets ++ (codes "\nreleased " ++ (decimal released ++ (codes "\nfiltered " ++ (decimal filtered ++ (codes "\nlost " ++ (decimal lost ++ codes "\n"))))))) ≡ head fates
-unfolding head
-of_head fates packets released filtered lost packets-is released-is filtered-is lost-is =
+pub of_count_lines : (fates : List Fate) (packets released filtered lost : ℕ) → packets ≡ length fates → released ≡ count_by is_released fates → filtered ≡ count_by is_filtered fates → lost ≡ count_by is_lost fates
+    → codes "packets " ++ (decimal packets ++ (codes "\nreleased " ++ (decimal released ++ (codes "\nfiltered " ++ (decimal filtered ++ (codes "\nlost " ++ (decimal lost ++ codes "\n"))))))) ≡ count_lines fates
+unfolding count_lines
+of_count_lines fates packets released filtered lost packets-is released-is filtered-is lost-is =
     rw (← packets-is, ← released-is, ← filtered-is, ← lost-is)
-    (ap (λ (rest : List ℕ). codes "ftc-report 1\npackets " ++ rest) (of_counts (decimal packets) (decimal released) (decimal filtered) (decimal lost) (codes "\n") (codes "released ") (codes "filtered ") (codes "lost ")))
+    (ap (λ (rest : List ℕ). codes "packets " ++ rest) (of_counts (decimal packets) (decimal released) (decimal filtered) (decimal lost) (codes "\n") (codes "released ") (codes "filtered ") (codes "lost ")))

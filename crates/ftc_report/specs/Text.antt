@@ -29,14 +29,17 @@ is_lost Inside = false
 abbrev pub count_line : List ℕ → ℕ → List ℕ
 count_line what count = what ++ codes " " ++ decimal count ++ codes "\n"
 
--- the header, how many packets there are, and how many have each fate
-unfoldable pub head : List Fate → List ℕ
-head fates =
-    codes "ftc-report 1\n"
-    ++ count_line (codes "packets") (length fates)
+-- how many packets there are, and how many have each fate
+unfoldable pub count_lines : List Fate → List ℕ
+count_lines fates =
+    count_line (codes "packets") (length fates)
     ++ count_line (codes "released") (count_by is_released fates)
     ++ count_line (codes "filtered") (count_by is_filtered fates)
     ++ count_line (codes "lost") (count_by is_lost fates)
+
+-- the header, and these counts
+abbrev pub head : List Fate → List ℕ
+head fates = codes "ftc-report 1\n" ++ count_lines fates
 
 -- the line of a packet: its number, and what became of it
 unfoldable pub fate_line : ℕ × Fate → List ℕ
@@ -73,3 +76,11 @@ report_text fates contents taps =
     ++ flat_map fate_line (enumerate_from 0 fates)
     ++ flat_map store_lines (enumerate_from 0 contents)
     ++ flat_map tap_line taps
+
+-- what is told of a run in short: the counts, and how many keys each middlebox has
+abbrev pub key_count : ℕ × Content → List ℕ
+key_count (server, content) = store_line server (len content)
+
+abbrev pub summary_text : List Fate → List Content → List ℕ
+summary_text fates contents =
+    codes "ftc-make 1\n" ++ count_lines fates ++ flat_map key_count (enumerate_from 0 contents)

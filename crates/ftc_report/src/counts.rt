@@ -1,7 +1,7 @@
 //! The header, and how many packets have each fate.
 
 ghost use Rattle.std.specs.Prelude.{◌≡◌, ◌++◌, OnOk, IfOk, count_by, string_bytes};
-ghost use Rattle.ftc_report.specs.Text.{is_released, is_filtered, is_lost, head};
+ghost use Rattle.ftc_report.specs.Text.{is_released, is_filtered, is_lost, count_lines, head};
 
 use ftc_base::{Bytes, NoMemory};
 use ftc_protocol::{Fate, Fates};
@@ -64,24 +64,32 @@ fn lost(fates: &Fates) -> usize
         .count()
 }
 
-/// The header, and the line of each count.
-#[tactic(auto, unfolding(crate::specs::Text::head))]
-fn head(alloc: Global, fates: &Fates) -> Result<String, AllocError>
-    ensures { IfOk result (λ text. string_bytes text ≡ head fates.now) }
+/// The line of each count.
+#[tactic(auto, unfolding(crate::specs::Text::count_lines))]
+fn count_lines(alloc: Global, fates: &Fates) -> Result<String, AllocError>
+    ensures { IfOk result (λ text. string_bytes text ≡ count_lines fates.now) }
 {
     let packets = fates.len();
     let released = released(fates);
     let filtered = filtered(fates);
     let lost = lost(fates);
     format!(in alloc;
-        "ftc-report 1\npackets {packets}\nreleased {released}\nfiltered {filtered}\nlost {lost}\n"
+        "packets {packets}\nreleased {released}\nfiltered {filtered}\nlost {lost}\n"
     )
+}
+
+/// Adds the counts.
+pub fn append_counts(alloc: Global, fates: &Fates, out: &mut Bytes) -> Result<(), NoMemory>
+    ensures { OnOk result (out.new ≡ out.old ++ count_lines fates.now) }
+{
+    let text = count_lines(alloc, fates)?;
+    out.append(text.as_bytes())
 }
 
 /// Adds the header and the counts.
 pub fn append_head(alloc: Global, fates: &Fates, out: &mut Bytes) -> Result<(), NoMemory>
     ensures { OnOk result (out.new ≡ out.old ++ head fates.now) }
 {
-    let text = head(alloc, fates)?;
-    out.append(text.as_bytes())
+    out.append(b"ftc-report 1\n")?;
+    append_counts(alloc, fates, out)
 }

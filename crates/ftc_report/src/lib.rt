@@ -9,12 +9,14 @@ mod over;
 mod printer;
 mod released;
 mod stores;
+mod summaries;
 mod taps;
 
 pub use laws::released_fit;
 pub use over::{chain_after, report};
 pub use printer::print;
 pub use released::out_of;
+pub use summaries::summary;
 
 #[cfg(test)]
 mod tests;

@@ -198,6 +198,7 @@ spelled (w ∷ ws) =
 abbrev pub is_built : Command → Bool
 is_built (run names plain) = true
 is_built (run names (alone schedule None)) = true
+is_built (make packets seed capture) = true
 is_built (check names) = true
 is_built (ports chain capture journal server) = true
 is_built (watch limit chain capture beats script) = true

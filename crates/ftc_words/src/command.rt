@@ -77,8 +77,10 @@ impl Command<'_> {
             Command::Run { mode, .. } => {
                 matches!(mode, Mode::Plain | Mode::Alone { moved: None, .. })
             }
-            Command::Check { .. } | Command::Ports { .. } | Command::Watch { .. } => true,
-            _ => false,
+            Command::Make { .. }
+            | Command::Check { .. }
+            | Command::Ports { .. }
+            | Command::Watch { .. } => true,
         }
     }
 }

@@ -8,6 +8,7 @@ use Rattle.ftc.specs.Porting.{port_names, PortsEnd}
 use Rattle.ftc.specs.Ended.{HasTexts, HasFiles, HasRightRun, WasLeft}
 use Rattle.ftc.proofs.Agreeing.{Laws, agrees, completes, judges_all}
 use Rattle.ftc.proofs.DistinctLemmas.{run_differs}
+use Rattle.ftc.proofs.MakeLemmas.{made_apart, make_completes}
 use Rattle.ftc.proofs.PortLemmas.{ports_complete, some_is}
 use Rattle.ftc.proofs.WatchLemmas.{no_output, watch_completes}
 use Rattle.ftc.proofs.top.run_command.Goals as goal
@@ -87,3 +88,15 @@ returns-in-Ports-clause-complete g c = λ tells texts still.
     (g.D.Desk.file c.tell_ports.new.desk) c.tell_ports.result) same (c.tell_ports.ensures.ends tells) in
     ports_complete laws names c.in-Ports.server (g.D.Desk.file c.args.desk.now) lines given _ _ c.tell_ports.result ends
     (λ failed. still (c.tell_ports.ensures.cause failed))
+
+pub make_capture-requires : goal.make_capture-requires
+make_capture-requires g c =
+    let within = subst (λ (command : Command). IsWithin (shown command)) c.in-Make.is c.requires.within in
+    record {
+      few = within.1;
+      apart = made_apart c.in-Make.capture.now (subst (λ (command : Command). list_all is_name (named_by (shown command)) ≡ true) c.in-Make.is c.requires.named);
+    }
+
+pub returns-in-Make-clause-complete : goal.returns-in-Make-clause-complete
+returns-in-Make-clause-complete g c = λ tells texts still.
+    make_completes _ _ _ _ _ _ c.make_capture.result (c.make_capture.ensures.ends tells) (λ failed. still (c.make_capture.ensures.cause failed))
