@@ -1,5 +1,6 @@
 mod checks;
 mod frames;
+mod makes;
 mod ports;
 mod refusals;
 mod runs;

@@ -128,8 +128,7 @@ fn words_of_no_command(rt: HostRuntime) {
 
 #[test]
 fn commands_that_are_not_built(rt: HostRuntime) -> Result<(), Fail> {
-    let cases: [&[&str]; 3] = [
-        &["make", "1", "0", "p"],
+    let cases: [&[&str]; 2] = [
         &["run", "c", "s", "p", "o", "j", "r", "--workers", "4"],
         &[
             "run", "c", "s", "p", "o", "j", "r", "--alone", "e", "--move", "1", "f",
@@ -155,6 +154,25 @@ fn a_run_by_a_schedule_is_read(rt: HostRuntime) -> Result<(), Fail> {
             assert_eq!(rt; names.chain, "c");
             assert_eq!(rt; schedule, "e");
             assert!(rt; moved.is_none());
+        }
+        _ => assert!(rt; false),
+    }
+    Ok(())
+}
+
+#[test]
+fn a_make_is_read(rt: HostRuntime) -> Result<(), Fail> {
+    match read_command(rt.alloc(), &["make", "100000", "4294967295", "p"])? {
+        Some(
+            Command::Make {
+                packets,
+                seed,
+                capture,
+            },
+        ) => {
+            assert_eq!(rt; packets, 100_000);
+            assert_eq!(rt; seed, u32::MAX);
+            assert_eq!(rt; capture, "p");
         }
         _ => assert!(rt; false),
     }
