@@ -3,7 +3,7 @@
 # A folder with further cases and their comparer, where one lies beside the checkout.
 CASES ?= ../shared/cases
 CASE_SETS = first-path first-path-refused middleboxes middleboxes-refused ring loss crash check check-refused ports watch \
-	watch-refused
+	watch-refused make
 
 SOURCES := $(shell find crates crates.txt -name out -prune -o -type f -print)
 
