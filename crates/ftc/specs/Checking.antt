@@ -23,7 +23,8 @@ use Rattle.ftc.specs.Texts.{HasJournal, AreInputs}
 use Rattle.ftc.specs.Refused.{IsCheckRefused}
 
 -- What is checked: all six files.
-pub record AreChecked (names : Named) (files : Files) (chain : Chain) (capture : Capture) (script : ScriptShape) (out : List ℕ) (journal : List Event) (report : List ℕ) : Type 0 where
+pub record AreChecked (names : Named) (files : Files) (chain : Chain) (capture : Capture) (script : ScriptShape)
+    (out : List ℕ) (journal : List Event) (report : List ℕ) : Type 0 where
   pub inputs : AreInputs names files chain capture script
   pub out_file : files names.out ≡ Some out
   pub journal_right : HasJournal names.journal files journal
@@ -32,7 +33,8 @@ pub record AreChecked (names : Named) (files : Files) (chain : Chain) (capture :
 -- the state of the protocol after a journal
 abbrev pub state_of : Chain → Capture → ScriptShape → List Event → ChainState
 state_of chain capture script journal =
-    state_after (setting_of chain (bytes_of capture.packets) script) (opening (setting_of chain (bytes_of capture.packets) script)) journal
+    state_after (setting_of chain (bytes_of capture.packets) script)
+    (opening (setting_of chain (bytes_of capture.packets) script)) journal
 
 -- The files are right in themselves, and this is the first that applies of what can be said of them.
 pub record IsJudged (names : Named) (files : Files) (verdict : Checked) : Type 0 where
@@ -45,15 +47,16 @@ pub record IsJudged (names : Named) (files : Files) (verdict : Checked) : Type 0
   pub checked : AreChecked names files chain capture script out journal report
   pub verdict_right : IsVerdict (setting_of chain (bytes_of capture.packets) script) capture out journal report verdict
 
--- After each front of the journal the serial run of the visits that stand exists and released what was released, the first live
--- member of each group has that run's content, and all visits of a released packet stand.
+-- After each front of the journal the serial run of the visits that stand exists and released what was released, the
+-- first live member of each group has that run's content, and all visits of a released packet stand.
 abbrev pub IsSoundThroughout : Setting → List Event → Type 0
 IsSoundThroughout setting journal =
-    (before after : List Event) → journal ≡ before ++ after → ∥ IsSound setting (state_after setting (opening setting) before) ∥₁
+    (before after : List Event) → journal ≡ before ++ after →
+    ∥ IsSound setting (state_after setting (opening setting) before) ∥₁
 
--- The files are those of one run, and at every moment of it nothing behind a released packet was lost. Each released packet has visited all middleboxes, and none of these visits was undone;
--- each packet was released, filtered or lost; and one that is lost went away by the event of its fate's number, which
--- could lose something where it stands.
+-- The files are those of one run, and at every moment of it nothing behind a released packet was lost. Each released
+-- packet has visited all middleboxes, and none of these visits was undone; each packet was released, filtered or
+-- lost; and one that is lost went away by the event of its fate's number, which could lose something where it stands.
 pub record IsRightRun (names : Named) (files : Files) : Type 0 where
   pub judged : IsJudged names files Yes
   pub sound : IsSoundThroughout (setting_of judged.chain (bytes_of judged.capture.packets) judged.script) judged.journal
@@ -64,8 +67,8 @@ pub record IsRightRun (names : Named) (files : Files) : Type 0 where
       (state_of judged.chain judged.capture judged.script judged.journal).fate packet ≡ became.Lost number →
       IsLostAt (setting_of judged.chain (bytes_of judged.capture.packets) judged.script) judged.journal number
 
--- How a check with these names ends, which changes no file. Where the desk is sound, it fails only where the first file that isn't
--- right is missing.
+-- How a check with these names ends, which changes no file. Where the desk is sound, it fails only where the first
+-- file that isn't right is missing.
 abbrev pub Judges : Type 0 → Named → Files → Status → Type 0
 Judges sound names files status.Done = IsRightRun names files
 Judges sound names files (status.Check verdict) = IsJudged names files verdict × (verdict ≢ Yes)

@@ -37,17 +37,22 @@ abbrev pub HasEnded : Type 0 → Option Command → Files → Files → Status �
 HasEnded sound (Some (run names mode)) old new ending = Ends sound names mode old new ending
 HasEnded sound (Some (make packets seed capture)) old new ending = MakeEnds sound packets seed capture old new ending
 HasEnded sound (Some (check names)) old new ending = Judges sound names old ending × SameFiles old new
-HasEnded sound (Some (ports chain capture journal server)) old new ending = PortsEnd sound (port_names chain capture journal) server old new ending
-HasEnded sound (Some (watch limit chain capture beats script)) old new ending = WatchEnds sound limit (watch_names chain capture beats script) old new ending
+HasEnded sound (Some (ports chain capture journal server)) old new ending = PortsEnd sound
+    (port_names chain capture journal) server old new ending
+HasEnded sound (Some (watch limit chain capture beats script)) old new ending = WatchEnds sound limit
+    (watch_names chain capture beats script) old new ending
 HasEnded sound other old new ending = SameFiles old new
 
 -- a run or a watch whose texts are right, a capture to be made, or a port table that there is
 abbrev pub HasTexts : Option Command → Files → Type 0
-HasTexts (Some (run names mode)) files = (chain : Chain) × (capture : Capture) × (script : ScriptShape) × (schedule : List Event)
+HasTexts (Some (run names mode)) files = (chain : Chain) × (capture : Capture) × (script : ScriptShape)
+    × (schedule : List Event)
     × AreTexts names mode files chain capture script schedule
 HasTexts (Some (make packets seed capture)) files = Unit {0}
-HasTexts (Some (ports chain capture journal server)) files = (lines : List PortLine) × IsTableIn (port_names chain capture journal) server files lines
-HasTexts (Some (watch limit chain capture beats script)) files = (read : BeatsShape) × AreBeats (watch_names chain capture beats script) files read
+HasTexts (Some (ports chain capture journal server)) files = (lines : List PortLine)
+    × IsTableIn (port_names chain capture journal) server files lines
+HasTexts (Some (watch limit chain capture beats script)) files = (read : BeatsShape)
+    × AreBeats (watch_names chain capture beats script) files read
 HasTexts other files = ⊥
 
 -- a check whose files can all be read

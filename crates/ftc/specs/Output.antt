@@ -25,4 +25,5 @@ MayHold old new whole = (new ≡ old) ⊎ ((bytes : List ℕ) × (new ≡ Some b
 
 -- the file's bytes with the rest of the piece behind them are what they were with the piece
 abbrev pub IsMovedOn : Option (List ℕ) → List ℕ → Option (List ℕ) → List ℕ → Type 0
-IsMovedOn old piece new rest = (before : List ℕ) → old ≡ Some before → (after : List ℕ) × (new ≡ Some after) × (after ++ rest ≡ before ++ piece)
+IsMovedOn old piece new rest = (before : List ℕ) → old ≡ Some before →
+    (after : List ℕ) × (new ≡ Some after) × (after ++ rest ≡ before ++ piece)

@@ -28,7 +28,8 @@ port_names chain capture journal = record { chain = chain; capture = capture; jo
 abbrev pub ports_by : PortNames → PortNamed
 ports_by names = port_names names.chain.now names.capture.now names.journal.now
 
--- A chain, a capture and a journal that are right; and in the serial run of the journal's trace the server has this port table.
+-- A chain, a capture and a journal that are right; and in the serial run of the journal's trace the server has this
+-- port table.
 pub record IsTableIn (names : PortNamed) (server : ℕ) (files : Files) (lines : List PortLine) : Type 0 where
   pub chain : Chain
   pub capture : Capture
@@ -69,8 +70,8 @@ pub record ArePortsCutShort (names : PortNamed) (server : ℕ) (old new : Files)
   pub told : MayHaveGrownAt standard_output (ports_text lines) old new
   pub others : SameButAt standard_output old new
 
--- How such a command ends. One that fails has told nothing yet, or was cut short. Where the desk is sound, it fails only where the
--- first text that is not right is missing.
+-- How such a command ends. One that fails has told nothing yet, or was cut short. Where the desk is sound, it fails
+-- only where the first text that is not right is missing.
 abbrev pub PortsEnd : Type 0 → PortNamed → ℕ → Files → Files → Status → Type 0
 PortsEnd sound names server old new status.Done = ArePortsTold names server old new
 PortsEnd sound names server old new status.DeskFault =

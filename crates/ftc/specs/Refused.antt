@@ -17,8 +17,8 @@ use Rattle.ftc.specs.Texts.{ring_of, HasChain, HasCapture, HasScript, HasJournal
 
 -- ---- one text
 
--- The text has a fault, by this relation of its bytes and the status; or the desk failed, a sound one since there is no such file; or
--- memory was refused.
+-- The text has a fault, by this relation of its bytes and the status; or the desk failed, a sound one since there is
+-- no such file; or memory was refused.
 abbrev pub IsTextRefused : Type 0 → Files → List ℕ → (List ℕ → Status → Type 0) → Status → Type 0
 IsTextRefused sound files name IsWrong status.DeskFault = sound → files name ≡ None
 IsTextRefused sound files name IsWrong status.NoMemory = Unit {0}
@@ -34,7 +34,8 @@ IsWrongCapture text (status.Capture at cause) = IsFault text (record { at = at; 
 IsWrongCapture text other = ⊥
 
 abbrev pub IsWrongScript : RingShape → ℕ → List ℕ → Status → Type 0
-IsWrongScript ring packets text (status.Script line cause) = script_of ring packets text ≡ Err (record { line = line; cause = cause })
+IsWrongScript ring packets text (status.Script line cause) = script_of ring packets text
+    ≡ Err (record { line = line; cause = cause })
 IsWrongScript ring packets text other = ⊥
 
 -- a schedule is spelled as a journal is
@@ -60,7 +61,8 @@ IsScheduleRefused sound other files ending = ⊥
 abbrev pub IsRunRefused : Type 0 → Named → Mode → Files → Status → Type 0
 IsRunRefused sound names mode files ending =
     IsTextRefused sound files names.chain IsWrongChain ending
-    ⊎ ((chain : Chain) × HasChain names.chain files chain × (IsTextRefused sound files names.capture IsWrongCapture ending
+    ⊎ ((chain : Chain) × HasChain names.chain files chain
+    × (IsTextRefused sound files names.capture IsWrongCapture ending
     ⊎ ((capture : Capture) × HasCapture names.capture files capture
     × (IsTextRefused sound files names.script (IsWrongScript (ring_of chain) (length capture.packets)) ending
     ⊎ ((read : ScriptShape) × HasScript names.script files chain (length capture.packets) read
@@ -69,8 +71,12 @@ IsRunRefused sound names mode files ending =
 abbrev pub IsCheckRefused : Type 0 → Named → Files → Status → Type 0
 IsCheckRefused sound names files ending =
     IsTextRefused sound files names.chain IsWrongChain ending
-    ⊎ ((chain : Chain) × HasChain names.chain files chain × (IsTextRefused sound files names.capture IsWrongCapture ending
-    ⊎ ((capture : Capture) × HasCapture names.capture files capture × (IsTextRefused sound files names.script (IsWrongScript (ring_of chain) (length capture.packets)) ending
-    ⊎ ((read : ScriptShape) × HasScript names.script files chain (length capture.packets) read × (IsTextRefused sound files names.out IsNeverWrong ending
+    ⊎ ((chain : Chain) × HasChain names.chain files chain
+    × (IsTextRefused sound files names.capture IsWrongCapture ending
+    ⊎ ((capture : Capture) × HasCapture names.capture files capture
+    × (IsTextRefused sound files names.script (IsWrongScript (ring_of chain) (length capture.packets)) ending
+    ⊎ ((read : ScriptShape) × HasScript names.script files chain (length capture.packets) read
+    × (IsTextRefused sound files names.out IsNeverWrong ending
     ⊎ ((out : List ℕ) × (files names.out ≡ Some out) × (IsTextRefused sound files names.journal IsWrongJournal ending
-    ⊎ ((journal : List Event) × HasJournal names.journal files journal × IsTextRefused sound files names.report IsNeverWrong ending)))))))))
+    ⊎ ((journal : List Event) × HasJournal names.journal files journal
+    × IsTextRefused sound files names.report IsNeverWrong ending)))))))))

@@ -39,7 +39,8 @@ pub record HasJournal (name : List ℕ) (files : Files) (journal : List Event) :
   pub right : journal_of text ≡ Ok journal
 
 -- A chain, a capture and a script that are right.
-pub record AreInputs (names : Named) (files : Files) (chain : Chain) (capture : Capture) (script : ScriptShape) : Type 0 where
+pub record AreInputs (names : Named) (files : Files) (chain : Chain) (capture : Capture)
+    (script : ScriptShape) : Type 0 where
   pub chain_right : HasChain names.chain files chain
   pub capture_right : HasCapture names.capture files capture
   pub script_right : HasScript names.script files chain (length capture.packets) script
@@ -50,6 +51,7 @@ HasSchedule (alone name move) files schedule = HasJournal name files schedule
 HasSchedule other files schedule = schedule ≡ []
 
 -- What a run is given.
-pub record AreTexts (names : Named) (mode : Mode) (files : Files) (chain : Chain) (capture : Capture) (script : ScriptShape) (schedule : List Event) : Type 0 where
+pub record AreTexts (names : Named) (mode : Mode) (files : Files) (chain : Chain) (capture : Capture)
+    (script : ScriptShape) (schedule : List Event) : Type 0 where
   pub inputs : AreInputs names files chain capture script
   pub schedule_right : HasSchedule mode files schedule

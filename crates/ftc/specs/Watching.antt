@@ -72,8 +72,8 @@ pub record AreMade (name made told : List ℕ) (old new : Files) : Type 0 where
   pub output : GrewAt standard_output told old new
   pub others : SameElsewhere (name ∷ standard_output ∷ []) old new
 
--- The file is as it was, or has some front of these bytes; and standard output has some front more. That was begun only behind
--- the whole file.
+-- The file is as it was, or has some front of these bytes; and standard output has some front more. That was begun
+-- only behind the whole file.
 pub record AreMadeShort (name made told : List ℕ) (old new : Files) : Type 0 where
   pub file : MayHold (old name) (new name) made
   pub output : MayHaveGrownAt standard_output told old new
@@ -97,8 +97,8 @@ script_read limit beats = record {
   loses = [];
 }
 
--- What a watch leaves that is done: the script of the beats, which is accepted for this chain and this capture, and on standard
--- output what was fenced and held.
+-- What a watch leaves that is done: the script of the beats, which is accepted for this chain and this capture, and
+-- on standard output what was fenced and held.
 pub record IsWatched (limit : ℕ) (names : WatchNamed) (old new : Files) : Type 0 where
   pub beats : BeatsShape
   pub given : AreBeats names old beats
@@ -111,8 +111,8 @@ pub record IsWatchedShort (limit : ℕ) (names : WatchNamed) (old new : Files) :
   pub given : AreBeats names old beats
   pub made : AreMadeShort names.script (script_made limit beats) (summary_of (watching limit beats)) old new
 
--- How a watch with these names ends. One that fails has changed nothing yet, or was cut short. Where the desk is sound, it fails
--- only where the first text that is not right is missing.
+-- How a watch with these names ends. One that fails has changed nothing yet, or was cut short. Where the desk is
+-- sound, it fails only where the first text that is not right is missing.
 abbrev pub WatchEnds : Type 0 → ℕ → WatchNamed → Files → Files → Status → Type 0
 WatchEnds sound limit names old new status.Done = IsWatched limit names old new
 WatchEnds sound limit names old new status.DeskFault =

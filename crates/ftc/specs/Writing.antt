@@ -37,4 +37,5 @@ pub record AreCutShort (names : Named) (out journal report : List ℕ) (old new 
   pub report_file : MayHold (old names.report) (new names.report) report
   pub others : SameElsewhere (written_by names) old new
   pub journal_order : (new names.journal ≡ old names.journal) ⊎ (new names.out ≡ Some out)
-  pub report_order : (new names.report ≡ old names.report) ⊎ ((new names.out ≡ Some out) × (new names.journal ≡ Some journal))
+  pub report_order : (new names.report ≡ old names.report)
+      ⊎ ((new names.out ≡ Some out) × (new names.journal ≡ Some journal))

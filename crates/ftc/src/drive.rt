@@ -29,9 +29,14 @@ pub struct Driven<'a> {
 
 /// Plays the schedule over a new chain, and then does what is left.
 pub fn drive<'a>(alloc: Global, texts: &'a Texts) -> Result<Driven<'a>, NoMemory>
-    requires ring { texts.now.script.ring ≡ record { servers = length texts.now.spec.rules; failures = texts.now.spec.failures } }
+    requires ring { texts.now.script.ring ≡ record {
+      servers = length texts.now.spec.rules;
+      failures =
+          texts.now.spec.failures;
+    } }
     requires packets { texts.now.script.packets ≡ length texts.now.capture.packets }
-    ensures driven { IfOk result (λ driven. IsFinishedDrive (setting_of texts.now.spec (bytes_of texts.now.capture.packets) texts.now.script)
+    ensures driven { IfOk result (λ driven. IsFinishedDrive
+        (setting_of texts.now.spec (bytes_of texts.now.capture.packets) texts.now.script)
         texts.now.schedule.items driven.chain.journal (state_of driven.serial)) }
     ensures writable { IfOk result (λ driven. AreWritable texts.now.capture.packets (state_of driven.serial).released) }
     ensures rules { IfOk result (λ driven. rules_of driven.serial ≡ texts.now.spec.rules) }
@@ -55,10 +60,16 @@ pub fn drive<'a>(alloc: Global, texts: &'a Texts) -> Result<Driven<'a>, NoMemory
 
 /// The text of the report of a run; there are no taps.
 pub fn report_of(alloc: Global, texts: &Texts, driven: &Driven<'_>) -> Result<Bytes, NoMemory>
-    requires ring { texts.now.script.ring ≡ record { servers = length texts.now.spec.rules; failures = texts.now.spec.failures } }
+    requires ring { texts.now.script.ring ≡ record {
+      servers = length texts.now.spec.rules;
+      failures =
+          texts.now.spec.failures;
+    } }
     requires packets { texts.now.script.packets ≡ length texts.now.capture.packets }
-    requires run { ∥ IsRun (setting_of texts.now.spec (bytes_of texts.now.capture.packets) texts.now.script) driven.now.chain.journal ∥₁ }
-    ensures { IfOk result (λ text. text ≡ report_of (setting_of texts.now.spec (bytes_of texts.now.capture.packets) texts.now.script) driven.now.chain.journal []) }
+    requires run { ∥ IsRun (setting_of texts.now.spec (bytes_of texts.now.capture.packets) texts.now.script)
+        driven.now.chain.journal ∥₁ }
+    ensures { IfOk result (λ text. text ≡ report_of (setting_of texts.now.spec
+        (bytes_of texts.now.capture.packets) texts.now.script) driven.now.chain.journal []) }
 {
     let packets = &texts.capture.packets;
     let (journal, taps) = (driven.chain.journal(), Lines::new(alloc));

@@ -34,7 +34,8 @@ pub struct RunFiles {
 /// Fetches and reads the journal.
 pub fn fetch_journal<D: Desk>(alloc: Global, name: &str, desk: &mut D) -> Result<Journal, Status>
     ensures accepted { D.tells desk.old → IfOk result (λ journal. HasJournal name.now (D.file desk.old) journal.items) }
-    ensures refused { D.tells desk.old → IfErr result (IsTextRefused (D.sound desk.old) (D.file desk.old) name.now IsWrongJournal) }
+    ensures refused { D.tells desk.old → IfErr result (IsTextRefused (D.sound desk.old)
+        (D.file desk.old) name.now IsWrongJournal) }
     ensures known { IfErr result (λ ending. ending ≢ Status.Usage) }
     ensures answer { IfErr result IsJournalAnswer }
     ensures files { D.tells desk.old → SameFiles (D.file desk.old) (D.file desk.new) }
@@ -56,11 +57,13 @@ pub fn read_files<D: Desk>(
     names: Names<'_>,
     desk: &mut D,
 ) -> Result<RunFiles, Status>
-    ensures accepted { D.tells desk.old → IfOk result (λ files. AreChecked (named_of names.entry) (D.file desk.old) files.spec files.capture files.script files.out files.journal.items files.report) }
+    ensures accepted { D.tells desk.old → IfOk result (λ files. AreChecked (named_of names.entry)
+        (D.file desk.old) files.spec files.capture files.script files.out files.journal.items files.report) }
     ensures ring { IfOk result (λ files. files.script.ring ≡ ring_of files.spec) }
     ensures packets { IfOk result (λ files. files.script.packets ≡ length files.capture.packets) }
     ensures right { IfOk result (λ files. IsScript files.script) }
-    ensures refused { D.tells desk.old → IfErr result (IsCheckRefused (D.sound desk.old) (named_of names.entry) (D.file desk.old)) }
+    ensures refused { D.tells desk.old → IfErr result (IsCheckRefused (D.sound desk.old) (named_of names.entry)
+        (D.file desk.old)) }
     ensures known { IfErr result (λ ending. ending ≢ Status.Usage) }
     ensures answer { IfErr result IsCheckAnswer }
     ensures files { D.tells desk.old → SameFiles (D.file desk.old) (D.file desk.new) }

@@ -30,7 +30,8 @@ use std::alloc::Global;
 
 /// The chain that a made capture runs through: a translator, a firewall, a balancer and a monitor, of which one may be
 /// down.
-const CHAIN: &str = "f 1\npartitions 16\nnat inside 10.0.0.0/8 outside 203.0.113.5 ports 20000-59999\nfirewall\nallow udp any 198.51.100.10/32 80\nbalance 198.51.100.10:80 to 192.0.2.1,192.0.2.2\nmonitor 16\n";
+const CHAIN: &str =
+    "f 1\npartitions 16\nnat inside 10.0.0.0/8 outside 203.0.113.5 ports 20000-59999\nfirewall\nallow udp any 198.51.100.10/32 80\nbalance 198.51.100.10:80 to 192.0.2.1,192.0.2.2\nmonitor 16\n";
 
 /// That chain.
 fn made_chain(alloc: Global) -> Result<ChainSpec, NoMemory>
@@ -76,7 +77,8 @@ fn no_lines(alloc: Global, spec: &ChainSpec, packets: u32) -> Result<Script, NoM
 fn made_texts(alloc: Global, bytes: &[u8], packets: u32, seed: u32) -> Result<Texts, NoMemory>
     requires few { packets ≤ MOST_RECORDS }
     requires bytes { bytes.now ≡ generated packets seed }
-    ensures { IfOk result (λ texts. AreMadeTexts packets seed texts.spec texts.capture texts.script texts.schedule.items) }
+    ensures { IfOk result (λ texts. AreMadeTexts packets seed texts.spec texts.capture texts.script
+        texts.schedule.items) }
 {
     let spec = made_chain(alloc)?;
     let capture = made_capture(alloc, bytes, packets, seed)?;
@@ -92,9 +94,14 @@ fn made_texts(alloc: Global, bytes: &[u8], packets: u32, seed: u32) -> Result<Te
 
 /// Runs these texts, and tells of the run.
 fn told_of_drive(alloc: Global, texts: &Texts) -> Result<Bytes, NoMemory>
-    requires ring { texts.now.script.ring ≡ record { servers = length texts.now.spec.rules; failures = texts.now.spec.failures } }
+    requires ring { texts.now.script.ring ≡ record {
+      servers = length texts.now.spec.rules;
+      failures =
+          texts.now.spec.failures;
+    } }
     requires packets { texts.now.script.packets ≡ length texts.now.capture.packets }
-    ensures { IfOk result (IsToldOfDrive (setting_of texts.now.spec (bytes_of texts.now.capture.packets) texts.now.script) texts.now.schedule.items) }
+    ensures { IfOk result (IsToldOfDrive (setting_of texts.now.spec
+        (bytes_of texts.now.capture.packets) texts.now.script) texts.now.schedule.items) }
 {
     let driven = drive(alloc, texts)?;
     let (packets, journal) = (&texts.capture.packets, driven.chain.journal());
@@ -129,8 +136,10 @@ fn write_made<D: Desk>(
     desk: &mut D,
 ) -> Result<(), DeskError>
     requires apart { name.now ≢ codes "-" }
-    ensures written { D.tells desk.old → OnOk result (AreMade name.now making.now.bytes making.now.told (D.file desk.old) (D.file desk.new)) }
-    ensures refused { D.tells desk.old → OnErr result (AreMadeShort name.now making.now.bytes making.now.told (D.file desk.old) (D.file desk.new)) }
+    ensures written { D.tells desk.old → OnOk result (AreMade name.now making.now.bytes making.now.told
+        (D.file desk.old) (D.file desk.new)) }
+    ensures refused { D.tells desk.old → OnErr result (AreMadeShort name.now making.now.bytes making.now.told
+        (D.file desk.old) (D.file desk.new)) }
     ensures tells { D.tells desk.old → D.tells desk.new }
     ensures sound { D.sound desk.old → D.sound desk.new }
     ensures count { D.faults desk.old ≤ D.faults desk.new }
@@ -152,7 +161,8 @@ pub fn make_capture<D: Desk>(
 ) -> Status
     requires few { packets ≤ MOST_RECORDS }
     requires apart { name.now ≢ codes "-" }
-    ensures ends { D.tells desk.old → MakeEnds (D.sound desk.old) packets seed name.now (D.file desk.old) (D.file desk.new) result }
+    ensures ends { D.tells desk.old → MakeEnds (D.sound desk.old) packets seed name.now (D.file desk.old)
+        (D.file desk.new) result }
     ensures known { result ≢ Status.Usage }
     ensures answer { IsMakeAnswer result }
     ensures tells { D.tells desk.old → D.tells desk.new }

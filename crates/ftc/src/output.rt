@@ -39,8 +39,10 @@ fn flush_long<D: Desk>(
     name: &str,
     piece: &mut Bytes,
 ) -> Result<(), DeskError>
-    ensures moved { D.tells desk.old → OnOk result (IsMovedOn (D.file desk.old name.now) piece.old (D.file desk.new name.now) piece.new) }
-    ensures refused { D.tells desk.old → OnErr result (MayHaveGrownAt name.now piece.old (D.file desk.old) (D.file desk.new)) }
+    ensures moved { D.tells desk.old → OnOk result (IsMovedOn (D.file desk.old name.now) piece.old
+        (D.file desk.new name.now) piece.new) }
+    ensures refused { D.tells desk.old → OnErr result (MayHaveGrownAt name.now piece.old (D.file desk.old)
+        (D.file desk.new)) }
     ensures others { D.tells desk.old → SameButAt name.now (D.file desk.old) (D.file desk.new) }
     ensures tells { D.tells desk.old → D.tells desk.new }
     ensures sound { D.sound desk.old → D.sound desk.new }
@@ -67,8 +69,10 @@ pub fn write_out<D: Desk>(
     released: &ReleasedList,
 ) -> Result<(), DeskError>
     requires { AreWritable capture.now.packets released.now }
-    ensures written { D.tells desk.old → OnOk result (D.file desk.new name.now ≡ Some (out_bytes capture.now released.now)) }
-    ensures refused { D.tells desk.old → OnErr result (MayHold (D.file desk.old name.now) (D.file desk.new name.now) (out_bytes capture.now released.now)) }
+    ensures written { D.tells desk.old → OnOk result (D.file desk.new name.now
+        ≡ Some (out_bytes capture.now released.now)) }
+    ensures refused { D.tells desk.old → OnErr result (MayHold (D.file desk.old name.now) (D.file desk.new name.now)
+        (out_bytes capture.now released.now)) }
     ensures others { D.tells desk.old → SameButAt name.now (D.file desk.old) (D.file desk.new) }
     ensures tells { D.tells desk.old → D.tells desk.new }
     ensures sound { D.sound desk.old → D.sound desk.new }
@@ -95,7 +99,8 @@ pub fn write_text<D: Desk>(
     text: &Bytes,
 ) -> Result<(), DeskError>
     ensures written { D.tells desk.old → OnOk result (D.file desk.new name.now ≡ Some text.now) }
-    ensures refused { D.tells desk.old → OnErr result (MayHold (D.file desk.old name.now) (D.file desk.new name.now) text.now) }
+    ensures refused { D.tells desk.old → OnErr result (MayHold (D.file desk.old name.now)
+        (D.file desk.new name.now) text.now) }
     ensures others { D.tells desk.old → SameButAt name.now (D.file desk.old) (D.file desk.new) }
     ensures tells { D.tells desk.old → D.tells desk.new }
     ensures sound { D.sound desk.old → D.sound desk.new }
@@ -116,7 +121,8 @@ pub fn write_journal<D: Desk>(
     journal: &Journal,
 ) -> Result<(), DeskError>
     ensures written { D.tells desk.old → OnOk result (D.file desk.new name.now ≡ Some (spelling journal.now.items)) }
-    ensures refused { D.tells desk.old → OnErr result (MayHold (D.file desk.old name.now) (D.file desk.new name.now) (spelling journal.now.items)) }
+    ensures refused { D.tells desk.old → OnErr result (MayHold (D.file desk.old name.now) (D.file desk.new name.now)
+        (spelling journal.now.items)) }
     ensures others { D.tells desk.old → SameButAt name.now (D.file desk.old) (D.file desk.new) }
     ensures tells { D.tells desk.old → D.tells desk.new }
     ensures sound { D.sound desk.old → D.sound desk.new }

@@ -31,7 +31,8 @@ fn read_table<D: Desk>(
     desk: &mut D,
 ) -> Result<PortLines, Status>
     ensures accepted { D.tells desk.old → IfOk result (IsTableIn (ports_by names.entry) server (D.file desk.old)) }
-    ensures refused { D.tells desk.old → IfErr result (ArePortsRefused (D.sound desk.old) (ports_by names.entry) server (D.file desk.old)) }
+    ensures refused { D.tells desk.old → IfErr result (ArePortsRefused (D.sound desk.old) (ports_by names.entry) server
+        (D.file desk.old)) }
     ensures known { IfErr result (λ ending. ending ≢ Status.Usage) }
     ensures answer { IfErr result IsPortsAnswer }
     ensures files { D.tells desk.old → SameFiles (D.file desk.old) (D.file desk.new) }
@@ -58,7 +59,8 @@ pub fn tell_ports<D: Desk>(
     server: ServerId,
     desk: &mut D,
 ) -> Status
-    ensures ends { D.tells desk.old → PortsEnd (D.sound desk.old) (ports_by names.entry) server (D.file desk.old) (D.file desk.new) result }
+    ensures ends { D.tells desk.old → PortsEnd (D.sound desk.old) (ports_by names.entry) server (D.file desk.old)
+        (D.file desk.new) result }
     ensures known { result ≢ Status.Usage }
     ensures answer { IsPortsAnswer result }
     ensures tells { D.tells desk.old → D.tells desk.new }

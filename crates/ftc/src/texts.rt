@@ -43,7 +43,8 @@ pub fn ring_of(spec: &ChainSpec) -> Ring
 /// Fetches and reads the chain.
 pub fn fetch_chain<D: Desk>(alloc: Global, name: &str, desk: &mut D) -> Result<ChainSpec, Status>
     ensures accepted { D.tells desk.old → IfOk result (HasChain name.now (D.file desk.old)) }
-    ensures refused { D.tells desk.old → IfErr result (IsTextRefused (D.sound desk.old) (D.file desk.old) name.now IsWrongChain) }
+    ensures refused { D.tells desk.old → IfErr result (IsTextRefused (D.sound desk.old)
+        (D.file desk.old) name.now IsWrongChain) }
     ensures known { IfErr result (λ ending. ending ≢ Status.Usage) }
     ensures answer { IfErr result IsInputAnswer }
     ensures files { D.tells desk.old → SameFiles (D.file desk.old) (D.file desk.new) }
@@ -61,7 +62,8 @@ pub fn fetch_chain<D: Desk>(alloc: Global, name: &str, desk: &mut D) -> Result<C
 /// Fetches and reads the capture.
 pub fn fetch_capture<D: Desk>(alloc: Global, name: &str, desk: &mut D) -> Result<Capture, Status>
     ensures accepted { D.tells desk.old → IfOk result (HasCapture name.now (D.file desk.old)) }
-    ensures refused { D.tells desk.old → IfErr result (IsTextRefused (D.sound desk.old) (D.file desk.old) name.now IsWrongCapture) }
+    ensures refused { D.tells desk.old → IfErr result (IsTextRefused (D.sound desk.old)
+        (D.file desk.old) name.now IsWrongCapture) }
     ensures known { IfErr result (λ ending. ending ≢ Status.Usage) }
     ensures answer { IfErr result IsInputAnswer }
     ensures files { D.tells desk.old → SameFiles (D.file desk.old) (D.file desk.new) }
@@ -88,7 +90,8 @@ pub fn fetch_script<D: Desk>(
     ensures ring { IfOk result (λ script. script.ring ≡ ring_of spec.now) }
     ensures packets { IfOk result (λ script. script.packets ≡ packets) }
     ensures right { IfOk result IsScript }
-    ensures refused { D.tells desk.old → IfErr result (IsTextRefused (D.sound desk.old) (D.file desk.old) name.now (IsWrongScript (ring_of spec.now) packets)) }
+    ensures refused { D.tells desk.old → IfErr result (IsTextRefused (D.sound desk.old) (D.file desk.old) name.now
+        (IsWrongScript (ring_of spec.now) packets)) }
     ensures known { IfErr result (λ ending. ending ≢ Status.Usage) }
     ensures answer { IfErr result IsScriptAnswer }
     ensures files { D.tells desk.old → SameFiles (D.file desk.old) (D.file desk.new) }
@@ -106,8 +109,10 @@ pub fn fetch_script<D: Desk>(
 
 /// Fetches and reads the schedule, where a run has one. A run without one has the empty schedule.
 fn fetch_schedule<D: Desk>(alloc: Global, mode: Mode<'_>, desk: &mut D) -> Result<Journal, Status>
-    ensures accepted { D.tells desk.old → IfOk result (λ schedule. HasSchedule (shown_mode mode.entry) (D.file desk.old) schedule.items) }
-    ensures refused { D.tells desk.old → IfErr result (IsScheduleRefused (D.sound desk.old) (shown_mode mode.entry) (D.file desk.old)) }
+    ensures accepted { D.tells desk.old → IfOk result (λ schedule. HasSchedule (shown_mode mode.entry)
+        (D.file desk.old) schedule.items) }
+    ensures refused { D.tells desk.old → IfErr result (IsScheduleRefused (D.sound desk.old) (shown_mode mode.entry)
+        (D.file desk.old)) }
     ensures known { IfErr result (λ ending. ending ≢ Status.Usage) }
     ensures answer { IfErr result IsRunAnswer }
     ensures files { D.tells desk.old → SameFiles (D.file desk.old) (D.file desk.new) }
@@ -134,10 +139,12 @@ pub fn read_texts<D: Desk>(
     mode: Mode<'_>,
     desk: &mut D,
 ) -> Result<Texts, Status>
-    ensures accepted { D.tells desk.old → IfOk result (λ texts. AreTexts (named_of names.entry) (shown_mode mode.entry) (D.file desk.old) texts.spec texts.capture texts.script texts.schedule.items) }
+    ensures accepted { D.tells desk.old → IfOk result (λ texts. AreTexts (named_of names.entry) (shown_mode mode.entry)
+        (D.file desk.old) texts.spec texts.capture texts.script texts.schedule.items) }
     ensures ring { IfOk result (λ texts. texts.script.ring ≡ ring_of texts.spec) }
     ensures packets { IfOk result (λ texts. texts.script.packets ≡ length texts.capture.packets) }
-    ensures refused { D.tells desk.old → IfErr result (IsRunRefused (D.sound desk.old) (named_of names.entry) (shown_mode mode.entry) (D.file desk.old)) }
+    ensures refused { D.tells desk.old → IfErr result (IsRunRefused (D.sound desk.old) (named_of names.entry)
+        (shown_mode mode.entry) (D.file desk.old)) }
     ensures known { IfErr result (λ ending. ending ≢ Status.Usage) }
     ensures answer { IfErr result IsRunAnswer }
     ensures files { D.tells desk.old → SameFiles (D.file desk.old) (D.file desk.new) }

@@ -43,8 +43,12 @@ fn write_files<D: Desk>(
 ) -> Result<(), DeskError>
     requires apart { AreApart (named_of names) }
     requires writable { AreWritable capture.now.packets (state_of driven.now.serial).released }
-    ensures written { D.tells desk.old → OnOk result (AreWritten (named_of names.entry) (out_bytes capture.now (state_of driven.now.serial).released) (spelling driven.now.chain.journal) report.now (D.file desk.old) (D.file desk.new)) }
-    ensures refused { D.tells desk.old → OnErr result (AreCutShort (named_of names.entry) (out_bytes capture.now (state_of driven.now.serial).released) (spelling driven.now.chain.journal) report.now (D.file desk.old) (D.file desk.new)) }
+    ensures written { D.tells desk.old → OnOk result (AreWritten (named_of names.entry)
+        (out_bytes capture.now (state_of driven.now.serial).released) (spelling driven.now.chain.journal) report.now
+        (D.file desk.old) (D.file desk.new)) }
+    ensures refused { D.tells desk.old → OnErr result (AreCutShort (named_of names.entry)
+        (out_bytes capture.now (state_of driven.now.serial).released) (spelling driven.now.chain.journal) report.now
+        (D.file desk.old) (D.file desk.new)) }
     ensures tells { D.tells desk.old → D.tells desk.new }
     ensures sound { D.sound desk.old → D.sound desk.new }
     ensures count { D.faults desk.old ≤ D.faults desk.new }
@@ -61,7 +65,8 @@ fn write_files<D: Desk>(
 /// Runs with these names, by a schedule where one is named.
 fn run_names<D: Desk>(alloc: Global, names: Names<'_>, mode: Mode<'_>, desk: &mut D) -> Status
     requires apart { AreDifferent (named_of names) }
-    ensures ends { D.tells desk.old → Ends (D.sound desk.old) (named_of names.entry) (shown_mode mode.entry) (D.file desk.old) (D.file desk.new) result }
+    ensures ends { D.tells desk.old → Ends (D.sound desk.old) (named_of names.entry) (shown_mode mode.entry)
+        (D.file desk.old) (D.file desk.new) result }
     ensures known { result ≢ Status.Usage }
     ensures answer { IsRunAnswer result }
     ensures tells { D.tells desk.old → D.tells desk.new }
@@ -99,10 +104,14 @@ fn run_command<D: Desk>(alloc: Global, command: &Command<'_>, desk: &mut D) -> S
     requires within { IsWithin (shown command.now) }
     ensures known { result ≢ Status.Usage }
     ensures answer { IsAnswer (Some (shown command.now)) result }
-    ensures ends { D.tells desk.old → HasEnded (D.sound desk.old) (Some (shown command.now)) (D.file desk.old) (D.file desk.new) result }
-    ensures complete { D.tells desk.old → HasTexts (Some (shown command.now)) (D.file desk.old) → (Rose (D.faults desk.old) (D.faults desk.new) → ⊥) → (result ≡ Status.Done) ⊎ (result ≡ Status.NoMemory) }
-    ensures complete_check { D.tells desk.old → HasFiles (Some (shown command.now)) (D.file desk.old) → (Rose (D.faults desk.old) (D.faults desk.new) → ⊥) → IsCheckEnd result }
-    ensures exact { D.tells desk.old → HasRightRun (Some (shown command.now)) (D.file desk.old) → IsYesOrRefused result }
+    ensures ends { D.tells desk.old → HasEnded (D.sound desk.old) (Some (shown command.now)) (D.file desk.old)
+        (D.file desk.new) result }
+    ensures complete { D.tells desk.old → HasTexts (Some (shown command.now)) (D.file desk.old) →
+        (Rose (D.faults desk.old) (D.faults desk.new) → ⊥) → (result ≡ Status.Done) ⊎ (result ≡ Status.NoMemory) }
+    ensures complete_check { D.tells desk.old → HasFiles (Some (shown command.now)) (D.file desk.old) →
+        (Rose (D.faults desk.old) (D.faults desk.new) → ⊥) → IsCheckEnd result }
+    ensures exact { D.tells desk.old → HasRightRun (Some (shown command.now)) (D.file desk.old) →
+        IsYesOrRefused result }
     ensures agrees { D.tells desk.old → WasLeft (Some (shown command.now)) (D.file desk.old) → IsYesOrRefused result }
     ensures tells { D.tells desk.old → D.tells desk.new }
     ensures sound { D.sound desk.old → D.sound desk.new }
@@ -161,12 +170,15 @@ pub fn run<R: AllocGlobal, D: Desk>(rt: &R, words: &[&str], desk: &mut D) -> Sta
     ensures answer { IsAnswer (asked words.now) result }
 
     // What the files hold at each end, where the desk tells them.
-    ensures ends { D.tells desk.old → HasEnded (D.sound desk.old) (asked words.now) (D.file desk.old) (D.file desk.new) result }
+    ensures ends { D.tells desk.old → HasEnded (D.sound desk.old) (asked words.now) (D.file desk.old)
+        (D.file desk.new) result }
 
     // Where the texts of a run or of a watch are right, or those of a port table that there is, and no call on the desk
     // failed, it is done, but for want of memory; and where the files of a check can be read, it says what they are.
-    ensures complete { D.tells desk.old → HasTexts (asked words.now) (D.file desk.old) → (Rose (D.faults desk.old) (D.faults desk.new) → ⊥) → (result ≡ Status.Done) ⊎ (result ≡ Status.NoMemory) }
-    ensures complete_check { D.tells desk.old → HasFiles (asked words.now) (D.file desk.old) → (Rose (D.faults desk.old) (D.faults desk.new) → ⊥) → IsCheckEnd result }
+    ensures complete { D.tells desk.old → HasTexts (asked words.now) (D.file desk.old) →
+        (Rose (D.faults desk.old) (D.faults desk.new) → ⊥) → (result ≡ Status.Done) ⊎ (result ≡ Status.NoMemory) }
+    ensures complete_check { D.tells desk.old → HasFiles (asked words.now) (D.file desk.old) →
+        (Rose (D.faults desk.old) (D.faults desk.new) → ⊥) → IsCheckEnd result }
 
     // To the files of one run a check says nothing but Yes, and so to what a run left that was done.
     ensures exact { D.tells desk.old → HasRightRun (asked words.now) (D.file desk.old) → IsYesOrRefused result }

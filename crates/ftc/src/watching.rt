@@ -35,7 +35,8 @@ fn fetch_beats<D: Desk>(
     ensures accepted { D.tells desk.old → IfOk result (HasBeats name.now (D.file desk.old) ring.now packets) }
     ensures ring { IfOk result (λ beats. beats.ring ≡ ring.now) }
     ensures packets { IfOk result (λ beats. beats.packets ≡ packets) }
-    ensures refused { D.tells desk.old → IfErr result (IsTextRefused (D.sound desk.old) (D.file desk.old) name.now (IsWrongBeats ring.now packets)) }
+    ensures refused { D.tells desk.old → IfErr result (IsTextRefused (D.sound desk.old) (D.file desk.old) name.now
+        (IsWrongBeats ring.now packets)) }
     ensures known { IfErr result (λ ending. ending ≢ Status.Usage) }
     ensures answer { IfErr result IsWatchAnswer }
     ensures files { D.tells desk.old → SameFiles (D.file desk.old) (D.file desk.new) }
@@ -57,7 +58,8 @@ fn read_watched<D: Desk>(
     desk: &mut D,
 ) -> Result<Beats, Status>
     ensures accepted { D.tells desk.old → IfOk result (AreBeats (watched_by names.entry) (D.file desk.old)) }
-    ensures refused { D.tells desk.old → IfErr result (IsWatchRefused (D.sound desk.old) (watched_by names.entry) (D.file desk.old)) }
+    ensures refused { D.tells desk.old → IfErr result (IsWatchRefused (D.sound desk.old) (watched_by names.entry)
+        (D.file desk.old)) }
     ensures known { IfErr result (λ ending. ending ≢ Status.Usage) }
     ensures answer { IfErr result IsWatchAnswer }
     ensures files { D.tells desk.old → SameFiles (D.file desk.old) (D.file desk.new) }
@@ -82,8 +84,10 @@ fn write_watched<D: Desk>(
     desk: &mut D,
 ) -> Result<(), DeskError>
     requires apart { name.now ≢ codes "-" }
-    ensures written { D.tells desk.old → OnOk result (AreMade name.now watched.now.script (summary watched.now.fenced watched.now.refused watched.now.held) (D.file desk.old) (D.file desk.new)) }
-    ensures refused { D.tells desk.old → OnErr result (AreMadeShort name.now watched.now.script (summary watched.now.fenced watched.now.refused watched.now.held) (D.file desk.old) (D.file desk.new)) }
+    ensures written { D.tells desk.old → OnOk result (AreMade name.now watched.now.script
+        (summary watched.now.fenced watched.now.refused watched.now.held) (D.file desk.old) (D.file desk.new)) }
+    ensures refused { D.tells desk.old → OnErr result (AreMadeShort name.now watched.now.script
+        (summary watched.now.fenced watched.now.refused watched.now.held) (D.file desk.old) (D.file desk.new)) }
     ensures tells { D.tells desk.old → D.tells desk.new }
     ensures sound { D.sound desk.old → D.sound desk.new }
     ensures count { D.faults desk.old ≤ D.faults desk.new }
@@ -101,7 +105,8 @@ fn write_watched<D: Desk>(
 pub fn watch_beats<D: Desk>(alloc: Global, names: WatchNames<'_>, limit: u8, desk: &mut D) -> Status
     requires apart { names.script.now ≢ codes "-" }
     requires limit { 1 ≤ limit }
-    ensures ends { D.tells desk.old → WatchEnds (D.sound desk.old) limit (watched_by names.entry) (D.file desk.old) (D.file desk.new) result }
+    ensures ends { D.tells desk.old → WatchEnds (D.sound desk.old) limit (watched_by names.entry) (D.file desk.old)
+        (D.file desk.new) result }
     ensures known { result ≢ Status.Usage }
     ensures answer { IsWatchAnswer result }
     ensures tells { D.tells desk.old → D.tells desk.new }

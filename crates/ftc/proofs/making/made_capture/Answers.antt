@@ -10,7 +10,7 @@ pub unreachable-requires : goal.unreachable-requires
 unreachable-requires c =
     let fault = c.in-Err-Bad.field-0-0 in
     let refused : IsFault c.args.bytes.now fault =
-        subst (λ (r : Refuse CaptureFault). Refuses c.args.bytes.now r) c.in-Err-Bad.field-0-is c.in-Err-Bad.ensures.fault in
+    subst (λ (r : Refuse CaptureFault). Refuses c.args.bytes.now r) c.in-Err-Bad.field-0-is c.in-Err-Bad.ensures.fault in
     c.one_fault.ensures.none (generated c.args.packets c.args.seed) (generated_capture c.args.packets c.args.seed) fault
     (c.is_a_capture.ensures.capture c.args.packets c.args.seed c.requires.few)
     (subst (λ (t : List ℕ). IsFault t fault) c.requires.bytes refused)
