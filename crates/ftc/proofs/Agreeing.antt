@@ -1,5 +1,6 @@
 -- What a check says of files that are those of one run: nothing but Yes.
 use Rattle.std.proofs.Common.{◌≡◌, ◌∙◌, ◌⊎◌, inl, inr, refl, sym, subst, ℕ, List, length, Some, Result, Ok, Err}
+use Rattle.ftc_outside.specs.Tap.{Face}
 use Rattle.ftc_outside.specs.Desk.{Files, SameFiles}
 use Rattle.ftc_pcap.specs.Grammar.{Spells, IsFault}
 use Rattle.ftc_pcap.specs.declared.capture.Capture.{Capture}
@@ -287,17 +288,18 @@ module _ (laws : Laws) (names : Named) (mode : Mode) (files : Files) (chain : Ch
       → (ending ≡ status.Done) ⊎ (ending ≡ status.NoMemory)
   done_or_memory sound new ending no-fault refused = inr (run_refused_once sound ending no-fault refused.0)
 
-  pub completes : (sound : Type 0) (new : Files) (ending : Status) → Ends sound names mode files new ending → (ending ≡ status.DeskFault → ⊥)
+  pub completes : (sound : Type 0) (taps left : List Face) (new : Files) (ending : Status) →
+      Ends sound names mode taps left files new ending → (ending ≡ status.DeskFault → ⊥)
       → (ending ≡ status.Done) ⊎ (ending ≡ status.NoMemory)
-  completes sound new status.Done ends no-fault = inl refl
-  completes sound new status.Usage ends no-fault = done_or_memory sound new status.Usage no-fault ends
-  completes sound new (status.Chain line cause) ends no-fault = done_or_memory sound new (status.Chain line cause) no-fault ends
-  completes sound new (status.Capture at cause) ends no-fault = done_or_memory sound new (status.Capture at cause) no-fault ends
-  completes sound new (status.Script line cause) ends no-fault = done_or_memory sound new (status.Script line cause) no-fault ends
-  completes sound new (status.Schedule line cause) ends no-fault = done_or_memory sound new (status.Schedule line cause) no-fault ends
-  completes sound new (status.Ports cause) ends no-fault = done_or_memory sound new (status.Ports cause) no-fault ends
-  completes sound new (status.Journal line cause) ends no-fault = done_or_memory sound new (status.Journal line cause) no-fault ends
-  completes sound new (status.Beats line cause) ends no-fault = done_or_memory sound new (status.Beats line cause) no-fault ends
-  completes sound new (status.Check verdict) ends no-fault = done_or_memory sound new (status.Check verdict) no-fault ends
-  completes sound new status.DeskFault ends no-fault = absurd (no-fault refl)
-  completes sound new status.NoMemory ends no-fault = inr refl
+  completes sound taps left new status.Done ends no-fault = inl refl
+  completes sound taps left new status.Usage ends no-fault = done_or_memory sound new status.Usage no-fault ends
+  completes sound taps left new (status.Chain line cause) ends no-fault = done_or_memory sound new (status.Chain line cause) no-fault ends
+  completes sound taps left new (status.Capture at cause) ends no-fault = done_or_memory sound new (status.Capture at cause) no-fault ends
+  completes sound taps left new (status.Script line cause) ends no-fault = done_or_memory sound new (status.Script line cause) no-fault ends
+  completes sound taps left new (status.Schedule line cause) ends no-fault = done_or_memory sound new (status.Schedule line cause) no-fault ends
+  completes sound taps left new (status.Ports cause) ends no-fault = done_or_memory sound new (status.Ports cause) no-fault ends
+  completes sound taps left new (status.Journal line cause) ends no-fault = done_or_memory sound new (status.Journal line cause) no-fault ends
+  completes sound taps left new (status.Beats line cause) ends no-fault = done_or_memory sound new (status.Beats line cause) no-fault ends
+  completes sound taps left new (status.Check verdict) ends no-fault = done_or_memory sound new (status.Check verdict) no-fault ends
+  completes sound taps left new status.DeskFault ends no-fault = absurd (no-fault refl)
+  completes sound taps left new status.NoMemory ends no-fault = inr refl

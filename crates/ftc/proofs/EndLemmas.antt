@@ -3,8 +3,11 @@ use Rattle.std.proofs.Common.{◌≡◌, ◌≢◌, ◌∙◌, sym, refl, ℕ, B
 use Rattle.std.specs.Prelude.{Ok}
 use Rattle.std.specs.Str.{bytes_eq}
 use Rattle.std.specs.List.{AllByRecursion}
+use Rattle.std.proofs.Math.Logic.{∥∥₁_map}
 use Rattle.std.proofs.lemmas.Slice.Eq.{bytes_eq-Decides}
+use Rattle.ftc_base.specs.declared.released.Released.{Released}
 use Rattle.ftc_outside.specs.Desk.{Files, SameFiles}
+use Rattle.ftc_outside.specs.Tap.{Face, HasNoFeed}
 use Rattle.ftc_outside.specs.declared.desk.DeskError.{DeskError}
 use Rattle.ftc_outside.specs.declared.desk.DeskError.TheVariants as desk
 use Rattle.ftc_pcap.specs.declared.capture.Capture.{Capture}
@@ -15,27 +18,32 @@ use Rattle.ftc_journal.specs.Reading.{journal_of}
 use Rattle.ftc_journal.specs.Spelling.{IsEvent}
 use Rattle.ftc_mbox.specs.Chain.{Chain}
 use Rattle.ftc_script.specs.Script.{ScriptShape}
-use Rattle.ftc_serial.specs.Serial.{State}
+use Rattle.ftc_serial.specs.Serial as serial
+use Rattle.ftc_serial.specs.Serial.{State, serial_run}
+use Rattle.ftc_serial.specs.Trace.{trace_of}
 use Rattle.ftc_serial.specs.Packets.{bytes_of}
 use Rattle.ftc_machine.proofs.RunInputs.{bytes_count}
 use Rattle.ftc_protocol.specs.declared.fate.Fate.TheVariants as became
 use Rattle.ftc_protocol.specs.Orderly.{IsLostAt}
-use Rattle.ftc_protocol.specs.Run.{state_after}
-use Rattle.ftc_protocol.specs.Setting.{Setting, setting_of}
+use Rattle.ftc_protocol.specs.Moment.{released_in}
+use Rattle.ftc_protocol.specs.Run.{IsRun, state_after}
+use Rattle.ftc_protocol.specs.Setting.{Setting, IsSetting, setting_of}
 use Rattle.ftc_protocol.specs.State.{opening}
 use Rattle.ftc_report.specs.Output.{out_bytes}
+use Rattle.ftc_report.specs.Report.{report_of}
+use Rattle.ftc_stream.specs.Taps.{AreLeft}
 use Rattle.ftc_check.specs.Laws.{WholeRunsAreRight, RightRunsAreVisited, RightRunsAreSettled}
 use Rattle.ftc_check.specs.Verdict.{IsVerdict}
 use Rattle.ftc_check.specs.declared.verdict.Checked.TheVariants.{Yes}
 use Rattle.ftc_words.specs.Command.{Named, Mode}
 use Rattle.ftc.specs.Output.{MayHold}
 use Rattle.ftc.specs.Status.{desk_status}
-use Rattle.ftc.specs.Writing.{IsUnwritten, AreDifferent, AreWritten, AreCutShort}
+use Rattle.ftc.specs.Writing.{IsUnwritten, AreDifferent, AreWritten, AreCutShort, AreCutBeside}
 use Rattle.ftc.specs.Texts.{AreTexts}
 use Rattle.ftc.specs.Driven.{IsFinishedDrive}
 use Rattle.ftc.proofs.Moments.{EveryMoment, sound_throughout}
 use Rattle.ftc.specs.Checking.{IsRightRun}
-use Rattle.ftc.specs.Done.{IsDone, IsCutShort, Ends, report_bytes}
+use Rattle.ftc.specs.Done.{IsDone, IsDoneBeside, IsCutShort, Ends, lines_of, report_bytes}
 
 -- ---- the files with one more
 
@@ -65,7 +73,8 @@ pub record EndLaws : Type 0 where
 module _ (laws : EndLaws) (names : Named) (mode : Mode) (old : Files) (apart : AreDifferent names) (chain : Chain)
     (capture : Capture) (script : ScriptShape) (schedule journal : List Event) (end : State)
     (texts : AreTexts names mode old chain capture script schedule)
-    (run : IsFinishedDrive (setting_of chain (bytes_of capture.packets) script) schedule journal end) where
+    (run : IsFinishedDrive (setting_of chain (bytes_of capture.packets) script) schedule journal end)
+    (lines : List (List ℕ)) (plain : AllByRecursion HasNoFeed lines) where
   abbrev setting : Setting
   setting = setting_of chain (bytes_of capture.packets) script
 
@@ -73,10 +82,10 @@ module _ (laws : EndLaws) (names : Named) (mode : Mode) (old : Files) (apart : A
   out = out_bytes capture end.released
 
   abbrev report : List ℕ
-  report = report_bytes chain capture script journal
+  report = report_bytes chain capture script journal lines
 
   verdict : IsVerdict setting capture out journal report Yes
-  verdict = laws.right setting capture journal end run.whole
+  verdict = laws.right setting capture journal end lines plain run.whole
 
   module _ (new : Files) (written : AreWritten names out (spelling journal) report old new) where
     -- a file that a run only read is as it was
@@ -123,7 +132,7 @@ module _ (laws : EndLaws) (names : Named) (mode : Mode) (old : Files) (apart : A
       causes = λ packet number below. laws.lost setting journal packet number;
     }
 
-    done : IsDone names mode old new
+    done : IsDone names mode lines old new
     unfolding right
     done = record {
       right = right;
@@ -136,11 +145,12 @@ module _ (laws : EndLaws) (names : Named) (mode : Mode) (old : Files) (apart : A
     }
 
   -- all was written
-  pub ended_done : (text : List ℕ) → text ≡ report → (mid new : Files) → SameFiles old mid → AreWritten names out (spelling journal) text mid new → IsDone names mode old new
-  ended_done text told mid new same written = done new (record {
+  pub ended_done : (mid new : Files) → SameFiles old mid → AreWritten names out (spelling journal) report mid new →
+      IsDone names mode lines old new
+  ended_done mid new same written = done new (record {
     out_file = written.out_file;
     journal_file = written.journal_file;
-    report_file = written.report_file ∙ ap Some told;
+    report_file = written.report_file;
     others = λ name other. written.others name other ∙ same name;
   })
 
@@ -162,31 +172,78 @@ module _ (laws : EndLaws) (names : Named) (mode : Mode) (old : Files) (apart : A
     others = λ name other. put_other names.report report (put names.journal (spelling journal) (put names.out out old)) name other.1.1.0 ∙ (put_other names.journal (spelling journal) (put names.out out old) name other.1.0 ∙ put_other names.out out old name other.0);
   }
 
-  cut_short : (new : Files) → AreCutShort names out (spelling journal) report old new → IsCutShort names mode old new
-  cut_short new cut = record {
+  cut_short : (left : List Face) (new : Files) → AreCutShort names out (spelling journal) report old new →
+      (new names.report ≡ old names.report) ⊎ (lines ≡ lines_of left) → IsCutShort names mode left old new
+  cut_short left new cut of_taps = record {
     whole = all;
+    lines = lines;
     done = done all all_written;
     out_file = (out, all_written.out_file, cut.out_file);
     journal_file = (spelling journal, all_written.journal_file, cut.journal_file);
     report_file = (report, all_written.report_file, cut.report_file);
-    journal_order = subst (λ (held : Option (List ℕ)). (new names.journal ≡ old names.journal) ⊎ (new names.out ≡ held)) (sym all_written.out_file) cut.journal_order;
-    report_order = subst (λ (held : Option (List ℕ)). (new names.report ≡ old names.report) ⊎ ((new names.out ≡ all names.out) × (new names.journal ≡ held))) (sym all_written.journal_file)
-        (subst (λ (held : Option (List ℕ)). (new names.report ≡ old names.report) ⊎ ((new names.out ≡ held) × (new names.journal ≡ Some (spelling journal)))) (sym all_written.out_file) cut.report_order);
+    journal_order = subst (λ (held : Option (List ℕ)). (new names.journal ≡ old names.journal) ⊎ (new names.out ≡ held))
+        (sym all_written.out_file) cut.journal_order;
+    report_order = subst (λ (held : Option (List ℕ)). (new names.report ≡ old names.report)
+        ⊎ ((new names.out ≡ all names.out) × (new names.journal ≡ held))) (sym all_written.journal_file)
+        (subst (λ (held : Option (List ℕ)). (new names.report ≡ old names.report)
+        ⊎ ((new names.out ≡ held) × (new names.journal ≡ Some (spelling journal)))) (sym all_written.out_file)
+        cut.report_order);
+    of_taps = of_taps;
     others = cut.others;
   }
 
-  moved : (text : List ℕ) → text ≡ report → (mid new : Files) → SameFiles old mid → AreCutShort names out (spelling journal) text mid new → AreCutShort names out (spelling journal) report old new
-  moved text told mid new same cut = record {
+  moved : (mid new : Files) → SameFiles old mid → AreCutShort names out (spelling journal) report mid new →
+      AreCutShort names out (spelling journal) report old new
+  moved mid new same cut = record {
     out_file = rw (← same names.out) cut.out_file;
     journal_file = rw (← same names.journal) cut.journal_file;
-    report_file = subst (λ (bytes : List ℕ). MayHold (old names.report) (new names.report) bytes) told (rw (← same names.report) cut.report_file);
+    report_file = rw (← same names.report) cut.report_file;
     others = λ name other. cut.others name other ∙ same name;
     journal_order = rw (← same names.journal) cut.journal_order;
     report_order = rw (← same names.report) cut.report_order;
   }
 
   -- the writing was cut short
-  pub ended_cut : (text : List ℕ) → text ≡ report → (mid new : Files) → SameFiles old mid → (sound : Type 0) (error : DeskError) → (sound → error ≡ desk.Failed → ⊥)
-      → AreCutShort names out (spelling journal) text mid new → Ends sound names mode old new (desk_status error)
-  ended_cut text told mid new same sound desk.Failed safe cut = inr (cut_short new (moved text told mid new same cut), λ s. safe s refl)
-  ended_cut text told mid new same sound desk.NoMemory safe cut = inr (cut_short new (moved text told mid new same cut))
+  pub ended_cut : (taps left : List Face) (mid new : Files) → SameFiles old mid → (sound : Type 0) (error : DeskError) →
+      (sound → error ≡ desk.Failed → ⊥) → AreCutShort names out (spelling journal) report mid new →
+      (new names.report ≡ mid names.report) ⊎ (lines ≡ lines_of left) →
+      Ends sound names mode taps left old new (desk_status error)
+  ended_cut taps left mid new same sound desk.Failed safe cut of_taps =
+      inr (cut_short left new (moved mid new same cut) (rw (← same names.report) of_taps), λ s. safe s refl)
+  ended_cut taps left mid new same sound desk.NoMemory safe cut of_taps =
+      inr (cut_short left new (moved mid new same cut) (rw (← same names.report) of_taps))
+
+-- what the serial run of a run's trace released is what the run released
+abbrev pub ReleasedLaw : Type 0
+ReleasedLaw =
+    (setting : Setting) → IsSetting setting → (journal : List Event) → IsRun setting journal →
+    (end : State) → serial_run setting.rules (serial.opening setting.packets) (trace_of journal) ≡ Some end →
+    end.released ≡ released_in (state_after setting (opening setting) journal).trace
+
+module _ (laws : EndLaws) (names : Named) (mode : Mode) (old : Files) (apart : AreDifferent names) (chain : Chain)
+    (capture : Capture) (script : ScriptShape) (schedule journal : List Event) (end : State)
+    (texts : AreTexts names mode old chain capture script schedule)
+    (run : IsFinishedDrive (setting_of chain (bytes_of capture.packets) script) schedule journal end)
+    (taps left : List Face) (mid new : Files) (same : SameFiles old mid) where
+  abbrev of : Setting
+  of = setting_of chain (bytes_of capture.packets) script
+
+  -- all was written, with the lines of the taps that are left, and these were told
+  pub ended_beside : ReleasedLaw → AllByRecursion HasNoFeed (lines_of left) → AreLeft end.released taps left →
+      AreWritten names (out_bytes capture end.released) (spelling journal)
+      (report_of of journal (lines_of left)) mid new →
+      IsDoneBeside names mode taps left old new
+  unfolding ended_done done right
+  ended_beside law plain told written = record {
+    done = ended_done laws names mode old apart chain capture script schedule journal end texts run (lines_of left) plain
+        mid new same written;
+    told = ∥∥₁_map run.whole.run (λ legal. subst (λ (items : List Released). AreLeft items taps left)
+        (law of run.right journal legal end run.whole.serial) told);
+  }
+
+  pub ended_cut_beside : (sound : Type 0) (error : DeskError) → (sound → error ≡ desk.Failed → ⊥) →
+      AreCutBeside names (out_bytes capture end.released) (spelling journal) (report_of of journal) (lines_of left) mid new
+      → Ends sound names mode taps left old new (desk_status error)
+  ended_cut_beside sound error safe cut =
+      ended_cut laws names mode old apart chain capture script schedule journal end texts run cut.lines cut.plain
+      taps left mid new same sound error safe cut.cut cut.of_taps

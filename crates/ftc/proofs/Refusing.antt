@@ -1,6 +1,7 @@
 -- A refusal of a command's texts is how the command ends.
 use Rattle.std.proofs.Common.{◌≡◌, ◌∙◌, sym, ℕ, List, length, Some, inl, inr}
 use Rattle.ftc_outside.specs.Desk.{Files, SameFiles}
+use Rattle.ftc_outside.specs.Tap.{Face}
 use Rattle.ftc_check.specs.declared.verdict.Checked.{Checked}
 use Rattle.ftc_words.specs.Command.{Named, Mode, plain, workers, alone}
 use Rattle.ftc.specs.declared.status.Status.{Status}
@@ -28,20 +29,20 @@ run_isnt_done sound names mode files refused = elim refused [
   ]
 ]
 
-pub ends_refused : (sound : Type 0) (names : Named) (mode : Mode) (old new : Files) (ending : Status) → IsRunRefused sound names mode old ending
-    → SameFiles old new → Ends sound names mode old new ending
-ends_refused sound names mode old new status.Done refused same = absurd (run_isnt_done sound names mode old refused)
-ends_refused sound names mode old new status.Usage refused same = (refused, same)
-ends_refused sound names mode old new (status.Chain line cause) refused same = (refused, same)
-ends_refused sound names mode old new (status.Capture at cause) refused same = (refused, same)
-ends_refused sound names mode old new (status.Script line cause) refused same = (refused, same)
-ends_refused sound names mode old new (status.Schedule line cause) refused same = (refused, same)
-ends_refused sound names mode old new (status.Ports cause) refused same = (refused, same)
-ends_refused sound names mode old new (status.Journal line cause) refused same = (refused, same)
-ends_refused sound names mode old new (status.Beats line cause) refused same = (refused, same)
-ends_refused sound names mode old new (status.Check verdict) refused same = (refused, same)
-ends_refused sound names mode old new status.DeskFault refused same = inl (refused, same)
-ends_refused sound names mode old new status.NoMemory refused same = inl same
+pub ends_refused : (sound : Type 0) (names : Named) (mode : Mode) (taps left : List Face) (old new : Files) (ending : Status) →
+    IsRunRefused sound names mode old ending → SameFiles old new → Ends sound names mode taps left old new ending
+ends_refused sound names mode taps left old new status.Done refused same = absurd (run_isnt_done sound names mode old refused)
+ends_refused sound names mode taps left old new status.Usage refused same = (refused, same)
+ends_refused sound names mode taps left old new (status.Chain line cause) refused same = (refused, same)
+ends_refused sound names mode taps left old new (status.Capture at cause) refused same = (refused, same)
+ends_refused sound names mode taps left old new (status.Script line cause) refused same = (refused, same)
+ends_refused sound names mode taps left old new (status.Schedule line cause) refused same = (refused, same)
+ends_refused sound names mode taps left old new (status.Ports cause) refused same = (refused, same)
+ends_refused sound names mode taps left old new (status.Journal line cause) refused same = (refused, same)
+ends_refused sound names mode taps left old new (status.Beats line cause) refused same = (refused, same)
+ends_refused sound names mode taps left old new (status.Check verdict) refused same = (refused, same)
+ends_refused sound names mode taps left old new status.DeskFault refused same = inl (refused, same)
+ends_refused sound names mode taps left old new status.NoMemory refused same = inl same
 
 check_isnt_done : (sound : Type 0) (names : Named) (files : Files) → IsCheckRefused sound names files status.Done → ⊥
 check_isnt_done sound names files refused = elim refused [

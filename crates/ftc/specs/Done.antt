@@ -1,6 +1,8 @@
 -- What a run leaves: files that a check says Yes of, or some fronts of them.
-use Rattle.std.specs.Prelude.{◌≡◌, ◌⊎◌, ℕ, List, [], Some}
+use Rattle.std.specs.Prelude.{◌≡◌, ◌⊎◌, ℕ, List, map, Some}
+use Rattle.ftc_base.specs.declared.released.Released.{Released}
 use Rattle.ftc_outside.specs.Desk.{Files, SameFiles}
+use Rattle.ftc_outside.specs.Tap.{Face}
 use Rattle.ftc_pcap.specs.declared.capture.Capture.{Capture}
 use Rattle.ftc_journal.specs.declared.event.Event.{Event}
 use Rattle.ftc_journal.specs.Text.{spelling}
@@ -9,14 +11,16 @@ use Rattle.ftc_script.specs.Script.{ScriptShape}
 use Rattle.ftc_serial.specs.Packets.{bytes_of}
 use Rattle.ftc_protocol.specs.Setting.{setting_of}
 use Rattle.ftc_protocol.specs.Drive.{IsDrive}
+use Rattle.ftc_protocol.specs.Moment.{released_in}
 use Rattle.ftc_report.specs.Report.{report_of}
+use Rattle.ftc_stream.specs.Taps.{AreLeft}
 use Rattle.ftc.specs.declared.status.Status.{Status}
 use Rattle.ftc.specs.declared.status.Status.TheVariants as status
 use Rattle.ftc_words.specs.Command.{Named, Mode}
 use Rattle.ftc.specs.Output.{MayHold, SameElsewhere, written_by}
 use Rattle.ftc.specs.Refused.{IsRunRefused}
 use Rattle.ftc.specs.Texts.{HasSchedule}
-use Rattle.ftc.specs.Checking.{IsRightRun}
+use Rattle.ftc.specs.Checking.{IsRightRun, state_of}
 
 -- The one part that varies: which of the finished runs a run leaves. It is the one that one thread drives by a
 -- schedule.
@@ -24,45 +28,59 @@ abbrev pub IsChosen : Chain → Capture → ScriptShape → List Event → List 
 IsChosen chain capture script schedule journal =
     ∥ IsDrive (setting_of chain (bytes_of capture.packets) script) schedule journal ∥₁
 
--- the report of a journal; there are no taps
-abbrev pub report_bytes : Chain → Capture → ScriptShape → List Event → List ℕ
-report_bytes chain capture script journal = report_of (setting_of chain (bytes_of capture.packets) script) journal []
+-- the report of a journal, with these lines of taps
+abbrev pub report_bytes : Chain → Capture → ScriptShape → List Event → List (List ℕ) → List ℕ
+report_bytes chain capture script journal lines =
+    report_of (setting_of chain (bytes_of capture.packets) script) journal lines
 
--- What a run leaves that is done: the files of one run, as a check says of them, which is the chosen one. The
--- journal's text is the printed one, and there are no taps.
-pub record IsDone (names : Named) (mode : Mode) (old new : Files) : Type 0 where
+-- What a run leaves that is done, where its taps have these lines: the files of one run, as a check says of them,
+-- which is the chosen one. The journal's text is the printed one.
+pub record IsDone (names : Named) (mode : Mode) (lines : List (List ℕ)) (old new : Files) : Type 0 where
   pub right : IsRightRun names new
   pub schedule : List Event
   pub schedule_right : HasSchedule mode old schedule
   pub chosen : IsChosen right.judged.chain right.judged.capture right.judged.script schedule right.judged.journal
   pub journal_file : new names.journal ≡ Some (spelling right.judged.journal)
-  pub report_file : new names.report ≡ Some (report_bytes right.judged.chain right.judged.capture right.judged.script
-      right.judged.journal)
+  pub report_file : new names.report
+      ≡ Some (report_bytes right.judged.chain right.judged.capture right.judged.script right.judged.journal lines)
   pub others : SameElsewhere (written_by names) old new
+
+-- the line of each tap
+abbrev pub lines_of : List Face → List (List ℕ)
+lines_of taps = map (λ tap. tap.line) taps
+
+-- It is done, and its report has the lines of the taps that are left: each that is gone is none that stays for good,
+-- and each other was told the released packets, in their order.
+pub record IsDoneBeside (names : Named) (mode : Mode) (taps left : List Face) (old new : Files) : Type 0 where
+  pub done : IsDone names mode (lines_of left) old new
+  pub told : ∥ AreLeft (released_in (state_of done.right.judged.chain done.right.judged.capture
+      done.right.judged.script done.right.judged.journal).trace) taps left ∥₁
 
 -- The file is as it was, or has some front of what it would have.
 abbrev pub IsFrontOf : List ℕ → Files → Files → Files → Type 0
 IsFrontOf name old new whole = (bytes : List ℕ) × (whole name ≡ Some bytes) × MayHold (old name) (new name) bytes
 
 -- What a run leaves that was cut short in its writing: fronts of what a run that is done would have left. The journal
--- was begun only behind all of OUT, and the report only behind both.
-pub record IsCutShort (names : Named) (mode : Mode) (old new : Files) : Type 0 where
+-- was begun only behind all of OUT, and the report only behind both and with the lines of the taps that are left.
+pub record IsCutShort (names : Named) (mode : Mode) (left : List Face) (old new : Files) : Type 0 where
   pub whole : Files
-  pub done : IsDone names mode old whole
+  pub lines : List (List ℕ)
+  pub done : IsDone names mode lines old whole
   pub out_file : IsFrontOf names.out old new whole
   pub journal_file : IsFrontOf names.journal old new whole
   pub report_file : IsFrontOf names.report old new whole
   pub journal_order : (new names.journal ≡ old names.journal) ⊎ (new names.out ≡ whole names.out)
   pub report_order : (new names.report ≡ old names.report)
       ⊎ ((new names.out ≡ whole names.out) × (new names.journal ≡ whole names.journal))
+  pub of_taps : (new names.report ≡ old names.report) ⊎ (lines ≡ lines_of left)
   pub others : SameElsewhere (written_by names) old new
 
--- How a run with these names ends. A run that fails has changed nothing yet, or was cut short. Where the desk is
--- sound, it fails only where the first text that is not right is missing.
-abbrev pub Ends : Type 0 → Named → Mode → Files → Files → Status → Type 0
-Ends sound names mode old new status.Done = IsDone names mode old new
-Ends sound names mode old new status.DeskFault =
+-- How a run with these names ends, which had these taps and leaves those. A run that fails has changed nothing yet, or
+-- was cut short. Where the desk is sound, it fails only where the first text that is not right is missing.
+abbrev pub Ends : Type 0 → Named → Mode → List Face → List Face → Files → Files → Status → Type 0
+Ends sound names mode taps left old new status.Done = IsDoneBeside names mode taps left old new
+Ends sound names mode taps left old new status.DeskFault =
     (IsRunRefused sound names mode old status.DeskFault × SameFiles old new)
-    ⊎ (IsCutShort names mode old new × (sound → ⊥))
-Ends sound names mode old new status.NoMemory = SameFiles old new ⊎ IsCutShort names mode old new
-Ends sound names mode old new refused = IsRunRefused sound names mode old refused × SameFiles old new
+    ⊎ (IsCutShort names mode left old new × (sound → ⊥))
+Ends sound names mode taps left old new status.NoMemory = SameFiles old new ⊎ IsCutShort names mode left old new
+Ends sound names mode taps left old new refused = IsRunRefused sound names mode old refused × SameFiles old new

@@ -2,6 +2,7 @@
 use Rattle.std.specs.Prelude.{List, ℕ, Option, Some}
 use Rattle.std.specs.Borrow.{Bor}
 use Rattle.ftc_outside.specs.Desk.{Files, SameFiles}
+use Rattle.ftc_outside.specs.Tap.{Face}
 use Rattle.ftc_pcap.specs.declared.capture.Capture.{Capture}
 use Rattle.ftc_mbox.specs.Chain.{Chain}
 use Rattle.ftc_script.specs.Script.{ScriptShape}
@@ -32,16 +33,22 @@ IsAnswer (Some (ports chain capture journal server)) ending = IsPortsAnswer endi
 IsAnswer (Some (watch limit chain capture beats script)) ending = IsWatchAnswer ending
 IsAnswer other ending = Unit {0}
 
--- what the files are at its end, from what they were; a check changes none
-abbrev pub HasEnded : Type 0 → Option Command → Files → Files → Status → Type 0
-HasEnded sound (Some (run names mode)) old new ending = Ends sound names mode old new ending
-HasEnded sound (Some (make packets seed capture)) old new ending = MakeEnds sound packets seed capture old new ending
-HasEnded sound (Some (check names)) old new ending = Judges sound names old ending × SameFiles old new
-HasEnded sound (Some (ports chain capture journal server)) old new ending = PortsEnd sound
+-- what the files are at its end, from what they were, where these taps were lent and those are left; a check changes
+-- no file
+abbrev pub HasEnded : Type 0 → Option Command → List Face → List Face → Files → Files → Status → Type 0
+HasEnded sound (Some (run names mode)) taps left old new ending = Ends sound names mode taps left old new ending
+HasEnded sound (Some (make packets seed capture)) taps left old new ending = MakeEnds sound packets seed capture old new ending
+HasEnded sound (Some (check names)) taps left old new ending = Judges sound names old ending × SameFiles old new
+HasEnded sound (Some (ports chain capture journal server)) taps left old new ending = PortsEnd sound
     (port_names chain capture journal) server old new ending
-HasEnded sound (Some (watch limit chain capture beats script)) old new ending = WatchEnds sound limit
+HasEnded sound (Some (watch limit chain capture beats script)) taps left old new ending = WatchEnds sound limit
     (watch_names chain capture beats script) old new ending
-HasEnded sound other old new ending = SameFiles old new
+HasEnded sound other taps left old new ending = SameFiles old new
+
+-- none but a run tells the taps anything
+abbrev pub IsQuiet : Option Command → Type 0
+IsQuiet (Some (run names mode)) = ⊥
+IsQuiet other = Unit {0}
 
 -- a run or a watch whose texts are right, a capture to be made, or a port table that there is
 abbrev pub HasTexts : Option Command → Files → Type 0
@@ -67,5 +74,6 @@ HasRightRun other files = ⊥
 
 -- a check whose files were left by a run of the same names that was done
 abbrev pub WasLeft : Option Command → Files → Type 0
-WasLeft (Some (check names)) files = (mode : Mode) × (earlier : Files) × IsDone names mode earlier files
+WasLeft (Some (check names)) files = (mode : Mode) × (lines : List (List ℕ)) × (earlier : Files)
+    × IsDone names mode lines earlier files
 WasLeft other files = ⊥

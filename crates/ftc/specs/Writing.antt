@@ -1,6 +1,8 @@
 -- What the writing of a run's three files leaves.
-use Rattle.std.specs.Prelude.{◌≡◌, ◌≢◌, ◌⊎◌, ℕ, List, Some}
+use Rattle.std.specs.Prelude.{◌≡◌, ◌≢◌, ◌⊎◌, ℕ, List, [], ◌∷◌, Some}
+use Rattle.std.specs.List.{AllByRecursion}
 use Rattle.ftc_outside.specs.Desk.{Files}
+use Rattle.ftc_outside.specs.Tap.{HasNoFeed}
 use Rattle.ftc_words.specs.Command.{Named}
 use Rattle.ftc.specs.Output.{MayHold, SameElsewhere, written_by}
 
@@ -39,3 +41,25 @@ pub record AreCutShort (names : Named) (out journal report : List ℕ) (old new 
   pub journal_order : (new names.journal ≡ old names.journal) ⊎ (new names.out ≡ Some out)
   pub report_order : (new names.report ≡ old names.report)
       ⊎ ((new names.out ≡ Some out) × (new names.journal ≡ Some journal))
+
+-- OUT and the journal hold all that was to be written
+pub record AreEventsWritten (names : Named) (out journal : List ℕ) (old new : Files) : Type 0 where
+  pub out_file : new names.out ≡ Some out
+  pub journal_file : new names.journal ≡ Some journal
+  pub others : SameElsewhere (names.out ∷ names.journal ∷ []) old new
+
+-- each of the two is as it was, or holds some front of it
+pub record AreEventsCutShort (names : Named) (out journal : List ℕ) (old new : Files) : Type 0 where
+  pub out_file : MayHold (old names.out) (new names.out) out
+  pub journal_file : MayHold (old names.journal) (new names.journal) journal
+  pub others : SameElsewhere (names.out ∷ names.journal ∷ []) old new
+  pub journal_order : (new names.journal ≡ old names.journal) ⊎ (new names.out ≡ Some out)
+
+-- The three files were cut short, with a report of some taps' lines: those of the taps that are left, where any of it
+-- was written.
+pub record AreCutBeside (names : Named) (out journal : List ℕ) (report : List (List ℕ) → List ℕ)
+    (left : List (List ℕ)) (old new : Files) : Type 0 where
+  pub lines : List (List ℕ)
+  pub plain : AllByRecursion HasNoFeed lines
+  pub cut : AreCutShort names out journal (report lines) old new
+  pub of_taps : (new names.report ≡ old names.report) ⊎ (lines ≡ left)

@@ -1,6 +1,6 @@
 //! The run of a chain on one thread.
 
-ghost use Rattle.std.specs.Prelude.{◌≡◌, [], length, IfOk};
+ghost use Rattle.std.specs.Prelude.{◌≡◌, length, IfOk};
 ghost use Rattle.ftc_report.specs.Output.{AreWritable};
 ghost use Rattle.ftc_report.specs.Report.{report_of};
 ghost use Rattle.ftc_serial.specs.Held.{rules_of, state_of};
@@ -8,6 +8,7 @@ ghost use Rattle.ftc_serial.specs.Packets.{bytes_of};
 ghost use Rattle.ftc_protocol.specs.Run.{IsRun};
 ghost use Rattle.ftc_protocol.specs.Setting.{setting_of};
 ghost use Rattle.ftc.specs.Driven.{IsFinishedDrive};
+ghost use Rattle.ftc.specs.Texts.{ring_of};
 
 use crate::numbers::numbers_fit;
 use crate::texts::Texts;
@@ -29,11 +30,7 @@ pub struct Driven<'a> {
 
 /// Plays the schedule over a new chain, and then does what is left.
 pub fn drive<'a>(alloc: Global, texts: &'a Texts) -> Result<Driven<'a>, NoMemory>
-    requires ring { texts.now.script.ring ≡ record {
-      servers = length texts.now.spec.rules;
-      failures =
-          texts.now.spec.failures;
-    } }
+    requires ring { texts.now.script.ring ≡ ring_of texts.now.spec }
     requires packets { texts.now.script.packets ≡ length texts.now.capture.packets }
     ensures driven { IfOk result (λ driven. IsFinishedDrive
         (setting_of texts.now.spec (bytes_of texts.now.capture.packets) texts.now.script)
@@ -58,20 +55,20 @@ pub fn drive<'a>(alloc: Global, texts: &'a Texts) -> Result<Driven<'a>, NoMemory
     Ok(Driven { chain, serial })
 }
 
-/// The text of the report of a run; there are no taps.
-pub fn report_of(alloc: Global, texts: &Texts, driven: &Driven<'_>) -> Result<Bytes, NoMemory>
-    requires ring { texts.now.script.ring ≡ record {
-      servers = length texts.now.spec.rules;
-      failures =
-          texts.now.spec.failures;
-    } }
+/// The text of the report of a run, with these lines of taps.
+pub fn report_of(
+    alloc: Global,
+    texts: &Texts,
+    driven: &Driven<'_>,
+    lines: &Lines,
+) -> Result<Bytes, NoMemory>
+    requires ring { texts.now.script.ring ≡ ring_of texts.now.spec }
     requires packets { texts.now.script.packets ≡ length texts.now.capture.packets }
     requires run { ∥ IsRun (setting_of texts.now.spec (bytes_of texts.now.capture.packets) texts.now.script)
         driven.now.chain.journal ∥₁ }
     ensures { IfOk result (λ text. text ≡ report_of (setting_of texts.now.spec
-        (bytes_of texts.now.capture.packets) texts.now.script) driven.now.chain.journal []) }
+        (bytes_of texts.now.capture.packets) texts.now.script) driven.now.chain.journal lines.now) }
 {
-    let packets = &texts.capture.packets;
-    let (journal, taps) = (driven.chain.journal(), Lines::new(alloc));
-    report(alloc, &texts.spec, packets, &texts.script, journal, &taps)
+    let (packets, journal) = (&texts.capture.packets, driven.chain.journal());
+    report(alloc, &texts.spec, packets, &texts.script, journal, lines)
 }

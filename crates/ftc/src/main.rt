@@ -13,8 +13,10 @@ mod telling;
 mod texts;
 mod top;
 mod watching;
+mod writing;
 
-use ftc_outside::FileDesk;
+use ftc_outside::{CountTap, FileDesk, Tap};
+use ftc_stream::Taps;
 use status::Status;
 use std::alloc::{AllocError, Global};
 use std::env;
@@ -41,8 +43,16 @@ fn ended(rt: &HostRuntime) -> Status {
     let Ok(words) = lent(rt.alloc(), &texts) else {
         return Status::NoMemory;
     };
+    let mut list: Vec<Box<dyn Tap + Send>> = Vec::new(rt.alloc());
+    let Ok(counts) = Box::new(rt.alloc(), CountTap::new()) else {
+        return Status::NoMemory;
+    };
+    if list.push(counts).is_err() {
+        return Status::NoMemory;
+    }
     let mut desk = FileDesk::new(rt);
-    top::run(rt, &words, &mut desk)
+    let mut taps = Taps::new(list);
+    top::run(rt, &words, &mut desk, &mut taps)
 }
 
 fn main(rt: HostRuntime) -> ExitCode {

@@ -10,6 +10,7 @@ ghost use Rattle.ftc_protocol.specs.Setting.{setting_of};
 ghost use Rattle.ftc_serial.specs.Packets.{bytes_of};
 ghost use Rattle.ftc.specs.Answers.{IsMakeAnswer};
 ghost use Rattle.ftc.specs.Making.{made_text, empty_script, IsToldOfDrive, AreMadeTexts, AreMaking, MakeEnds};
+ghost use Rattle.ftc.specs.Texts.{ring_of};
 ghost use Rattle.ftc.specs.Watching.{AreMade, AreMadeShort};
 
 use crate::drive::drive;
@@ -94,11 +95,7 @@ fn made_texts(alloc: Global, bytes: &[u8], packets: u32, seed: u32) -> Result<Te
 
 /// Runs these texts, and tells of the run.
 fn told_of_drive(alloc: Global, texts: &Texts) -> Result<Bytes, NoMemory>
-    requires ring { texts.now.script.ring ≡ record {
-      servers = length texts.now.spec.rules;
-      failures =
-          texts.now.spec.failures;
-    } }
+    requires ring { texts.now.script.ring ≡ ring_of texts.now.spec }
     requires packets { texts.now.script.packets ≡ length texts.now.capture.packets }
     ensures { IfOk result (IsToldOfDrive (setting_of texts.now.spec
         (bytes_of texts.now.capture.packets) texts.now.script) texts.now.schedule.items) }

@@ -8,9 +8,18 @@ mod statuses;
 mod watches;
 mod worked;
 
+use crate::status::Status;
+use crate::top;
 use ftc_base::Bytes;
-use ftc_outside::MemoryDesk;
+use ftc_outside::{Desk, MemoryDesk};
+use ftc_stream::Taps;
 use std::test::Fail;
+
+/// Runs the command of the words without taps.
+pub fn run<R: AllocGlobal, D: Desk>(rt: &R, words: &[&str], desk: &mut D) -> Status {
+    let mut taps = Taps::new(Vec::new(rt.alloc()));
+    top::run(rt, words, desk, &mut taps)
+}
 
 /// The words of a run.
 pub const WORDS: [&str; 7] = [

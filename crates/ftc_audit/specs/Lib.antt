@@ -4,3 +4,4 @@ pub mod Backends
 pub mod Table
 pub mod Stored
 pub mod Text
+pub mod Sources

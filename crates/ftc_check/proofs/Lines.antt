@@ -1,9 +1,10 @@
 -- The lines of texts that are put together.
 use Rattle.std.proofs.Common.{◌≡◌, ◌≢◌, ◌⊎◌, inl, inr, ℕ, Bool, true, false, List, [], ◌∷◌, ◌++◌, refl, ap, ◌∙◌}
 use Rattle.std.specs.Prelude.{◌==◌, if◌then◌else◌}
-use Rattle.std.specs.List.{AllByRecursion, onto_first}
+use Rattle.std.specs.List.{onto_first}
 use Rattle.std.proofs.lemmas.Bool.{ne_eqb}
 use Rattle.ftc_base.specs.Text.{lines_of}
+use Rattle.ftc_outside.specs.Tap.{HasNoFeed}
 
 -- the text is empty, or its last byte is a line feed
 abbrev pub IsWhole : List ℕ → Type 0
@@ -44,10 +45,6 @@ lines_together (b ∷ c ∷ bs) rest whole =
       | true ↦ ap (λ (ls : List (List ℕ)). [] ∷ ls) later
       | false ↦ ap (onto_first b) later ∙ onto_first-append b (lines_of (c ∷ bs)) (lines_of rest) (lines_some c bs)
     ]
-
--- a text without a line feed
-abbrev pub HasNoFeed : List ℕ → Type 0
-HasNoFeed = AllByRecursion (λ b. b ≢ 10)
 
 -- a line, with its line feed or without
 abbrev pub IsPiece : List ℕ → List ℕ → Type 0

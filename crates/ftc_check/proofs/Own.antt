@@ -4,9 +4,10 @@ use Rattle.std.specs.List.{flat_map}
 use Rattle.std.proofs.lemmas.List.{append-nil}
 use Rattle.std.proofs.lemmas.List.Elements.{All-nil}
 use Rattle.ftc_check.specs.Taps.{is_tap_line, IsWithoutTaps}
-use Rattle.ftc_check.proofs.Lines.{IsWhole, HasNoFeed, whole_before_feed}
+use Rattle.ftc_outside.specs.Tap.{HasNoFeed}
+use Rattle.ftc_outside.proofs.Plain.{is_plain, plain_word, plain_together}
+use Rattle.ftc_check.proofs.Lines.{IsWhole, whole_before_feed}
 use Rattle.ftc_check.proofs.Cuts.{other_more}
-use Rattle.ftc_check.proofs.Plain.{is_plain, plain_word, plain_together}
 
 -- the text's last line has ended, and nothing is left out of it
 pub record IsOwn (text : List ℕ) : Type 0 where

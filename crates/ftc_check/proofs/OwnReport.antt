@@ -1,7 +1,8 @@
--- No line of a report that was written without taps is a tap's.
-use Rattle.std.proofs.Common.{ℕ, List, [], ◌∷◌, ◌++◌, length, refl}
+-- No line of a report that was written without taps is a tap's, and with taps their lines are those at its end.
+use Rattle.std.proofs.Common.{inl, ℕ, List, [], ◌∷◌, ◌++◌, length, refl, sym, subst, append_assoc}
 use Rattle.std.specs.Prelude.{codes, count_by, decimal}
-use Rattle.std.specs.List.{flat_map, enumerate_from}
+use Rattle.std.specs.List.{AllByRecursion, flat_map, enumerate_from}
+use Rattle.std.proofs.lemmas.List.{append-nil}
 use Rattle.std.specs.FinMap.{len, entries}
 use Rattle.hex.specs.Hex.{encode_lower}
 use Rattle.ftc_journal.specs.declared.event.Event.{Event}
@@ -14,11 +15,14 @@ use Rattle.ftc_protocol.specs.Run.{state_after}
 use Rattle.ftc_store.specs.Store.{Content}
 use Rattle.ftc_report.specs.Contents.{contents_after}
 use Rattle.ftc_report.specs.Report.{report_of}
-use Rattle.ftc_report.specs.Text.{is_released, is_filtered, is_lost, count_line, count_lines, head, fate_line, value_text, key_line, store_line, store_lines, report_text}
+use Rattle.ftc_report.specs.Text.{is_released, is_filtered, is_lost, count_line, count_lines, head, fate_line, value_text, key_line, store_line, store_lines, tap_line, report_text}
 use Rattle.ftc_check.specs.Taps.{IsWithoutTaps}
-use Rattle.ftc_check.proofs.Lines.{HasNoFeed}
-use Rattle.ftc_check.proofs.Plain.{plain_word, plain_decimal, plain_hex}
-use Rattle.ftc_check.proofs.Own.{KeepsOwn, IsOther, nothing_own, keeps_nothing, keeps_both, keeps_all, begins, goes_on, keeps_line, keeps_word}
+use Rattle.ftc_outside.specs.Tap.{HasNoFeed}
+use Rattle.ftc_outside.proofs.Plain.{plain_word, plain_together, plain_decimal}
+use Rattle.ftc_check.proofs.Cuts.{tap_more}
+use Rattle.ftc_check.proofs.Lines.{IsWhole, whole_before_feed}
+use Rattle.ftc_check.proofs.Plain.{plain_hex}
+use Rattle.ftc_check.proofs.Own.{IsOwn, KeepsOwn, IsOther, nothing_own, keeps_nothing, keeps_both, keeps_all, begins, goes_on, keeps_line, keeps_word}
 
 count_starts : (what : List ℕ) (count : ℕ) → IsOther what → IsOther ((what ++ codes " ") ++ decimal count)
 count_starts what count is = goes_on (what ++ codes " ") (decimal count) (goes_on what (codes " ") is (plain_word (codes " ") refl)) (plain_decimal count)
@@ -91,5 +95,33 @@ keeps_report fates contents =
     (keeps_all store_lines keeps_store (enumerate_from 0 contents)))
     keeps_nothing
 
-pub own : (c : Setting) (journal : List Event) → IsWithoutTaps (report_of c journal []) (report_of c journal [])
-own c journal = (keeps_report (fates_in c (state_after c (opening c) journal)) (contents_after c.rules c.packets journal) [] nothing_own).stays
+-- the line of a tap is one more that is left out
+tap_left_out : (line text front : List ℕ) → HasNoFeed line → IsWhole text → IsWithoutTaps text front →
+    IsWhole (text ++ tap_line line) × IsWithoutTaps (text ++ tap_line line) front
+unfolding tap_line
+tap_left_out line text front plain whole held =
+    let told : List ℕ = codes "tap " ++ line in
+    let no_feed : HasNoFeed told = plain_together (codes "tap ") line (plain_word (codes "tap ") refl) plain in (
+      subst IsWhole (append_assoc text told (10 ∷ [])) (whole_before_feed (text ++ told)),
+      tap_more text (told ++ 10 ∷ []) told front whole (no_feed, inl refl) refl held,
+    )
+
+taps_left_out : (lines : List (List ℕ)) (text front : List ℕ) → AllByRecursion HasNoFeed lines → IsWhole text →
+    IsWithoutTaps text front → IsWithoutTaps (text ++ flat_map tap_line lines) front
+taps_left_out [] text front plain whole held =
+    subst (λ (all : List ℕ). IsWithoutTaps all front) (sym (append-nil text)) held
+taps_left_out (line ∷ lines) text front plain whole held =
+    let one = tap_left_out line text front plain.0 whole held in
+    subst (λ (all : List ℕ). IsWithoutTaps all front) (append_assoc text (tap_line line) (flat_map tap_line lines))
+    (taps_left_out lines (text ++ tap_line line) front plain.1 one.0 one.1)
+
+pub own : (c : Setting) (journal : List Event) (lines : List (List ℕ)) → AllByRecursion HasNoFeed lines →
+    IsWithoutTaps (report_of c journal lines) (report_of c journal [])
+own c journal lines plain =
+    let fates : List Fate = fates_in c (state_after c (opening c) journal) in
+    let contents : List Content = contents_after c.rules c.packets journal in
+    let text : List ℕ = head fates ++ flat_map fate_line (enumerate_from 0 fates)
+    ++ flat_map store_lines (enumerate_from 0 contents) in
+    let all : IsOwn (text ++ []) = keeps_report fates contents [] nothing_own in
+    taps_left_out lines text (text ++ []) plain (subst IsWhole (append-nil text) all.whole)
+    (subst (λ (seen : List ℕ). IsWithoutTaps seen (text ++ [])) (append-nil text) all.stays)

@@ -1,6 +1,8 @@
 -- Each of the relations leaves one answer, what a run wrote is right, and what is right is such a run.
 use Rattle.std.specs.Prelude.{ℕ, ◌≡◌, ◌≢◌, ◌<◌, List, []}
+use Rattle.std.specs.List.{AllByRecursion}
 use Rattle.ftc_journal.specs.declared.event.Event.{Event}
+use Rattle.ftc_outside.specs.Tap.{HasNoFeed}
 use Rattle.ftc_pcap.specs.declared.capture.Capture.{Capture}
 use Rattle.ftc_serial.specs.Serial.{State}
 use Rattle.ftc_protocol.specs.declared.fate.Fate.TheVariants as became
@@ -27,21 +29,25 @@ VerdictsAreOne =
     (c : Setting) (capture : Capture) (out : List ℕ) (journal : List Event) (report : List ℕ) (verdict other : Checked)
     → IsVerdict c capture out journal report verdict → IsVerdict c capture out journal report other → verdict ≡ other
 
--- a report without taps has no line of a tap at its end
+-- a report without the lines of its taps is that which is written without taps
 abbrev pub OwnReportsStay : Type 0
-OwnReportsStay = (c : Setting) (journal : List Event) → IsWithoutTaps (report_of c journal []) (report_of c journal [])
+OwnReportsStay =
+    (c : Setting) (journal : List Event) (lines : List (List ℕ)) → AllByRecursion HasNoFeed lines →
+    IsWithoutTaps (report_of c journal lines) (report_of c journal [])
 
--- the OUT and the report of a finished run are right beside its journal
+-- the OUT and the report of a finished run are right beside its journal, whatever its taps say
 abbrev pub WholeRunsAreRight : Type 0
 WholeRunsAreRight =
     (c : Setting) (capture : Capture) (journal : List Event) (end : State)
-    → IsWhole c journal end → IsVerdict c capture (out_bytes capture end.released) journal (report_of c journal []) Yes
+    (lines : List (List ℕ)) → AllByRecursion HasNoFeed lines → IsWhole c journal end →
+    IsVerdict c capture (out_bytes capture end.released) journal (report_of c journal lines) Yes
 
 -- and no other verdict says so of them
 abbrev pub WholeRunsAreOnlyRight : Type 0
 WholeRunsAreOnlyRight =
-    (c : Setting) (capture : Capture) (journal : List Event) (end : State) (verdict : Checked)
-    → IsWhole c journal end → IsVerdict c capture (out_bytes capture end.released) journal (report_of c journal []) verdict → verdict ≡ Yes
+    (c : Setting) (capture : Capture) (journal : List Event) (end : State) (lines : List (List ℕ)) (verdict : Checked)
+    → AllByRecursion HasNoFeed lines → IsWhole c journal end →
+    IsVerdict c capture (out_bytes capture end.released) journal (report_of c journal lines) verdict → verdict ≡ Yes
 
 -- in a run whose files are right each released packet has visited all middleboxes, and none of these visits was undone
 abbrev pub RightRunsAreVisited : Type 0

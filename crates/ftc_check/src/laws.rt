@@ -19,12 +19,12 @@ pub fn one_verdict()
     ensures { VerdictsAreOne }
 {}
 
-/// Nothing is left out of a report that was written without taps.
+/// What is left of a report without the lines of its taps is what is written without taps.
 pub fn own_report()
     ensures { OwnReportsStay }
 {}
 
-/// What a finished run wrote is right, and has no other verdict.
+/// What a finished run wrote is right, whatever its taps say, and has no other verdict.
 pub fn right_files()
     ensures right { WholeRunsAreRight }
     ensures only { WholeRunsAreOnlyRight }

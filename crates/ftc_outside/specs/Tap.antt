@@ -1,5 +1,6 @@
 -- What a tap shows, and how it changes.
-use Rattle.std.specs.Prelude.{◌≡◌, ◌+◌, ℕ, Bool, true, false, List, ◌++◌, length, Option, Some, None, min, decimal, codes}
+use Rattle.std.specs.Prelude.{◌≡◌, ◌≢◌, ◌+◌, ℕ, Bool, true, false, List, ◌++◌, length, Option, Some, None, min, decimal, codes}
+use Rattle.std.specs.List.{AllByRecursion}
 use Rattle.ftc_base.specs.declared.released.Released.{Released}
 
 -- what can be seen of a tap: the records that it was told, where it keeps them; its line; the records at
@@ -9,6 +10,10 @@ pub record Face : Type 0 where
   pub line : List ℕ
   pub leaves : Released → Bool
   pub constant : Bool
+
+-- a text without a line feed
+abbrev pub HasNoFeed : List ℕ → Type 0
+HasNoFeed = AllByRecursion (λ byte. byte ≢ 10)
 
 -- these records were told: they stand behind those that were kept, and a constant tap stays constant
 pub record WasTold (records : List Released) (old new : Face) : Type 0 where

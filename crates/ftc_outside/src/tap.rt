@@ -1,7 +1,7 @@
 //! What is told of each record that is put.
 
 ghost use Rattle.std.specs.Prelude.{◌≡◌, [], ◌∷◌, true, not, length, IfOk, OnOk, OnErr, IsOk};
-ghost use Rattle.ftc_outside.specs.Tap.{Face, WasTold, counted_by, count_face, list_face};
+ghost use Rattle.ftc_outside.specs.Tap.{Face, HasNoFeed, WasTold, counted_by, count_face, list_face};
 
 use ftc_base::{Bytes, NoMemory, PacketNo, Released, ReleasedList};
 use std::alloc::Global;
@@ -23,7 +23,8 @@ pub trait Tap: Drop {
 
     /// Its line in the report, without a line feed.
     fn line(&self, alloc: Global) -> Result<Bytes, NoMemory>
-        ensures { IfOk result (λ line. line ≡ (face self.now).line) };
+        ensures line { IfOk result (λ line. line ≡ (face self.now).line) }
+        ensures alone { IfOk result (λ line. HasNoFeed line) };
 }
 
 /// Counts packets and bytes, and never leaves.

@@ -1,11 +1,11 @@
 -- Taps that are told one record after another, and some of which leave.
-use Rattle.std.proofs.Common.{◌≡◌, inl, inr, ◌∷◌, [], List, Bool, true, false, refl, sym, ◌∙◌, subst, append-nil}
+use Rattle.std.proofs.Common.{◌≡◌, inl, inr, ℕ, zero, suc, ◌+◌, ◌<◌, ◌++◌, ◌∷◌, [], List, Bool, true, false, length, take, get_or, refl, ap, sym, ◌∙◌, subst, append-nil, arith}
 use Rattle.std.specs.Prelude.{not, cond}
 use Rattle.std.specs.List.{AllZip, AllByRecursion}
 use Rattle.std.proofs.lemmas.List.Elements.{recursion_from_All}
 use Rattle.ftc_base.specs.declared.released.Released.{Released}
 use Rattle.ftc_outside.specs.Tap.{Face, WasTold}
-use Rattle.ftc_stream.specs.Taps.{AreTold, AreLeft, AreLeftInPart, staying, StaysIfConstant}
+use Rattle.ftc_stream.specs.Taps.{AreTold, AreToldInPart, AreToldShort, AreLeft, AreLeftInPart, staying, StaysIfConstant}
 use Rattle.ftc_stream.specs.LeavingLaws.{left_none, left_on, left_in_part_on}
 
 -- a constant tap stays, so one that leaves is none
@@ -58,3 +58,25 @@ pub left_then_part : (rs ss : List Released) (old mid new : List Face) → ss �
 left_then_part rs ss old mid new same first then =
     let P : List Released → Type 0 = λ records. AreLeftInPart records old new in
     subst P (append-nil rs ∙ sym same) (left_in_part_on rs [] old mid new first then)
+
+taken_one : (items : List Released) (place : ℕ) (item : Released) → place < length items →
+    item ≡ get_or items place item → take (suc place) items ≡ take place items ++ item ∷ []
+taken_one [] place item below is = absurd (omega arith)
+taken_one (first ∷ items) zero item below is = ap (λ one. one ∷ []) (sym is)
+taken_one (first ∷ items) (suc place) item below is =
+    ap (λ more. first ∷ more) (taken_one items place item (omega arith) is)
+
+-- one item more of a row
+pub left_one_more : (items : List Released) (place : ℕ) (item : Released) (old mid new : List Face) →
+    place < length items → item ≡ get_or items place item → AreLeft (take place items) old mid →
+    AreTold item mid new → AreLeft (take (place + 1) items) old new
+left_one_more items place item old mid new below is first then =
+    let P : List Released → Type 0 = λ records. AreLeft records old new in
+    let one : suc place ≡ place + 1 = omega arith in
+    subst P (sym (taken_one items place item below is) ∙ ap (λ count. take count items) one)
+    (left_on (take place items) (item ∷ []) old mid new first (left_by_one item mid new then))
+
+-- or one that was told in part
+pub told_short : (items : List Released) (place : ℕ) (item : Released) (old mid new : List Face) →
+    AreLeft (take place items) old mid → AreToldInPart item mid new → AreToldShort items old new
+told_short items place item old mid new first part = (place, (item, mid, first, part))

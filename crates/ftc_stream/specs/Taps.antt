@@ -1,5 +1,5 @@
 -- Which taps are still there, and what they were told.
-use Rattle.std.specs.Prelude.{◌≡◌, ◌⊎◌, true, false, not, List, [], ◌∷◌, ◌++◌}
+use Rattle.std.specs.Prelude.{◌≡◌, ◌⊎◌, ℕ, true, false, not, List, [], ◌∷◌, ◌++◌, take}
 use Rattle.std.specs.List.{filter, All, AllZip}
 use Rattle.ftc_base.specs.declared.released.Released.{Released}
 use Rattle.ftc_outside.specs.Tap.{Face, WasTold}
@@ -39,3 +39,7 @@ AreLeft records (tap ∷ taps) new =
 abbrev pub AreLeftInPart : List Released → List Face → List Face → Type 0
 AreLeftInPart records old new =
     (one : Released) × (between : List Face) × AreLeft records old between × AreToldInPart one between new
+
+-- some front of the records was told, and then one record more up to some place
+abbrev pub AreToldShort : List Released → List Face → List Face → Type 0
+AreToldShort records old new = (count : ℕ) × AreLeftInPart (take count records) old new

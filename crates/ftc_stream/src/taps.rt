@@ -1,8 +1,9 @@
 //! Taps in boxes.
 
 ghost use Rattle.std.specs.Prelude.{◌≡◌, ◌∷◌, [], List, true, not, map, IfOk, OnOk, OnErr};
-ghost use Rattle.ftc_outside.specs.Tap.{Face, WasTold};
-ghost use Rattle.ftc_stream.specs.Taps.{AreTold, AreToldInPart};
+ghost use Rattle.std.specs.List.{AllByRecursion};
+ghost use Rattle.ftc_outside.specs.Tap.{Face, HasNoFeed, WasTold};
+ghost use Rattle.ftc_stream.specs.Taps.{AreTold, AreToldInPart, AreLeft, AreToldShort};
 
 use ftc_base::{Bytes, Lines, NoMemory, PacketNo, Released};
 use ftc_outside::Tap;
@@ -43,7 +44,8 @@ fn see_one(
 
 /// A tap's line.
 fn line_of(tap: &Box<dyn Tap + Send>, alloc: Global) -> Result<Bytes, NoMemory>
-    ensures { IfOk result (λ line. line ≡ (face tap.now).line) }
+    ensures line { IfOk result (λ line. line ≡ (face tap.now).line) }
+    ensures alone { IfOk result HasNoFeed }
 {
     tap.line(alloc)
 }
@@ -90,9 +92,24 @@ impl Taps {
         tell_each(&mut self.list, alloc, item.packet, item.bytes.as_slice())
     }
 
+    /// Tells each tap of these records, one after another, and drops those that leave at one. Where memory is refused,
+    /// the taps were told some front of them, and those up to some place one record more.
+    pub fn tell_all(&mut self, alloc: Global, items: &[Released]) -> Result<(), NoMemory>
+        ensures told { OnOk result (
+            AreLeft items.now (⟦<Taps as Seen>⟧.faces self.old) (⟦<Taps as Seen>⟧.faces self.new)) }
+        ensures part { OnErr result (
+            AreToldShort items.now (⟦<Taps as Seen>⟧.faces self.old) (⟦<Taps as Seen>⟧.faces self.new)) }
+    {
+        for item in items {
+            self.tell(alloc, item)?;
+        }
+        Ok(())
+    }
+
     /// The lines of the taps that are still there, in their order.
     pub fn lines(&self, alloc: Global) -> Result<Lines, NoMemory>
-        ensures { IfOk result (λ lines. lines ≡ map (λ tap. tap.line) (⟦<Taps as Seen>⟧.faces self.now)) }
+        ensures lines { IfOk result (λ lines. lines ≡ map (λ tap. tap.line) (⟦<Taps as Seen>⟧.faces self.now)) }
+        ensures alone { IfOk result (AllByRecursion HasNoFeed) }
     {
         let mut lines = Lines::new(alloc);
         for tap in self.list.as_slice() {

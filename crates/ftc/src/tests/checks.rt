@@ -2,8 +2,7 @@
 
 use crate::status::Status;
 use crate::tests::frames::DATAGRAM;
-use crate::tests::{MONITOR, WORDS, capture_of, desk_of};
-use crate::top::run;
+use crate::tests::{MONITOR, WORDS, capture_of, desk_of, run};
 use ftc_base::Bytes;
 use ftc_check::Checked;
 use ftc_conf::ChainCause;

@@ -2,7 +2,7 @@
 
 use crate::status::Status;
 use crate::tests::checks::CHECK;
-use crate::top::run;
+use crate::tests::{WORDS, run};
 use ftc_outside::{FailingDesk, MemoryDesk};
 use std::test::Fail;
 
@@ -39,7 +39,7 @@ fn a_made_capture_is_run_and_checked(rt: HostRuntime) -> Result<(), Fail> {
     desk.put("chain", CHAIN)?;
     desk.put("script", b"")?;
     assert_eq!(rt; run(&rt, &MAKE_TEN, &mut desk), Status::Done);
-    assert_eq!(rt; run(&rt, &crate::tests::WORDS, &mut desk), Status::Done);
+    assert_eq!(rt; run(&rt, &WORDS, &mut desk), Status::Done);
     assert_eq!(rt;
         desk.get("out").map(|bytes| bytes.len()),
         Some(length_of(9))

@@ -2,8 +2,7 @@
 
 use crate::status::Status;
 use crate::tests::frames::DATAGRAM;
-use crate::tests::{HEADER, MONITOR, WORDS, capture_of, desk_of};
-use crate::top::run;
+use crate::tests::{HEADER, MONITOR, WORDS, capture_of, desk_of, run};
 use ftc_base::ServerId;
 use ftc_conf::ChainCause;
 use ftc_outside::{FailingDesk, MemoryDesk};

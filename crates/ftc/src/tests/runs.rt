@@ -5,8 +5,7 @@ use crate::tests::frames::{
     ALL_ONES, ALL_ONES_OUT, ARP, DATAGRAM, DATAGRAM_OUT, ICMP, IPV6, NEIGHBOUR, REPLY, REPLY_IN,
     SEGMENT, SEGMENT_OUT, STRAY, UNSUMMED, UNSUMMED_OUT,
 };
-use crate::tests::{HEADER, MONITOR, WORDS, capture_of, desk_of};
-use crate::top::run;
+use crate::tests::{HEADER, MONITOR, WORDS, capture_of, desk_of, run};
 use std::process::Abort;
 use std::test::Fail;
 

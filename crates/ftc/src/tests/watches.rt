@@ -3,8 +3,7 @@
 use crate::status::Status;
 use crate::tests::checks::CHECK;
 use crate::tests::frames::DATAGRAM;
-use crate::tests::{WORDS, capture_of};
-use crate::top::run;
+use crate::tests::{WORDS, capture_of, run};
 use ftc_outside::{FailingDesk, MemoryDesk};
 use ftc_watch::BeatsCause;
 use std::process::Abort;

@@ -2,8 +2,7 @@
 
 use crate::status::Status;
 use crate::tests::checks::CHECK;
-use crate::tests::{WORDS, capture_of, desk_of};
-use crate::top::run;
+use crate::tests::{WORDS, capture_of, desk_of, run};
 use ftc_journal::JournalCause;
 use ftc_outside::{FailingDesk, MemoryDesk};
 use ftc_trials::{A, TRIALS, Trial};

@@ -26,7 +26,7 @@ returns-in-Run-clause-complete g c = λ tells texts still.
       one_verdict = c.one_verdict.ensures;
     } in
     let (chain, capture, script, schedule, are) = subst (λ (command : Command). HasTexts (Some (shown command)) (g.D.Desk.file c.args.desk.now)) c.in-Run.is texts in
-    completes laws _ _ (g.D.Desk.file c.args.desk.now) chain capture script schedule are _ _ c.run_names.result (c.run_names.ensures.ends tells) (λ failed. still (c.run_names.ensures.cause failed))
+    completes laws _ _ (g.D.Desk.file c.args.desk.now) chain capture script schedule are _ _ _ _ c.run_names.result (c.run_names.ensures.ends tells) (λ failed. still (c.run_names.ensures.cause failed))
 
 pub returns-in-Check-clause-complete_check : goal.returns-in-Check-clause-complete_check
 returns-in-Check-clause-complete_check g c = λ tells files still.
@@ -56,7 +56,7 @@ returns-in-Check-clause-agrees g c = λ tells files.
       one_verdict = c.one_verdict.ensures;
     } in
     let left = subst (λ (command : Command). WasLeft (Some (shown command)) (g.D.Desk.file c.args.desk.now)) c.in-Check.is files in
-    agrees laws _ (g.D.Desk.file c.args.desk.now) left.2.right _ c.judge.result (c.judge.ensures.judges tells)
+    agrees laws _ (g.D.Desk.file c.args.desk.now) left.2.2.2.right _ c.judge.result (c.judge.ensures.judges tells)
 
 pub watch_beats-requires : goal.watch_beats-requires
 watch_beats-requires g c = record {
