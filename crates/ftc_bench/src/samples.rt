@@ -73,7 +73,7 @@ pub fn message(alloc: Global, groups: u8, partitions: u8) -> Option<Message>
     packet.append(&[0xaa; 64]).ok()?;
     let mut logs = Logs::new(alloc);
     logs.push(one_log(7)).ok()?;
-    let mut commits = Commits::new();
+    let mut commits = Commits::new(alloc).ok()?;
     for group in 0..groups {
         commits.raise(ServerId::new(group).unwrap(), &numbers(partitions));
     }

@@ -1,6 +1,6 @@
 //! The forwarder in front of the first server.
 
-ghost use Rattle.std.specs.Prelude.{◌≡◌, [], length, OnOk, OnErr};
+ghost use Rattle.std.specs.Prelude.{◌≡◌, [], length, IfOk, OnOk, OnErr};
 ghost use Rattle.ftc_message.specs.Bounds.{AreLogs};
 ghost use Rattle.ftc_message.specs.WellFormed.{IsWellFormed};
 ghost use Rattle.ftc_message.specs.Ordered.{with_items, is_earlier, AreApart};
@@ -85,15 +85,16 @@ impl Forwarder {
 }
 
 /// A message that is begun without a packet, so that the forwarder's logs go on.
-pub fn propagating(alloc: Global, origin: PacketNo) -> Message
-    ensures begun { result ≡ begun origin }
-    ensures right { IsWellFormed result }
+pub fn propagating(alloc: Global, origin: PacketNo) -> Result<Message, NoMemory>
+    ensures begun { IfOk result (λ message. message ≡ begun origin) }
+    ensures right { IfOk result IsWellFormed }
 {
-    Message {
+    let commits = Commits::new(alloc)?;
+    Ok(Message {
         origin,
         packet: None,
         logs: Logs::new(alloc),
         needs: Needs::new(alloc),
-        commits: Commits::new(),
-    }
+        commits,
+    })
 }

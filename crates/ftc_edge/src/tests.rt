@@ -75,7 +75,7 @@ fn releases(buffer: &mut Buffer, commits: &Commits, packet: u8) -> bool {
 #[test]
 fn the_first_that_is_due_leaves(rt: HostRuntime) -> Result<(), Fail> {
     let mut buffer = Buffer::new(rt.alloc());
-    let mut commits = Commits::new();
+    let mut commits = Commits::new(rt.alloc())?;
     assert!(rt; buffer.due(&commits).is_none() && buffer.release(&commits).is_none());
     withhold(&mut buffer, rt.alloc(), 4, &[need(0, 1, 2), need(2, 5, 1)])?;
     withhold(&mut buffer, rt.alloc(), 5, &[need(1, 0, 1)])?;
@@ -96,7 +96,7 @@ fn the_first_that_is_due_leaves(rt: HostRuntime) -> Result<(), Fail> {
     assert_eq!(rt; buffer.withheld(), 0);
     // A packet without needs is due at once.
     withhold(&mut buffer, rt.alloc(), 7, &[])?;
-    assert!(rt; releases(&mut buffer, &Commits::new(), 7));
+    assert!(rt; releases(&mut buffer, &Commits::new(rt.alloc())?, 7));
     Ok(())
 }
 
@@ -181,9 +181,9 @@ fn logs_go_round(rt: HostRuntime) -> Result<(), Fail> {
             &[(4, one), (4, two), (5, three), (7, one)]
         )
     );
-    let mut message = propagating(rt.alloc(), 9);
+    let mut message = propagating(rt.alloc(), 9)?;
     assert!(rt; message.origin == 9 && message.packet.is_none() && message.logs.is_empty());
-    assert!(rt; message.needs.is_empty() && message.commits == Commits::new());
+    assert!(rt; message.needs.is_empty() && message.commits == Commits::new(rt.alloc())?);
     put(&mut message.logs, 5, two)?;
     attach(&forwarder, &mut message)?;
     assert!(rt;
@@ -195,7 +195,7 @@ fn logs_go_round(rt: HostRuntime) -> Result<(), Fail> {
     assert_eq!(rt; forwarder.logs(), 4);
     forwarder.clear();
     assert_eq!(rt; forwarder.logs(), 0);
-    let mut another = propagating(rt.alloc(), 10);
+    let mut another = propagating(rt.alloc(), 10)?;
     attach(&forwarder, &mut another)?;
     assert!(rt; another.logs.is_empty());
     Ok(())

@@ -1,4 +1,4 @@
-ghost use Rattle.std.specs.Prelude.{◌≡◌, []};
+ghost use Rattle.std.specs.Prelude.{◌≡◌, [], IfOk};
 
 use crate::{first_job, is_legal};
 use ftc_base::{Bytes, NoMemory, PacketNo, ServerId};
@@ -16,17 +16,18 @@ use std::alloc::Global;
 use std::test::Fail;
 
 /// A message with nothing but that packet.
-fn message(alloc: Global, origin: PacketNo, packet: Option<Bytes>) -> Message
-    ensures logs { result.logs ≡ [] }
-    ensures needs { result.needs ≡ [] }
+fn message(alloc: Global, origin: PacketNo, packet: Option<Bytes>) -> Result<Message, NoMemory>
+    ensures logs { IfOk result (λ message. message.logs ≡ []) }
+    ensures needs { IfOk result (λ message. message.needs ≡ []) }
 {
-    Message {
+    let commits = Commits::new(alloc)?;
+    Ok(Message {
         origin,
         packet,
         logs: Logs::new(alloc),
         needs: Needs::new(alloc),
-        commits: Commits::new(),
-    }
+        commits,
+    })
 }
 
 /// Two servers, one of which may be down. The first holds that packet, if any, and its link may have a gap.
@@ -37,7 +38,7 @@ fn pair(alloc: Global, packet: Option<Bytes>, gap: bool) -> Result<Network, NoMe
     let second = Server::new(alloc, &ring, two, &Rule::Pass, 1)?;
     if packet.is_some() {
         first.make_room(0)?;
-        first.take(message(alloc, 0, packet), false);
+        first.take(message(alloc, 0, packet)?, false);
     }
     let mut servers = Vec::new(alloc);
     servers.push(Some(first))?;

@@ -19,7 +19,7 @@ fn message(alloc: Global, origin: u32) -> Result<Message, NoMemory>
         packet: Some(packet),
         logs: Logs::new(alloc),
         needs: Needs::new(alloc),
-        commits: Commits::new(),
+        commits: Commits::new(alloc)?,
     })
 }
 

@@ -20,7 +20,7 @@ use ftc_journal::VisitNames;
 use ftc_protocol::Fate;
 use ftc_ring::Ring;
 use ftc_store::Store;
-use ftc_vector::Commits;
+use ftc_vector::GroupVectors;
 
 /// The state of the protocol. A set of visits is kept as how far it reaches: of each group and partition as
 /// the number of its last visit that changes the partition.
@@ -32,8 +32,8 @@ pub struct MachineState {
     /// The servers that are down.
     pub down: ServerSet,
     /// The visits that each server has, and those that it knows to be at their tails.
-    pub lists: Vec<Commits>,
-    pub known: Vec<Commits>,
+    pub lists: Vec<GroupVectors>,
+    pub known: Vec<GroupVectors>,
     /// The store of each server's own middlebox.
     pub stores: Vec<Store>,
     /// The footprints of visits, by their server and then by their packet.

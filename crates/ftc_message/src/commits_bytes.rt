@@ -32,14 +32,14 @@ fn numbers_in(marks: &Marks) -> Vector
 }
 
 /// The commits that these entries say.
-fn commits_of(known: &Needs) -> Commits
-    ensures { result ≡ with_known known.now no_commits }
+fn commits_of(alloc: Global, known: &Needs) -> Result<Commits, NoMemory>
+    ensures { IfOk result (λ commits. commits ≡ with_known known.now no_commits) }
 {
-    let mut commits = Commits::new();
+    let mut commits = Commits::new(alloc)?;
     for need in known.as_slice() {
         commits.raise(need.group, &numbers_in(&need.marks));
     }
-    commits
+    Ok(commits)
 }
 
 /// The commits at the front, and the bytes behind them.
@@ -49,7 +49,10 @@ pub fn commits_at(alloc: Global, bytes: &[u8]) -> Result<(Commits, &[u8]), Refus
     ensures spelled { IfOk result (λ found. bytes.now ≡ commits_bytes found.0 ++ found.1.now) }
 {
     match needs_at(alloc, MOST_SERVERS, 1, bytes) {
-        Ok((known, rest)) => Ok((commits_of(&known), rest)),
+        Ok((known, rest)) => {
+            let commits = commits_of(alloc, &known)?;
+            Ok((commits, rest))
+        }
         Err(refused) => Err(refused),
     }
 }

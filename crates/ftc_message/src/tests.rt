@@ -56,12 +56,12 @@ fn log() -> Log
 }
 
 /// What is known of the tail of group 2.
-fn commits() -> Commits {
+fn commits(alloc: Global) -> Result<Commits, NoMemory> {
     let mut vector = Vector::zero();
     vector.set(1, 5);
-    let mut commits = Commits::new();
+    let mut commits = Commits::new(alloc)?;
     commits.raise(ServerId::new(2).unwrap(), &vector);
-    commits
+    Ok(commits)
 }
 
 fn message(alloc: Global) -> Result<Message, NoMemory>
@@ -81,7 +81,7 @@ fn message(alloc: Global) -> Result<Message, NoMemory>
         packet: Some(packet),
         logs,
         needs,
-        commits: commits(),
+        commits: commits(alloc)?,
     })
 }
 
@@ -129,7 +129,7 @@ fn one_frame_both_ways(rt: HostRuntime) -> Result<(), Fail> {
         }]
         .as_slice()
     );
-    assert!(rt; read.commits == commits());
+    assert!(rt; read.commits == commits(rt.alloc())?);
     Ok(())
 }
 
@@ -274,7 +274,7 @@ fn parts_of_a_frame_both_ways(rt: HostRuntime) -> Result<(), Fail> {
     let mut out = Bytes::new(rt.alloc());
     append_log(&log(), &mut out)?;
     append_needs(&Needs::new(rt.alloc()), &mut out)?;
-    append_commits(&commits(), &mut out)?;
+    append_commits(&commits(rt.alloc())?, &mut out)?;
     let Ok((log, rest)) = log_at(&None, out.as_slice()) else {
         panic!(rt; "a log");
     };
@@ -286,6 +286,6 @@ fn parts_of_a_frame_both_ways(rt: HostRuntime) -> Result<(), Fail> {
     let Ok((read, rest)) = commits_at(rt.alloc(), rest) else {
         panic!(rt; "commits");
     };
-    assert!(rt; read == commits() && rest.is_empty());
+    assert!(rt; read == commits(rt.alloc())? && rest.is_empty());
     Ok(())
 }

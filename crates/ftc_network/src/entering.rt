@@ -1,6 +1,6 @@
 //! A packet comes to the chain, and a message begins without one.
 
-ghost use Rattle.std.specs.Prelude.{◌≡◌, ◌<◌, ◌^◌, ℕ, OnOk, OnErr, true, false, Option};
+ghost use Rattle.std.specs.Prelude.{◌≡◌, ◌<◌, ◌^◌, ℕ, IfOk, OnOk, OnErr, true, false, Option};
 ghost use Rattle.ftc_journal.specs.declared.event.Event.TheVariants as event;
 ghost use Rattle.ftc_protocol.specs.Setting.{Setting, packet_at};
 ghost use Rattle.ftc_protocol.specs.State.{ChainState};
@@ -23,16 +23,17 @@ use ftc_visits::made_visits_stay;
 use std::alloc::Global;
 
 /// A message that begins.
-fn begun(alloc: Global, origin: PacketNo, packet: Option<Bytes>) -> Message
-    ensures { IsBegun origin packet result }
+fn begun(alloc: Global, origin: PacketNo, packet: Option<Bytes>) -> Result<Message, NoMemory>
+    ensures { IfOk result (IsBegun origin packet) }
 {
-    Message {
+    let commits = Commits::new(alloc)?;
+    Ok(Message {
         origin,
         packet,
         logs: Logs::new(alloc),
         needs: Needs::new(alloc),
-        commits: Commits::new(),
-    }
+        commits,
+    })
 }
 
 /// A server holds a message that begins.
@@ -64,7 +65,10 @@ fn enter_at(
     what_take_does();
     what_stays();
     match slot {
-        Some(server) => hold(server, begun(alloc, packet, Some(bytes))),
+        Some(server) => {
+            let message = begun(alloc, packet, Some(bytes))?;
+            hold(server, message)
+        }
         None => Ok(()),
     }
 }
@@ -80,7 +84,10 @@ fn propagate_at(slot: &mut Option<Server>, alloc: Global, origin: PacketNo) -> R
     what_take_does();
     what_stays();
     match slot {
-        Some(server) => hold(server, begun(alloc, origin, None)),
+        Some(server) => {
+            let message = begun(alloc, origin, None)?;
+            hold(server, message)
+        }
         None => Ok(()),
     }
 }

@@ -144,7 +144,7 @@ pub fn revived(
 {
     let own = got(alloc, ring, server, server, previous, following)?;
     let others = got_all(alloc, ring, server, previous, following)?;
-    let mut known = *previous.known();
+    let mut known = previous.known().copy(alloc)?;
     known.merge(following.known());
-    Server::revive(alloc, ring, server, rule, partitions, own, others, &known)
+    Server::revive(alloc, ring, server, rule, partitions, own, others, known)
 }

@@ -98,6 +98,7 @@ impl Server {
     {
         let others = empty_replicas(alloc, ring, id, partitions)?;
         let rule = rule.copy(alloc)?;
+        let known = Commits::new(alloc)?;
         let (store, vector, kept) = own.split();
         Ok(Server {
             alloc,
@@ -108,7 +109,7 @@ impl Server {
             head: Head::new(id, partitions, store, vector),
             own: kept,
             others,
-            known: Commits::new(),
+            known,
             held: HeldMessages::new(alloc),
             buffer: Buffer::new(alloc),
             forwarder: Forwarder::new(alloc),
@@ -125,17 +126,17 @@ impl Server {
         partitions: u8,
         own: Replica,
         others: GroupReplicas,
-        known: &Commits,
+        known: Commits,
     ) -> Result<Server, NoMemory>
         requires id { id < ring.now.servers }
         requires some { 1 ≤ partitions }
         requires within { partitions ≤ MOST_PARTITIONS }
         requires own { own.partitions ≡ partitions }
         requires others { list_all (is_of_later ring.now id) others ≡ true }
-        ensures { IfOk result (IsRevived ring.now id rule.now partitions own others known.now) }
+        ensures { IfOk result (IsRevived ring.now id rule.now partitions own others known) }
     {
         let mut server = Server::with(alloc, ring, id, rule, partitions, own)?;
-        server.known = *known;
+        server.known = known;
         server.know_own();
         server.install(others)?;
         server.prune();

@@ -64,7 +64,7 @@ impl Server {
             } else {
                 message.needs.copy(self.alloc)?
             },
-            commits: self.known,
+            commits: self.known.copy(self.alloc)?,
         };
         if self.id.number() == 0 {
             self.forwarder.attach(&mut sent)?;

@@ -97,7 +97,7 @@ fn take(server: &mut Server, alloc: Global, origin: PacketNo, log: Log) -> Resul
         packet: None,
         logs,
         needs: Needs::new(alloc),
-        commits: Commits::new(),
+        commits: Commits::new(alloc)?,
     };
     server.make_room(1)?;
     server.take(message, false);

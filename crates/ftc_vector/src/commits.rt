@@ -1,22 +1,24 @@
 //! What the tails of the groups are known to have.
 
-ghost use Rattle.std.specs.Prelude.{◌≡◌, ◌<◌, ℕ, length};
+ghost use Rattle.std.specs.Prelude.{◌≡◌, ◌<◌, ℕ, length, IfOk, nat_eq};
+ghost use Rattle.std.specs.Cmp.Lexicographic.{pointwise};
+ghost use Rattle.std.specs.Cmp.Rules.{comparing};
+ghost use Rattle.std.proofs.Common.{rules};
 ghost use Rattle.ftc_vector.specs.Vector.{by_partition, IsVector};
 ghost use Rattle.ftc_vector.specs.Commits.{by_group, vector_of, all_merged, group_raised};
 
+use crate::group_vectors::GROUPS;
 use crate::vector::{Vector, merge};
-use ftc_base::ServerId;
 use ftc_base::limits::MOST_SERVERS;
+use ftc_base::{NoMemory, ServerId};
+use std::alloc::Global;
 use std::marker::Model;
 
-/// How many groups there may be, one for each server.
-const GROUPS: usize = MOST_SERVERS as usize;
-
-/// A vector for each group, from group 0 on: the greatest that is known of its tail. A contract sees
-/// the list of the vectors.
-#[derive(Clone, Copy, Debug, PartialEq, Eq)]
+/// A vector for each group, from group 0 on: the greatest that is known of its tail. The vectors lie on
+/// the heap, so that a message that carries them is cheap to move. A contract sees the list of the vectors.
+#[derive(Debug, Drop)]
 pub struct Commits {
-    vectors: [Vector; GROUPS],
+    vectors: Vec<Vector>,
 }
 
 impl Model for Commits {
@@ -25,21 +27,26 @@ impl Model for Commits {
 
     ghost Value = { List (List ℕ) };
 
-    ghost view = { λ commits. commits.vectors };
+    ghost view = { λ commits. commits.vectors.items };
 
-    ghost invariant = { λ commits. length commits.vectors ≡ MOST_SERVERS };
-
-    ghost inverse = { λ vectors. record { vectors = vectors } };
+    ghost invariant = { λ commits. length commits.vectors.items ≡ MOST_SERVERS };
 }
 
 impl Commits {
     /// Each group's vector has 0 in each partition.
-    pub fn new() -> Commits
-        ensures { result ≡ by_group (λ _. by_partition (λ _. 0)) }
+    pub fn new(alloc: Global) -> Result<Commits, NoMemory>
+        ensures { IfOk result (λ commits. commits ≡ by_group (λ _. by_partition (λ _. 0))) }
     {
-        Commits {
-            vectors: [Vector::zero(); GROUPS],
-        }
+        let vectors = Vec::from_slice(alloc, &[Vector::zero(); GROUPS])?;
+        Ok(Commits { vectors })
+    }
+
+    /// The same vectors once more.
+    pub fn copy(&self, alloc: Global) -> Result<Commits, NoMemory>
+        ensures { IfOk result (λ copy. copy ≡ self.now) }
+    {
+        let vectors = Vec::from_slice(alloc, self.vectors.as_slice())?;
+        Ok(Commits { vectors })
     }
 
     /// The vector of a group.
@@ -75,4 +82,18 @@ impl Commits {
     {
         merge(&mut self.vectors[usize::from(group.number())], vector);
     }
+}
+
+impl PartialEq for Commits {
+    ghost eq = { pointwise (pointwise nat_eq) };
+
+    ghost laws = { Prim.search (comparing, rules) };
+
+    fn eq(&self, other: &Commits) -> bool {
+        self.vectors == other.vectors
+    }
+}
+
+impl Eq for Commits {
+    ghost laws = { Prim.search (comparing, rules) };
 }

@@ -4,6 +4,7 @@
 
 mod advance;
 mod commits;
+mod group_vectors;
 mod laws;
 mod marks;
 mod order;
@@ -11,6 +12,7 @@ mod vector;
 
 pub use advance::{bump, numbers_at};
 pub use commits::Commits;
+pub use group_vectors::GroupVectors;
 pub use laws::{applying, covering, groups, merging, numbers, order_tests};
 pub use marks::{Marks, need_of};
 pub use order::{covers, ready};

@@ -1,9 +1,10 @@
 ghost use Rattle.std.specs.Prelude.{◌≡◌, ◌<◌, ℕ, true};
 ghost use Rattle.ftc_base.specs.Sets.{has};
 
-use crate::{Commits, Marks, Vector, bump, covers, merge, need_of, ready};
+use crate::{Commits, GroupVectors, Marks, Vector, bump, covers, merge, need_of, ready};
 use ftc_base::limits::MOST_PARTITIONS;
 use ftc_base::{PartSet, ServerId};
+use std::test::Fail;
 
 /// The numbers that a log of one partition carries.
 fn carried(partition: u8, number: u64) -> Marks
@@ -88,14 +89,11 @@ fn the_greater_number_of_each_partition(rt: HostRuntime) {
 }
 
 #[test]
-fn commits_of_two_groups(rt: HostRuntime) {
-    let (Some(low), Some(high)) = (ServerId::new(3), ServerId::new(15)) else {
-        assert!(rt; false, "both are servers");
-        return;
-    };
+fn commits_of_two_groups(rt: HostRuntime) -> Result<(), Fail> {
+    let (low, high) = (ServerId::new(3).unwrap(), ServerId::new(15).unwrap());
     let mut vector = Vector::zero();
     vector.set(9, 4);
-    let (mut first, mut second) = (Commits::new(), Commits::new());
+    let (mut first, mut second) = (Commits::new(rt.alloc())?, Commits::new(rt.alloc())?);
     first.raise(low, &vector);
     second.raise(high, &vector);
     assert_eq!(rt; *first.of(high), Vector::zero());
@@ -104,4 +102,22 @@ fn commits_of_two_groups(rt: HostRuntime) {
     assert_eq!(rt; *first.of(high), vector);
     second.raise(low, &vector);
     assert!(rt; first == second);
+    let copy = first.copy(rt.alloc())?;
+    vector.set(9, 5);
+    first.raise(high, &vector);
+    assert!(rt; copy == second && copy != first);
+    Ok(())
+}
+
+#[test]
+fn vectors_in_place(rt: HostRuntime) {
+    let group = ServerId::new(15).unwrap();
+    let mut vector = Vector::zero();
+    vector.set(63, 4);
+    let mut first = GroupVectors::new();
+    first.raise(group, &vector);
+    let mut second = first;
+    second.merge(&GroupVectors::new());
+    assert!(rt; first == second);
+    assert_eq!(rt; *second.of(group), vector);
 }

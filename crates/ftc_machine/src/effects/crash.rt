@@ -17,7 +17,7 @@ use crate::state::message::{Message, Place};
 use crate::state::slots::Slots;
 use ftc_base::{NoMemory, ServerId};
 use ftc_protocol::Fate;
-use ftc_vector::Commits;
+use ftc_vector::GroupVectors;
 use std::alloc::Global;
 
 /// The number of the server to which a link leads, in a ring of so many.
@@ -80,8 +80,8 @@ impl MachineState {
         let servers = self.ring.servers();
         let place = usize::from(server.number());
         self.down = self.down.with(server.number());
-        self.lists[place] = Commits::new();
-        self.known[place] = Commits::new();
+        self.lists[place] = GroupVectors::new();
+        self.known[place] = GroupVectors::new();
         lose_at(servers, server, &mut self.messages, &mut self.fates, now);
         let is_last = server.number() + 1 == servers;
         lose_withheld(is_last, &mut self.buffer, &mut self.fates, now);

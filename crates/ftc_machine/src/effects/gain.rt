@@ -5,7 +5,7 @@ ghost use Rattle.ftc_machine.specs.Gain.{Exceeds, HasGain};
 
 use ftc_base::ServerId;
 use ftc_base::limits::{MOST_PARTITIONS, MOST_SERVERS};
-use ftc_vector::{Commits, Vector};
+use ftc_vector::{GroupVectors, Vector};
 
 /// Whether some number of the one is greater than that of the other.
 fn exceeds(one: &Vector, other: &Vector) -> bool
@@ -20,7 +20,7 @@ fn exceeds(one: &Vector, other: &Vector) -> bool
 }
 
 /// Whether the one has visits that the other lacks, of some other group than that.
-pub fn has_gain(one: &Commits, other: &Commits, except: ServerId) -> bool
+pub fn has_gain(one: &GroupVectors, other: &GroupVectors, except: ServerId) -> bool
     ensures { IsTrue result ↔ HasGain one.now other.now except }
 {
     for number in 0..MOST_SERVERS {

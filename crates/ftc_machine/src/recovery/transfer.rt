@@ -9,7 +9,7 @@ ghost use Rattle.ftc_machine.specs.RecoveryEffect.{got_vector, tail_added, both_
 use crate::recovery::distance::apart;
 use crate::state::MachineState;
 use ftc_base::ServerId;
-use ftc_vector::Commits;
+use ftc_vector::GroupVectors;
 
 impl MachineState {
     /// From which of the two live servers a new server gets the list of a group.
@@ -35,7 +35,7 @@ impl MachineState {
     }
 
     /// How far the list reaches that a new server gets.
-    pub fn list_got(&self, server: ServerId, previous: ServerId, following: ServerId) -> Commits
+    pub fn list_got(&self, server: ServerId, previous: ServerId, following: ServerId) -> GroupVectors
         requires server { server < self.now.ring.servers }
         requires previous { previous < self.now.ring.servers }
         requires following { following < self.now.ring.servers }
@@ -43,7 +43,7 @@ impl MachineState {
         ensures rows { (group : ℕ) → group < MOST_SERVERS
             → vector_of result group ≡ got_vector self.now server previous following group }
     {
-        let mut list = Commits::new();
+        let mut list = GroupVectors::new();
         for number in 0..self.ring.servers() {
             let group = ServerId::new(number).unwrap();
             if self.ring.belongs(server, group) {
@@ -55,7 +55,7 @@ impl MachineState {
     }
 
     /// Adds to what is known the list of the group whose tail a server is.
-    fn add_tail(&self, server: ServerId, known: &mut Commits)
+    fn add_tail(&self, server: ServerId, known: &mut GroupVectors)
         requires { server < self.now.ring.servers }
         ensures { known.new ≡ tail_added self.now server known.old }
     {
@@ -65,7 +65,7 @@ impl MachineState {
 
     /// How far reaches what two servers together know to be at the tails: of the groups whose tails they
     /// are, at least their own lists.
-    pub fn both_know(&self, one: ServerId, other: ServerId) -> Commits
+    pub fn both_know(&self, one: ServerId, other: ServerId) -> GroupVectors
         requires one { one < self.now.ring.servers }
         requires other { other < self.now.ring.servers }
         ensures { result ≡ both_known self.now one other }

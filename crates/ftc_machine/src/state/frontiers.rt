@@ -7,7 +7,7 @@ ghost use Rattle.ftc_machine.specs.LegalityTests.{has_named, has_all};
 use crate::state::MachineState;
 use crate::state::footprint::Footprint;
 use ftc_journal::VisitName;
-use ftc_vector::Commits;
+use ftc_vector::GroupVectors;
 
 impl MachineState {
     /// The footprint of a visit.
@@ -22,7 +22,7 @@ impl MachineState {
     }
 
     /// Whether a set that reaches so far has the visit.
-    pub fn has(&self, reach: &Commits, name: &VisitName) -> bool
+    pub fn has(&self, reach: &GroupVectors, name: &VisitName) -> bool
         ensures { result ≡ has_named (footprints_in self.now.visits.items) reach.now name.now }
     {
         match self.footprint(name) {
@@ -32,7 +32,7 @@ impl MachineState {
     }
 
     /// Whether it has each of the visits.
-    pub fn has_all(&self, reach: &Commits, names: &[VisitName]) -> bool
+    pub fn has_all(&self, reach: &GroupVectors, names: &[VisitName]) -> bool
         ensures { result ≡ has_all (footprints_in self.now.visits.items) reach.now names.now }
     {
         names.iter().all(|name| self.has(reach, name))

@@ -4,7 +4,7 @@ ghost use Rattle.std.specs.Prelude.{◌≡◌};
 
 use ftc_base::{Bytes, PacketNo, ServerId, ServerSet};
 use ftc_journal::VisitNames;
-use ftc_vector::Commits;
+use ftc_vector::GroupVectors;
 
 /// Where a message is.
 #[derive(Debug, Drop)]
@@ -18,7 +18,7 @@ pub enum Place {
     /// It is queued on a link, with what its sender knew to be at the tails.
     Queued {
         link: ServerId,
-        known: Box<Commits>,
+        known: Box<GroupVectors>,
     },
 }
 

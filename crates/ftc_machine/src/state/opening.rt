@@ -16,18 +16,18 @@ use ftc_base::limits::MOST_PARTITIONS;
 use ftc_base::{Items, NoMemory, ServerSet};
 use ftc_ring::Ring;
 use ftc_store::Store;
-use ftc_vector::Commits;
+use ftc_vector::GroupVectors;
 use std::alloc::Global;
 
 /// For each of so many servers a set without a visit.
-fn empty_sets(alloc: Global, count: usize) -> Result<Vec<Commits>, NoMemory>
+fn empty_sets(alloc: Global, count: usize) -> Result<Vec<GroupVectors>, NoMemory>
     ensures count { IfOk result (λ sets. length sets.items ≡ count) }
     ensures empty { IfOk result (λ sets. (server group partition : ℕ) → frontier_at
         (frontiers_of sets.items server) group partition ≡ 0) }
 {
     let mut sets = Vec::new(alloc);
     for _ in 0..count {
-        sets.push(Commits::new())?;
+        sets.push(GroupVectors::new())?;
     }
     Ok(sets)
 }

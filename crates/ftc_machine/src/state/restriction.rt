@@ -6,13 +6,13 @@ ghost use Rattle.ftc_machine.specs.Tails.{part_of};
 
 use ftc_base::limits::MOST_SERVERS;
 use ftc_base::{ServerId, ServerSet};
-use ftc_vector::Commits;
+use ftc_vector::GroupVectors;
 
 /// How far a set reaches of the visits of these groups alone.
-pub fn part(reach: &Commits, groups: ServerSet) -> Commits
+pub fn part(reach: &GroupVectors, groups: ServerSet) -> GroupVectors
     ensures { result ≡ part_of (has groups) reach.now }
 {
-    let mut part = Commits::new();
+    let mut part = GroupVectors::new();
     for number in 0..MOST_SERVERS {
         if groups.has(number) {
             let group = ServerId::new(number).unwrap();

@@ -5,7 +5,7 @@ ghost use Rattle.ftc_vector.specs.Commits.{vector_of};
 
 use crate::state::MachineState;
 use ftc_base::ServerId;
-use ftc_vector::{Commits, Vector, merge};
+use ftc_vector::{GroupVectors, Vector, merge};
 
 impl MachineState {
     ghost use Rattle.ftc_machine.specs.Tails.{group_ending, known_at};
@@ -24,7 +24,7 @@ impl MachineState {
     }
 
     /// How far reaches what a server knows.
-    pub fn knows(&self, server: ServerId) -> Commits
+    pub fn knows(&self, server: ServerId) -> GroupVectors
         requires { server < self.now.ring.servers }
         ensures { result ≡ known_at self.now server }
     {

@@ -15,31 +15,34 @@ use Rattle.ftc_network.proofs.entering.enter_at.Goals as goal
 pub hold-requires-clause-new : goal.hold-requires-clause-new
 hold-requires-clause-new c =
     at_up (event.Enter c.args.packet) 0 c.args.slot.now c.in-Some.server
-    (is_held c.begun.result.origin c.in-Some.server.held.items) false c.in-Some.is
+    (is_held c.in_ok-message-in-Some.message.origin c.in-Some.server.held.items) false c.in-Some.is
     (λ setting state run legal few up.
-    let sent : SentMessage = record c.begun.result { packet = Some (packet_at setting c.args.packet) } in
+    let message = c.in_ok-message-in-Some.message in
+    let sent : SentMessage = record message { packet = Some (packet_at setting c.args.packet) } in
     let begun : IsBegun c.args.packet (Some (packet_at setting c.args.packet)) sent = record {
-      origin_is = c.begun.ensures.origin_is;
+      origin_is = c.in_ok-message-in-Some.ensures.origin_is;
       packet_is = refl;
-      no_logs = c.begun.ensures.no_logs;
-      no_needs = c.begun.ensures.no_needs;
-      no_commits = c.begun.ensures.no_commits;
+      no_logs = c.in_ok-message-in-Some.ensures.no_logs;
+      no_needs = c.in_ok-message-in-Some.ensures.no_needs;
+      no_commits = c.in_ok-message-in-Some.ensures.no_commits;
     } in
     (c.what_take_wants.ensures.entered setting state c.args.packet c.in-Some.server sent run legal begun up.at).0) c.requires
 
-pub returns-in-Some-clause-ok : goal.returns-in-Some-clause-ok
-returns-in-Some-clause-ok c =
+pub returns-in_ok-message-in-Some-clause-ok : goal.returns-in_ok-message-in-Some-clause-ok
+returns-in_ok-message-in-Some-clause-ok c =
     let old = c.in-Some.server in
     let new = c.hold.new.server in
+    let message = c.in_ok-message-in-Some.message in
     on_ok c.hold.result _ _ (λ done setting state bytes run legal is.
     let up : IsUp setting state 0 old = subst (IsSlot setting state 0) c.in-Some.is is in
     record {
       up = up.up;
-      at = c.what_take_does.ensures.entered setting state c.args.packet old new c.begun.result run legal up.up
-          (subst (λ (packet : List ℕ). IsBegun c.args.packet (Some packet) c.begun.result) bytes c.begun.ensures) up.at done;
+      at = c.what_take_does.ensures.entered setting state c.args.packet old new message run legal up.up
+          (subst (λ (packet : List ℕ). IsBegun c.args.packet (Some packet) message) bytes
+              c.in_ok-message-in-Some.ensures) up.at done;
       idle = idle_after old new (ap (λ (s : ServerState). s.head) done.rest) up.idle;
     }) c.hold.ensures.ok
 
-pub returns-in-Some-clause-buffer : goal.returns-in-Some-clause-buffer
-returns-in-Some-clause-buffer c = on_ok c.hold.result _ _ (λ done.
+pub returns-in_ok-message-in-Some-clause-buffer : goal.returns-in_ok-message-in-Some-clause-buffer
+returns-in_ok-message-in-Some-clause-buffer c = on_ok c.hold.result _ _ (λ done.
     ap (λ (s : ServerState). s.buffer.items) done.rest ∙ ap buffer_of (sym c.in-Some.is)) c.hold.ensures.ok

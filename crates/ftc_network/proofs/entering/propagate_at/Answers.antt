@@ -12,23 +12,24 @@ use Rattle.ftc_network.proofs.entering.propagate_at.Goals as goal
 pub hold-requires-clause-new : goal.hold-requires-clause-new
 hold-requires-clause-new c =
     at_up (event.Propagate c.args.origin) 0 c.args.slot.now c.in-Some.server
-    (is_held c.begun.result.origin c.in-Some.server.held.items) false c.in-Some.is
+    (is_held c.in_ok-message-in-Some.message.origin c.in-Some.server.held.items) false c.in-Some.is
     (λ setting state run legal few up. (c.what_take_wants.ensures.propagated setting state c.args.origin c.in-Some.server
-    c.begun.result run legal c.begun.ensures up.at).0) c.requires
+    c.in_ok-message-in-Some.message run legal c.in_ok-message-in-Some.ensures up.at).0) c.requires
 
-pub returns-in-Some-clause-ok : goal.returns-in-Some-clause-ok
-returns-in-Some-clause-ok c =
+pub returns-in_ok-message-in-Some-clause-ok : goal.returns-in_ok-message-in-Some-clause-ok
+returns-in_ok-message-in-Some-clause-ok c =
     let old = c.in-Some.server in
     let new = c.hold.new.server in
+    let message = c.in_ok-message-in-Some.message in
     on_ok c.hold.result _ _ (λ done setting state run legal is.
     let up : IsUp setting state 0 old = subst (IsSlot setting state 0) c.in-Some.is is in
     record {
       up = up.up;
-      at = c.what_take_does.ensures.propagated setting state c.args.origin old new c.begun.result run legal c.begun.ensures up.at
-          done;
+      at = c.what_take_does.ensures.propagated setting state c.args.origin old new message run legal
+          c.in_ok-message-in-Some.ensures up.at done;
       idle = idle_after old new (ap (λ (s : ServerState). s.head) done.rest) up.idle;
     }) c.hold.ensures.ok
 
-pub returns-in-Some-clause-buffer : goal.returns-in-Some-clause-buffer
-returns-in-Some-clause-buffer c = on_ok c.hold.result _ _ (λ done.
+pub returns-in_ok-message-in-Some-clause-buffer : goal.returns-in_ok-message-in-Some-clause-buffer
+returns-in_ok-message-in-Some-clause-buffer c = on_ok c.hold.result _ _ (λ done.
     ap (λ (s : ServerState). s.buffer.items) done.rest ∙ ap buffer_of (sym c.in-Some.is)) c.hold.ensures.ok

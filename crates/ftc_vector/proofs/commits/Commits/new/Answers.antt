@@ -4,4 +4,4 @@ use Rattle.ftc_vector.proofs.commits.Commits.new.Goals as goal
 
 pub returns : goal.returns
 unfolding by_group
-returns c = rw c.zero.ensures refl
+returns c = rw (c.in_ok-vectors.ensures.items, c.zero.ensures) refl
