@@ -15,6 +15,7 @@ mod top;
 mod watching;
 mod writing;
 
+use ftc_audit::AuditTap;
 use ftc_outside::{CountTap, FileDesk, Tap};
 use ftc_stream::Taps;
 use status::Status;
@@ -22,6 +23,9 @@ use std::alloc::{AllocError, Global};
 use std::env;
 use std::process::ExitCode;
 use telling::tell;
+
+/// How many endpoints the packets of a run may come from until they aren't audited any more.
+const MOST_ENDPOINTS: u32 = 65_536;
 
 /// The texts, lent.
 fn lent<'a>(alloc: Global, texts: &'a [String]) -> Result<Vec<&'a str>, AllocError> {
@@ -44,10 +48,12 @@ fn ended(rt: &HostRuntime) -> Status {
         return Status::NoMemory;
     };
     let mut list: Vec<Box<dyn Tap + Send>> = Vec::new(rt.alloc());
-    let Ok(counts) = Box::new(rt.alloc(), CountTap::new()) else {
+    let counts = Box::new(rt.alloc(), CountTap::new());
+    let audit = Box::new(rt.alloc(), AuditTap::new(rt.alloc(), MOST_ENDPOINTS));
+    let (Ok(counts), Ok(audit)) = (counts, audit) else {
         return Status::NoMemory;
     };
-    if list.push(counts).is_err() {
+    if list.push(counts).is_err() || list.push(audit).is_err() {
         return Status::NoMemory;
     }
     let mut desk = FileDesk::new(rt);

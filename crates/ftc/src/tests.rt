@@ -5,6 +5,7 @@ mod ports;
 mod refusals;
 mod runs;
 mod statuses;
+mod taps;
 mod watches;
 mod worked;
 

@@ -10,7 +10,7 @@ use std::process::Abort;
 use std::test::Fail;
 
 /// A chain of one translation to the ports 20000 to 20009.
-const TRANSLATION: &[u8] =
+pub const TRANSLATION: &[u8] =
     b"f 0\npartitions 4\nnat inside 10.0.0.0/8 outside 203.0.113.5 ports 20000-20009\n";
 
 /// A chain of one translation to the port 20000 alone.
