@@ -13,3 +13,4 @@ pub mod StoredPairs
 pub mod PortTable
 pub mod Words
 pub mod OneTable
+pub mod SourcesGrow

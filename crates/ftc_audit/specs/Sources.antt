@@ -1,7 +1,8 @@
 -- Where released packets come from.
 use Rattle.std.specs.Prelude.{ℕ, List, [], ◌∷◌, ◌++◌, length, Option, Some, None, nat_lt, false, codes, decimal}
 use Rattle.std.specs.BTreeSet.{insert_key}
-use Rattle.std.specs.Ordering.{Ordering, nat_cmp, ordering_then}
+use Rattle.std.specs.Ordering.{nat_cmp, ordering_then}
+use Rattle.std.specs.declared.cmp.Ordering.{Ordering}
 use Rattle.ftc_base.specs.declared.released.Released.{Released}
 use Rattle.ftc_outside.specs.Tap.{Face}
 use Rattle.ftc_packet.specs.Flow.{flow_found}

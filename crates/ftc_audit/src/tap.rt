@@ -1,7 +1,8 @@
 //! A tap that counts where the released packets come from.
 
 ghost use Rattle.std.specs.Prelude.{◌≡◌, ◌∷◌, [], IfOk, OnOk, OnErr};
-ghost use Rattle.ftc_audit.specs.Sources.{audit_face};
+ghost use Rattle.std.specs.BTreeSet.{keys};
+ghost use Rattle.ftc_audit.specs.Sources.{audit_face, source_of, with_source};
 
 use crate::endpoint::{Endpoint, source_of};
 use ftc_base::{Bytes, NoMemory, PacketNo, Released};
@@ -44,6 +45,17 @@ impl AuditTap {
     }
 }
 
+/// Adds where a packet comes from, if it is one of a flow.
+fn add_source(sources: &mut BTreeSet<Endpoint>, packet: &[u8]) -> Result<(), NoMemory>
+    ensures ok { OnOk result (keys sources.new ≡ with_source (keys sources.old) (source_of packet.now)) }
+    ensures err { OnErr result (keys sources.new ≡ keys sources.old) }
+{
+    if let Some(source) = source_of(packet) {
+        sources.insert(source)?;
+    }
+    Ok(())
+}
+
 impl Tap for AuditTap {
     ghost face = { audit_face };
 
@@ -51,9 +63,7 @@ impl Tap for AuditTap {
         let mut copy = Bytes::new(alloc);
         copy.append(bytes)?;
         self.told.reserve(1)?;
-        if let Some(source) = source_of(bytes) {
-            self.sources.insert(source)?;
-        }
+        add_source(&mut self.sources, bytes)?;
         self.told.push_reserved(Released {
             packet: number,
             bytes: copy,
