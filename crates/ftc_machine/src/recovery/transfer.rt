@@ -35,7 +35,12 @@ impl MachineState {
     }
 
     /// How far the list reaches that a new server gets.
-    pub fn list_got(&self, server: ServerId, previous: ServerId, following: ServerId) -> GroupVectors
+    pub fn list_got(
+        &self,
+        server: ServerId,
+        previous: ServerId,
+        following: ServerId,
+    ) -> GroupVectors
         requires server { server < self.now.ring.servers }
         requires previous { previous < self.now.ring.servers }
         requires following { following < self.now.ring.servers }

@@ -39,7 +39,7 @@ returns-in_ok-message-in-Some-clause-ok c =
       up = up.up;
       at = c.what_take_does.ensures.entered setting state c.args.packet old new message run legal up.up
           (subst (λ (packet : List ℕ). IsBegun c.args.packet (Some packet) message) bytes
-              c.in_ok-message-in-Some.ensures) up.at done;
+          c.in_ok-message-in-Some.ensures) up.at done;
       idle = idle_after old new (ap (λ (s : ServerState). s.head) done.rest) up.idle;
     }) c.hold.ensures.ok
 

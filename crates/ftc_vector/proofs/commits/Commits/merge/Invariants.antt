@@ -9,6 +9,7 @@ abbrev pub invariant-loop-group : goal.invariant-loop-group
 invariant-loop-group l = record {
   size : length l.vector-items ≡ MOST_SERVERS;
   other_size : length l.other-inside.vectors.items ≡ MOST_SERVERS;
-  below : (k : ℕ) → k < l.group → vector_of l.vector-items k ≡ merged (vector_of l.initial.vector-items k) (vector_of l.other-inside.vectors.items k);
+  below : (k : ℕ) → k < l.group → vector_of l.vector-items k
+      ≡ merged (vector_of l.initial.vector-items k) (vector_of l.other-inside.vectors.items k);
   rest : (k : ℕ) → l.group ≤ k → vector_of l.vector-items k ≡ vector_of l.initial.vector-items k;
 }
