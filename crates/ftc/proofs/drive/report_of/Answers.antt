@@ -1,4 +1,4 @@
-use Rattle.std.proofs.Common.{◌∙◌, ap₂, ℕ, List}
+use Rattle.std.proofs.Common.{◌∙◌, ap, List}
 use Rattle.std.proofs.lemmas.Result.{IfOk-weaker}
 use Rattle.ftc_journal.specs.declared.event.Event.{Event}
 use Rattle.ftc_protocol.specs.Setting.{setting_of}
@@ -10,6 +10,6 @@ pub returns : goal.returns
 returns c =
     let texts = c.args.texts.now in
     IfOk-weaker c.report.result _ _
-    (λ text is. is ∙ ap₂ (λ (events : List Event) (lines : List (List ℕ)).
-    report_of (setting_of texts.spec (bytes_of texts.capture.packets) texts.script) events lines) c.journal-journal.ensures.same c.new-taps.ensures)
-    c.report.ensures
+    (λ text is. is ∙ ap (λ (events : List Event). report_of
+    (setting_of texts.spec (bytes_of texts.capture.packets) texts.script) events c.args.lines.now)
+    c.journal-journal.ensures.same) c.report.ensures
