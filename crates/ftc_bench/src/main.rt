@@ -6,8 +6,9 @@ mod samples;
 ghost use Rattle.std.specs.Prelude.{◌≤◌};
 ghost use Rattle.ftc_message.specs.WellFormed.{IsWellFormed};
 
-use ftc_base::limits::{MOST_PARTITIONS, MOST_READS, MOST_SERVERS};
+use ftc_base::limits::{MOST_PARTITIONS, MOST_READS, MOST_RECORDS, MOST_SERVERS};
 use ftc_base::{Key, ServerId, WorkerId};
+use ftc_gen::generate;
 use ftc_message::{Log, Message, decode, encode};
 use ftc_store::Store;
 use ftc_txn::{Head, ReadAnswer};
@@ -105,6 +106,14 @@ fn reading(rt: &HostRuntime) -> Option<u128> {
     each(rt, &start)
 }
 
+/// Generates the greatest capture once.
+fn generating(rt: &HostRuntime) -> Option<u128> {
+    let start = Instant::now(rt).ok()?;
+    generate(rt.alloc(), MOST_RECORDS as u32, 0).ok()?;
+    let taken = start.elapsed(rt).ok()?;
+    Some(taken.as_nanos())
+}
+
 /// Prints a time.
 fn say(rt: &HostRuntime, name: &str, time: Option<u128>) {
     if let Some(nanoseconds) = time {
@@ -141,4 +150,9 @@ fn main(rt: HostRuntime) {
     say(&rt, "prune of 256 logs, none dropped", pruning_none(&rt));
     say(&rt, "prune of 256 logs, one dropped", pruning_one(&rt));
     say(&rt, "a transaction that reads once and quits", reading(&rt));
+    say(
+        &rt,
+        "a generated capture of 100000 packets",
+        generating(&rt),
+    );
 }
