@@ -9,3 +9,4 @@ pub mod Refusing
 pub mod WatchLemmas
 pub mod PortLemmas
 pub mod MakeLemmas
+pub mod WriteLemmas

@@ -1,6 +1,6 @@
 //! A command, from its words to the files that it leaves.
 
-ghost use Rattle.std.specs.Prelude.{◌≡◌, ◌≢◌, ◌≤◌, ◌↔◌, ◌⊎◌, true, Some, None};
+ghost use Rattle.std.specs.Prelude.{◌≡◌, ◌≢◌, ◌≤◌, ◌↔◌, ◌⊎◌, ⊤, true, Some, None};
 ghost use Rattle.ftc_outside.specs.Desk.{SameFiles, Rose};
 ghost use Rattle.ftc_words.specs.Shown.{named_of, shown_mode, shown};
 ghost use Rattle.std.specs.List.{list_all};
