@@ -4,7 +4,6 @@ mod EndsAlone
 mod GainedVisits
 mod GotReplicas
 mod GroupNews
-mod Idle
 mod IdleSlots
 mod LastServer
 mod MessageForms
@@ -15,6 +14,7 @@ mod OneServer
 mod PullWanted
 mod PulledServer
 mod ReadAlone
+mod ReadySlots
 mod Released
 mod Replaced
 mod Results

@@ -9,7 +9,7 @@ ghost use Rattle.ftc_network.specs.Visiting.{FollowsVisit, SlotFollowsVisit};
 use crate::laws::servers_beside;
 use crate::network::Network;
 use crate::places::place_of;
-use crate::visiting::visit_whole;
+use crate::visiting::{quit_all, visit_whole};
 use ftc_base::{NoMemory, PacketNo, ServerId, WorkerId};
 use ftc_mbox::Plan;
 use ftc_refinement::{what_a_commit_does, what_a_commit_wants, what_work_says, where_events_are};
@@ -17,7 +17,8 @@ use ftc_server::Server;
 use ftc_standing::links_stand_still;
 use ftc_visits::{MadeVisit, a_made_visit_is_added, made};
 
-/// The middlebox of a server takes a packet. The answer is the visit with what it needs.
+/// The middlebox of a server takes a packet. What its slots ran is given up first. The answer is the visit with what it
+/// needs.
 fn visit_at(
     slot: &mut Option<Server>,
     worker: WorkerId,
@@ -37,6 +38,7 @@ fn visit_at(
     a_made_visit_is_added();
     match slot {
         Some(live) => {
+            quit_all(live);
             let answers = visit_whole(live, worker, packet, plan)?;
             Ok(made(
                 &answers,
@@ -51,8 +53,8 @@ fn visit_at(
 }
 
 impl Network {
-    /// The middlebox of a server takes a packet, in a worker's slot. The plan is used where it is that of the packet
-    /// and of what it reads; else the rule is asked.
+    /// The middlebox of a server takes a packet, in a worker's slot. What the server's slots ran is given up first. The
+    /// plan is used where it is that of the packet and of what it reads; else the rule is asked.
     pub fn visit(
         &mut self,
         worker: WorkerId,
