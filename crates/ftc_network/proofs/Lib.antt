@@ -1,4 +1,5 @@
 mod Allowed
+mod BegunSlots
 mod Changed
 mod EndsAlone
 mod GainedVisits
@@ -18,7 +19,9 @@ mod ReadySlots
 mod Released
 mod Replaced
 mod Results
+mod RunSlots
 mod ScriptLines
 mod SentAlong
 mod SharedGroups
 mod Untold
+mod VisitWork

@@ -131,6 +131,17 @@ all_ready replicas items (slot ∷ slots) each =
     (ready_first replicas items slot (λ running same. each 0 running same))
     (all_ready replicas items slots (λ worker running runs. each (suc worker) running runs))
 
+-- what slots run is ready where each ran it before
+pub run_ready : (old new : Server) → RunNothingElse old new → new.others.items ≡ old.others.items →
+    new.held.items ≡ old.held.items → AreReady old → AreReady new
+run_ready old new only replicas items is = still_there old new only is
+    (all_ready new.others.items new.held.items new.head.slots (λ worker running runs.
+    let was = only worker running runs in
+    ap (λ (r : List (Option Replicated)). is_ready_one r (found running.packet new.held.items)) replicas
+    ∙ (ap (λ (i : List HeldMessage). is_ready_one old.others.items (found running.packet i)) items
+    ∙ (ap (λ (packet : ℕ). is_ready_one old.others.items (found packet old.held.items)) was.2
+    ∙ one_ready old.others.items old.held.items old.head.slots worker was.0 is.all was.1))))
+
 -- ---- a message that is to be visited wasn't
 
 same_some : {A : Type 0} (one other : A) → Some one ≡ Some other → one ≡ other

@@ -2,6 +2,7 @@
 #![tactic(auto)]
 
 mod applying;
+mod beginning;
 mod carrying;
 mod crashing;
 mod entering;
@@ -12,6 +13,7 @@ mod network;
 mod opening;
 mod places;
 mod pulling;
+mod reading;
 mod recovering;
 mod releasing;
 mod reviving;

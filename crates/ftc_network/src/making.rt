@@ -1,9 +1,10 @@
 //! A visit is made, and stands among those that were.
 
-ghost use Rattle.std.specs.Prelude.{◌≡◌, IfOk, OnOk, OnErr};
+ghost use Rattle.std.specs.Prelude.{◌≡◌, ◌≢◌, ℕ, IfOk, OnOk, OnErr};
 ghost use Rattle.ftc_journal.specs.declared.event.Event.TheVariants as event;
 ghost use Rattle.ftc_network.specs.Events.{IsAllowed, IsAllowedAt, StandsStill, SlotStandsStill};
-ghost use Rattle.ftc_network.specs.Parts.{buffer_of, withheld_in};
+ghost use Rattle.ftc_network.specs.Parts.{buffer_of, server_in, withheld_in};
+ghost use Rattle.ftc_network.specs.Stand.{IsIdleSlot};
 ghost use Rattle.ftc_network.specs.Visiting.{FollowsVisit, SlotFollowsVisit};
 
 use crate::laws::servers_beside;
@@ -30,6 +31,7 @@ fn visit_at(
     ensures ok { IfOk result (SlotFollowsVisit worker server packet slot.old slot.new) }
     ensures err { OnErr result (SlotStandsStill server slot.old slot.new) }
     ensures buffer { OnOk result (buffer_of slot.new ≡ buffer_of slot.old) }
+    ensures idle { IsIdleSlot slot.new }
 {
     where_events_are();
     what_work_says();
@@ -66,6 +68,10 @@ impl Network {
         ensures ok { OnOk result (FollowsVisit worker server packet self.old self.new) }
         ensures err { OnErr result (StandsStill self.old self.new) }
         ensures withheld { OnOk result (withheld_in self.new ≡ withheld_in self.old) }
+        ensures idle { IsIdleSlot (server_in self.old.servers.items server) →
+            IsIdleSlot (server_in self.new.servers.items server) }
+        ensures others { (other : ℕ) → other ≢ server →
+            server_in self.new.servers.items other ≡ server_in self.old.servers.items other }
     {
         where_events_are();
         servers_beside();

@@ -9,8 +9,6 @@ use Rattle.ftc_protocol.specs.Legal.{IsLegal}
 use Rattle.ftc_protocol.specs.Next.{next}
 use Rattle.ftc_refinement.specs.Contents.{IsServerAt}
 use Rattle.ftc_visits.specs.Made.{AreMade, IsMadeBy, mark_of}
-use Rattle.ftc_server.specs.declared.work.Work.{Work}
-use Rattle.ftc_server.specs.declared.work.Work.TheVariants.{Apply, Visit, Send, Carry}
 use Rattle.ftc_server.specs.Holding.{found}
 use Rattle.ftc_server.specs.Looks.{work_in}
 use Rattle.ftc_server.specs.Work.{work_for_found}
@@ -22,26 +20,8 @@ use Rattle.ftc_network.proofs.Allowed.{at_up}
 use Rattle.ftc_network.proofs.ReadySlots.{idle_ready}
 use Rattle.ftc_network.proofs.Results.{as_err}
 use Rattle.ftc_network.proofs.Untold.{is_below}
+use Rattle.ftc_network.proofs.VisitWork.{is_visit, visit_if, visit_is}
 use Rattle.ftc_network.proofs.making.visit_at.Goals as goal
-
-is_visit : Option Work → Bool
-is_visit None = false
-is_visit (Some (Apply group packet)) = false
-is_visit (Some Visit) = true
-is_visit (Some Send) = false
-is_visit (Some Carry) = false
-
-visit_if : (work : Option Work) → is_visit work ≡ true → work ≡ Some Visit
-unfolding is_visit
-visit_if None is = absurd cc
-visit_if (Some (Apply group packet)) is = absurd cc
-visit_if (Some Visit) is = refl
-visit_if (Some Send) is = absurd cc
-visit_if (Some Carry) is = absurd cc
-
-visit_is : is_visit (Some Visit) ≡ true
-unfolding is_visit
-visit_is = refl
 
 pub quit_all-requires : goal.quit_all-requires
 quit_all-requires c worker running runs = is_below worker MOST_SLOTS c.requires (λ given.
@@ -132,3 +112,9 @@ returns-in_err-answers-in-Some-clause-err c = as_err c.from_residual.result _ (�
           (c.quit_all.ensures.stands setting state c.args.server up.at);
       ready = idle_ready c.visit_whole.new.server c.in_err-answers-in-Some.ensures.idle;
     })
+
+pub returns-clause-idle : goal.returns-clause-idle
+returns-clause-idle c = c.in_ok-answers-in-Some.ensures.ok.idle
+
+pub returns-in_err-answers-in-Some-clause-idle : goal.returns-in_err-answers-in-Some-clause-idle
+returns-in_err-answers-in-Some-clause-idle c = c.in_err-answers-in-Some.ensures.idle
