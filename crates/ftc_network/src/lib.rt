@@ -20,6 +20,7 @@ mod reviving;
 mod taking;
 mod visiting;
 
+pub use laws::what_runs_may_be_visited;
 pub use network::Network;
 
 #[cfg(test)]
