@@ -49,8 +49,8 @@ pub returns-in_ok-message-in-Some-clause-buffer : goal.returns-in_ok-message-in-
 returns-in_ok-message-in-Some-clause-buffer c = on_ok c.hold.result _ _ (λ done.
     ap (λ (s : ServerState). s.buffer.items) done.rest ∙ ap buffer_of (sym c.in-Some.is)) c.hold.ensures.ok
 
-pub returns-in-Some-clause-err : goal.returns-in-Some-clause-err
-returns-in-Some-clause-err c =
+pub returns-in_ok-message-in-Some-clause-err : goal.returns-in_ok-message-in-Some-clause-err
+returns-in_ok-message-in-Some-clause-err c =
     let old = c.in-Some.server in
     let new = c.hold.new.server in
     on_err c.hold.result _ _ (λ same. roomed_still c.args.slot.now old new c.in-Some.is same
