@@ -5,7 +5,7 @@ use Rattle.ftc_journal.specs.declared.event.Event.{Event}
 use Rattle.ftc_journal.specs.declared.event.Event.TheVariants.{Visit}
 use Rattle.ftc_protocol.specs.Next.{next, outcome_at, visited_at, visited_message}
 use Rattle.ftc_protocol.specs.Setting.{Setting}
-use Rattle.ftc_protocol.specs.State.{ChainState, Message, Where, Held}
+use Rattle.ftc_protocol.specs.State.{ChainState, Message, Held}
 use Rattle.ftc_refinement.proofs.Works.{same_flags}
 use Rattle.ftc_replica.specs.Held.{Held as Replicated}
 use Rattle.ftc_serial.proofs.Functions.{with_at_cases}

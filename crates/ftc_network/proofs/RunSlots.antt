@@ -1,7 +1,6 @@
 -- What slots run after a read or a quit, they ran before.
-use Rattle.std.proofs.Common.{◌≡◌, ◌≢◌, ◌∙◌, ℕ, Bool, true, false, List, Option, Some, None, length, slice_set, inl, inr, refl, sym, ap}
-use Rattle.std.proofs.lemmas.Bool.{cases_eq, cases_Bool, cases_lt}
-use Rattle.std.proofs.lemmas.List.{get_or_past}
+use Rattle.std.proofs.Common.{◌≡◌, ◌∙◌, ℕ, List, Option, Some, None, slice_set, inl, inr, refl, sym, ap}
+use Rattle.std.proofs.lemmas.Bool.{cases_eq, cases_Bool}
 use Rattle.ftc_base.specs.Partition.{partition_of}
 use Rattle.ftc_locks.specs.Locks.{conflicts}
 use Rattle.ftc_server.specs.declared.server.Server.{Server}

@@ -1,4 +1,4 @@
-use Rattle.std.proofs.Common.{◌≡◌, ◌∙◌, ◌<◌, ℕ, Bool, true, false, Option, Some, None, refl, ap, sym, subst}
+use Rattle.std.proofs.Common.{◌≡◌, ◌∙◌, ◌<◌, ℕ, true, false, Option, Some, None, ap, sym, subst}
 use Rattle.std.specs.Prelude.{IfSome, option_map}
 use Rattle.ftc_server.specs.declared.server.Server.{Server}
 use Rattle.ftc_base.specs.declared.limits.TheConstants.{MOST_SLOTS}

@@ -1,4 +1,4 @@
-use Rattle.std.proofs.Common.{◌≡◌, ℕ, Option, Some, None, refl, sym, ap, subst}
+use Rattle.std.proofs.Common.{Option, Some, refl, sym, ap, subst}
 use Rattle.ftc_server.specs.declared.server.Server.{Server}
 use Rattle.ftc_server.specs.State.{ServerState}
 use Rattle.ftc_network.specs.Slots.{SlotQuits}

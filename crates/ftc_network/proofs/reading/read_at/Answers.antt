@@ -1,4 +1,4 @@
-use Rattle.std.proofs.Common.{◌≡◌, ℕ, Option, Some, None, refl, sym, subst}
+use Rattle.std.proofs.Common.{Option, Some, refl, sym, subst}
 use Rattle.ftc_server.specs.declared.server.Server.{Server}
 use Rattle.ftc_txn.specs.declared.answers.ReadAnswer.TheVariants.{Idle}
 use Rattle.ftc_network.specs.Slots.{SlotReads}

@@ -1,8 +1,8 @@
-use Rattle.std.proofs.Common.{◌≡◌, ◌∙◌, ◌≢◌, ◌<◌, ℕ, Option, Some, None, inl, inr, refl, sym, ap, subst, arith}
+use Rattle.std.proofs.Common.{◌≡◌, ◌∙◌, ◌≢◌, Option, Some, None, inl, inr, refl, sym, ap, arith}
 use Rattle.std.proofs.lemmas.Bool.{cases_eq, cases_lt}
 use Rattle.std.proofs.lemmas.Grind.{common_steps}
 use Rattle.ftc_base.specs.declared.limits.TheConstants.{MOST_SLOTS}
-use Rattle.ftc_server.specs.State.{ServerState, state_of}
+use Rattle.ftc_server.specs.State.{ServerState}
 use Rattle.ftc_txn.specs.Slots.{Running, slot_at}
 use Rattle.ftc_network.proofs.visiting.quit_all.Goals as goal
 

@@ -1,8 +1,8 @@
-use Rattle.std.proofs.Common.{◌≡◌, ◌∙◌, ◌<◌, ◌↔◌, ℕ, Option, Some, None, length, refl, sym, ap, subst, arith}
+use Rattle.std.proofs.Common.{◌≡◌, ◌∙◌, ◌<◌, ◌↔◌, Option, Some, None, length, refl, sym, ap, subst, arith}
 use Rattle.std.specs.Prelude.{IfSome, IsNone}
 use Rattle.ftc_txn.specs.Head.{HeadState}
 use Rattle.ftc_network.specs.Parts.{server_in}
-use Rattle.ftc_network.specs.Slots.{head_of, head_at, runs_in, ages_left_in}
+use Rattle.ftc_network.specs.Slots.{head_of, head_at, runs_in}
 use Rattle.ftc_network.proofs.OneServer.{read_server}
 use Rattle.ftc_network.proofs.network.Network.answers.Goals as goal
 
