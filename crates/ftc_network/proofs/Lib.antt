@@ -1,10 +1,10 @@
 mod Allowed
+mod BegunSlots
 mod Changed
 mod EndsAlone
 mod GainedVisits
 mod GotReplicas
 mod GroupNews
-mod Idle
 mod IdleSlots
 mod LastServer
 mod MessageForms
@@ -15,10 +15,13 @@ mod OneServer
 mod PullWanted
 mod PulledServer
 mod ReadAlone
+mod ReadySlots
 mod Released
 mod Replaced
 mod Results
+mod RunSlots
 mod ScriptLines
 mod SentAlong
 mod SharedGroups
 mod Untold
+mod VisitWork

@@ -17,6 +17,7 @@ use Rattle.ftc_server.specs.Steps.{IsOpening, empty_held}
 use Rattle.ftc_network.specs.Opening.{ring_of, IsOfChain, IsNewSlot, AreNewServers}
 use Rattle.ftc_network.specs.Parts.{server_in}
 use Rattle.ftc_network.specs.Stand.{IsSlot}
+use Rattle.ftc_network.proofs.ReadySlots.{idle_ready}
 
 -- the item at the end of a list, and those before it
 seam : {A : Type 0} (items : List A) (item other : A) (size : ℕ) → length items ≡ size →
@@ -76,5 +77,5 @@ new_slot_stands chain setting number (Some server) below of makes is =
           (empty_held setting.partitions) server) rules_is
           (subst (λ (n : ℕ). IsOpening (ring_of chain) number (slice_index_or chain.rules number Pass) n
           (empty_held n) server) (sym of.partitions) is)));
-      idle = is.idle;
+      ready = idle_ready server is.idle;
     }

@@ -29,10 +29,10 @@ use Rattle.ftc_refinement.specs.Contents.{IsServerAt}
 use Rattle.ftc_refinement.specs.Pulled.{ArePulled}
 use Rattle.ftc_refinement.proofs.Ring.{EndsAsSaid}
 use Rattle.ftc_network.specs.Pulling.{is_shared_by, lacking, gains_some, MayPullOne, MayPullBetween, AreGains, IsOfLater, SlotHasInstalled}
-use Rattle.ftc_network.specs.Stand.{IsSlot}
+use Rattle.ftc_network.specs.Stand.{IsSlot, AreReady, RunNothingElse}
 use Rattle.ftc_network.proofs.GainedVisits.{gains_same}
 use Rattle.ftc_network.proofs.GroupNews.{made, news_same, are_later}
-use Rattle.ftc_network.proofs.Idle.{idle_after}
+use Rattle.ftc_network.proofs.ReadySlots.{same_runs}
 use Rattle.ftc_network.proofs.PulledServer.{server_follows}
 use Rattle.ftc_network.proofs.SharedGroups.{ready, reach}
 
@@ -122,25 +122,29 @@ module _ (c : Setting) (s : ChainState) (f : IsFirmState c s) (ends : EndsAsSaid
       HasInstalled old new news → IsServerAt c (next c s (Pull link)) receiver new) →
       ((old new : Server) → IsServerAt c (next c s (Pull link)) receiver old → state_of new ≡ state_of old →
       IsServerAt c (next c s (Pull link)) receiver new) →
+      ((old new : Server) → IsServerAt c s receiver old → IsServerAt c (next c s (Pull link)) receiver new →
+      RunNothingElse old new → AreReady old → AreReady new) →
       (ring : RingShape) → ring ≡ shape c → (one other now : Option Server) (replicas : List GroupReplica) (gained : Bool) →
       IsSlot c s link one → IsSlot c s receiver other → AreGains ring one other replicas gained →
       SlotHasInstalled other now replicas →
       IsSlot c (next c s (Pull link)) receiver now × (gained ≡ list_any (is_news c s link receiver) s.trace)
-  pull_follows installs same_fields ring same None other now replicas gained down is gains done =
+  pull_follows installs same_fields keeps ring same None other now replicas gained down is gains done =
       absurd (let up = legal.0.0 in cc)
-  pull_follows installs same_fields ring same (Some sender) None now replicas gained sends down gains done =
+  pull_follows installs same_fields keeps ring same (Some sender) None now replicas gained sends down gains done =
       absurd (let up = legal.0.1 in cc)
-  pull_follows installs same_fields ring same (Some sender) (Some old) None replicas gained sends is gains done = absurd done
-  pull_follows installs same_fields ring same (Some sender) (Some old) (Some new) replicas gained sends is gains done =
+  pull_follows installs same_fields keeps ring same (Some sender) (Some old) None replicas gained sends is gains done = absurd done
+  pull_follows installs same_fields keeps ring same (Some sender) (Some old) (Some new) replicas gained sends is gains done =
       let got = made c s f.steady link legal sender old sends.at is.at in
       let done_so : HasInstalled old new got = subst (HasInstalled old new)
-      (gains.0 ∙ news_same c s f.steady link legal sender old sends.at is.at ring same) done in (
+      (gains.0 ∙ news_same c s f.steady link legal sender old sends.at is.at ring same) done in
+      let at : IsServerAt c (next c s (Pull link)) receiver new =
+      server_follows c s f ends link legal sender old new sends.at is.at done_so
+      (λ tail below its shared are. installs tail old new sender got below its shared is.at sends.at are done_so)
+      (λ stands fields. same_fields old new stands fields) in (
         record {
           up = is.up;
-          at = server_follows c s f ends link legal sender old new sends.at is.at done_so
-              (λ tail below its shared are. installs tail old new sender got below its shared is.at sends.at are done_so)
-              (λ stands fields. same_fields old new stands fields);
-          idle = idle_after old new (ap (λ (t : ServerState). t.head) done_so.rest) is.idle;
+          at = at;
+          ready = keeps old new is.at at (same_runs old new (ap (λ (t : ServerState). t.head) done_so.rest)) is.ready;
         },
         gains.1 ∙ (ap (λ r. gains_some r sender old) same
             ∙ gains_same c s f.steady link legal sender old sends.at is.at),

@@ -14,22 +14,19 @@ use Rattle.ftc_refinement.specs.Contents.{IsServerAt}
 use Rattle.ftc_ring.specs.Ring.{next_of}
 use Rattle.ftc_serial.proofs.Functions.{with_at_cases}
 use Rattle.ftc_server.specs.declared.server.Server.{Server}
-use Rattle.ftc_server.specs.Slots.{slot_is_ready}
 use Rattle.ftc_server.specs.State.{ServerState}
 use Rattle.ftc_server.specs.Steps.{HasDropped}
 use Rattle.ftc_standing.specs.Stand.{IsLink}
 use Rattle.ftc_network.specs.Parts.{server_in, buffer_of}
 use Rattle.ftc_network.specs.Recovering.{cut_off, may_drop, SlotHasDropped, AreReplaced}
-use Rattle.ftc_network.specs.Stand.{IsSlot}
-use Rattle.ftc_network.proofs.Idle.{idle_after}
-use Rattle.ftc_network.proofs.IdleSlots.{none_all}
+use Rattle.ftc_network.specs.Stand.{IsSlot, AreReady, RunNothingElse}
+use Rattle.ftc_network.proofs.ReadySlots.{same_runs}
 
--- the slots of a server that stands for a state run nothing, so what they run lacks nothing
+-- what the slots of a server that stands for a state run lacks nothing
 pub slot_ready : (setting : Setting) (state : ChainState) (number : ℕ) (slot : Option Server) →
     IsSlot setting state number slot → may_drop slot ≡ true
 slot_ready setting state number None is = refl
-slot_ready setting state number (Some server) is =
-    none_all (slot_is_ready server.others.items server.held.items) refl server.head.slots is.idle
+slot_ready setting state number (Some server) is = is.ready.all
 
 module _ (old new : List (Option Server)) (server following : ℕ) (made : Server)
     (are : AreReplaced old new server following made) (apart : following ≢ server) where
@@ -89,16 +86,20 @@ module _ (setting : Setting) (state : ChainState) (server : ℕ) (undone : List 
       ((before later : Server) → IsServerAt setting state (following_live setting state server) before →
       HasDropped before later →
       IsServerAt setting after (following_live setting state server) later) →
+      ((before later : Server) → IsServerAt setting state (following_live setting state server) before →
+      IsServerAt setting after (following_live setting state server) later → RunNothingElse before later →
+      AreReady before → AreReady later) →
       state.up (following_live setting state server) ≡ true →
       IsSlot setting state (following_live setting state server) old → SlotHasDropped old new →
       IsSlot setting after (following_live setting state server) new
-  slot_dropped None new law up is done = absurd cc
-  slot_dropped (Some before) None law up is done = absurd done
-  slot_dropped (Some before) (Some later) law up is done = record {
+  slot_dropped None new law keeps up is done = absurd cc
+  slot_dropped (Some before) None law keeps up is done = absurd done
+  slot_dropped (Some before) (Some later) law keeps up is done = record {
     up = with_at_cases (λ (b : Bool). b ≡ true) state.up server true (following_live setting state server)
         (λ same. refl) (λ differs. up);
     at = law before later is.at done;
-    idle = idle_after before later (ap (λ (s : ServerState). s.head) done.rest) is.idle;
+    ready = keeps before later is.at (law before later is.at done)
+        (same_runs before later (ap (λ (s : ServerState). s.head) done.rest)) is.ready;
   }
 
   abbrev gap_in : ℕ → ℕ → Bool → Bool

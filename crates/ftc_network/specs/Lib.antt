@@ -1,5 +1,6 @@
 pub mod Parts
 pub mod Stand
+pub mod Slots
 pub mod Events
 pub mod Pulling
 pub mod Released

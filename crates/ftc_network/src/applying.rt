@@ -5,7 +5,7 @@ ghost use Rattle.ftc_journal.specs.declared.event.Event.TheVariants as event;
 ghost use Rattle.ftc_network.specs.Events.{IsAllowed, IsAllowedAt, Follows, SlotFollows, StandsStill, SlotStandsStill};
 ghost use Rattle.ftc_network.specs.Parts.{buffer_of, withheld_in};
 
-use crate::laws::servers_beside;
+use crate::laws::{servers_beside, slots_stay_ready};
 use crate::network::Network;
 use crate::places::place_of;
 use ftc_base::{NoMemory, PacketNo, ServerId};
@@ -30,6 +30,7 @@ fn apply_at(
     what_apply_wants();
     what_apply_does();
     what_stays();
+    slots_stay_ready();
     match slot {
         Some(live) => live.apply(origin, group, packet),
         None => Ok(()),

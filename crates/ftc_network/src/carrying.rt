@@ -5,7 +5,7 @@ ghost use Rattle.ftc_journal.specs.declared.event.Event.TheVariants as event;
 ghost use Rattle.ftc_network.specs.Events.{IsAllowed, IsAllowedAt, Follows, SlotFollows, StandsStill, SlotStandsStill};
 ghost use Rattle.ftc_network.specs.Parts.{buffer_of, withheld_in};
 
-use crate::laws::servers_beside;
+use crate::laws::{servers_beside, slots_stay_ready};
 use crate::network::Network;
 use ftc_base::{NoMemory, PacketNo};
 use ftc_refinement::{what_carry_does, what_carry_wants, what_stays};
@@ -23,6 +23,7 @@ fn carry_at(slot: &mut Option<Server>, origin: PacketNo) -> Result<(), NoMemory>
     what_carry_wants();
     what_carry_does();
     what_stays();
+    slots_stay_ready();
     match slot {
         Some(server) => server.carry(origin),
         None => Ok(()),

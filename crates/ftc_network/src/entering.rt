@@ -11,7 +11,7 @@ ghost use Rattle.ftc_standing.specs.Stand.{IsBegun};
 ghost use Rattle.ftc_network.specs.Events.{IsAllowed, IsAllowedAt, Follows, FollowsIn, SlotFollows, SlotFollowsIn, StandsStill, SlotStandsStill};
 ghost use Rattle.ftc_network.specs.Parts.{buffer_of, withheld_in};
 
-use crate::laws::servers_beside;
+use crate::laws::{servers_beside, slots_stay_ready};
 use crate::network::Network;
 use ftc_base::{Bytes, NoMemory, PacketNo};
 use ftc_message::{Logs, Message, Needs};
@@ -64,6 +64,7 @@ fn enter_at(
     what_take_wants();
     what_take_does();
     what_stays();
+    slots_stay_ready();
     match slot {
         Some(server) => {
             let message = begun(alloc, packet, Some(bytes))?;
@@ -83,6 +84,7 @@ fn propagate_at(slot: &mut Option<Server>, alloc: Global, origin: PacketNo) -> R
     what_take_wants();
     what_take_does();
     what_stays();
+    slots_stay_ready();
     match slot {
         Some(server) => {
             let message = begun(alloc, origin, None)?;

@@ -11,7 +11,7 @@ ghost use Rattle.ftc_network.specs.Events.{IsAllowed, IsLeaving, LeavingFollows,
 ghost use Rattle.ftc_network.specs.Parts.{buffer_of, withheld_in};
 ghost use Rattle.ftc_network.specs.Sending.{HasFrameIfRoom, queue_after};
 
-use crate::laws::servers_beside;
+use crate::laws::{servers_beside, slots_stay_ready};
 use crate::network::Network;
 use crate::places::place_of;
 use ftc_base::limits::MOST_CAPTURED;
@@ -83,6 +83,7 @@ fn leave_at(
     what_is_sent();
     a_message_is_sent();
     what_stays();
+    slots_stay_ready();
     where_events_are();
     match slot {
         Some(live) => {

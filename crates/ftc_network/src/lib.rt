@@ -2,6 +2,7 @@
 #![tactic(auto)]
 
 mod applying;
+mod beginning;
 mod carrying;
 mod crashing;
 mod entering;
@@ -12,12 +13,14 @@ mod network;
 mod opening;
 mod places;
 mod pulling;
+mod reading;
 mod recovering;
 mod releasing;
 mod reviving;
 mod taking;
 mod visiting;
 
+pub use laws::what_runs_may_be_visited;
 pub use network::Network;
 
 #[cfg(test)]

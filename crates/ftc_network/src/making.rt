@@ -1,15 +1,16 @@
 //! A visit is made, and stands among those that were.
 
-ghost use Rattle.std.specs.Prelude.{◌≡◌, IfOk, OnOk, OnErr};
+ghost use Rattle.std.specs.Prelude.{◌≡◌, ◌≢◌, ℕ, IfOk, OnOk, OnErr};
 ghost use Rattle.ftc_journal.specs.declared.event.Event.TheVariants as event;
 ghost use Rattle.ftc_network.specs.Events.{IsAllowed, IsAllowedAt, StandsStill, SlotStandsStill};
-ghost use Rattle.ftc_network.specs.Parts.{buffer_of, withheld_in};
+ghost use Rattle.ftc_network.specs.Parts.{buffer_of, server_in, withheld_in};
+ghost use Rattle.ftc_network.specs.Stand.{IsIdleSlot};
 ghost use Rattle.ftc_network.specs.Visiting.{FollowsVisit, SlotFollowsVisit};
 
 use crate::laws::servers_beside;
 use crate::network::Network;
 use crate::places::place_of;
-use crate::visiting::visit_whole;
+use crate::visiting::{quit_all, visit_whole};
 use ftc_base::{NoMemory, PacketNo, ServerId, WorkerId};
 use ftc_mbox::Plan;
 use ftc_refinement::{what_a_commit_does, what_a_commit_wants, what_work_says, where_events_are};
@@ -17,7 +18,8 @@ use ftc_server::Server;
 use ftc_standing::links_stand_still;
 use ftc_visits::{MadeVisit, a_made_visit_is_added, made};
 
-/// The middlebox of a server takes a packet. The answer is the visit with what it needs.
+/// The middlebox of a server takes a packet. What its slots ran is given up first. The answer is the visit with what it
+/// needs.
 fn visit_at(
     slot: &mut Option<Server>,
     worker: WorkerId,
@@ -29,6 +31,7 @@ fn visit_at(
     ensures ok { IfOk result (SlotFollowsVisit worker server packet slot.old slot.new) }
     ensures err { OnErr result (SlotStandsStill server slot.old slot.new) }
     ensures buffer { OnOk result (buffer_of slot.new ≡ buffer_of slot.old) }
+    ensures idle { IsIdleSlot slot.new }
 {
     where_events_are();
     what_work_says();
@@ -37,6 +40,7 @@ fn visit_at(
     a_made_visit_is_added();
     match slot {
         Some(live) => {
+            quit_all(live);
             let answers = visit_whole(live, worker, packet, plan)?;
             Ok(made(
                 &answers,
@@ -51,8 +55,8 @@ fn visit_at(
 }
 
 impl Network {
-    /// The middlebox of a server takes a packet, in a worker's slot. The plan is used where it is that of the packet
-    /// and of what it reads; else the rule is asked.
+    /// The middlebox of a server takes a packet, in a worker's slot. What the server's slots ran is given up first. The
+    /// plan is used where it is that of the packet and of what it reads; else the rule is asked.
     pub fn visit(
         &mut self,
         worker: WorkerId,
@@ -64,6 +68,10 @@ impl Network {
         ensures ok { OnOk result (FollowsVisit worker server packet self.old self.new) }
         ensures err { OnErr result (StandsStill self.old self.new) }
         ensures withheld { OnOk result (withheld_in self.new ≡ withheld_in self.old) }
+        ensures idle { IsIdleSlot (server_in self.old.servers.items server) →
+            IsIdleSlot (server_in self.new.servers.items server) }
+        ensures others { (other : ℕ) → other ≢ server →
+            server_in self.new.servers.items other ≡ server_in self.old.servers.items other }
     {
         where_events_are();
         servers_beside();

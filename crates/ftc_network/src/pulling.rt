@@ -7,7 +7,7 @@ ghost use Rattle.ftc_network.specs.Events.{IsAllowed, Follows, StandsStill, Slot
 ghost use Rattle.ftc_network.specs.Parts.{buffer_of, link_in, withheld_in};
 ghost use Rattle.ftc_network.specs.Pulling.{is_shared_by, lacking, new_of, news_of, news, is_gained, gains_some, MayPullOne, MayPull, MayPullBetween, AreGains, IsOfLater, SlotHasInstalled, marked};
 
-use crate::laws::servers_beside;
+use crate::laws::{servers_beside, slots_stay_ready};
 use crate::network::Network;
 use crate::places::place_of;
 use ftc_base::{NoMemory, ServerId};
@@ -187,6 +187,7 @@ impl Network {
         ends();
         where_events_are();
         servers_beside();
+        slots_stay_ready();
         what_install_does();
         what_stays();
         a_server_has_pulled();

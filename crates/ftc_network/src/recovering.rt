@@ -16,7 +16,7 @@ ghost use Rattle.ftc_network.specs.Recovering.{IsRecovering, HasRecovered, is_up
 ghost use Rattle.ftc_network.specs.Reviving.{IsAnew};
 ghost use Rattle.ftc_network.specs.Stand.{IsNetwork};
 
-use crate::laws::servers_beside;
+use crate::laws::{servers_beside, slots_stay_ready};
 use crate::network::Network;
 use crate::places::place_of;
 use crate::reviving::revived;
@@ -203,6 +203,7 @@ impl Network {
         what_drop_unready_does();
         a_server_is_replaced();
         servers_beside();
+        slots_stay_ready();
         undone_visits_are_dropped();
         let Some(near) = self.neighbours(server) else {
             return Ok(VisitNames::new(alloc));

@@ -11,7 +11,7 @@ ghost use Rattle.ftc_network.specs.Parts.{buffer_of, withheld_in};
 ghost use Rattle.ftc_network.specs.Stand.{IsSlot, IsNetwork};
 ghost use Rattle.ftc_network.specs.Released.{IsReleased};
 
-use crate::laws::servers_beside;
+use crate::laws::{servers_beside, slots_stay_ready};
 use crate::network::Network;
 use ftc_edge::{Freed, released_packets};
 use ftc_protocol::order_of_a_state;
@@ -36,6 +36,7 @@ fn release_at(slot: &mut Option<Server>) -> Option<Freed>
     what_is_due();
     what_release_does();
     what_stays();
+    slots_stay_ready();
     match slot {
         Some(server) => server.release(),
         None => None,

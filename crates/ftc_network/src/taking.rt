@@ -7,7 +7,7 @@ ghost use Rattle.ftc_protocol.specs.State.{ChainState};
 ghost use Rattle.ftc_network.specs.Events.{IsAllowed, IsTaking, EndsFollow, Follows, StandsStill, SlotStandsStill};
 ghost use Rattle.ftc_network.specs.Parts.{buffer_of, withheld_in};
 
-use crate::laws::servers_beside;
+use crate::laws::{servers_beside, slots_stay_ready};
 use crate::network::Network;
 use crate::places::place_of;
 use ftc_base::{NoMemory, PacketNo, ServerId};
@@ -39,6 +39,7 @@ fn take_at(
     a_message_is_taken();
     where_events_are();
     what_stays();
+    slots_stay_ready();
     match slot {
         Some(server) => {
             let logs = link.logs().unwrap_or(0);

@@ -1,16 +1,18 @@
 //! Visits, each made whole as the only one that runs.
 
-ghost use Rattle.std.specs.Prelude.{◌≡◌, ◌≢◌, ◌+◌, ℕ, Bool, true, Some, None, IfOk, OnErr};
+ghost use Rattle.std.specs.Prelude.{◌≡◌, ◌≢◌, ◌<◌, ◌+◌, ℕ, Bool, true, Some, None, IfOk, OnErr};
 ghost use Rattle.ftc_base.specs.declared.ask.Ask.TheVariants.{Read};
+ghost use Rattle.ftc_base.specs.declared.limits.TheConstants.{MOST_SLOTS};
 ghost use Rattle.ftc_server.specs.declared.server.Server.{Server as AServer};
 ghost use Rattle.ftc_server.specs.declared.work.Work.TheVariants.{Visit};
 ghost use Rattle.ftc_server.specs.Looks.{work_in, ask_in};
 ghost use Rattle.ftc_server.specs.Replicas.{may_rise};
-ghost use Rattle.ftc_txn.specs.Slots.{slot_at};
+ghost use Rattle.ftc_server.specs.State.{state_of};
+ghost use Rattle.ftc_txn.specs.Slots.{Running, slot_at};
 ghost use Rattle.ftc_network.specs.Stand.{AreIdle};
 ghost use Rattle.ftc_network.specs.Visiting.{StandsFor, IsUnderWay, VisitsWhole};
 
-use ftc_base::limits::MOST_READS;
+use ftc_base::limits::{MOST_READS, MOST_SLOTS};
 use ftc_base::{Answers, Key, NoMemory, PacketNo, WorkerId};
 use ftc_mbox::Plan;
 use ftc_refinement::what_stays;
@@ -57,6 +59,39 @@ fn give_up(server: &mut Server, worker: WorkerId) -> NoMemory
     what_stays();
     server.quit(worker);
     NoMemory
+}
+
+/// A slot gives up what it runs, if it runs anything.
+fn quit_one(server: &mut Server, worker: WorkerId)
+    ensures stands { StandsFor server.old server.new }
+    ensures withheld { server.new.buffer.items ≡ server.old.buffer.items }
+    ensures gone { slot_at server.new.head.slots worker ≡ None }
+    ensures others { (other : ℕ) → other ≢ worker →
+        slot_at server.new.head.slots other ≡ slot_at server.old.head.slots other }
+    ensures fields { state_of server.new ≡ record (state_of server.old) { head = server.new.head } }
+    ensures vector { server.new.head.vector ≡ server.old.head.vector }
+{
+    what_stays();
+    // Most slots are idle, and to look is cheaper than to clear.
+    if server.answers(worker).is_some() {
+        server.quit(worker);
+    }
+}
+
+/// All slots give up what they run. Only workers' slots run something.
+pub fn quit_all(server: &mut Server)
+    requires { (worker : ℕ) (running : Running) → slot_at server.old.head.slots worker ≡ Some running →
+        worker < MOST_SLOTS }
+    ensures stands { StandsFor server.old server.new }
+    ensures withheld { server.new.buffer.items ≡ server.old.buffer.items }
+    ensures idle { AreIdle server.new }
+    ensures fields { state_of server.new ≡ record (state_of server.old) { head = server.new.head } }
+    ensures vector { server.new.head.vector ≡ server.old.head.vector }
+{
+    for number in 0..MOST_SLOTS {
+        let worker = WorkerId::new(number).unwrap();
+        quit_one(server, worker);
+    }
 }
 
 /// The visit of a packet is made whole. The answer is what it read.

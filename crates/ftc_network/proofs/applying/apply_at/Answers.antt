@@ -7,8 +7,8 @@ use Rattle.ftc_server.specs.State.{ServerState}
 use Rattle.ftc_network.specs.Parts.{buffer_of}
 use Rattle.ftc_network.specs.Stand.{IsSlot, IsUp}
 use Rattle.ftc_network.proofs.Allowed.{at_up}
-use Rattle.ftc_network.proofs.Idle.{idle_after}
-use Rattle.ftc_network.proofs.Results.{on_ok}
+use Rattle.ftc_network.proofs.ReadySlots.{same_runs, same_still}
+use Rattle.ftc_network.proofs.Results.{on_ok, on_err}
 use Rattle.ftc_network.proofs.applying.apply_at.Goals as goal
 
 pub apply-requires-clause-ready : goal.apply-requires-clause-ready
@@ -33,13 +33,24 @@ returns-in-Some-clause-ok c =
     let new = c.apply.new.self in
     on_ok c.apply.result _ _ (λ done setting state run legal is.
     let up : IsUp setting state c.args.server old = subst (IsSlot setting state c.args.server) c.in-Some.is is in
+    let at = c.what_apply_does.ensures setting state c.args.server c.args.origin c.args.group c.args.packet old new run legal
+    up.at done in
     record {
       up = up.up;
-      at = c.what_apply_does.ensures setting state c.args.server c.args.origin c.args.group c.args.packet old new run legal
-          up.at done;
-      idle = idle_after old new (ap (λ (s : ServerState). s.head) done.rest) up.idle;
+      at = at;
+      ready = c.slots_stay_ready.ensures setting state
+          (event.Apply c.args.server c.args.origin c.args.group c.args.packet) c.args.server old new run legal up.at at
+          (same_runs old new (ap (λ (s : ServerState). s.head) done.rest)) up.ready;
     }) c.apply.ensures.ok
 
 pub returns-in-Some-clause-buffer : goal.returns-in-Some-clause-buffer
 returns-in-Some-clause-buffer c = on_ok c.apply.result _ _ (λ done.
     ap (λ (s : ServerState). s.buffer.items) done.rest ∙ ap buffer_of (sym c.in-Some.is)) c.apply.ensures.ok
+
+pub returns-in-Some-clause-err : goal.returns-in-Some-clause-err
+returns-in-Some-clause-err c =
+    let old = c.in-Some.live in
+    let new = c.apply.new.self in
+    on_err c.apply.result _ _ (λ same. same_still c.args.slot.now old new c.in-Some.is same
+    (λ setting state number at fields. c.what_stays.ensures.same setting state number old new at fields) c.args.server)
+    c.apply.ensures.err

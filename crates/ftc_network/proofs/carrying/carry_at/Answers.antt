@@ -8,8 +8,8 @@ use Rattle.ftc_server.specs.State.{ServerState}
 use Rattle.ftc_network.specs.Parts.{buffer_of}
 use Rattle.ftc_network.specs.Stand.{IsSlot, IsUp}
 use Rattle.ftc_network.proofs.Allowed.{at_up}
-use Rattle.ftc_network.proofs.Idle.{idle_after}
-use Rattle.ftc_network.proofs.Results.{on_ok}
+use Rattle.ftc_network.proofs.ReadySlots.{same_runs, same_still}
+use Rattle.ftc_network.proofs.Results.{on_ok, on_err}
 use Rattle.ftc_network.proofs.carrying.carry_at.Goals as goal
 
 is_carry : Option Work → Bool
@@ -52,12 +52,22 @@ returns-in-Some-clause-ok c =
     let new = c.carry.new.self in
     on_ok c.carry.result _ _ (λ done setting state run legal is.
     let up : IsUp setting state 0 old = subst (IsSlot setting state 0) c.in-Some.is is in
+    let at = c.what_carry_does.ensures setting state c.args.origin old new run legal up.at done in
     record {
       up = up.up;
-      at = c.what_carry_does.ensures setting state c.args.origin old new run legal up.at done;
-      idle = idle_after old new (ap (λ (s : ServerState). s.head) done.rest) up.idle;
+      at = at;
+      ready = c.slots_stay_ready.ensures setting state (event.Carry c.args.origin) 0 old new run legal up.at at
+          (same_runs old new (ap (λ (s : ServerState). s.head) done.rest)) up.ready;
     }) c.carry.ensures.ok
 
 pub returns-in-Some-clause-buffer : goal.returns-in-Some-clause-buffer
 returns-in-Some-clause-buffer c = on_ok c.carry.result _ _ (λ done.
     ap (λ (s : ServerState). s.buffer.items) done.rest ∙ ap buffer_of (sym c.in-Some.is)) c.carry.ensures.ok
+
+pub returns-in-Some-clause-err : goal.returns-in-Some-clause-err
+returns-in-Some-clause-err c =
+    let old = c.in-Some.server in
+    let new = c.carry.new.self in
+    on_err c.carry.result _ _ (λ same. same_still c.args.slot.now old new c.in-Some.is same
+    (λ setting state number at fields. c.what_stays.ensures.same setting state number old new at fields) 0)
+    c.carry.ensures.err

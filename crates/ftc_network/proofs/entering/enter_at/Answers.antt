@@ -8,8 +8,8 @@ use Rattle.ftc_standing.specs.Stand.{IsBegun}
 use Rattle.ftc_network.specs.Parts.{buffer_of}
 use Rattle.ftc_network.specs.Stand.{IsSlot, IsUp}
 use Rattle.ftc_network.proofs.Allowed.{at_up}
-use Rattle.ftc_network.proofs.Idle.{idle_after}
-use Rattle.ftc_network.proofs.Results.{on_ok}
+use Rattle.ftc_network.proofs.ReadySlots.{same_runs, roomed_still}
+use Rattle.ftc_network.proofs.Results.{on_ok, on_err}
 use Rattle.ftc_network.proofs.entering.enter_at.Goals as goal
 
 pub hold-requires-clause-new : goal.hold-requires-clause-new
@@ -35,14 +35,24 @@ returns-in_ok-message-in-Some-clause-ok c =
     let message = c.in_ok-message-in-Some.message in
     on_ok c.hold.result _ _ (λ done setting state bytes run legal is.
     let up : IsUp setting state 0 old = subst (IsSlot setting state 0) c.in-Some.is is in
+    let at = c.what_take_does.ensures.entered setting state c.args.packet old new message run legal up.up
+    (subst (λ (packet : List ℕ). IsBegun c.args.packet (Some packet) message) bytes c.in_ok-message-in-Some.ensures)
+    up.at done in
     record {
       up = up.up;
-      at = c.what_take_does.ensures.entered setting state c.args.packet old new message run legal up.up
-          (subst (λ (packet : List ℕ). IsBegun c.args.packet (Some packet) message) bytes
-          c.in_ok-message-in-Some.ensures) up.at done;
-      idle = idle_after old new (ap (λ (s : ServerState). s.head) done.rest) up.idle;
+      at = at;
+      ready = c.slots_stay_ready.ensures setting state (event.Enter c.args.packet) 0 old new run legal up.at at
+          (same_runs old new (ap (λ (s : ServerState). s.head) done.rest)) up.ready;
     }) c.hold.ensures.ok
 
 pub returns-in_ok-message-in-Some-clause-buffer : goal.returns-in_ok-message-in-Some-clause-buffer
 returns-in_ok-message-in-Some-clause-buffer c = on_ok c.hold.result _ _ (λ done.
     ap (λ (s : ServerState). s.buffer.items) done.rest ∙ ap buffer_of (sym c.in-Some.is)) c.hold.ensures.ok
+
+pub returns-in_ok-message-in-Some-clause-err : goal.returns-in_ok-message-in-Some-clause-err
+returns-in_ok-message-in-Some-clause-err c =
+    let old = c.in-Some.server in
+    let new = c.hold.new.server in
+    on_err c.hold.result _ _ (λ same. roomed_still c.args.slot.now old new c.in-Some.is same
+    (λ setting state number at fields. c.what_stays.ensures.roomed setting state number old new at fields) 0)
+    c.hold.ensures.err

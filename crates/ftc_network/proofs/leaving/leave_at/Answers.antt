@@ -9,9 +9,9 @@ use Rattle.ftc_standing.specs.View.{leaving}
 use Rattle.ftc_refinement.specs.Contents.{IsServerAt}
 use Rattle.ftc_network.specs.Stand.{IsSlot, IsUp}
 use Rattle.ftc_network.specs.Sending.{HasFrameIfRoom}
-use Rattle.ftc_network.proofs.Idle.{idle_after}
+use Rattle.ftc_network.proofs.ReadySlots.{same_runs, buffered_still}
 use Rattle.ftc_network.proofs.MessageForms.{has_frame, work_is_send}
-use Rattle.ftc_network.proofs.Results.{each_some}
+use Rattle.ftc_network.proofs.Results.{as_err, each_some}
 use Rattle.ftc_network.proofs.SentAlong.{either_way, up_after, is_sent_where, after_sending}
 use Rattle.ftc_network.proofs.leaving.leave_at.Goals as goal
 
@@ -63,7 +63,9 @@ returns-in_ok-send_on-in-Some-clause-ok c setting state same run legal link is =
     let after = next setting state (leaving lost server origin) in
     let up : IsUp setting state server live = subst (IsSlot setting state server) c.in-Some.is is in
     let at : IsServerAt setting state server roomed =
-    c.what_stays.ensures.buffered setting state server live roomed up.at room in (
+    c.what_stays.ensures.buffered setting state server live roomed up.at room in
+    let at_after : IsServerAt setting after server passed =
+    c.what_pass_does.ensures setting state lost server origin roomed passed run legal at c.pass.ensures in (
       subst (λ queue_now. IsLink setting after server queue_now) (sym c.in_ok-send_on-in-Some.ensures.ok)
           (after_sending setting state server origin queue link c.args.lost c.args.up message same
           (λ none. c.what_is_sent.ensures.nothing setting state lost server origin live run legal up.at (sym sends ∙ none))
@@ -73,9 +75,10 @@ returns-in_ok-send_on-in-Some-clause-ok c setting state same run legal link is =
           (λ gap away now. c.a_message_is_sent.ensures.away setting state lost server origin queue gap run legal away now link)),
       record {
         up = up_after setting state lost server origin server ∙ up.up;
-        at = c.what_pass_does.ensures setting state lost server origin roomed passed run legal at c.pass.ensures;
-        idle = idle_after live passed
-            (ap (λ (s : ServerState). s.head) c.pass.ensures.rest ∙ ap (λ (s : ServerState). s.head) room.rest) up.idle;
+        at = at_after;
+        ready = c.slots_stay_ready.ensures setting state (leaving lost server origin) server live passed run legal up.at
+            at_after (same_runs live passed
+            (ap (λ (s : ServerState). s.head) c.pass.ensures.rest ∙ ap (λ (s : ServerState). s.head) room.rest)) up.ready;
       },
     )
 
@@ -88,3 +91,9 @@ returns-in-None-clause-ok c setting state same run legal link is =
     (λ passes. (c.where_events_are.ensures.pass setting state c.args.server c.args.origin run passes).1)
     (λ loses. (c.where_events_are.ensures.lose setting state c.args.server c.args.origin run loses).1) legal in
     absurd cc
+
+pub returns-in_err-send_on-in-Some-clause-slot : goal.returns-in_err-send_on-in-Some-clause-slot
+returns-in_err-send_on-in-Some-clause-slot c = as_err c.from_residual-in_err-send_on-in-Some.result _
+    (buffered_still c.args.slot.now c.in-Some.live c.outgoing.new.self c.in-Some.is c.in_ok-message-in-Some.ensures.same
+    (λ setting state number at room. c.what_stays.ensures.buffered setting state number c.in-Some.live
+    c.outgoing.new.self at room))

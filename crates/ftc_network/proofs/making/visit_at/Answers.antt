@@ -1,5 +1,5 @@
-use Rattle.std.proofs.Common.{◌≡◌, ◌∙◌, ◌++◌, [], ◌∷◌, ℕ, Bool, true, false, List, map, Option, Some, None, refl, ap, sym, subst}
-use Rattle.std.specs.Prelude.{is_some}
+use Rattle.std.proofs.Common.{◌≡◌, ◌∙◌, ◌++◌, [], ◌∷◌, ℕ, true, false, List, map, ap, sym, subst}
+use Rattle.ftc_base.specs.declared.limits.TheConstants.{MOST_SLOTS}
 use Rattle.std.proofs.Math.Bool.{Bool-set}
 use Rattle.std.proofs.Math.Logic.{∥∥₁_elim, ∥∥₁_map₂}
 use Rattle.ftc_base.specs.declared.ask.Answer.{Answer}
@@ -9,50 +9,30 @@ use Rattle.ftc_protocol.specs.Legal.{IsLegal}
 use Rattle.ftc_protocol.specs.Next.{next}
 use Rattle.ftc_refinement.specs.Contents.{IsServerAt}
 use Rattle.ftc_visits.specs.Made.{AreMade, IsMadeBy, mark_of}
-use Rattle.ftc_server.specs.declared.work.Work.{Work}
-use Rattle.ftc_server.specs.declared.work.Work.TheVariants.{Apply, Visit, Send, Carry}
+use Rattle.ftc_server.specs.Holding.{found}
 use Rattle.ftc_server.specs.Looks.{work_in}
+use Rattle.ftc_server.specs.Work.{work_for_found}
 use Rattle.ftc_server.specs.Replicas.{may_rise}
 use Rattle.ftc_server.specs.State.{ServerState}
-use Rattle.ftc_txn.specs.Slots.{slot_at}
 use Rattle.ftc_network.specs.Parts.{buffer_of}
 use Rattle.ftc_network.specs.Stand.{IsSlot, IsUp}
 use Rattle.ftc_network.proofs.Allowed.{at_up}
+use Rattle.ftc_network.proofs.ReadySlots.{idle_ready}
+use Rattle.ftc_network.proofs.Results.{as_err}
+use Rattle.ftc_network.proofs.Untold.{is_below}
+use Rattle.ftc_network.proofs.VisitWork.{is_visit, visit_if, visit_is}
 use Rattle.ftc_network.proofs.making.visit_at.Goals as goal
 
-is_visit : Option Work → Bool
-is_visit None = false
-is_visit (Some (Apply group packet)) = false
-is_visit (Some Visit) = true
-is_visit (Some Send) = false
-is_visit (Some Carry) = false
-
-visit_if : (work : Option Work) → is_visit work ≡ true → work ≡ Some Visit
-unfolding is_visit
-visit_if None is = absurd cc
-visit_if (Some (Apply group packet)) is = absurd cc
-visit_if (Some Visit) is = refl
-visit_if (Some Send) is = absurd cc
-visit_if (Some Carry) is = absurd cc
-
-visit_is : is_visit (Some Visit) ≡ true
-unfolding is_visit
-visit_is = refl
-
-none_if : {A : Type 0} (option : Option A) → is_some option ≡ false → option ≡ None
-none_if None is = refl
-none_if (Some item) is = absurd cc
-
-pub visit_whole-requires-clause-idle : goal.visit_whole-requires-clause-idle
-visit_whole-requires-clause-idle c worker =
-    none_if (slot_at c.in-Some.live.head.slots worker)
-    (at_up (event.Visit c.args.server c.args.packet c.args.worker) c.args.server c.args.slot.now c.in-Some.live
-    (is_some (slot_at c.in-Some.live.head.slots worker)) false c.in-Some.is
-    (λ setting state run legal few up. ap is_some (up.idle worker)) c.requires)
+pub quit_all-requires : goal.quit_all-requires
+quit_all-requires c worker running runs = is_below worker MOST_SLOTS c.requires (λ given.
+    let up : IsUp given.setting given.state c.args.server c.in-Some.live =
+    subst (IsSlot given.setting given.state c.args.server) c.in-Some.is given.stands in
+    up.ready.within worker running runs)
 
 pub visit_whole-requires-clause-work : goal.visit_whole-requires-clause-work
 visit_whole-requires-clause-work c =
-    visit_if (work_in c.in-Some.live c.args.packet)
+    ap (λ (s : ServerState). work_for_found s.others (found c.args.packet s.held.items)) c.quit_all.ensures.fields
+    ∙ visit_if (work_in c.in-Some.live c.args.packet)
     (at_up (event.Visit c.args.server c.args.packet c.args.worker) c.args.server c.args.slot.now c.in-Some.live
     (is_visit (work_in c.in-Some.live c.args.packet)) true c.in-Some.is
     (λ setting state run legal few up. ap is_visit
@@ -62,7 +42,8 @@ visit_whole-requires-clause-work c =
 
 pub visit_whole-requires-clause-rise : goal.visit_whole-requires-clause-rise
 visit_whole-requires-clause-rise c =
-    at_up (event.Visit c.args.server c.args.packet c.args.worker) c.args.server c.args.slot.now c.in-Some.live
+    ap (λ (v : List ℕ). may_rise v) c.quit_all.ensures.vector
+    ∙ at_up (event.Visit c.args.server c.args.packet c.args.worker) c.args.server c.args.slot.now c.in-Some.live
     (may_rise c.in-Some.live.head.vector) true c.in-Some.is
     (λ setting state run legal few up. c.what_a_commit_wants.ensures setting state c.args.server c.in-Some.live run up.at few)
     c.requires
@@ -85,7 +66,7 @@ returns-clause-ok c setting state visits run legal is visits_are =
     let packet = c.args.packet in
     let worker = c.args.worker in
     let up : IsUp setting state server old = subst (IsSlot setting state server) c.in-Some.is is in
-    let at = done.stands setting state server up.at in
+    let at = done.stands setting state server (c.quit_all.ensures.stands setting state server up.at) in
     let here : Event = event.Visit server packet worker in
     let named : event.Visit server done.running.packet worker ≡ here =
     ap (λ (n : ℕ). event.Visit server n worker) done.packet_is in
@@ -112,10 +93,28 @@ returns-clause-ok c setting state visits run legal is visits_are =
       record {
         up = up.up;
         at = subst (λ (e : Event). IsServerAt setting (next setting state e) server new) named stands;
-        idle = done.idle;
+        ready = idle_ready new done.idle;
       },
       subst (λ (e : Event). AreMade setting (next setting state e) (visits ++ c.made.result ∷ [])) named added,
     ))
 
 pub returns-clause-buffer : goal.returns-clause-buffer
-returns-clause-buffer c = c.in_ok-answers-in-Some.ensures.ok.withheld ∙ ap buffer_of (sym c.in-Some.is)
+returns-clause-buffer c =
+    c.in_ok-answers-in-Some.ensures.ok.withheld ∙ (c.quit_all.ensures.withheld ∙ ap buffer_of (sym c.in-Some.is))
+
+pub returns-in_err-answers-in-Some-clause-err : goal.returns-in_err-answers-in-Some-clause-err
+returns-in_err-answers-in-Some-clause-err c = as_err c.from_residual.result _ (λ setting state is.
+    let up : IsUp setting state c.args.server c.in-Some.live =
+    subst (IsSlot setting state c.args.server) c.in-Some.is is in
+    record {
+      up = up.up;
+      at = c.in_err-answers-in-Some.ensures.stands setting state c.args.server
+          (c.quit_all.ensures.stands setting state c.args.server up.at);
+      ready = idle_ready c.visit_whole.new.server c.in_err-answers-in-Some.ensures.idle;
+    })
+
+pub returns-clause-idle : goal.returns-clause-idle
+returns-clause-idle c = c.in_ok-answers-in-Some.ensures.ok.idle
+
+pub returns-in_err-answers-in-Some-clause-idle : goal.returns-in_err-answers-in-Some-clause-idle
+returns-in_err-answers-in-Some-clause-idle c = c.in_err-answers-in-Some.ensures.idle

@@ -12,7 +12,7 @@ use Rattle.ftc_server.specs.State.{ServerState}
 use Rattle.ftc_network.specs.Parts.{buffer_of}
 use Rattle.ftc_network.specs.Stand.{IsSlot, IsUp}
 use Rattle.ftc_network.specs.Released.{IsReleased}
-use Rattle.ftc_network.proofs.Idle.{idle_after}
+use Rattle.ftc_network.proofs.ReadySlots.{same_runs, ready_by, still_ready}
 use Rattle.ftc_network.proofs.LastServer.{none_withheld}
 use Rattle.ftc_network.proofs.Released.{one_fewer}
 use Rattle.ftc_network.proofs.Results.{none_mapped, some_mapped}
@@ -32,7 +32,8 @@ returns-in-Some-clause-none c none setting state number run last is =
           buffer = done.buffer ∙ c.released_packets.ensures.all server.known server.buffer.items first;
           rest = done.rest;
         });
-        idle = idle_after server new (ap (λ (s : ServerState). s.head) done.rest) up.idle;
+        ready = still_ready server new (ap ready_by done.rest)
+            (same_runs server new (ap (λ (s : ServerState). s.head) done.rest)) up.ready;
       },
     )
 
@@ -48,12 +49,14 @@ returns-in-Some-clause-some c =
     (λ due first setting state number run last is.
     let up : IsUp setting state number server = subst (IsSlot setting state number) c.in-Some.is is in
     let may = c.what_is_due.ensures.first setting state number due server run last up.at first in
-    let legal : IsLegal setting state (event.Release due.packet) = (may, λ other packet withheld. absurd cc) in (
+    let legal : IsLegal setting state (event.Release due.packet) = (may, λ other packet withheld. absurd cc) in
+    let at = c.what_release_does.ensures setting state number due server new run last first legal up.at done in (
       record { legal = legal; bytes = c.what_is_due.ensures.bytes setting state number due server run last up.at first },
       record {
         up = up.up;
-        at = c.what_release_does.ensures setting state number due server new run last first legal up.at done;
-        idle = idle_after server new (ap (λ (s : ServerState). s.head) done.rest) up.idle;
+        at = at;
+        ready = c.slots_stay_ready.ensures setting state (event.Release due.packet) number server new run legal up.at at
+            (same_runs server new (ap (λ (s : ServerState). s.head) done.rest)) up.ready;
       },
     ))
 

@@ -21,7 +21,7 @@ use Rattle.ftc_standing.specs.Stand.{IsLink}
 use Rattle.ftc_network.specs.Events.{IsTaking}
 use Rattle.ftc_network.specs.Parts.{buffer_of}
 use Rattle.ftc_network.specs.Stand.{IsSlot, IsUp}
-use Rattle.ftc_network.proofs.Idle.{idle_after}
+use Rattle.ftc_network.proofs.ReadySlots.{same_runs}
 use Rattle.ftc_network.proofs.taking.take_at.Goals as goal
 
 -- what is allowed of a link and its receiver, where it is a test on what is taken and the receiver with room for it
@@ -82,17 +82,19 @@ returns-in-Some-2-clause-ok c setting state ring run legal queued is =
     let up : IsUp setting state receiver old = subst (IsSlot setting state receiver) c.in-Some.is is in
     let at = c.what_stays.ensures.roomed setting state receiver old roomed up.at c.make_room.ensures.same in
     let taken : HasTaken roomed new c.in-Some-2.message (link + 1 == servers setting) =
-    subst (λ (b : Bool). HasTaken roomed new c.in-Some-2.message b) ring c.take-in-Some-2.ensures in (
+    subst (λ (b : Bool). HasTaken roomed new c.in-Some-2.message b) ring c.take-in-Some-2.ensures in
+    let at_after = c.what_take_does.ensures.received setting state link c.args.origin c.args.link.now c.in-Some-2.message
+    c.take.new.self.messages roomed new run legal queued first at taken in (
       subst (IsLink setting (next setting state (event.Take link c.args.origin)) link)
           (ap (λ (q : Queue). record q { messages = c.take.new.self.messages }) takes.oldest)
           (c.a_message_is_taken.ensures.link setting state link c.args.origin c.args.link.now c.in-Some-2.message
           c.take.new.self.messages run legal queued first),
       record {
         up = up.up;
-        at = c.what_take_does.ensures.received setting state link c.args.origin c.args.link.now c.in-Some-2.message
-            c.take.new.self.messages roomed new run legal queued first at taken;
-        idle = idle_after roomed new (ap (λ (s : ServerState). s.head) taken.rest)
-            (idle_after old roomed (ap (λ (s : ServerState). s.head) c.make_room.ensures.same.rest) up.idle);
+        at = at_after;
+        ready = c.slots_stay_ready.ensures setting state (event.Take link c.args.origin) receiver old new run legal up.at
+            at_after (same_runs old new (ap (λ (s : ServerState). s.head) taken.rest
+            ∙ ap (λ (s : ServerState). s.head) c.make_room.ensures.same.rest)) up.ready;
       },
     )
 

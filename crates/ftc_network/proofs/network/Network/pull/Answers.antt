@@ -128,6 +128,8 @@ returns-clause-ok c setting state run legal is =
     (λ tail old new sender news below its shared is_old is_sender are done. c.what_install_does.ensures setting state link tail
     old new sender news run legal below its shared is_old is_sender are done)
     (λ old new stands fields. c.what_stays.ensures.same setting after receiver old new stands fields)
+    (λ old new at at_after only ready. c.slots_stay_ready.ensures setting state (event.Pull link) receiver old new run legal
+    at at_after only ready)
     old.ring is.ring c.index.result.now c.index_mut.result.now c.install_at.new.slot c.in_ok-replicas.field-0.replicas
     c.in_ok-replicas.field-0.gained
     (slot_there setting state (parts_of old) is link c.place_of.result c.index.result.now c.place_of.ensures at.0

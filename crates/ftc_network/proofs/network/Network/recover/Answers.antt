@@ -18,6 +18,7 @@ use Rattle.ftc_network.specs.Reviving.{got_of, news}
 use Rattle.ftc_network.specs.Stand.{IsSlot}
 use Rattle.ftc_network.proofs.GotReplicas.{sources_are, anew_in, are_got}
 use Rattle.ftc_network.proofs.NearServers.{alone_by, some_of, up_in, within_ring, within_setting, near_live, previous_is, following_is, up_at}
+use Rattle.ftc_network.proofs.ReadySlots.{idle_ready}
 use Rattle.ftc_network.proofs.Replaced.{slot_ready, each_replaced, fewer_withheld, up_again, slot_dropped, link_cut}
 use Rattle.ftc_network.proofs.ScriptLines.{lines_left}
 use Rattle.ftc_network.proofs.Untold.{is_below}
@@ -106,14 +107,16 @@ returns-clause-ok c setting state run due line rule is =
                   (got_of (shape setting) server previous.0 following.0 server)
                   (news (shape setting) server previous.0 following.0) run legal down.0 first last
                   (are_got setting state server previous.0 following.0 down.0 first last sources) anew;
-              idle = anew.idle;
+              ready = idle_ready made anew.idle;
             })
             (λ done. subst (λ (n : ℕ). IsSlot setting after n (server_in c.replace.new.servers.items near.following))
             (sym after_is)
             (slot_dropped setting state server undone (server_in old.servers.items near.following)
             (server_in c.replace.new.servers.items near.following)
             (λ before later at has_dropped. c.what_drop_unready_does.ensures setting state server undone before later
-            run legal behind.1 at has_dropped) behind.2
+            run legal behind.1 at has_dropped)
+            (λ before later at at_after only ready. c.slots_stay_ready.ensures setting state event
+            (following_live setting state server) before later run legal at at_after only ready) behind.2
             (subst (λ (n : ℕ). IsSlot setting state n (server_in old.servers.items near.following)) after_is
             (is.servers_are near.following live.after.within)) done))
             (λ number slot differs apart stays. c.servers_beside.ensures setting state event number slot run legal
