@@ -73,9 +73,7 @@ fn count_lines(alloc: Global, fates: &Fates) -> Result<String, AllocError>
     let released = released(fates);
     let filtered = filtered(fates);
     let lost = lost(fates);
-    format!(in alloc;
-        "packets {packets}\nreleased {released}\nfiltered {filtered}\nlost {lost}\n"
-    )
+    format!(in alloc; "packets {packets}\nreleased {released}\nfiltered {filtered}\nlost {lost}\n")
 }
 
 /// Adds the counts.
