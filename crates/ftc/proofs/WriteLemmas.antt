@@ -1,5 +1,6 @@
 -- What the steps of the writing of a run's files leave together.
 use Rattle.std.proofs.Common.{◌≡◌, ◌≢◌, ◌⊎◌, ◌∙◌, inl, inr, ℕ, List, [], ◌∷◌, ◌++◌, Option, Some, ap, sym, subst, refl, append-nil}
+use Rattle.std.specs.Prelude.{OnErr, Result, Ok, Err}
 use Rattle.std.specs.List.{AllByRecursion}
 use Rattle.ftc_outside.specs.Desk.{Files, SameButAt}
 use Rattle.ftc_outside.specs.Tap.{HasNoFeed}
@@ -10,6 +11,10 @@ use Rattle.ftc.specs.Writing.{AreApart, AreWritten, AreCutShort, AreEventsWritte
 -- what was written whole is a front of itself
 whole_is_front : (old new : Option (List ℕ)) (bytes : List ℕ) → new ≡ Some bytes → MayHold old new bytes
 whole_is_front old new bytes is = inr (bytes, is, ([], sym (append-nil bytes)))
+
+pub on_err_more : {A E : Type 0} (r : Result A E) (P Q : Type 0) → (P → Q) → OnErr r P → OnErr r Q
+on_err_more (Ok x) P Q more held = tt
+on_err_more (Err e) P Q more held = more held
 
 -- OUT alone was written
 pub out_alone : (names : Named) → AreApart names → (out journal : List ℕ) (old new : Files) →

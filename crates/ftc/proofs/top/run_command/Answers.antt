@@ -56,7 +56,7 @@ returns-in-Check-clause-agrees g c = λ tells files.
       one_verdict = c.one_verdict.ensures;
     } in
     let left = subst (λ (command : Command). WasLeft (Some (shown command)) (g.D.Desk.file c.args.desk.now)) c.in-Check.is files in
-    agrees laws _ (g.D.Desk.file c.args.desk.now) left.2.2.2.right _ c.judge.result (c.judge.ensures.judges tells)
+    agrees laws _ (g.D.Desk.file c.args.desk.now) left.3.right _ c.judge.result (c.judge.ensures.judges tells)
 
 pub watch_beats-requires : goal.watch_beats-requires
 watch_beats-requires g c = record {

@@ -4,5 +4,5 @@ use Rattle.ftc.proofs.writing.write_events.Goals as goal
 
 pub returns-in_err-tell_all-clause-refused : goal.returns-in_err-tell_all-clause-refused
 returns-in_err-tell_all-clause-refused g c = λ t.
-    on_err c.from_residual.result _
+    on_err c.from_residual-in_err-tell_all.result _
     (out_alone _ c.requires.apart _ _ _ _ (c.in_ok-write_out.ensures.written t) (c.write_out.ensures.others t))
