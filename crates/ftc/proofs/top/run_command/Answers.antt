@@ -100,3 +100,6 @@ make_capture-requires g c =
 pub returns-in-Make-clause-complete : goal.returns-in-Make-clause-complete
 returns-in-Make-clause-complete g c = λ tells texts still.
     make_completes _ _ _ _ _ _ c.make_capture.result (c.make_capture.ensures.ends tells) (λ failed. still (c.make_capture.ensures.cause failed))
+
+pub returns-in-Run-clause-ends : goal.returns-in-Run-clause-ends
+returns-in-Run-clause-ends g c = λ t. rw c.in-Run.is (c.run_names.ensures.ends t)
