@@ -1,3 +1,5 @@
+use Rattle.std.proofs.Common.{◌∙◌, List, Some, ap}
+use Rattle.ftc_base.specs.declared.released.Released.{Released}
 use Rattle.ftc_journal.specs.Text.{spelling}
 use Rattle.ftc_report.specs.Output.{out_bytes}
 use Rattle.ftc_serial.specs.Held.{state_of}
@@ -12,4 +14,6 @@ returns-in_err-tell_all-clause-refused g c = λ t.
     (out_alone (named_of c.args.names) c.requires.apart
     (out_bytes c.args.capture.now (state_of c.args.driven.now.serial).released) (spelling c.args.driven.now.chain.journal)
     (g.D.Desk.file c.args.desk.now) (g.D.Desk.file c.write_out.new.desk)
-    (c.in_ok-write_out.ensures.written t) (c.write_out.ensures.others t))
+    (c.in_ok-write_out.ensures.written t
+    ∙ ap (λ (items : List Released). Some (out_bytes c.args.capture.now items)) c.released-released.ensures)
+    (c.write_out.ensures.others t))
