@@ -16,10 +16,10 @@ const TOLD: &[u8] =
 const CHAIN: &[u8] =
     b"f 1\npartitions 16\nnat inside 10.0.0.0/8 outside 203.0.113.5 ports 20000-59999\nfirewall\nallow udp any 198.51.100.10/32 80\nbalance 198.51.100.10:80 to 192.0.2.1,192.0.2.2\nmonitor 16\n";
 
-/// How long a capture is whose packets have 42 bytes each.
-fn length_of(packets: usize) -> usize {
-    24 + packets * (16 + 42)
-}
+/// How long a capture is of ten packets of 42 bytes, and one of nine: 24 bytes, and 58 for each packet.
+const LENGTH_OF_TEN: usize = 604;
+
+const LENGTH_OF_NINE: usize = 546;
 
 #[test]
 fn ten_packets_are_made(rt: HostRuntime) -> Result<(), Fail> {
@@ -28,7 +28,7 @@ fn ten_packets_are_made(rt: HostRuntime) -> Result<(), Fail> {
     assert_eq!(rt; desk.get("-"), Some(TOLD));
     assert_eq!(rt;
         desk.get("capture").map(|bytes| bytes.len()),
-        Some(length_of(10))
+        Some(LENGTH_OF_TEN)
     );
     Ok(())
 }
@@ -42,7 +42,7 @@ fn a_made_capture_is_run_and_checked(rt: HostRuntime) -> Result<(), Fail> {
     assert_eq!(rt; run(&rt, &WORDS, &mut desk), Status::Done);
     assert_eq!(rt;
         desk.get("out").map(|bytes| bytes.len()),
-        Some(length_of(9))
+        Some(LENGTH_OF_NINE)
     );
     assert_eq!(rt; run(&rt, &CHECK, &mut desk), Status::Done);
     Ok(())
@@ -51,7 +51,7 @@ fn a_made_capture_is_run_and_checked(rt: HostRuntime) -> Result<(), Fail> {
 #[test]
 fn a_call_of_a_make_that_fails(rt: HostRuntime) -> Result<(), Fail> {
     // How long the capture is where the call of that number fails.
-    let cases: [(u64, Option<usize>); 3] = [(0, None), (1, Some(0)), (2, Some(length_of(10)))];
+    let cases: [(u64, Option<usize>); 3] = [(0, None), (1, Some(0)), (2, Some(LENGTH_OF_TEN))];
     for (call, length) in cases {
         let desk = MemoryDesk::new(rt.alloc());
         let mut desk = FailingDesk::new(rt.alloc(), desk, &[call])?;
