@@ -17,6 +17,7 @@ use Rattle.ftc_protocol.specs.Setting.{Setting, IsSetting}
 use Rattle.ftc_protocol.specs.State.{ChainState, opening}
 use Rattle.ftc_chain.specs.Course.{state_by, HasMade}
 use Rattle.ftc_chain.specs.Doing.{is_visit}
+use Rattle.ftc_chain.specs.Slots.{IsButHeads}
 use Rattle.ftc_alone.specs.Alone.{IsSameGiven, IsInFinish}
 
 -- ---- slots
@@ -54,15 +55,25 @@ made_in slot other job old new not made =
     record {
       releases = made.releases;
       due = subst (λ (e : Event). AreReleases (setting_in old) (next (setting_in old) (state_of old) e) made.releases) same made.due;
-      grown = made.grown ∙ ap (λ (e : Event). record old { journal = old.journal ++ e ∷ made.releases }) same;
+      grown = made.grown
+          ∙ ap (λ (e : Event). record old { journal = old.journal ++ e ∷ made.releases; heads = new.heads }) same;
     }
 
 -- what is made leaves what was given
 pub given_made : (slot : ℕ) (job : Job) (old new : ChainRun) → HasMade slot job old new → IsSameGiven old new
-given_made slot job old new made = made.grown ∙ ap (λ (events : List Event). record old { journal = events }) (ap (λ (run : ChainRun). run.journal) (sym made.grown))
+given_made slot job old new made = made.grown
+    ∙ ap (λ (events : List Event). record old { journal = events; heads = new.heads })
+    (ap (λ (run : ChainRun). run.journal) (sym made.grown))
 
 pub given_on : (first now new : ChainRun) → IsSameGiven first now → IsSameGiven now new → IsSameGiven first new
-given_on first now new one other = other ∙ ap (λ (run : ChainRun). record run { journal = new.journal }) one
+given_on first now new one other =
+    other ∙ ap (λ (run : ChainRun). record run { journal = new.journal; heads = new.heads }) one
+
+-- where nothing but heads differs, what was given is the same
+pub given_heads : (old new : ChainRun) → IsButHeads old new → IsSameGiven old new
+given_heads old new is =
+    let journal : new.journal ≡ old.journal = ap (λ (run : ChainRun). run.journal) is in
+    is ∙ ap (λ (events : List Event). record old { journal = events; heads = new.heads }) (sym journal)
 
 -- ---- nearer to the end
 

@@ -1,3 +1,4 @@
 mod FinishSteps
+mod IdleRuns
 mod PlayedParts
 mod Results

@@ -13,6 +13,7 @@ use Rattle.ftc_protocol.specs.Run.{state_after}
 use Rattle.ftc_protocol.specs.Setting.{Setting, IsSetting}
 use Rattle.ftc_protocol.specs.State.{ChainState, opening}
 use Rattle.ftc_chain.specs.Course.{HasMade}
+use Rattle.ftc_chain.specs.Slots.{IsButHeads}
 use Rattle.ftc_alone.specs.Alone.{IsSameGiven, IsInFinish, IsInDrive, HasPlayed, HasPlayedSome}
 
 -- ---- two parts of a schedule
@@ -39,12 +40,14 @@ joined c (event ∷ one) other s events more (inr x) after = inr (x.0, joined c 
 pub played_on : (one other : List Event) (first now new : ChainRun) → HasPlayed one first now → HasPlayed other now new → HasPlayed (one ++ other) first new
 played_on one other first now new front more =
     let c : Setting = setting_in first in
-    let there : HasPlayed other (record first { journal = first.journal ++ front.played }) new = subst (λ (run : ChainRun). HasPlayed other run new) front.grown more in
+    let there : HasPlayed other (record first { journal = first.journal ++ front.played; heads = now.heads }) new =
+    subst (λ (run : ChainRun). HasPlayed other run new) front.grown more in
     let on = state_on c first.journal front.played (opening c) in
     record {
       played = front.played ++ there.played;
       play = joined c one other (state_of first) front.played there.played front.play (subst (λ (t : ChainState). IsPlay c t other there.played) on there.play);
-      grown = there.grown ∙ ap (λ (es : List Event). record first { journal = es }) (append_assoc first.journal front.played there.played);
+      grown = there.grown ∙ ap (λ (es : List Event). record first { journal = es; heads = new.heads })
+          (append_assoc first.journal front.played there.played);
     }
 
 -- ---- nothing, and one event
@@ -58,7 +61,9 @@ played_one event job old new is legal made =
     record {
       played = happened ∷ (made.releases ++ []);
       play = inl (job, made.releases, [], is, legal, made.due, refl, refl);
-      grown = made.grown ∙ ap (λ (es : List Event). record old { journal = old.journal ++ happened ∷ es }) (sym (append-nil made.releases));
+      grown = made.grown
+          ∙ ap (λ (es : List Event). record old { journal = old.journal ++ happened ∷ es; heads = new.heads })
+          (sym (append-nil made.releases));
     }
 
 pub one_job : (one other : Job) → Some one ≡ Some other → one ≡ other
@@ -72,7 +77,42 @@ passed_over event now over = record {
 }
 
 pub played_given : (schedule : List Event) (old new : ChainRun) → HasPlayed schedule old new → IsSameGiven old new
-played_given schedule old new is = is.grown ∙ ap (λ (es : List Event). record old { journal = es }) (ap (λ (run : ChainRun). run.journal) (sym is.grown))
+played_given schedule old new is = is.grown
+    ∙ ap (λ (es : List Event). record old { journal = es; heads = new.heads })
+    (ap (λ (run : ChainRun). run.journal) (sym is.grown))
+
+-- where nothing but heads differed before
+pub played_after : (schedule : List Event) (first now new : ChainRun) → IsButHeads first now → HasPlayed schedule now new →
+    HasPlayed schedule first new
+played_after schedule first now new but played =
+    let there : HasPlayed schedule (record first { heads = now.heads }) new =
+    subst (λ (run : ChainRun). HasPlayed schedule run new) but played in
+    record { played = there.played; play = there.play; grown = there.grown }
+
+-- nor behind
+pub played_before : (schedule : List Event) (first now new : ChainRun) → IsButHeads now new → HasPlayed schedule first now →
+    HasPlayed schedule first new
+played_before schedule first now new but played = record {
+  played = played.played;
+  play = played.play;
+  grown = but ∙ ap (λ (run : ChainRun). record run { heads = new.heads }) played.grown;
+}
+
+pub some_after : (schedule : List Event) (first now new : ChainRun) → IsButHeads first now →
+    HasPlayedSome schedule now new → HasPlayedSome schedule first new
+some_after schedule first now new but some = record {
+  done = some.done;
+  front = some.front;
+  played = played_after some.done first now new but some.played;
+}
+
+pub some_before : (schedule : List Event) (first now new : ChainRun) → IsButHeads now new →
+    HasPlayedSome schedule first now → HasPlayedSome schedule first new
+some_before schedule first now new but some = record {
+  done = some.done;
+  front = some.front;
+  played = played_before some.done first now new but some.played;
+}
 
 -- ---- the events so far
 

@@ -5,9 +5,9 @@ use Rattle.ftc_chain.specs.ChainRun.{ChainRun, setting_in, state_of}
 use Rattle.ftc_protocol.specs.Drive.{IsPlay, IsFinish, IsDrive}
 use Rattle.ftc_protocol.specs.Setting.{Setting}
 
--- its chain, packets and script are the same
+-- its chain, packets and script are the same, and the same packets were taken out
 abbrev pub IsSameGiven : ChainRun → ChainRun → Type 0
-IsSameGiven old new = new ≡ record old { journal = new.journal }
+IsSameGiven old new = new ≡ record old { journal = new.journal; heads = new.heads }
 
 -- these events come first in the whole
 pub record IsFrontOf (whole front : List Event) : Type 0 where
@@ -30,7 +30,7 @@ pub record IsInDrive (setting : Setting) (schedule events : List Event) : Type 0
 pub record HasPlayed (schedule : List Event) (old new : ChainRun) : Type 0 where
   pub played : List Event
   pub play : IsPlay (setting_in old) (state_of old) schedule played
-  pub grown : new ≡ record old { journal = old.journal ++ played }
+  pub grown : new ≡ record old { journal = old.journal ++ played; heads = new.heads }
 
 -- that is so of a front of the schedule
 pub record HasPlayedSome (schedule : List Event) (old new : ChainRun) : Type 0 where

@@ -3,9 +3,11 @@
 
 mod finishing;
 mod playing;
+mod quitting;
 
 pub use finishing::finish;
 pub use playing::{play, run};
+pub use quitting::quit_all;
 
 #[cfg(test)]
 mod tests;

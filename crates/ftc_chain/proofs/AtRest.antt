@@ -101,7 +101,7 @@ count_on setting [] state = omega arith
 count_on setting (event ∷ journal) state = count_on setting journal (next setting state event) ∙ omega arith
 
 -- events are counted
-events_are : (setting : Setting) (journal : List Event) → (state_by setting journal).events ≡ length journal
+pub events_are : (setting : Setting) (journal : List Event) → (state_by setting journal).events ≡ length journal
 events_are setting journal =
     let more : 0 + length journal ≡ length journal = omega arith in count_on setting journal (opening setting) ∙ more
 

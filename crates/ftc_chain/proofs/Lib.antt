@@ -1,9 +1,15 @@
 mod AtRest
+mod Commits
 mod Drained
+mod HeadsKept
+mod HeadsSeen
 mod Made
+mod NewHeads
 mod Outlets
 mod Permitted
 mod ReleasedOnce
 mod Releases
 mod Rooms
+mod SeenJobs
+mod SlotCalls
 mod UnderWay

@@ -1,12 +1,14 @@
 -- A chain after one job more.
-use Rattle.std.proofs.Common.{◌≡◌, ◌∙◌, ◌++◌, [], ◌∷◌, ℕ, List, take, false, refl, arith, sym, ap, subst, append_assoc}
+use Rattle.std.proofs.Common.{◌≡◌, ◌∙◌, ◌++◌, [], ◌∷◌, ℕ, List, map, Option, take, false, refl, arith, sym, ap, subst, append_assoc}
 use Rattle.std.proofs.Math.Logic.{∥∥₁_elim, ∥∥₁_map, ∥∥₁_map₂, ∥∥₁_prop}
 use Rattle.ftc_base.specs.declared.released.Released.{Released}
 use Rattle.ftc_journal.specs.declared.event.Event.{Event}
 use Rattle.ftc_journal.specs.declared.job.Job.{Job}
 use Rattle.ftc_journal.specs.declared.job.Job.TheVariants.{Enter, Take, Apply, Visit, Pass, Lose, Carry, Crash, Recover, Pull, Propagate}
 use Rattle.ftc_chain.specs.ChainRun.{ChainRun, setting_in, state_of}
+use Rattle.ftc_network.specs.Slots.{head_of}
 use Rattle.ftc_network.specs.Stand.{IsNetwork}
+use Rattle.ftc_txn.specs.Head.{HeadState}
 use Rattle.ftc_protocol.specs.Drive.{IsNoneDue, AreReleases}
 use Rattle.ftc_protocol.specs.Jobs.{event_of, IsLegalJob}
 use Rattle.ftc_protocol.specs.Legal.{IsLegal, is_release}
@@ -32,16 +34,18 @@ run_of given course = record {
   script = given.script.now;
   journal = course.journal.items;
   drained = take course.outlet.drained (released_in (state_by (setting_by given) course.journal.items).trace);
+  heads = map head_of course.network.servers.items;
 }
 
--- what it sees of one with another journal and other records that were taken out
-abbrev with_events : Given → List Event → List Released → ChainRun
-with_events given journal drained = record {
+-- what it sees of one with another journal, other records that were taken out and other heads
+abbrev with_events : Given → List Event → List Released → List (Option HeadState) → ChainRun
+with_events given journal drained heads = record {
   chain = given.spec.now;
   packets = bytes_of given.packets.now;
   script = given.script.now;
   journal = journal;
   drained = drained;
+  heads = heads;
 }
 
 -- the event of a job is no release
@@ -115,9 +119,10 @@ module _ (given : Given) (slot : ℕ) (job : Job) (old mid new : Course) (is : I
             let journal : new.journal.items ≡ old.journal.items ++ event ∷ done.releases =
             done.grown ∙ (ap (λ (journal : List Event). journal ++ done.releases) between.grown
             ∙ append_assoc old.journal.items (event ∷ []) done.releases) in
+            let heads : List (Option HeadState) = map head_of new.network.servers.items in
             ap (λ (events : List Event). with_events given events
-            (take new.outlet.drained (released_in (state_by setting events).trace))) journal
-            ∙ ap (with_events given (old.journal.items ++ event ∷ done.releases))
+            (take new.outlet.drained (released_in (state_by setting events).trace)) heads) journal
+            ∙ ap (λ (out : List Released). with_events given (old.journal.items ++ event ∷ done.releases) out heads)
             (ap (λ (count : ℕ). take count
             (released_in (state_by setting (old.journal.items ++ event ∷ done.releases)).trace))
             (done.drained ∙ between.drained)

@@ -1,5 +1,5 @@
 -- What a network may be asked to do where a job is legal, and that the job is done by it.
-use Rattle.std.proofs.Common.{◌≡◌, ◌<◌, ℕ, true, Bool, List, Result, Ok, Err, OnOk, IfOk, refl, sym, subst}
+use Rattle.std.proofs.Common.{◌≡◌, ◌<◌, ℕ, true, Bool, List, Result, Ok, Err, OnOk, OnErr, IfOk, refl, sym, subst}
 use Rattle.std.proofs.Math.Bool.{Bool-set}
 use Rattle.std.proofs.Math.Logic.{∥∥₁_elim, ∥∥₁_map}
 use Rattle.std.proofs.lemmas.Bool.{ltb-true, lt-ltb}
@@ -89,3 +89,8 @@ pub within_of : (setting : Setting) (state : ChainState) (job : Job) → IsRunSt
     IsLegalJob setting state job → IsWithin setting job
 within_of setting state job run within legal = within run.journal run.right run.run
     (subst (λ (s : ChainState). IsLegalJob setting s job) (sym run.reaches) legal)
+
+-- what holds where nothing came of it
+pub on_any_err : {A E : Type 0} (result : Result A E) (Fact : Type 0) → Fact → OnErr result Fact
+on_any_err (Ok value) Fact fact = tt
+on_any_err (Err fault) Fact fact = fact

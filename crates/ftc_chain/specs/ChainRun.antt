@@ -1,5 +1,6 @@
--- What a contract sees of a chain: what it was given, its events so far, and which released packets were taken out.
-use Rattle.std.specs.Prelude.{ℕ, List}
+-- What a contract sees of a chain: what it was given, its events so far, which released packets were taken out, and what
+-- the head of each server has.
+use Rattle.std.specs.Prelude.{ℕ, List, Option}
 use Rattle.ftc_base.specs.declared.released.Released.{Released}
 use Rattle.ftc_journal.specs.declared.event.Event.{Event}
 use Rattle.ftc_mbox.specs.Chain.{Chain}
@@ -8,6 +9,7 @@ use Rattle.ftc_protocol.specs.Moment.{released_in}
 use Rattle.ftc_protocol.specs.Run.{state_after}
 use Rattle.ftc_protocol.specs.Setting.{Setting, setting_of}
 use Rattle.ftc_protocol.specs.State.{ChainState, opening}
+use Rattle.ftc_txn.specs.Head.{HeadState}
 
 pub record ChainRun : Type 0 where
   pub chain : Chain
@@ -15,6 +17,8 @@ pub record ChainRun : Type 0 where
   pub script : ScriptShape
   pub journal : List Event
   pub drained : List Released
+  -- by the server's number, none where it is down
+  pub heads : List (Option HeadState)
 
 abbrev pub setting_in : ChainRun → Setting
 setting_in run = setting_of run.chain run.packets run.script

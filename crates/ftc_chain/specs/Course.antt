@@ -1,7 +1,9 @@
 -- What happened, as a run, and what a call does to it.
-use Rattle.std.specs.Prelude.{ℕ, ◌≡◌, ◌++◌, ◌∷◌, List}
+use Rattle.std.specs.Prelude.{ℕ, ◌≡◌, ◌≢◌, ◌++◌, ◌∷◌, List, None}
 use Rattle.ftc_journal.specs.declared.event.Event.{Event}
 use Rattle.ftc_journal.specs.declared.job.Job.{Job}
+use Rattle.ftc_network.specs.declared.network.Network.{Network}
+use Rattle.ftc_network.specs.Slots.{head_at, runs_in}
 use Rattle.ftc_network.specs.Stand.{IsNetwork}
 use Rattle.ftc_protocol.specs.Drive.{IsNoneDue, AreReleases}
 use Rattle.ftc_protocol.specs.Jobs.{event_of}
@@ -38,10 +40,18 @@ pub record HasReleased (setting : Setting) (old new : Course) : Type 0 where
   pub drained : new.outlet.drained ≡ old.outlet.drained
   pub course_is : IsCourse setting new
 
--- the journal has the job's event at its end, a visit in that slot, and then the releases that are due after it
+-- a worker's slot runs something at one server at most
+abbrev pub RunsOnce : Network → Type 0
+RunsOnce network = (worker one other : ℕ) → one ≢ other → runs_in (head_at network one) worker ≢ None →
+    runs_in (head_at network other) worker ≡ None
+
+-- The journal has the job's event at its end, a visit in that slot, and then the releases that are due after it. Nothing
+-- else differs but heads.
 pub record HasMade (slot : ℕ) (job : Job) (old new : ChainRun) : Type 0 where
   pub releases : List Event
   pub due : AreReleases (setting_in old)
       (next (setting_in old) (state_of old) (event_of (setting_in old) (state_of old) slot job)) releases
-  pub grown : new
-      ≡ record old { journal = old.journal ++ event_of (setting_in old) (state_of old) slot job ∷ releases }
+  pub grown : new ≡ record old {
+    journal = old.journal ++ event_of (setting_in old) (state_of old) slot job ∷ releases;
+    heads = new.heads;
+  }

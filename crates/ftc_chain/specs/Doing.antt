@@ -1,5 +1,5 @@
 -- What a job does to a network.
-use Rattle.std.specs.Prelude.{ℕ, ◌≡◌, ◌<◌, ◌-◌, ◌^◌, Bool, true, false, length}
+use Rattle.std.specs.Prelude.{ℕ, ◌≡◌, ◌<◌, ◌-◌, ◌^◌, Bool, true, false, None, length}
 use Rattle.ftc_journal.specs.declared.event.Event.{Event}
 use Rattle.ftc_journal.specs.declared.job.Job.{Job}
 use Rattle.ftc_journal.specs.declared.job.Job.TheVariants as job
@@ -10,6 +10,7 @@ use Rattle.ftc_protocol.specs.Setting.{Setting, setting_of}
 use Rattle.ftc_protocol.specs.State.{ChainState}
 use Rattle.ftc_serial.specs.Packets.{bytes_of}
 use Rattle.ftc_network.specs.declared.network.Network.{Network}
+use Rattle.ftc_network.specs.Slots.{head_at, AreSameHeads, AreOtherHeads, IsIdleHead}
 use Rattle.ftc_network.specs.Stand.{IsNetwork}
 use Rattle.ftc_chain.specs.declared.given.Given.{Given}
 
@@ -51,3 +52,10 @@ abbrev pub IsDone : Setting → ℕ → Job → Network → Network → Type 0
 IsDone setting slot job old new = (state : ChainState) → IsRunState setting state →
     IsLegalJob setting state job → IsNetwork setting state old →
     ∥ IsNetwork setting (next setting state (event_of setting state slot job)) new ∥₁
+
+-- the heads after a job other than a visit: a server that stops has none, one that begins anew has one whose slots run
+-- nothing, and else they are as they were
+abbrev pub HeadsDone : Job → Network → Network → Type 0
+HeadsDone (job.Crash server) old new = (head_at new server ≡ None) × AreOtherHeads server old new
+HeadsDone (job.Recover server) old new = IsIdleHead (head_at new server) × AreOtherHeads server old new
+HeadsDone other old new = AreSameHeads old new

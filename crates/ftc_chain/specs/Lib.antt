@@ -3,3 +3,4 @@ pub mod Doing
 pub mod Outlet
 pub mod Course
 pub mod Messages
+pub mod Slots

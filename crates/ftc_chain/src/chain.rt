@@ -1,6 +1,6 @@
 //! The chain.
 
-ghost use Rattle.std.specs.Prelude.{◌≡◌, ◌≤◌, [], ◌∷◌, ◌++◌, true, false, length, take, OnOk, OnErr, IfOk, IfSome, IsNone};
+ghost use Rattle.std.specs.Prelude.{◌≡◌, ◌<◌, ◌≤◌, ℕ, [], ◌∷◌, ◌++◌, true, false, length, take, OnOk, OnErr, IfOk, IfSome, IsNone};
 ghost use Rattle.ftc_base.specs.declared.limits.TheConstants.{FINISHING_SLOT};
 ghost use Rattle.ftc_journal.specs.declared.job.Job.TheVariants as job;
 ghost use Rattle.ftc_serial.specs.Packets.{bytes_of};
@@ -26,22 +26,27 @@ use std::alloc::Global;
 use std::marker::Model;
 
 /// A chain of servers on the packets of a capture, with a script of crashes, recoveries and losses. A contract sees
-/// what it was given, its events so far, and which released packets were taken out.
+/// what it was given, its events so far, which released packets were taken out, and what the heads of its servers have.
 #[derive(Drop)]
 pub struct Chain<'a> {
-    given: Given<'a>,
-    course: Course,
+    pub(crate) given: Given<'a>,
+    pub(crate) course: Course,
 }
 
 impl<'a> Model for Chain<'a> {
-    ghost use Rattle.std.specs.Prelude.{take};
+    ghost use Rattle.std.specs.Prelude.{map, take};
+    ghost use Rattle.std.specs.Coded.{codes};
     ghost use Rattle.ftc_serial.specs.Packets.{bytes_of};
     ghost use Rattle.ftc_protocol.specs.Moment.{released_in};
+    ghost use Rattle.ftc_txn.specs.Head.{head_code};
+    ghost use Rattle.ftc_network.specs.Slots.{head_of};
     ghost use Rattle.ftc_chain.specs.ChainRun.{ChainRun};
-    ghost use Rattle.ftc_chain.specs.Course.{IsResting, state_by};
+    ghost use Rattle.ftc_chain.specs.Course.{IsResting, RunsOnce, state_by};
     ghost use Rattle.ftc_chain.specs.Doing.{IsGiven, setting_by};
 
     ghost Value = { ChainRun };
+
+    ghost coded = { Prim.hlevel (codes, head_code) };
 
     ghost view = { λ chain. record {
       chain = chain.given.spec.now;
@@ -50,15 +55,19 @@ impl<'a> Model for Chain<'a> {
       journal = chain.course.journal.items;
       drained = take chain.course.outlet.drained
           (released_in (state_by (setting_by chain.given) chain.course.journal.items).trace);
+      heads = map head_of chain.course.network.servers.items;
     } };
 
-    ghost invariant = { λ chain. IsGiven chain.given × ∥ IsResting (setting_by chain.given) chain.course ∥₁ };
+    ghost invariant = { λ chain. IsGiven chain.given × ∥ IsResting (setting_by chain.given) chain.course ∥₁
+        × RunsOnce chain.course.network };
 }
 
 impl<'a> Chain<'a> {
     ghost use Rattle.ftc_chain.specs.ChainRun.{setting_in, state_of, released_by};
     ghost use Rattle.ftc_chain.specs.Course.{HasMade};
     ghost use Rattle.ftc_chain.specs.Messages.{AreUnderWay};
+    ghost use Rattle.ftc_chain.specs.Slots.{head_in, is_running_at, IsIdle, AreIdle, IsButHeads, OthersStay, HeadsAfter};
+    ghost use Rattle.ftc_network.specs.Slots.{IsIdleHead};
     ghost use Rattle.ftc_jobs.specs.All.{AreJobs};
     ghost use Rattle.ftc_protocol.specs.Jobs.{IsLegalJob, IsFirstJob};
     ghost use Rattle.ftc_protocol.specs.Moment.{IsSound};
@@ -74,13 +83,17 @@ impl<'a> Chain<'a> {
     ) -> Result<Chain<'a>, NoMemory>
         requires ring { script.now.ring ≡ record { servers = length spec.now.rules; failures = spec.now.failures } }
         requires packets { script.now.packets ≡ length packets.now }
-        ensures { IfOk result (λ chain. chain ≡ record {
+        ensures new { IfOk result (λ chain. chain ≡ record {
           chain = spec.now;
           packets = bytes_of packets.now;
           script = script.now;
           journal = [];
           drained = [];
+          heads = chain.heads;
         }) }
+        ensures up { IfOk result (λ chain. (server : ℕ) → server < length spec.now.rules →
+            IsIdleHead (head_in chain server)) }
+        ensures idle { IfOk result AreIdle }
     {
         accepted();
         let _ = spec.rules();
@@ -154,9 +167,10 @@ impl<'a> Chain<'a> {
         is_legal(&self.course.network, self.given.script, packets, job)
     }
 
-    /// All legal jobs, each once, in no order.
+    /// All legal jobs but the visits that a slot runs, each once, in no order.
     pub fn jobs(&self) -> Result<Jobs, NoMemory>
-        ensures { IfOk result (λ jobs. ∥ AreJobs (setting_in self.now) (state_of self.now) jobs ∥₁) }
+        ensures { IfOk result (λ jobs.
+            ∥ AreJobs (is_running_at self.now) (setting_in self.now) (state_of self.now) jobs ∥₁) }
     {
         accepted();
         few_propagates();
@@ -172,6 +186,7 @@ impl<'a> Chain<'a> {
         requires other { is_visit job.now ≡ false }
         requires legal { ∥ IsLegalJob (setting_in self.old) (state_of self.old) job.now ∥₁ }
         ensures ok { OnOk result (∥ HasMade FINISHING_SLOT job.now self.old self.new ∥₁) }
+        ensures heads { OnOk result (HeadsAfter job.now self.old self.new) }
         ensures err { OnErr result (self.new ≡ self.old) }
     {
         releases();
@@ -183,7 +198,8 @@ impl<'a> Chain<'a> {
     }
 
     /// Makes the visit of a packet at a server in a worker's slot, from its begin to its commit, and the releases that
-    /// are due after it. A refused call leaves the run as it was.
+    /// are due after it. What the server's slots ran is given up first. A refused call leaves the run as it was, but for
+    /// what those slots ran.
     pub fn visit(
         &mut self,
         worker: WorkerId,
@@ -192,7 +208,10 @@ impl<'a> Chain<'a> {
     ) -> Result<(), NoMemory>
         requires { ∥ IsLegalJob (setting_in self.old) (state_of self.old) (job.Visit server packet) ∥₁ }
         ensures ok { OnOk result (∥ HasMade worker (job.Visit server packet) self.old self.new ∥₁) }
-        ensures err { OnErr result (self.new ≡ self.old) }
+        ensures here { OnOk result (IsIdleHead (head_in self.new server)) }
+        ensures err { OnErr result (IsButHeads self.old self.new) }
+        ensures others { OthersStay server self.old self.new }
+        ensures idle { (other : ℕ) → IsIdle self.old other → IsIdle self.new other }
     {
         jobs_of_events();
         releases();

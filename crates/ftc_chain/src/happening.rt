@@ -6,7 +6,8 @@ ghost use Rattle.ftc_journal.specs.declared.event.Event.TheVariants as event;
 ghost use Rattle.ftc_journal.specs.declared.job.Job.TheVariants as job;
 ghost use Rattle.ftc_network.specs.Events.{StandsStill};
 ghost use Rattle.ftc_network.specs.Parts.{withheld_in};
-ghost use Rattle.ftc_chain.specs.Doing.{setting_by, is_visit, is_plain, MayDo, HasDone, IsDone};
+ghost use Rattle.ftc_network.specs.Slots.{head_at, AreSameHeads, AreOtherHeads, IsIdleHead, RunNoMore};
+ghost use Rattle.ftc_chain.specs.Doing.{setting_by, is_visit, is_plain, MayDo, HasDone, IsDone, HeadsDone};
 
 use crate::events::plain_event;
 use crate::given::Given;
@@ -23,6 +24,7 @@ impl<'a> Given<'a> {
         ensures ok { OnOk result (IsDone (setting_by self.now) FINISHING_SLOT (job.Enter packet) network.old network.new) }
         ensures err { OnErr result (StandsStill network.old network.new) }
         ensures withheld { OnOk result (withheld_in network.new ≡ withheld_in network.old) }
+        ensures heads { AreSameHeads network.old network.new }
     {
         let _ = self.packets.len();
         let bytes = self.packets.at(packet as usize).bytes.copy()?;
@@ -40,6 +42,7 @@ impl<'a> Given<'a> {
         ensures ok { OnOk result (IsDone (setting_by self.now) FINISHING_SLOT (job.Lose server origin) network.old network.new) }
         ensures err { OnErr result (StandsStill network.old network.new) }
         ensures withheld { OnOk result (withheld_in network.new ≤ withheld_in network.old + 1) }
+        ensures heads { AreSameHeads network.old network.new }
     {
         let line = self.script.loses(server, origin);
         network.leave(self.alloc, server, origin, line)
@@ -50,6 +53,7 @@ impl<'a> Given<'a> {
         requires { ∥ MayDo (setting_by self.now) (job.Crash server) network.old ∥₁ }
         ensures done { IsDone (setting_by self.now) FINISHING_SLOT (job.Crash server) network.old network.new }
         ensures withheld { withheld_in network.new ≤ withheld_in network.old }
+        ensures heads { HeadsDone (job.Crash server) network.old network.new }
     {
         let _ = self.script.steps();
         network.crash(server);
@@ -62,6 +66,8 @@ impl<'a> Given<'a> {
             HasDone (setting_by self.now) FINISHING_SLOT (job.Recover server) (event.Recover server undone) network.old network.new) }
         ensures err { OnErr result (StandsStill network.old network.new) }
         ensures withheld { OnOk result (withheld_in network.new ≤ withheld_in network.old) }
+        ensures heads { OnOk result (HeadsDone (job.Recover server) network.old network.new) }
+        ensures same { OnErr result (AreSameHeads network.old network.new) }
     {
         jobs_of_events();
         let _ = self.script.steps();
@@ -75,6 +81,7 @@ impl<'a> Given<'a> {
         ensures ok { OnOk result (IsDone (setting_by self.now) FINISHING_SLOT (job.Propagate origin) network.old network.new) }
         ensures err { OnErr result (StandsStill network.old network.new) }
         ensures withheld { OnOk result (withheld_in network.new ≡ withheld_in network.old) }
+        ensures heads { AreSameHeads network.old network.new }
     {
         accepted();
         jobs_of_events();
@@ -90,6 +97,8 @@ impl<'a> Given<'a> {
         ensures ok { OnOk result (IsDone (setting_by self.now) FINISHING_SLOT job.now network.old network.new) }
         ensures err { OnErr result (StandsStill network.old network.new) }
         ensures withheld { OnOk result (withheld_in network.new ≤ withheld_in network.old + 1) }
+        ensures heads { OnOk result (HeadsDone job.now network.old network.new) }
+        ensures same { OnErr result (AreSameHeads network.old network.new) }
     {
         match *job {
             Job::Enter { packet } => self.enter(network, packet),
@@ -120,6 +129,8 @@ impl<'a> Given<'a> {
         ensures ok { IfOk result (λ event. HasDone (setting_by self.now) FINISHING_SLOT job.now event network.old network.new) }
         ensures err { OnErr result (StandsStill network.old network.new) }
         ensures withheld { OnOk result (withheld_in network.new ≤ withheld_in network.old + 1) }
+        ensures heads { OnOk result (HeadsDone job.now network.old network.new) }
+        ensures same { OnErr result (AreSameHeads network.old network.new) }
     {
         if let Job::Recover { server } = *job {
             let undone = self.recover(network, server)?;
@@ -144,6 +155,9 @@ impl<'a> Given<'a> {
         ensures ok { OnOk result (IsDone (setting_by self.now) worker (job.Visit server packet) network.old network.new) }
         ensures err { OnErr result (StandsStill network.old network.new) }
         ensures withheld { OnOk result (withheld_in network.new ≡ withheld_in network.old) }
+        ensures here { OnOk result (IsIdleHead (head_at network.new server)) }
+        ensures others { AreOtherHeads server network.old network.new }
+        ensures fewer { RunNoMore (head_at network.old server) (head_at network.new server) }
     {
         jobs_of_events();
         let Some(plan) = Plan::make(self.alloc, &Rule::Pass, &[], &Answers::new())? else {

@@ -10,6 +10,7 @@ mod happening;
 mod messages;
 mod outlet;
 mod releasing;
+mod slots;
 
 pub use chain::Chain;
 pub use ftc_jobs::Jobs;

@@ -3,6 +3,7 @@
 ghost use Rattle.std.specs.Prelude.{◌≤◌};
 ghost use Rattle.ftc_protocol.specs.Setting.{Setting};
 ghost use Rattle.ftc_network.specs.Parts.{withheld_in};
+ghost use Rattle.ftc_network.specs.Slots.{AreSameHeads};
 ghost use Rattle.ftc_chain.specs.Course.{IsCourse, HasReleased};
 
 use crate::course::Course;
@@ -14,7 +15,8 @@ use ftc_journal::Event;
 pub fn release_due(course: &mut Course)
     requires journal { withheld_in course.old.network ≤ course.old.journal.spare }
     requires outlet { withheld_in course.old.network ≤ course.old.outlet.spare }
-    ensures { (setting : Setting) → IsCourse setting course.old → HasReleased setting course.old course.new }
+    ensures released { (setting : Setting) → IsCourse setting course.old → HasReleased setting course.old course.new }
+    ensures heads { AreSameHeads course.old.network course.new.network }
 {
     while let Some(freed) = course.network.release() {
         let packet = freed.packet;

@@ -1,4 +1,4 @@
--- Lists of legal jobs, one behind another.
+-- Lists of jobs that are legal and that no slot runs, one behind another.
 use Rattle.std.proofs.Common.{◌≡◌, ◌≢◌, ◌↔◌, Result, Ok, Err, OnOk, Option, Some, None, ◌∙◌, ◌++◌, ◌⊎◌, ◌+◌, ◌<◌, ℕ, zero, suc, Bool, true, false, List, [], ◌∷◌, inl, inr, refl, sym, ap, subst, arith, append_assoc, append-nil, if◌then◌else◌, length, take, drop, get_or}
 use Rattle.std.specs.List.{AllByRecursion}
 use Rattle.std.proofs.lemmas.Bool.{cases_eq}
@@ -9,7 +9,7 @@ use Rattle.ftc_protocol.specs.Jobs.{IsLegalJob}
 use Rattle.ftc_protocol.specs.Setting.{Setting}
 use Rattle.ftc_protocol.specs.State.{ChainState}
 use Rattle.ftc_standing.proofs.Arriving.{all_both}
-use Rattle.ftc_jobs.specs.All.{HasJobsOf}
+use Rattle.ftc_jobs.specs.All.{HasJobsOf, IsUntaken}
 
 -- ---- results
 
@@ -83,12 +83,12 @@ items_around (first ∷ items) zero item below is = ap (λ x. x ∷ items) (sym 
 items_around (first ∷ items) (suc place) item below is =
     ap (λ list. first ∷ list) (items_around items place item (omega arith) is)
 
-module _ (setting : Setting) (state : ChainState) where
+module _ (runs : ℕ → ℕ → Bool) (setting : Setting) (state : ChainState) where
   abbrev Legal : Job → Type 0
-  Legal job = IsLegalJob setting state job
+  Legal job = IsLegalJob setting state job × IsUntaken runs job
 
   abbrev Adds : (Job → Type 0) → List Job → List Job → Type 0
-  Adds Of old new = HasJobsOf Of setting state old new
+  Adds Of old new = HasJobsOf Of runs setting state old new
 
   abbrev IsIn : List Job → Job → Type 0
   IsIn jobs job = AnyOf (λ (other : Job). other ≡ job) jobs
@@ -187,20 +187,23 @@ module _ (setting : Setting) (state : ChainState) where
     };
   }
 
-  -- the one that was found, and none where none was
-  pub adds_found : (make : ℕ → Job) (found : Option ℕ) → ((number : ℕ) → (found ≡ Some number) ↔ Legal (make number)) →
+  -- the one that was found, and none where none was, of a kind that slots don't run
+  pub adds_found : (make : ℕ → Job) (found : Option ℕ) → ((number : ℕ) → IsUntaken runs (make number)) →
+      ((number : ℕ) → (found ≡ Some number) ↔ IsLegalJob setting state (make number)) →
       (old new : List Job) (one : ℕ) → found ≡ Some one → new ≡ old ++ make one ∷ [] →
       Adds (λ job. (number : ℕ) × (job ≡ make number)) old new
-  adds_found make found says old new one is grown =
-      adds_one (λ job. (number : ℕ) × (job ≡ make number)) old new (make one) grown (one, refl) ((says one).0 is) (λ job of legal.
-      let other = (says of.0).1 (subst Legal of.1 legal) in
+  adds_found make found untaken says old new one is grown =
+      adds_one (λ job. (number : ℕ) × (job ≡ make number)) old new (make one) grown (one, refl)
+      ((says one).0 is, untaken one) (λ job of legal.
+      let other = (says of.0).1 (subst (IsLegalJob setting state) of.1 legal.0) in
       ap make (same_Some one of.0 (sym is ∙ other)) ∙ sym of.1)
 
-  pub adds_not_found : (make : ℕ → Job) (found : Option ℕ) → ((number : ℕ) → (found ≡ Some number) ↔ Legal (make number)) →
+  pub adds_not_found : (make : ℕ → Job) (found : Option ℕ) →
+      ((number : ℕ) → (found ≡ Some number) ↔ IsLegalJob setting state (make number)) →
       (old : List Job) → found ≡ None → Adds (λ job. (number : ℕ) × (job ≡ make number)) old old
   adds_not_found make found says old none =
       adds_none (λ job. (number : ℕ) × (job ≡ make number)) old old refl (λ job of legal.
-      none-some of.0 (sym none ∙ (says of.0).1 (subst Legal of.1 legal)))
+      none-some of.0 (sym none ∙ (says of.0).1 (subst (IsLegalJob setting state) of.1 legal.0)))
 
   -- those of the numbers below one more
   pub adds_next : (Of : ℕ → Job → Type 0) → ((one other : ℕ) (job : Job) → Of one job → Of other job → one ≡ other) →

@@ -238,22 +238,22 @@ module _ (setting : Setting) (state : ChainState) where
     kind_is : (one job : Job) (kind : ℕ) → one ≡ job → kind_of one ≡ kind → kind_of job ≡ kind
     kind_is one job kind same is = ap kind_of (sym same) ∙ is
 
-    pub message_jobs : (old one two three four new : List Job) →
-        HasJobsOf (IsOfLogs server origin logs) setting state old one →
-        HasJobsOf (λ job. Visit server origin ≡ job) setting state one two →
-        HasJobsOf (λ job. Pass server origin ≡ job) setting state two three →
-        HasJobsOf (λ job. Lose server origin ≡ job) setting state three four →
-        HasJobsOf (λ job. (Carry origin ≡ job) × (server ≡ 0)) setting state four new →
+    pub message_jobs : (runs : ℕ → ℕ → Bool) (old one two three four new : List Job) →
+        HasJobsOf (IsOfLogs server origin logs) runs setting state old one →
+        HasJobsOf (λ job. Visit server origin ≡ job) runs setting state one two →
+        HasJobsOf (λ job. Pass server origin ≡ job) runs setting state two three →
+        HasJobsOf (λ job. Lose server origin ≡ job) runs setting state three four →
+        HasJobsOf (λ job. (Carry origin ≡ job) × (server ≡ 0)) runs setting state four new →
         ((group packet : ℕ) → IsLegalJob setting state (Apply server origin group packet) →
         IsOfLogs server origin logs (Apply server origin group packet)) →
-        HasJobsOf (IsOfMessage server origin) setting state old new
-    message_jobs old one two three four new logs_are visit pass lose carry applies =
-        adds_as setting state Of4 (IsOfMessage server origin) old new (λ job legal. to_message job)
-        (λ job legal. from_message applies job legal)
-        (adds_then setting state _ _ old four new
-        (adds_then setting state _ _ old three four
-        (adds_then setting state _ _ old two three
-        (adds_then setting state _ _ old one two logs_are visit (λ job is also.
+        HasJobsOf (IsOfMessage server origin) runs setting state old new
+    message_jobs runs old one two three four new logs_are visit pass lose carry applies =
+        adds_as runs setting state Of4 (IsOfMessage server origin) old new (λ job legal. to_message job)
+        (λ job legal. from_message applies job legal.0)
+        (adds_then runs setting state _ _ old four new
+        (adds_then runs setting state _ _ old three four
+        (adds_then runs setting state _ _ old two three
+        (adds_then runs setting state _ _ old one two logs_are visit (λ job is also.
         let first = (apply_of_logs job is).1 in
         let second = kind_is (Visit server origin) job 1 also refl in omega (arith, first, second)))
         pass (λ job is also.
@@ -326,37 +326,13 @@ found_any origin (first ∷ items) held is =
       | false ↦ λ test later. inr (found_any origin items held later)
     ] refl is
 
+-- those of the held messages
+abbrev pub IsOfHeld : ℕ → List HeldMessage → Job → Type 0
+IsOfHeld server items job = AnyOf (λ (held : HeldMessage). IsOfMessage server held.message.origin job) items
+
+-- ---- numbers of legal jobs
+
 module _ (setting : Setting) (state : ChainState) where
-  abbrev Adds : (Job → Type 0) → List Job → List Job → Type 0
-  Adds Of old new = HasJobsOf Of setting state old new
-
-  -- ---- links
-
-  pub link_jobs : (link : ℕ) (old mid new : List Job) → Adds (λ job. Pull link ≡ job) old mid →
-      Adds (λ job. (origin : ℕ) × (job ≡ Take link origin)) mid new → Adds (IsOfLink link) old new
-  link_jobs link old mid new pull takes =
-      adds_as setting state (λ job. (Pull link ≡ job) ⊎ ((origin : ℕ) × (job ≡ Take link origin))) (IsOfLink link) old new
-      (λ job legal. to job) (λ job legal. from job)
-      (adds_then setting state _ _ old mid new pull takes (λ job is also.
-      let first = ap kind_of (sym is) in let second = ap kind_of also.1 in omega (arith, first, second)))
-    where
-      to : (job : Job) → (Pull link ≡ job) ⊎ ((origin : ℕ) × (job ≡ Take link origin)) → IsOfLink link job
-      to job (inl is) = subst (IsOfLink link) is refl
-      to job (inr is) = subst (IsOfLink link) (sym is.1) refl
-
-      from : (job : Job) → IsOfLink link job → (Pull link ≡ job) ⊎ ((origin : ℕ) × (job ≡ Take link origin))
-      from (Pull other) is = inl (ap (λ (l : ℕ). Pull l) (sym is))
-      from (Take other origin) is = inr (origin, ap (λ (l : ℕ). Take l origin) is)
-      from (Apply at own group packet) is = absurd is
-      from (Visit at packet) is = absurd is
-      from (Pass at own) is = absurd is
-      from (Lose at own) is = absurd is
-      from (Carry own) is = absurd is
-      from (Enter packet) is = absurd is
-      from (Crash at) is = absurd is
-      from (Recover at) is = absurd is
-      from (Propagate origin) is = absurd is
-
   -- none of a link that the chain hasn't is legal
   pub link_below : (size : ℕ) → ((link : ℕ) → size ≤ link → IsLegalJob setting state (Pull link) → ⊥) →
       ((link origin : ℕ) → size ≤ link → IsLegalJob setting state (Take link origin) → ⊥) → (link : ℕ) (job : Job) →
@@ -403,6 +379,38 @@ module _ (setting : Setting) (state : ChainState) where
   server_below size crashes recoveries held server (Pull link) legal is = absurd is.1
   server_below size crashes recoveries held server (Propagate origin) legal is = absurd is.1
 
+module _ (runs : ℕ → ℕ → Bool) (setting : Setting) (state : ChainState) where
+  abbrev Adds : (Job → Type 0) → List Job → List Job → Type 0
+  Adds Of old new = HasJobsOf Of runs setting state old new
+
+  -- ---- links
+
+  pub link_jobs : (link : ℕ) (old mid new : List Job) → Adds (λ job. Pull link ≡ job) old mid →
+      Adds (λ job. (origin : ℕ) × (job ≡ Take link origin)) mid new → Adds (IsOfLink link) old new
+  link_jobs link old mid new pull takes =
+      adds_as runs setting state (λ job. (Pull link ≡ job) ⊎ ((origin : ℕ) × (job ≡ Take link origin))) (IsOfLink link)
+      old new
+      (λ job legal. to job) (λ job legal. from job)
+      (adds_then runs setting state _ _ old mid new pull takes (λ job is also.
+      let first = ap kind_of (sym is) in let second = ap kind_of also.1 in omega (arith, first, second)))
+    where
+      to : (job : Job) → (Pull link ≡ job) ⊎ ((origin : ℕ) × (job ≡ Take link origin)) → IsOfLink link job
+      to job (inl is) = subst (IsOfLink link) is refl
+      to job (inr is) = subst (IsOfLink link) (sym is.1) refl
+
+      from : (job : Job) → IsOfLink link job → (Pull link ≡ job) ⊎ ((origin : ℕ) × (job ≡ Take link origin))
+      from (Pull other) is = inl (ap (λ (l : ℕ). Pull l) (sym is))
+      from (Take other origin) is = inr (origin, ap (λ (l : ℕ). Take l origin) is)
+      from (Apply at own group packet) is = absurd is
+      from (Visit at packet) is = absurd is
+      from (Pass at own) is = absurd is
+      from (Lose at own) is = absurd is
+      from (Carry own) is = absurd is
+      from (Enter packet) is = absurd is
+      from (Crash at) is = absurd is
+      from (Recover at) is = absurd is
+      from (Propagate origin) is = absurd is
+
   -- ---- logs
 
   pub one_log : (server origin : ℕ) (logs : List Logged) (place : ℕ) (log : Logged) (old mid new : List Job) (test : Bool)
@@ -416,15 +424,15 @@ module _ (setting : Setting) (state : ChainState) where
       let here : one ≡ Apply server origin log.group log.origin =
       ap (λ (g : ℕ). Apply server origin g packet) group_is ∙ ap (λ (p : ℕ). Apply server origin log.group p) packet_is in
       let second : Adds (λ job. job ≡ Apply server origin log.group log.origin) mid new =
-      adds_if setting state (λ job. job ≡ Apply server origin log.group log.origin) mid new test one grown
-      (λ so. (here, says.0 so))
+      adds_if runs setting state (λ job. job ≡ Apply server origin log.group log.origin) mid new test one grown
+      (λ so. (here, (says.0 so, tt)))
       (λ job of legal.
-      let same : one ≡ job = here ∙ sym of in (same, says.1 (subst (IsLegalJob setting state) (sym same) legal))) in
+      let same : one ≡ job = here ∙ sym of in (same, says.1 (subst (IsLegalJob setting state) (sym same) legal.0))) in
       subst (λ (list : List Logged). Adds (IsOfLogs server origin list) old new) (sym (one_taken logs place log below is))
-      (adds_as setting state
+      (adds_as runs setting state
       (λ job. IsOfLogs server origin (take place logs) job ⊎ (job ≡ Apply server origin log.group log.origin))
       (IsOfLogs server origin (take place logs ++ log ∷ [])) old new (λ job legal. to job) (λ job legal. from job)
-      (adds_then setting state _ _ old mid new first second (λ job of same.
+      (adds_then runs setting state _ _ old mid new first second (λ job of same.
       none_before logs (take place logs) (drop (suc place) logs) log rise (items_around logs place log below is)
       (any_mapped (λ (other : Logged). job ≡ Apply server origin other.group other.origin)
       (λ (other : Logged). (other.origin ≡ log.origin) × (other.group ≡ log.group))
@@ -444,9 +452,6 @@ module _ (setting : Setting) (state : ChainState) where
 
   -- ---- held messages
 
-  abbrev pub IsOfHeld : ℕ → List HeldMessage → Job → Type 0
-  IsOfHeld server items job = AnyOf (λ (held : HeldMessage). IsOfMessage server held.message.origin job) items
-
   pub one_message : (server : ℕ) (items : List HeldMessage) (place : ℕ) (held : HeldMessage) (old mid new : List Job) →
       place < length items → held ≡ get_or items place held →
       ((before after : List HeldMessage) → items ≡ before ++ held ∷ after →
@@ -455,9 +460,10 @@ module _ (setting : Setting) (state : ChainState) where
       Adds (IsOfHeld server (take (place + 1) items)) old new
   one_message server items place held old mid new below is apart first second =
       subst (λ (list : List HeldMessage). Adds (IsOfHeld server list) old new) (sym (one_taken items place held below is))
-      (adds_as setting state (λ job. IsOfHeld server (take place items) job ⊎ IsOfMessage server held.message.origin job)
+      (adds_as runs setting state
+      (λ job. IsOfHeld server (take place items) job ⊎ IsOfMessage server held.message.origin job)
       (IsOfHeld server (take place items ++ held ∷ [])) old new (λ job legal. to job) (λ job legal. from job)
-      (adds_then setting state _ _ old mid new first second (λ job of own.
+      (adds_then runs setting state _ _ old mid new first second (λ job of own.
       apart (take place items) (drop (suc place) items) (items_around items place held below is)
       (any_mapped (λ (other : HeldMessage). IsOfMessage server other.message.origin job)
       (λ (other : HeldMessage). other.message.origin ≡ held.message.origin)
@@ -481,12 +487,13 @@ module _ (setting : Setting) (state : ChainState) where
       ((origin : ℕ) (message : Message) → IsHeld state server origin message →
       (held : HeldMessage) × (found origin items ≡ Some held)) →
       Adds (IsOfHeld server items) old new → Adds (IsOfMessages server) old new
-  held_jobs server items old new there = adds_as setting state (IsOfHeld server items) (IsOfMessages server) old new
+  held_jobs server items old new there =
+      adds_as runs setting state (IsOfHeld server items) (IsOfMessages server) old new
       (λ job legal of.
       let some = some_of (λ (held : HeldMessage). IsOfMessage server held.message.origin job) items of in
       (some.item.message.origin, some.is))
       (λ job legal of.
-      let where_it = held_where setting state server of.0 job of.1 legal in
+      let where_it = held_where setting state server of.0 job of.1 legal.0 in
       let held = there of.0 where_it.0 where_it.1 in
       any_mapped (λ (item : HeldMessage). item.message.origin ≡ of.0)
       (λ (item : HeldMessage). IsOfMessage server item.message.origin job)
@@ -498,10 +505,10 @@ module _ (setting : Setting) (state : ChainState) where
   pub server_jobs : (server : ℕ) (old one two new : List Job) → Adds (λ job. Crash server ≡ job) old one →
       Adds (λ job. Recover server ≡ job) one two → Adds (IsOfMessages server) two new → Adds (IsOfServer server) old new
   server_jobs server old one two new crash recover messages =
-      adds_as setting state (λ job. ((Crash server ≡ job) ⊎ (Recover server ≡ job)) ⊎ IsOfMessages server job)
+      adds_as runs setting state (λ job. ((Crash server ≡ job) ⊎ (Recover server ≡ job)) ⊎ IsOfMessages server job)
       (IsOfServer server) old new (λ job legal. to job) (λ job legal. from job)
-      (adds_then setting state _ _ old two new
-      (adds_then setting state _ _ old one two crash recover (λ job is also.
+      (adds_then runs setting state _ _ old two new
+      (adds_then runs setting state _ _ old one two crash recover (λ job is also.
       let first = ap kind_of (sym is) in let second = ap kind_of (sym also) in omega (arith, first, second)))
       messages (λ job is of. let few = few_kinds job of in let more = many_kinds job is in omega (arith, few, more)))
     where
@@ -605,17 +612,17 @@ module _ (setting : Setting) (state : ChainState) where
   every_one (Propagate origin) = inr (origin, refl)
 
   pub all_are : (old one two three new : List Job) → old ≡ [] → Adds IsOfLinks old one → Adds IsOfServers one two →
-      Adds IsEnter two three → Adds IsPropagate three new → AreJobs setting state new
+      Adds IsEnter two three → Adds IsPropagate three new → AreJobs runs setting state new
   all_are old one two three new none links servers enter propagate =
       let all : Adds Of3 old new =
-      adds_then setting state _ _ old three new
-      (adds_then setting state _ _ old two three
-      (adds_then setting state _ _ old one two links servers (λ job is also.
+      adds_then runs setting state _ _ old three new
+      (adds_then runs setting state _ _ old two three
+      (adds_then runs setting state _ _ old one two links servers (λ job is also.
       let first = link_group job is in let second = server_group job also in omega (arith, first, second)))
       enter (λ job is also. let first = early job is in let second = ap group_of also.1 in omega (arith, first, second)))
       propagate (λ job is also. let first = earlier job is in let second = ap group_of also.1 in omega (arith, first, second)) in
       let same : new ≡ all.more = all.grown ∙ ap (λ (list : List Job). list ++ all.more) none in
-      subst (AreJobs setting state) (sym same) (record {
+      subst (AreJobs runs setting state) (sym same) (record {
         each = λ job. (
           (λ is. ((all.are.each job).0 is).1),
           (λ legal. (all.are.each job).1 (every_one job, legal)),

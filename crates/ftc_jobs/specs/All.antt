@@ -1,5 +1,5 @@
 -- All legal jobs.
-use Rattle.std.specs.Prelude.{ℕ, ◌≡◌, ◌≢◌, ◌++◌, ◌↔◌, List}
+use Rattle.std.specs.Prelude.{ℕ, ◌≡◌, ◌≢◌, ◌++◌, ◌↔◌, ⊤, Bool, false, List}
 use Rattle.ftc_journal.specs.declared.job.Job.{Job}
 use Rattle.ftc_journal.specs.declared.job.Job.TheVariants as kind
 use Rattle.ftc_message.specs.Logged.{Logged}
@@ -7,23 +7,38 @@ use Rattle.ftc_serial.specs.Words.{AnyOf, EachLater}
 use Rattle.ftc_protocol.specs.Setting.{Setting}
 use Rattle.ftc_protocol.specs.State.{ChainState}
 use Rattle.ftc_protocol.specs.Jobs.{IsLegalJob}
+use Rattle.ftc_network.specs.declared.network.Network.{Network}
+use Rattle.ftc_network.specs.Slots.{head_at, is_running_in}
 
--- the jobs of the list are those that are legal, each once
-pub record AreJobs (setting : Setting) (state : ChainState) (jobs : List Job) : Type 0 where
-  pub each : (job : Job) → AnyOf (λ (other : Job). other ≡ job) jobs ↔ IsLegalJob setting state job
+-- some slot runs the packet at the server
+abbrev pub is_running_by : Network → ℕ → ℕ → Bool
+is_running_by network server packet = is_running_in (head_at network server) packet
+
+-- it isn't a visit that a slot runs
+abbrev pub IsUntaken : (ℕ → ℕ → Bool) → Job → Type 0
+IsUntaken runs (kind.Visit server packet) = runs server packet ≡ false
+IsUntaken runs other = ⊤
+
+-- the jobs of the list are those that are legal and that no slot runs, each once
+pub record AreJobs (runs : ℕ → ℕ → Bool) (setting : Setting) (state : ChainState) (jobs : List Job) : Type 0 where
+  pub each : (job : Job) →
+      AnyOf (λ (other : Job). other ≡ job) jobs ↔ (IsLegalJob setting state job × IsUntaken runs job)
   pub once : EachLater (λ (one other : Job). one ≢ other) jobs
 
 -- ---- those of a kind
 
-pub record AreJobsOf (Of : Job → Type 0) (setting : Setting) (state : ChainState) (jobs : List Job) : Type 0 where
-  pub each : (job : Job) → AnyOf (λ (other : Job). other ≡ job) jobs ↔ (Of job × IsLegalJob setting state job)
+pub record AreJobsOf (Of : Job → Type 0) (runs : ℕ → ℕ → Bool) (setting : Setting) (state : ChainState)
+    (jobs : List Job) : Type 0 where
+  pub each : (job : Job) →
+      AnyOf (λ (other : Job). other ≡ job) jobs ↔ (Of job × (IsLegalJob setting state job × IsUntaken runs job))
   pub once : EachLater (λ (one other : Job). one ≢ other) jobs
 
 -- the new list has them behind what the old one has
-pub record HasJobsOf (Of : Job → Type 0) (setting : Setting) (state : ChainState) (old new : List Job) : Type 0 where
+pub record HasJobsOf (Of : Job → Type 0) (runs : ℕ → ℕ → Bool) (setting : Setting) (state : ChainState)
+    (old new : List Job) : Type 0 where
   pub more : List Job
   pub grown : new ≡ old ++ more
-  pub are : AreJobsOf Of setting state more
+  pub are : AreJobsOf Of runs setting state more
 
 -- a pull of the link, or a take from it
 abbrev pub IsOfLink : ℕ → Job → Type 0

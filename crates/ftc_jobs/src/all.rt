@@ -1,6 +1,6 @@
-//! All legal jobs.
+//! All legal jobs but the visits that slots run.
 
-ghost use Rattle.std.specs.Prelude.{◌≡◌, ◌↔◌, ◌<◌, ◌++◌, ◌∷◌, [], ℕ, true, Some, None, OnOk, IfOk, if◌then◌else◌};
+ghost use Rattle.std.specs.Prelude.{◌≡◌, ◌↔◌, ◌<◌, ◌++◌, ◌∷◌, [], ℕ, true, false, Some, None, OnOk, IfOk, if◌then◌else◌};
 ghost use Rattle.ftc_journal.specs.declared.job.Job.TheVariants as kind;
 ghost use Rattle.ftc_message.specs.Logged.{logs_rise};
 ghost use Rattle.ftc_protocol.specs.Setting.{Setting};
@@ -10,7 +10,7 @@ ghost use Rattle.ftc_server.specs.declared.server.Server.{Server as AServer};
 ghost use Rattle.ftc_server.specs.Looks.{message_in};
 ghost use Rattle.ftc_network.specs.Parts.{server_in};
 ghost use Rattle.ftc_jobs.specs.Rest.{IsResting, IsAtRest};
-ghost use Rattle.ftc_jobs.specs.All.{AreJobs, HasJobsOf, IsOfLink, IsOfLinks, IsOfLogs, IsOfMessage, IsOfMessages, IsOfServer, IsOfServers, IsEnter, IsPropagate};
+ghost use Rattle.ftc_jobs.specs.All.{is_running_by, AreJobs, HasJobsOf, IsOfLink, IsOfLinks, IsOfLogs, IsOfMessage, IsOfMessages, IsOfServer, IsOfServers, IsEnter, IsPropagate};
 
 use crate::applies::{may_apply, which_applies};
 use crate::legal::{may_crash, may_recover};
@@ -46,7 +46,7 @@ fn add_if(jobs: &mut Jobs, legal: bool, job: Job) -> Result<(), NoMemory>
 fn add_link(jobs: &mut Jobs, network: &Network, link: ServerId) -> Result<(), NoMemory>
     requires { link < network.now.ring.servers }
     ensures { OnOk result ((setting : Setting) (state : ChainState) → IsResting setting state network.now →
-        HasJobsOf (IsOfLink link) setting state jobs.old jobs.new) }
+        HasJobsOf (IsOfLink link) (is_running_by network.now) setting state jobs.old jobs.new) }
 {
     add_if(jobs, may_pull(network, link), Job::Pull { link })?;
     match oldest_at(network, link) {
@@ -58,7 +58,7 @@ fn add_link(jobs: &mut Jobs, network: &Network, link: ServerId) -> Result<(), No
 /// Adds the pulls and takes of all links.
 fn add_links(jobs: &mut Jobs, network: &Network) -> Result<(), NoMemory>
     ensures { OnOk result ((setting : Setting) (state : ChainState) → IsResting setting state network.now →
-        HasJobsOf IsOfLinks setting state jobs.old jobs.new) }
+        HasJobsOf IsOfLinks (is_running_by network.now) setting state jobs.old jobs.new) }
 {
     what_a_link_offers();
     which_pulls();
@@ -78,7 +78,7 @@ fn add_applies(
 ) -> Result<(), NoMemory>
     requires { logs_rise None logs.now ≡ true }
     ensures { OnOk result ((setting : Setting) (state : ChainState) → IsResting setting state network.now →
-        HasJobsOf (IsOfLogs server origin logs.now) setting state jobs.old jobs.new) }
+        HasJobsOf (IsOfLogs server origin logs.now) (is_running_by network.now) setting state jobs.old jobs.new) }
 {
     for log in logs {
         let (group, packet) = (log.group(), log.origin());
@@ -105,6 +105,18 @@ fn may_carry_at(network: &Network, server: ServerId, origin: PacketNo) -> bool
     may_carry(network, origin)
 }
 
+/// Whether a packet may be visited at that server, and no slot runs it there.
+fn may_begin_visit(network: &Network, server: ServerId, packet: PacketNo) -> bool
+    requires { server < network.now.ring.servers }
+    ensures { (setting : Setting) (state : ChainState) → IsResting setting state network.now → (result ≡ true)
+        ↔ (IsLegalJob setting state (kind.Visit server packet) × (is_running_by network.now server packet ≡ false)) }
+{
+    if network.is_running(server, packet) {
+        return false;
+    }
+    may_visit(network, server, packet)
+}
+
 /// Adds what a server may do with a message that it holds.
 fn add_message(
     jobs: &mut Jobs,
@@ -113,11 +125,12 @@ fn add_message(
     server: ServerId,
     message: &Message,
 ) -> Result<(), NoMemory>
+    requires { server < network.now.ring.servers }
     ensures { OnOk result ((setting : Setting) (state : ChainState) (packets : ℕ) (live : AServer) →
         IsAtRest setting state script.now packets network.now →
         server_in network.now.servers.items server ≡ Some live →
         message_in live message.now.origin ≡ Some message.now →
-        HasJobsOf (IsOfMessage server message.now.origin) setting state jobs.old jobs.new) }
+        HasJobsOf (IsOfMessage server message.now.origin) (is_running_by network.now) setting state jobs.old jobs.new) }
 {
     which_applies();
     let origin = message.origin;
@@ -127,7 +140,7 @@ fn add_message(
         server,
         packet: origin,
     };
-    add_if(jobs, may_visit(network, server, origin), visit)?;
+    add_if(jobs, may_begin_visit(network, server, origin), visit)?;
     let pass = may_pass(network, script, server, origin);
     add_if(jobs, pass, Job::Pass { server, origin })?;
     let lose = may_lose(network, script, server, origin);
@@ -144,10 +157,11 @@ fn add_messages(
     server: ServerId,
     live: &Server,
 ) -> Result<(), NoMemory>
+    requires { server < network.now.ring.servers }
     ensures { OnOk result ((setting : Setting) (state : ChainState) (packets : ℕ) →
         IsAtRest setting state script.now packets network.now →
         server_in network.now.servers.items server ≡ Some live.now →
-        HasJobsOf (IsOfMessages server) setting state jobs.old jobs.new) }
+        HasJobsOf (IsOfMessages server) (is_running_by network.now) setting state jobs.old jobs.new) }
 {
     held_in_turn();
     for held in live.held.as_slice() {
@@ -166,7 +180,7 @@ fn add_server(
     requires { server < network.now.ring.servers }
     ensures { OnOk result ((setting : Setting) (state : ChainState) (packets : ℕ) →
         IsAtRest setting state script.now packets network.now →
-        HasJobsOf (IsOfServer server) setting state jobs.old jobs.new) }
+        HasJobsOf (IsOfServer server) (is_running_by network.now) setting state jobs.old jobs.new) }
 {
     held_in_turn();
     let crash = may_crash(network, script, server);
@@ -183,7 +197,7 @@ fn add_server(
 fn add_servers(jobs: &mut Jobs, network: &Network, script: &Script) -> Result<(), NoMemory>
     ensures { OnOk result ((setting : Setting) (state : ChainState) (packets : ℕ) →
         IsAtRest setting state script.now packets network.now →
-        HasJobsOf IsOfServers setting state jobs.old jobs.new) }
+        HasJobsOf IsOfServers (is_running_by network.now) setting state jobs.old jobs.new) }
 {
     held_in_turn();
     order_of_a_state();
@@ -202,7 +216,7 @@ fn add_enter(
 ) -> Result<(), NoMemory>
     ensures { OnOk result ((setting : Setting) (state : ChainState) →
         IsAtRest setting state script.now packets network.now →
-        HasJobsOf IsEnter setting state jobs.old jobs.new) }
+        HasJobsOf IsEnter (is_running_by network.now) setting state jobs.old jobs.new) }
 {
     match entering(network, script, packets) {
         Some(packet) => jobs.push(Job::Enter { packet }),
@@ -219,7 +233,7 @@ fn add_propagate(
 ) -> Result<(), NoMemory>
     ensures { OnOk result ((setting : Setting) (state : ChainState) →
         IsAtRest setting state script.now packets network.now →
-        HasJobsOf IsPropagate setting state jobs.old jobs.new) }
+        HasJobsOf IsPropagate (is_running_by network.now) setting state jobs.old jobs.new) }
 {
     match propagating(network, packets) {
         Some(origin) => jobs.push(Job::Propagate { origin }),
@@ -227,7 +241,7 @@ fn add_propagate(
     }
 }
 
-/// All legal jobs, each once.
+/// All legal jobs but the visits that slots run, each once.
 pub fn all_jobs(
     alloc: Global,
     network: &Network,
@@ -235,7 +249,8 @@ pub fn all_jobs(
     packets: u32,
 ) -> Result<Jobs, NoMemory>
     ensures { IfOk result (λ jobs. (setting : Setting) (state : ChainState) →
-        IsAtRest setting state script.now packets network.now → AreJobs setting state jobs) }
+        IsAtRest setting state script.now packets network.now →
+        AreJobs (is_running_by network.now) setting state jobs) }
 {
     let mut jobs = Jobs::new(alloc);
     add_links(&mut jobs, network)?;

@@ -1,7 +1,8 @@
-ghost use Rattle.std.specs.Prelude.{◌≡◌, [], IfOk};
+ghost use Rattle.std.specs.Prelude.{◌≡◌, ◌<◌, ℕ, None, [], IfOk};
+ghost use Rattle.ftc_txn.specs.Slots.{slot_at};
 
-use crate::{first_job, is_legal};
-use ftc_base::{Bytes, NoMemory, PacketNo, ServerId};
+use crate::{all_jobs, first_job, is_legal};
+use ftc_base::{Bytes, NoMemory, PacketNo, ServerId, WorkerId};
 use ftc_journal::Job;
 use ftc_link::Link;
 use ftc_mbox::Rule;
@@ -9,7 +10,7 @@ use ftc_message::{Logs, Message, Needs};
 use ftc_network::Network;
 use ftc_ring::Ring;
 use ftc_script::read_script;
-use ftc_server::Server;
+use ftc_server::{Server, Work};
 use ftc_vector::Commits;
 use ftc_visits::MadeVisits;
 use std::alloc::Global;
@@ -30,16 +31,33 @@ fn message(alloc: Global, origin: PacketNo, packet: Option<Bytes>) -> Result<Mes
     })
 }
 
-/// Two servers, one of which may be down. The first holds that packet, if any, and its link may have a gap.
-fn pair(alloc: Global, packet: Option<Bytes>, gap: bool) -> Result<Network, NoMemory> {
-    let ring = Ring::new(2, 1).unwrap();
-    let (one, two) = (ServerId::new(0).unwrap(), ServerId::new(1).unwrap());
-    let mut first = Server::new(alloc, &ring, one, &Rule::Pass, 1)?;
-    let second = Server::new(alloc, &ring, two, &Rule::Pass, 1)?;
+/// The first of two servers, which holds that packet, if any. Its slots are idle.
+fn first_of_two(alloc: Global, ring: &Ring, packet: Option<Bytes>) -> Result<Server, NoMemory>
+    requires { 0 < ring.now.servers }
+    ensures { IfOk result (λ server. (worker : ℕ) → slot_at server.head.slots worker ≡ None) }
+{
+    let mut first = Server::new(alloc, ring, ServerId::new(0).unwrap(), &Rule::Pass, 1)?;
     if packet.is_some() {
         first.make_room(0)?;
         first.take(message(alloc, 0, packet)?, false);
     }
+    Ok(first)
+}
+
+/// A slot of a server whose slots are idle begins the visit of a packet, where that may be visited.
+fn begin(server: &mut Server, packet: PacketNo)
+    requires { (worker : ℕ) → slot_at server.old.head.slots worker ≡ None }
+{
+    if server.work_of(packet) == Some(Work::Visit) {
+        server.begin(WorkerId::new(0).unwrap(), packet);
+    }
+}
+
+/// Two servers, the first of which is that one, and whose link may have a gap.
+fn network_with(alloc: Global, first: Server, gap: bool) -> Result<Network, NoMemory> {
+    let ring = Ring::new(2, 1).unwrap();
+    let (one, two) = (ServerId::new(0).unwrap(), ServerId::new(1).unwrap());
+    let second = Server::new(alloc, &ring, two, &Rule::Pass, 1)?;
     let mut servers = Vec::new(alloc);
     servers.push(Some(first))?;
     servers.push(Some(second))?;
@@ -58,6 +76,21 @@ fn pair(alloc: Global, packet: Option<Bytes>, gap: bool) -> Result<Network, NoMe
         propagates: 0,
         visits: MadeVisits::new(alloc),
     })
+}
+
+/// Two servers, the first of which holds that packet, if any, and whose link may have a gap.
+fn pair(alloc: Global, packet: Option<Bytes>, gap: bool) -> Result<Network, NoMemory> {
+    let ring = Ring::new(2, 1).unwrap();
+    let first = first_of_two(alloc, &ring, packet)?;
+    network_with(alloc, first, gap)
+}
+
+/// The same where a slot of the first server runs the packet, which it holds.
+fn running_pair(alloc: Global, packet: Bytes) -> Result<Network, NoMemory> {
+    let ring = Ring::new(2, 1).unwrap();
+    let mut first = first_of_two(alloc, &ring, Some(packet))?;
+    begin(&mut first, 0);
+    network_with(alloc, first, false)
 }
 
 #[test]
@@ -108,5 +141,25 @@ fn pulls_come_before_lines_of_the_script(rt: HostRuntime) -> Result<(), Fail> {
     let torn = pair(rt.alloc(), None, true)?;
     assert_eq!(rt; first_job(&torn, &script, 1), Some(Job::Pull { link }));
     assert!(rt; is_legal(&torn, &script, 1, &crash));
+    Ok(())
+}
+
+#[test]
+fn a_visit_that_a_slot_runs_is_left_out(rt: HostRuntime) -> Result<(), Fail> {
+    let ring = Ring::new(2, 1).unwrap();
+    let Ok(script) = read_script(rt.alloc(), b"", &ring, 1) else {
+        return Err(Fail::new("refused"));
+    };
+    let server = ServerId::new(0).unwrap();
+    let visit = Job::Visit { server, packet: 0 };
+    let mut idle = pair(rt.alloc(), Some(Bytes::new(rt.alloc())), false)?;
+    idle.entered = 1;
+    let jobs = all_jobs(rt.alloc(), &idle, &script, 1)?;
+    assert!(rt; jobs.as_slice() == [visit].as_slice());
+    let mut running = running_pair(rt.alloc(), Bytes::new(rt.alloc()))?;
+    running.entered = 1;
+    let jobs = all_jobs(rt.alloc(), &running, &script, 1)?;
+    assert!(rt; jobs.as_slice().is_empty());
+    assert!(rt; is_legal(&running, &script, 1, &visit));
     Ok(())
 }

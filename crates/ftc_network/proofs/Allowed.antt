@@ -11,8 +11,10 @@ use Rattle.ftc_protocol.specs.State.{ChainState}
 use Rattle.ftc_ring.specs.Ring.{RingShape}
 use Rattle.ftc_server.specs.declared.server.Server.{Server}
 use Rattle.ftc_network.specs.declared.network.Network.{Network}
+use Rattle.ftc_network.specs.Committing.{IsAtRestAt}
 use Rattle.ftc_network.specs.Events.{IsAllowed, IsAllowedAt}
 use Rattle.ftc_network.specs.Parts.{server_in}
+use Rattle.ftc_network.specs.Slots.{IsAtRest}
 use Rattle.ftc_network.specs.Stand.{IsSlot, IsUp}
 
 -- of a server that is up
@@ -41,6 +43,18 @@ slot_allowed event network number slot below same allowed = ∥∥₁_map allowe
   state = given.state;
   run = given.run;
   legal = given.legal;
+  few = given.few;
+  stands = subst (IsSlot given.setting given.state number) (sym same) (given.stands.servers_are number
+      (subst (λ (n : ℕ). number < n) (ap (λ (ring : RingShape). ring.servers) given.stands.ring) below));
+})
+
+-- where a network is at rest, each of its servers is
+pub slot_rests : (network : Network) (number : ℕ) (slot : Option Server) → number < network.ring.servers →
+    slot ≡ server_in network.servers.items number → ∥ IsAtRest network ∥₁ → ∥ IsAtRestAt number slot ∥₁
+slot_rests network number slot below same rests = ∥∥₁_map rests (λ given. record {
+  setting = given.setting;
+  state = given.state;
+  run = given.run;
   few = given.few;
   stands = subst (IsSlot given.setting given.state number) (sym same) (given.stands.servers_are number
       (subst (λ (n : ℕ). number < n) (ap (λ (ring : RingShape). ring.servers) given.stands.ring) below));

@@ -1,10 +1,13 @@
 mod Allowed
 mod BegunSlots
 mod Changed
+mod CommittedSlots
 mod EndsAlone
 mod GainedVisits
 mod GotReplicas
 mod GroupNews
+mod Heads
+mod HeldRuns
 mod IdleSlots
 mod LastServer
 mod MessageForms
@@ -18,8 +21,10 @@ mod ReadAlone
 mod ReadySlots
 mod Released
 mod Replaced
+mod Restarts
 mod Results
 mod RunSlots
+mod RunningPacket
 mod ScriptLines
 mod SentAlong
 mod SharedGroups

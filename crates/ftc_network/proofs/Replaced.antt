@@ -19,6 +19,7 @@ use Rattle.ftc_server.specs.Steps.{HasDropped}
 use Rattle.ftc_standing.specs.Stand.{IsLink}
 use Rattle.ftc_network.specs.Parts.{server_in, buffer_of}
 use Rattle.ftc_network.specs.Recovering.{cut_off, may_drop, SlotHasDropped, AreReplaced}
+use Rattle.ftc_network.specs.Slots.{head_of}
 use Rattle.ftc_network.specs.Stand.{IsSlot, AreReady, RunNothingElse}
 use Rattle.ftc_network.proofs.ReadySlots.{same_runs}
 
@@ -50,6 +51,19 @@ module _ (old new : List (Option Server)) (server following : ℕ) (made : Serve
   same_buffer None after same = ap buffer_of same
   same_buffer (Some before) None none = absurd none
   same_buffer (Some before) (Some after) done = ap (λ (s : ServerState). s.buffer.items) done.rest
+
+  same_head : (before after : Option Server) → SlotHasDropped before after → head_of after ≡ head_of before
+  same_head None after same = ap head_of same
+  same_head (Some before) None none = absurd none
+  same_head (Some before) (Some after) done = ap (λ (s : ServerState). Some s.head) done.rest
+
+  -- the heads of the other servers are as they were
+  pub other_heads : (other : ℕ) → other ≢ server → head_of (server_in new other) ≡ head_of (server_in old other)
+  other_heads other differs = elim (cases_eq other following) [
+    | inl there ↦ subst (λ (n : ℕ). head_of (server_in new n) ≡ head_of (server_in old n)) (sym there)
+        (same_head (server_in old following) (server_in new following) (are.dropped apart))
+    | inr apart_too ↦ ap head_of (are.others other differs apart_too)
+  ]
 
   -- no more packets are withheld at any server, where the new one withholds none
   pub fewer_withheld : made.buffer.items ≡ [] → (last : ℕ) →

@@ -1,6 +1,6 @@
 -- What holds of results and options that have a value.
 use Rattle.std.proofs.Common.{◌≡◌, false, Result, Ok, Err, Option, Some, None, refl, sym, subst}
-use Rattle.std.specs.Prelude.{OnOk, OnErr, IfSome, option_map, is_some}
+use Rattle.std.specs.Prelude.{OnOk, OnErr, IfOk, IfSome, option_map, is_some}
 
 pub on_ok : {A E : Type 0} (result : Result A E) (Fact Other : Type 0) → (Fact → Other) → OnOk result Fact → OnOk result Other
 on_ok (Ok value) Fact Other from fact = from fact
@@ -41,3 +41,8 @@ pub each_some : {A : Type 0} (Fact : A → Type 0) (option : Option A) → ((ite
     IfSome option Fact
 each_some Fact None each = tt
 each_some Fact (Some item) each = each item refl
+
+pub if_ok : {A E : Type 0} (Fact Other : A → Type 0) (result : Result A E) → ((item : A) → Fact item → Other item) →
+    IfOk result Fact → IfOk result Other
+if_ok Fact Other (Ok item) from fact = from item fact
+if_ok Fact Other (Err fault) from fact = tt

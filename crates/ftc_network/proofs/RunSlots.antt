@@ -18,16 +18,21 @@ use Rattle.ftc_network.proofs.ReadySlots.{same_runs}
 some_same : {A : Type 0} (one other : A) → Some one ≡ Some other → one ≡ other
 some_same one other same = cc
 
-pub quit_runs : (old new : Server) (worker : ℕ) → HasQuit old new worker → RunNothingElse old new
-quit_runs old new worker quits other running runs =
+-- where a slot was made idle
+pub emptied_runs : (old new : Server) (worker : ℕ) → new.head.slots ≡ slice_set old.head.slots worker None →
+    RunNothingElse old new
+emptied_runs old new worker same other running runs =
     let runs_there : slot_at (slice_set old.head.slots worker None) other ≡ Some running =
-    ap (λ (s : List (Option Running)). slot_at s other) (sym quits.head.slots) ∙ runs in
+    ap (λ (s : List (Option Running)). slot_at s other) (sym same) ∙ runs in
     elim (cases_eq other worker) [
-      | inl same ↦ absurd (let none : None ≡ Some running =
+      | inl this ↦ absurd (let none : None ≡ Some running =
           sym (set_idle old.head.slots worker)
-          ∙ (ap (slot_at (slice_set old.head.slots worker None)) (sym same) ∙ runs_there) in cc)
+          ∙ (ap (slot_at (slice_set old.head.slots worker None)) (sym this) ∙ runs_there) in cc)
       | inr differs ↦ (running, sym (set_other old.head.slots worker None other differs) ∙ runs_there, refl)
     ]
+
+pub quit_runs : (old new : Server) (worker : ℕ) → HasQuit old new worker → RunNothingElse old new
+quit_runs old new worker quits = emptied_runs old new worker quits.head.slots
 
 -- what was wounded ran before
 wounded_runs : (worker : ℕ) (slot : Option Running) (running : Running) → wounded_by worker slot ≡ Some running →
@@ -37,7 +42,7 @@ wounded_runs worker (Some before) running is =
     (before, refl, ap (λ (r : Running). r.packet) (sym (some_same (record before { wounded = Some worker }) running is)))
 
 -- what a slot that was restarted runs it ran before
-restarted_runs : (old new : Server) (worker : ℕ) (before : Running) → slot_at old.head.slots worker ≡ Some before →
+pub restarted_runs : (old new : Server) (worker : ℕ) (before : Running) → slot_at old.head.slots worker ≡ Some before →
     new.head ≡ record old.head { slots = slice_set old.head.slots worker (Some (restarted before)) } →
     RunNothingElse old new
 restarted_runs old new worker before was is other running runs =

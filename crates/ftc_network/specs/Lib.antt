@@ -9,3 +9,4 @@ pub mod Recovering
 pub mod Reviving
 pub mod Visiting
 pub mod Opening
+pub mod Committing

@@ -16,10 +16,6 @@ use Rattle.ftc_network.specs.Parts.{NetworkParts, parts_of, server_in, link_in}
 abbrev pub AreIdle : Server → Type 0
 AreIdle server = (worker : ℕ) → slot_at server.head.slots worker ≡ None
 
-abbrev pub IsIdleSlot : Option Server → Type 0
-IsIdleSlot None = Unit {0}
-IsIdleSlot (Some server) = AreIdle server
-
 -- The server has all logs of the messages whose packets its slots run. Only workers' slots run something.
 pub record AreReady (server : Server) : Type 0 where
   pub all : slots_are_ready server.others.items server.head server.held.items ≡ true

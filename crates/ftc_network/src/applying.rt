@@ -4,6 +4,7 @@ ghost use Rattle.std.specs.Prelude.{◌≡◌, OnOk, OnErr};
 ghost use Rattle.ftc_journal.specs.declared.event.Event.TheVariants as event;
 ghost use Rattle.ftc_network.specs.Events.{IsAllowed, IsAllowedAt, Follows, SlotFollows, StandsStill, SlotStandsStill};
 ghost use Rattle.ftc_network.specs.Parts.{buffer_of, withheld_in};
+ghost use Rattle.ftc_network.specs.Slots.{head_of, AreSameHeads};
 
 use crate::laws::{servers_beside, slots_stay_ready};
 use crate::network::Network;
@@ -26,6 +27,7 @@ fn apply_at(
     ensures ok { OnOk result (SlotFollows (event.Apply server origin group packet) server slot.old slot.new) }
     ensures err { OnErr result (SlotStandsStill server slot.old slot.new) }
     ensures buffer { OnOk result (buffer_of slot.new ≡ buffer_of slot.old) }
+    ensures heads { head_of slot.new ≡ head_of slot.old }
 {
     what_apply_wants();
     what_apply_does();
@@ -50,6 +52,7 @@ impl Network {
         ensures ok { OnOk result (Follows (event.Apply server origin group packet) self.old self.new) }
         ensures err { OnErr result (StandsStill self.old self.new) }
         ensures withheld { OnOk result (withheld_in self.new ≡ withheld_in self.old) }
+        ensures heads { AreSameHeads self.old self.new }
     {
         where_events_are();
         servers_beside();

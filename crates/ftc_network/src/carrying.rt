@@ -4,6 +4,7 @@ ghost use Rattle.std.specs.Prelude.{◌≡◌, OnOk, OnErr};
 ghost use Rattle.ftc_journal.specs.declared.event.Event.TheVariants as event;
 ghost use Rattle.ftc_network.specs.Events.{IsAllowed, IsAllowedAt, Follows, SlotFollows, StandsStill, SlotStandsStill};
 ghost use Rattle.ftc_network.specs.Parts.{buffer_of, withheld_in};
+ghost use Rattle.ftc_network.specs.Slots.{head_of, AreSameHeads};
 
 use crate::laws::{servers_beside, slots_stay_ready};
 use crate::network::Network;
@@ -19,6 +20,7 @@ fn carry_at(slot: &mut Option<Server>, origin: PacketNo) -> Result<(), NoMemory>
     ensures ok { OnOk result (SlotFollows (event.Carry origin) 0 slot.old slot.new) }
     ensures err { OnErr result (SlotStandsStill 0 slot.old slot.new) }
     ensures buffer { OnOk result (buffer_of slot.new ≡ buffer_of slot.old) }
+    ensures heads { head_of slot.new ≡ head_of slot.old }
 {
     what_carry_wants();
     what_carry_does();
@@ -37,6 +39,7 @@ impl Network {
         ensures ok { OnOk result (Follows (event.Carry origin) self.old self.new) }
         ensures err { OnErr result (StandsStill self.old self.new) }
         ensures withheld { OnOk result (withheld_in self.new ≡ withheld_in self.old) }
+        ensures heads { AreSameHeads self.old self.new }
     {
         servers_beside();
         links_stand_still();

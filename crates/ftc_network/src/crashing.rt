@@ -1,9 +1,10 @@
 //! A server stops.
 
-ghost use Rattle.std.specs.Prelude.{◌≡◌, ◌<◌, ◌≤◌};
+ghost use Rattle.std.specs.Prelude.{◌≡◌, ◌<◌, ◌≤◌, None};
 ghost use Rattle.ftc_journal.specs.declared.event.Event.TheVariants as event;
 ghost use Rattle.ftc_network.specs.Events.{IsAllowed, Follows};
 ghost use Rattle.ftc_network.specs.Parts.{withheld_in};
+ghost use Rattle.ftc_network.specs.Slots.{head_at, AreOtherHeads};
 
 use crate::laws::servers_beside;
 use crate::network::Network;
@@ -21,6 +22,8 @@ impl Network {
         requires room { self.old.done < usize.MAX }
         ensures follows { Follows (event.Crash server) self.old self.new }
         ensures withheld { withheld_in self.new ≤ withheld_in self.old }
+        ensures down { head_at self.new server ≡ None }
+        ensures others { AreOtherHeads server self.old self.new }
     {
         where_events_are();
         servers_beside();

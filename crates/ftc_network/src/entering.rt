@@ -10,6 +10,7 @@ ghost use Rattle.ftc_server.specs.Steps.{HasTaken, HasRoomed};
 ghost use Rattle.ftc_standing.specs.Stand.{IsBegun};
 ghost use Rattle.ftc_network.specs.Events.{IsAllowed, IsAllowedAt, Follows, FollowsIn, SlotFollows, SlotFollowsIn, StandsStill, SlotStandsStill};
 ghost use Rattle.ftc_network.specs.Parts.{buffer_of, withheld_in};
+ghost use Rattle.ftc_network.specs.Slots.{head_of, AreSameHeads};
 
 use crate::laws::{servers_beside, slots_stay_ready};
 use crate::network::Network;
@@ -60,6 +61,7 @@ fn enter_at(
         SlotFollowsIn setting state (event.Enter packet) 0 slot.old slot.new) }
     ensures err { OnErr result (SlotStandsStill 0 slot.old slot.new) }
     ensures buffer { OnOk result (buffer_of slot.new ≡ buffer_of slot.old) }
+    ensures heads { head_of slot.new ≡ head_of slot.old }
 {
     what_take_wants();
     what_take_does();
@@ -80,6 +82,7 @@ fn propagate_at(slot: &mut Option<Server>, alloc: Global, origin: PacketNo) -> R
     ensures ok { OnOk result (SlotFollows (event.Propagate origin) 0 slot.old slot.new) }
     ensures err { OnErr result (SlotStandsStill 0 slot.old slot.new) }
     ensures buffer { OnOk result (buffer_of slot.new ≡ buffer_of slot.old) }
+    ensures heads { head_of slot.new ≡ head_of slot.old }
 {
     what_take_wants();
     what_take_does();
@@ -103,6 +106,7 @@ impl Network {
             FollowsIn setting state (event.Enter packet) self.old self.new) }
         ensures err { OnErr result (StandsStill self.old self.new) }
         ensures withheld { OnOk result (withheld_in self.new ≡ withheld_in self.old) }
+        ensures heads { AreSameHeads self.old self.new }
     {
         servers_beside();
         links_stand_still();
@@ -120,6 +124,7 @@ impl Network {
         ensures ok { OnOk result (Follows (event.Propagate origin) self.old self.new) }
         ensures err { OnErr result (StandsStill self.old self.new) }
         ensures withheld { OnOk result (withheld_in self.new ≡ withheld_in self.old) }
+        ensures heads { AreSameHeads self.old self.new }
     {
         servers_beside();
         links_stand_still();

@@ -3,16 +3,19 @@
 ghost use Rattle.std.specs.Prelude.{◌≡◌, ℕ, Option, Some};
 ghost use Rattle.ftc_journal.specs.declared.event.Event.{Event as AnEvent};
 ghost use Rattle.ftc_journal.specs.declared.event.Event.TheVariants as event;
-ghost use Rattle.ftc_protocol.specs.Setting.{Setting};
+ghost use Rattle.ftc_mbox.specs.Ask.{ask};
+ghost use Rattle.ftc_protocol.specs.Setting.{Setting, rule_at};
 ghost use Rattle.ftc_protocol.specs.State.{ChainState};
 ghost use Rattle.ftc_protocol.specs.Drive.{IsNoneDue};
 ghost use Rattle.ftc_protocol.specs.Legal.{IsLegal};
-ghost use Rattle.ftc_protocol.specs.Next.{next};
+ghost use Rattle.ftc_protocol.specs.Next.{next, bytes_of};
 ghost use Rattle.ftc_protocol.specs.Run.{IsRunState};
 ghost use Rattle.ftc_server.specs.declared.server.Server.{Server};
+ghost use Rattle.ftc_server.specs.Looks.{ask_in};
 ghost use Rattle.ftc_standing.specs.View.{IsBesideServer};
 ghost use Rattle.ftc_txn.specs.Slots.{Running, slot_at};
 ghost use Rattle.ftc_refinement.specs.Contents.{IsServerAt};
+ghost use Rattle.ftc_network.specs.Slots.{bytes_run};
 ghost use Rattle.ftc_network.specs.Stand.{IsSlot, IsUp, AreReady, RunNothingElse};
 
 use ftc_refinement::{ready_messages_stay, what_is_ready};
@@ -38,6 +41,20 @@ pub fn what_runs_may_be_visited()
 {
     what_is_ready();
 }
+
+/// What the rule is asked for what a slot runs is what it is asked for the packet of the message in the state, after
+/// the slot's answers.
+pub fn what_slots_ask()
+    ensures bytes { (setting : Setting) (state : ChainState) (number worker : ℕ) (server : Server) (running : Running) →
+        IsRunState setting state → IsUp setting state number server → IsNoneDue setting state →
+        slot_at server.head.slots worker ≡ Some running →
+        bytes_run server (Some running) ≡ Some (bytes_of (state.message running.packet)) }
+    ensures asks { (setting : Setting) (state : ChainState) (number worker : ℕ) (server : Server) (running : Running) →
+        IsRunState setting state → IsUp setting state number server → IsNoneDue setting state →
+        slot_at server.head.slots worker ≡ Some running →
+        ask_in server worker
+        ≡ Some (ask (rule_at setting number) (bytes_of (state.message running.packet)) running.answers) }
+{}
 
 /// A server in which an event has no part stands for what is there after it.
 pub fn servers_beside()

@@ -9,6 +9,7 @@ ghost use Rattle.ftc_protocol.specs.State.{ChainState};
 ghost use Rattle.ftc_standing.specs.View.{leaving};
 ghost use Rattle.ftc_network.specs.Events.{IsAllowed, IsLeaving, LeavingFollows, Follows, StandsStill, SlotStandsStill};
 ghost use Rattle.ftc_network.specs.Parts.{buffer_of, withheld_in};
+ghost use Rattle.ftc_network.specs.Slots.{head_of, AreSameHeads};
 ghost use Rattle.ftc_network.specs.Sending.{HasFrameIfRoom, queue_after};
 
 use crate::laws::{servers_beside, slots_stay_ready};
@@ -77,6 +78,7 @@ fn leave_at(
     ensures link { OnErr result (link.new ≡ link.old) }
     ensures slot { OnErr result ((number : ℕ) → SlotStandsStill number slot.old slot.new) }
     ensures withheld { OnOk result (length (buffer_of slot.new) ≤ length (buffer_of slot.old) + 1) }
+    ensures heads { head_of slot.new ≡ head_of slot.old }
 {
     what_pass_wants();
     what_pass_does();
@@ -109,6 +111,7 @@ impl Network {
         ensures ok { OnOk result (Follows (leaving (is_some lost) server origin) self.old self.new) }
         ensures err { OnErr result (StandsStill self.old self.new) }
         ensures withheld { OnOk result (withheld_in self.new ≤ withheld_in self.old + 1) }
+        ensures heads { AreSameHeads self.old self.new }
     {
         where_events_are();
         servers_beside();

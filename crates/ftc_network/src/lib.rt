@@ -4,6 +4,7 @@
 mod applying;
 mod beginning;
 mod carrying;
+mod committing;
 mod crashing;
 mod entering;
 mod laws;
@@ -20,7 +21,7 @@ mod reviving;
 mod taking;
 mod visiting;
 
-pub use laws::what_runs_may_be_visited;
+pub use laws::{what_runs_may_be_visited, what_slots_ask};
 pub use network::Network;
 
 #[cfg(test)]

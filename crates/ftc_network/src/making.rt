@@ -4,7 +4,7 @@ ghost use Rattle.std.specs.Prelude.{◌≡◌, ◌≢◌, ℕ, IfOk, OnOk, OnErr
 ghost use Rattle.ftc_journal.specs.declared.event.Event.TheVariants as event;
 ghost use Rattle.ftc_network.specs.Events.{IsAllowed, IsAllowedAt, StandsStill, SlotStandsStill};
 ghost use Rattle.ftc_network.specs.Parts.{buffer_of, server_in, withheld_in};
-ghost use Rattle.ftc_network.specs.Stand.{IsIdleSlot};
+ghost use Rattle.ftc_network.specs.Slots.{head_of, head_at, IsIdleHead, RunNoMore};
 ghost use Rattle.ftc_network.specs.Visiting.{FollowsVisit, SlotFollowsVisit};
 
 use crate::laws::servers_beside;
@@ -31,7 +31,7 @@ fn visit_at(
     ensures ok { IfOk result (SlotFollowsVisit worker server packet slot.old slot.new) }
     ensures err { OnErr result (SlotStandsStill server slot.old slot.new) }
     ensures buffer { OnOk result (buffer_of slot.new ≡ buffer_of slot.old) }
-    ensures idle { IsIdleSlot slot.new }
+    ensures idle { IsIdleHead (head_of slot.new) }
 {
     where_events_are();
     what_work_says();
@@ -68,8 +68,8 @@ impl Network {
         ensures ok { OnOk result (FollowsVisit worker server packet self.old self.new) }
         ensures err { OnErr result (StandsStill self.old self.new) }
         ensures withheld { OnOk result (withheld_in self.new ≡ withheld_in self.old) }
-        ensures idle { IsIdleSlot (server_in self.old.servers.items server) →
-            IsIdleSlot (server_in self.new.servers.items server) }
+        ensures idle { OnOk result (IsIdleHead (head_at self.new server)) }
+        ensures fewer { RunNoMore (head_at self.old server) (head_at self.new server) }
         ensures others { (other : ℕ) → other ≢ server →
             server_in self.new.servers.items other ≡ server_in self.old.servers.items other }
     {

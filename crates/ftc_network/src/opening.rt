@@ -56,8 +56,9 @@ impl Network {
     /// All servers are up, and nothing has happened yet.
     pub fn new(alloc: Global, ring: Ring, spec: &ChainSpec) -> Result<Network, NoMemory>
         requires { ring ≡ ring_of spec.now }
-        ensures { IfOk result (λ network. (setting : Setting) → IsOfChain spec.now setting →
+        ensures stands { IfOk result (λ network. (setting : Setting) → IsOfChain spec.now setting →
             IsNetwork setting (opening setting) network) }
+        ensures new { IfOk result (λ network. AreNewServers spec.now ring.servers network.servers.items) }
     {
         what_new_makes();
         all_stand();

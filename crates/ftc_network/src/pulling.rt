@@ -5,6 +5,7 @@ ghost use Rattle.ftc_journal.specs.declared.event.Event.TheVariants as event;
 ghost use Rattle.ftc_ring.specs.Ring.{tail_of};
 ghost use Rattle.ftc_network.specs.Events.{IsAllowed, Follows, StandsStill, SlotStandsStill};
 ghost use Rattle.ftc_network.specs.Parts.{buffer_of, link_in, withheld_in};
+ghost use Rattle.ftc_network.specs.Slots.{head_of, AreSameHeads};
 ghost use Rattle.ftc_network.specs.Pulling.{is_shared_by, lacking, new_of, news_of, news, is_gained, gains_some, MayPullOne, MayPull, MayPullBetween, AreGains, IsOfLater, SlotHasInstalled, marked};
 
 use crate::laws::{servers_beside, slots_stay_ready};
@@ -146,6 +147,7 @@ fn install_at(slot: &mut Option<Server>, replicas: GroupReplicas) -> Result<(), 
     ensures ok { OnOk result (SlotHasInstalled slot.old slot.new replicas) }
     ensures err { OnErr result ((number : ℕ) → SlotStandsStill number slot.old slot.new) }
     ensures withheld { OnOk result (buffer_of slot.new ≡ buffer_of slot.old) }
+    ensures heads { head_of slot.new ≡ head_of slot.old }
 {
     what_stays();
     match slot {
@@ -177,6 +179,7 @@ impl Network {
         ensures ok { OnOk result (Follows (event.Pull link) self.old self.new) }
         ensures err { OnErr result (StandsStill self.old self.new) }
         ensures withheld { OnOk result (withheld_in self.new ≡ withheld_in self.old) }
+        ensures heads { AreSameHeads self.old self.new }
     {
         every_state_tied();
         needs_of_packets();

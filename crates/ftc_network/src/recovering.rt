@@ -12,6 +12,7 @@ ghost use Rattle.ftc_script.specs.declared.line.ScriptLine.TheVariants.{Recover}
 ghost use Rattle.ftc_server.specs.declared.server.Server.{Server as AServer};
 ghost use Rattle.ftc_network.specs.Events.{StandsStill};
 ghost use Rattle.ftc_network.specs.Parts.{server_in, link_in, withheld_in};
+ghost use Rattle.ftc_network.specs.Slots.{head_at, AreSameHeads, AreOtherHeads, IsIdleHead};
 ghost use Rattle.ftc_network.specs.Recovering.{IsRecovering, HasRecovered, is_up, AreNear, emptied, with_gaps, cut_off, may_drop, SlotHasDropped, AreReplaced};
 ghost use Rattle.ftc_network.specs.Reviving.{IsAnew};
 ghost use Rattle.ftc_network.specs.Stand.{IsNetwork};
@@ -194,6 +195,9 @@ impl Network {
             HasRecovered setting state server undone self.new) }
         ensures err { OnErr result (StandsStill self.old self.new) }
         ensures withheld { OnOk result (withheld_in self.new ≤ withheld_in self.old) }
+        ensures anew { OnOk result (IsIdleHead (head_at self.new server)) }
+        ensures others { AreOtherHeads server self.old self.new }
+        ensures heads { OnErr result (AreSameHeads self.old self.new) }
     {
         order_of_a_state();
         where_events_are();

@@ -8,6 +8,7 @@ ghost use Rattle.ftc_protocol.specs.Drive.{IsNoneDue};
 ghost use Rattle.ftc_protocol.specs.Next.{next};
 ghost use Rattle.ftc_protocol.specs.Run.{IsRunState};
 ghost use Rattle.ftc_network.specs.Parts.{buffer_of, withheld_in};
+ghost use Rattle.ftc_network.specs.Slots.{head_of, AreSameHeads};
 ghost use Rattle.ftc_network.specs.Stand.{IsSlot, IsNetwork};
 ghost use Rattle.ftc_network.specs.Released.{IsReleased};
 
@@ -30,6 +31,7 @@ fn release_at(slot: &mut Option<Server>) -> Option<Freed>
         IsReleased setting state freed
         × IsSlot setting (next setting state (event.Release freed.packet)) server slot.new) }
     ensures fewer { IfSome result (λ freed. length (buffer_of slot.new) + 1 ≡ length (buffer_of slot.old)) }
+    ensures heads { head_of slot.new ≡ head_of slot.old }
 {
     order_of_a_state();
     released_packets();
@@ -52,6 +54,7 @@ impl Network {
             IsNetwork setting state self.old → IsReleased setting state freed
             × IsNetwork setting (next setting state (event.Release freed.packet)) self.new) }
         ensures fewer { IfSome result (λ freed. withheld_in self.new + 1 ≡ withheld_in self.old) }
+        ensures heads { AreSameHeads self.old self.new }
     {
         servers_beside();
         links_stand_still();

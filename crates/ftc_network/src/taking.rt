@@ -6,6 +6,7 @@ ghost use Rattle.ftc_protocol.specs.Setting.{Setting, servers};
 ghost use Rattle.ftc_protocol.specs.State.{ChainState};
 ghost use Rattle.ftc_network.specs.Events.{IsAllowed, IsTaking, EndsFollow, Follows, StandsStill, SlotStandsStill};
 ghost use Rattle.ftc_network.specs.Parts.{buffer_of, withheld_in};
+ghost use Rattle.ftc_network.specs.Slots.{head_of, AreSameHeads};
 
 use crate::laws::{servers_beside, slots_stay_ready};
 use crate::network::Network;
@@ -33,6 +34,7 @@ fn take_at(
     ensures link { OnErr result (link.new ≡ link.old) }
     ensures slot { OnErr result ((number : ℕ) → SlotStandsStill number slot.old slot.new) }
     ensures buffer { OnOk result (buffer_of slot.new ≡ buffer_of slot.old) }
+    ensures heads { head_of slot.new ≡ head_of slot.old }
 {
     what_take_wants();
     what_take_does();
@@ -60,6 +62,7 @@ impl Network {
         ensures ok { OnOk result (Follows (event.Take link origin) self.old self.new) }
         ensures err { OnErr result (StandsStill self.old self.new) }
         ensures withheld { OnOk result (withheld_in self.new ≡ withheld_in self.old) }
+        ensures heads { AreSameHeads self.old self.new }
     {
         where_events_are();
         servers_beside();

@@ -3,7 +3,7 @@
 ghost use Rattle.std.specs.Prelude.{◌≡◌, length, IfSome};
 
 use crate::Network;
-use ftc_base::Items;
+use ftc_base::{Items, ServerId, WorkerId};
 use ftc_mbox::{ChainSpec, Rule};
 use ftc_ring::Ring;
 use std::alloc::Global;
@@ -37,5 +37,19 @@ fn all_servers_are_up_and_nothing_is_withheld(rt: HostRuntime) -> Result<(), Fai
     assert_eq!(rt; network.withheld(), 0);
     assert!(rt; network.release().is_none());
     assert!(rt; network.visits.is_empty());
+    Ok(())
+}
+
+#[test]
+fn no_slot_runs_anything(rt: HostRuntime) -> Result<(), Fail> {
+    let spec = two_passes(rt.alloc())?;
+    let ring = ring_of(&spec).expect(&rt, "a ring");
+    let network = Network::new(rt.alloc(), ring, &spec)?;
+    let worker = WorkerId::new(3).unwrap();
+    let server = ServerId::new(1).unwrap();
+    assert_eq!(rt; network.servers.len(), 2);
+    assert!(rt; network.server_of(worker).is_none());
+    assert!(rt; network.look(worker, server)?.is_none());
+    assert!(rt; !network.is_running(server, 0));
     Ok(())
 }

@@ -19,7 +19,7 @@ use ftc_refinement::what_stays;
 use ftc_server::{CommitAnswer, Server};
 
 /// The same answers once more.
-fn copy_answers(answers: &Answers) -> Answers
+pub fn copy_answers(answers: &Answers) -> Answers
     ensures { result ≡ answers.now }
 {
     Answers::try_from(answers.as_slice()).unwrap()

@@ -26,7 +26,7 @@ chain_after-requires c =
     let right : IsSetting setting = c.accepted.ensures.setting texts.spec packets texts.script c.rules.ensures.bounds c.ring.ensures.accepted
     c.requires.ring (c.requires.packets ∙ sym (bytes_count texts.capture.packets)) in
     let chosen : ∥ IsDrive setting texts.schedule.items journal ∥₁ =
-    subst (λ (given : Setting). ∥ IsDrive given texts.schedule.items journal ∥₁) (ap setting_in c.in_ok-chain.ensures) c.in_ok-run.ensures.ok in
+    subst (λ (given : Setting). ∥ IsDrive given texts.schedule.items journal ∥₁) (ap setting_in c.in_ok-chain.ensures.new) c.in_ok-run.ensures.ok in
     let steps : c.in_ok-trace.trace ≡ trace_of journal = c.in_ok-trace.ensures ∙ ap trace_of c.journal-journal.ensures.same in
     subst (λ (taken : List Step). IsSome (serial_run texts.spec.rules (opening packets) taken)) (sym steps)
     (has_end setting journal c.serial_of_a_run.ensures ∣ right ∣₁ (is_run c.drive.ensures.run setting texts.schedule.items journal chosen))
@@ -40,7 +40,7 @@ returns-clause-driven c =
     let right : IsSetting setting = c.accepted.ensures.setting texts.spec packets texts.script c.rules.ensures.bounds c.ring.ensures.accepted
     c.requires.ring (c.requires.packets ∙ sym (bytes_count texts.capture.packets)) in
     let chosen : ∥ IsDrive setting texts.schedule.items journal ∥₁ =
-    subst (λ (given : Setting). ∥ IsDrive given texts.schedule.items journal ∥₁) (ap setting_in c.in_ok-chain.ensures) c.in_ok-run.ensures.ok in
+    subst (λ (given : Setting). ∥ IsDrive given texts.schedule.items journal ∥₁) (ap setting_in c.in_ok-chain.ensures.new) c.in_ok-run.ensures.ok in
     let steps : c.in_ok-trace.trace ≡ trace_of journal = c.in_ok-trace.ensures ∙ ap trace_of c.journal-journal.ensures.same in
     finished_drive c.drive.ensures.run setting texts.schedule.items journal (state_of c.in_ok-serial.serial) right chosen
     (subst (λ (taken : List Step). serial_run texts.spec.rules (opening packets) taken ≡ Some (state_of c.in_ok-serial.serial)) steps

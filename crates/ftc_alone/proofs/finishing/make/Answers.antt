@@ -7,6 +7,7 @@ use Rattle.ftc_protocol.specs.Jobs.{IsLegalJob}
 use Rattle.ftc_chain.specs.Course.{HasMade}
 use Rattle.ftc_chain.specs.Doing.{is_visit}
 use Rattle.ftc_alone.proofs.FinishSteps.{made_in, isnt_visit}
+use Rattle.ftc_alone.proofs.IdleRuns.{idle_stepped, refused_but}
 use Rattle.ftc_alone.proofs.Results.{on_ok}
 use Rattle.ftc_alone.proofs.finishing.make.Goals as goal
 
@@ -21,5 +22,7 @@ returns c =
       ok = on_ok c.step.result (∥ HasMade FINISHING_SLOT c.args.job.now c.args.chain.now c.step.new.self ∥₁) (∥ HasMade c.args.worker c.args.job.now c.args.chain.now c.step.new.self ∥₁)
           (λ made. ∥∥₁_map made (made_in FINISHING_SLOT c.args.worker c.args.job.now c.args.chain.now c.step.new.self other))
           c.step.ensures.ok;
-      err = c.step.ensures.err;
+      err = refused_but c.step.result c.args.chain.now c.step.new.self c.step.ensures.err;
+      idle = idle_stepped c.step.result c.args.job.now c.args.chain.now c.step.new.self c.step.ensures.heads
+          c.step.ensures.err;
     }

@@ -1,25 +1,14 @@
-use Rattle.std.proofs.Common.{◌≡◌, ◌++◌, ◌∷◌, [], ◌+◌, List, take, sym, subst}
-use Rattle.std.proofs.Math.Logic.{∥∥₁_map, ∥∥₁_map₂}
-use Rattle.ftc_journal.specs.declared.event.Event.{Event}
-use Rattle.ftc_chain.specs.ChainRun.{ChainRun}
-use Rattle.ftc_alone.specs.Alone.{HasPlayed, HasPlayedSome}
-use Rattle.ftc_alone.proofs.PlayedParts.{played_on, played_some, one_taken_more}
-use Rattle.ftc_alone.proofs.Results.{on_any_err}
+use Rattle.std.proofs.Math.Logic.{∥∥₁_map}
+use Rattle.ftc_alone.proofs.PlayedParts.{played_after, some_after}
+use Rattle.ftc_alone.proofs.Results.{on_ok, on_err}
 use Rattle.ftc_alone.proofs.playing.play.Goals as goal
 
-pub returns-in_err-play_one-clause-err : goal.returns-in_err-play_one-clause-err
-returns-in_err-play_one-clause-err c =
-    let first : ChainRun = c.args.chain.now in let events : List Event = c.args.schedule.now.items in
-    let some : ∥ HasPlayedSome c.as_slice-event-items.result.now first c.loop-event.chain ∥₁ =
-    ∥∥₁_map c.loop-event.invariant (played_some c.as_slice-event-items.result.now c.loop-event.event-index first c.loop-event.chain) in
-    on_any_err c.from_residual.result (∥ HasPlayedSome events first c.play_one.new.chain ∥₁)
-    (subst (λ (run : ChainRun). ∥ HasPlayedSome events first run ∥₁) (sym c.in_err-play_one.ensures.err)
-    (subst (λ (es : List Event). ∥ HasPlayedSome es first c.loop-event.chain ∥₁) c.as_slice-event-items.ensures some))
+pub returns-clause-ok : goal.returns-clause-ok
+returns-clause-ok c =
+    on_ok c.play_idle.result _ _ (λ played. ∥∥₁_map played (played_after c.args.schedule.now.items c.args.chain.now
+    c.quit_all.new.chain c.play_idle.new.chain c.quit_all.ensures.rest)) c.play_idle.ensures.ok
 
-pub loop-event-preserved : goal.loop-event-preserved
-loop-event-preserved c =
-    let first : ChainRun = c.args.chain.now in let now : ChainRun = c.loop-event.chain in let new : ChainRun = c.play_one.new.chain in
-    let items : List Event = c.as_slice-event-items.result.now in
-    let taken : take (c.loop-event.event-index + 1) items ≡ take c.loop-event.event-index items ++ c.event-item.result ∷ [] = one_taken_more items c.loop-event.event-index c.event-item.result c.loop-event-test.true c.event-item.is in
-    subst (λ (es : List Event). ∥ HasPlayed es first new ∥₁) (sym taken)
-    (∥∥₁_map₂ c.loop-event.invariant c.in_ok-play_one.ensures.ok (played_on (take c.loop-event.event-index items) (c.event-item.result ∷ []) first now new))
+pub returns-clause-err : goal.returns-clause-err
+returns-clause-err c =
+    on_err c.play_idle.result _ _ (λ some. ∥∥₁_map some (some_after c.args.schedule.now.items c.args.chain.now
+    c.quit_all.new.chain c.play_idle.new.chain c.quit_all.ensures.rest)) c.play_idle.ensures.err

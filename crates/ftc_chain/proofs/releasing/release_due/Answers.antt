@@ -1,4 +1,4 @@
-use Rattle.std.proofs.Common.{◌≤◌, refl, arith}
+use Rattle.std.proofs.Common.{◌≤◌, ◌∙◌, refl, arith}
 use Rattle.ftc_chain.proofs.Releases.{when_ok, is_run_state, one_more, all_made}
 use Rattle.ftc_chain.proofs.releasing.release_due.Goals as goal
 
@@ -23,13 +23,17 @@ loop-freed-preserved c =
           (record { journal = c.push.new.self; network = c.release.new.self; outlet = c.add.new.self })
           c.in-Some.freed.packet c.in-Some.freed.bytes releasing done.0.legal done.0.bytes grown done.1
           c.add.ensures.waiting c.add.ensures.drained,
+      λ server. c.release.ensures.heads server ∙ c.loop-freed.invariant.3 server,
     )
 
-pub returns : goal.returns
-returns c setting is =
+pub returns-clause-released : goal.returns-clause-released
+returns-clause-released c setting is =
     let now = c.loop-freed.course in
     let releasing = c.loop-freed.invariant.2 setting is in
     let done = c.in_default.ensures.none refl setting _
     (is_run_state setting now releasing.course_is) releasing.course_is.stands in
     all_made setting c.args.course.now now
     (record { journal = now.journal; network = c.release.new.self; outlet = now.outlet }) releasing refl refl done.0 done.1
+
+pub returns-clause-heads : goal.returns-clause-heads
+returns-clause-heads c server = c.release.ensures.heads server ∙ c.loop-freed.invariant.3 server

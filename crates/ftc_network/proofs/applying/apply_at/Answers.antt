@@ -1,4 +1,4 @@
-use Rattle.std.proofs.Common.{true, ap, sym, subst, ◌∙◌}
+use Rattle.std.proofs.Common.{true, ap, sym, subst, ◌∙◌, ◌≡◌}
 use Rattle.ftc_journal.specs.declared.event.Event.{Event}
 use Rattle.ftc_journal.specs.declared.event.Event.TheVariants as event
 use Rattle.ftc_server.specs.Looks.{may_apply_in}
@@ -9,6 +9,7 @@ use Rattle.ftc_network.specs.Stand.{IsSlot, IsUp}
 use Rattle.ftc_network.proofs.Allowed.{at_up}
 use Rattle.ftc_network.proofs.ReadySlots.{same_runs, same_still}
 use Rattle.ftc_network.proofs.Results.{on_ok, on_err}
+use Rattle.ftc_network.proofs.Heads.{same_head, either_way}
 use Rattle.ftc_network.proofs.applying.apply_at.Goals as goal
 
 pub apply-requires-clause-ready : goal.apply-requires-clause-ready
@@ -54,3 +55,10 @@ returns-in-Some-clause-err c =
     on_err c.apply.result _ _ (λ same. same_still c.args.slot.now old new c.in-Some.is same
     (λ setting state number at fields. c.what_stays.ensures.same setting state number old new at fields) c.args.server)
     c.apply.ensures.err
+
+pub returns-in-Some-clause-heads : goal.returns-in-Some-clause-heads
+returns-in-Some-clause-heads c =
+    same_head c.args.slot.now c.in-Some.live c.apply.new.self c.in-Some.is
+    (either_way c.apply.result _ _ (c.apply.new.self.head ≡ c.in-Some.live.head)
+    (λ done. ap (λ (s : ServerState). s.head) done.rest)
+    (λ same. ap (λ (s : ServerState). s.head) same) c.apply.ensures.ok c.apply.ensures.err)

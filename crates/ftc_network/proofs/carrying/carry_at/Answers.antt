@@ -10,6 +10,7 @@ use Rattle.ftc_network.specs.Stand.{IsSlot, IsUp}
 use Rattle.ftc_network.proofs.Allowed.{at_up}
 use Rattle.ftc_network.proofs.ReadySlots.{same_runs, same_still}
 use Rattle.ftc_network.proofs.Results.{on_ok, on_err}
+use Rattle.ftc_network.proofs.Heads.{same_head, either_way}
 use Rattle.ftc_network.proofs.carrying.carry_at.Goals as goal
 
 is_carry : Option Work → Bool
@@ -71,3 +72,10 @@ returns-in-Some-clause-err c =
     on_err c.carry.result _ _ (λ same. same_still c.args.slot.now old new c.in-Some.is same
     (λ setting state number at fields. c.what_stays.ensures.same setting state number old new at fields) 0)
     c.carry.ensures.err
+
+pub returns-in-Some-clause-heads : goal.returns-in-Some-clause-heads
+returns-in-Some-clause-heads c =
+    same_head c.args.slot.now c.in-Some.server c.carry.new.self c.in-Some.is
+    (either_way c.carry.result _ _ (c.carry.new.self.head ≡ c.in-Some.server.head)
+    (λ done. ap (λ (s : ServerState). s.head) done.rest)
+    (λ same. ap (λ (s : ServerState). s.head) same) c.carry.ensures.ok c.carry.ensures.err)

@@ -1,4 +1,4 @@
-use Rattle.std.proofs.Common.{◌∙◌, List, ℕ, false, Some, refl, ap, sym, subst}
+use Rattle.std.proofs.Common.{◌∙◌, List, ℕ, false, Some, refl, ap, sym, subst, ◌≡◌}
 use Rattle.ftc_journal.specs.declared.event.Event.TheVariants as event
 use Rattle.ftc_message.specs.declared.message.Message.{Message as SentMessage}
 use Rattle.ftc_protocol.specs.Setting.{packet_at}
@@ -10,6 +10,7 @@ use Rattle.ftc_network.specs.Stand.{IsSlot, IsUp}
 use Rattle.ftc_network.proofs.Allowed.{at_up}
 use Rattle.ftc_network.proofs.ReadySlots.{same_runs, roomed_still}
 use Rattle.ftc_network.proofs.Results.{on_ok, on_err}
+use Rattle.ftc_network.proofs.Heads.{same_head, either_way}
 use Rattle.ftc_network.proofs.entering.enter_at.Goals as goal
 
 pub hold-requires-clause-new : goal.hold-requires-clause-new
@@ -56,3 +57,10 @@ returns-in_ok-message-in-Some-clause-err c =
     on_err c.hold.result _ _ (λ same. roomed_still c.args.slot.now old new c.in-Some.is same
     (λ setting state number at fields. c.what_stays.ensures.roomed setting state number old new at fields) 0)
     c.hold.ensures.err
+
+pub returns-in_ok-message-in-Some-clause-heads : goal.returns-in_ok-message-in-Some-clause-heads
+returns-in_ok-message-in-Some-clause-heads c =
+    same_head c.args.slot.now c.in-Some.server c.hold.new.server c.in-Some.is
+    (either_way c.hold.result _ _ (c.hold.new.server.head ≡ c.in-Some.server.head)
+    (λ done. ap (λ (s : ServerState). s.head) done.rest)
+    (λ same. ap (λ (s : ServerState). s.head) same.rest) c.hold.ensures.ok c.hold.ensures.err)

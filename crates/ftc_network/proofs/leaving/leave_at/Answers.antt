@@ -13,6 +13,7 @@ use Rattle.ftc_network.proofs.ReadySlots.{same_runs, buffered_still}
 use Rattle.ftc_network.proofs.MessageForms.{has_frame, work_is_send}
 use Rattle.ftc_network.proofs.Results.{as_err, each_some}
 use Rattle.ftc_network.proofs.SentAlong.{either_way, up_after, is_sent_where, after_sending}
+use Rattle.ftc_network.proofs.Heads.{same_head}
 use Rattle.ftc_network.proofs.leaving.leave_at.Goals as goal
 
 pub outgoing-requires : goal.outgoing-requires
@@ -97,3 +98,14 @@ returns-in_err-send_on-in-Some-clause-slot c = as_err c.from_residual-in_err-sen
     (buffered_still c.args.slot.now c.in-Some.live c.outgoing.new.self c.in-Some.is c.in_ok-message-in-Some.ensures.same
     (λ setting state number at room. c.what_stays.ensures.buffered setting state number c.in-Some.live
     c.outgoing.new.self at room))
+
+pub returns-in_ok-send_on-in-Some-clause-heads : goal.returns-in_ok-send_on-in-Some-clause-heads
+returns-in_ok-send_on-in-Some-clause-heads c =
+    same_head c.args.slot.now c.in-Some.live c.pass.new.self c.in-Some.is
+    (ap (λ (s : ServerState). s.head) c.pass.ensures.rest
+    ∙ ap (λ (s : ServerState). s.head) c.in_ok-message-in-Some.ensures.same.rest)
+
+pub returns-in_err-send_on-in-Some-clause-heads : goal.returns-in_err-send_on-in-Some-clause-heads
+returns-in_err-send_on-in-Some-clause-heads c =
+    same_head c.args.slot.now c.in-Some.live c.outgoing.new.self c.in-Some.is
+    (ap (λ (s : ServerState). s.head) c.in_ok-message-in-Some.ensures.same.rest)

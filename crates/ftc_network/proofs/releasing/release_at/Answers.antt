@@ -16,6 +16,7 @@ use Rattle.ftc_network.proofs.ReadySlots.{same_runs, ready_by, still_ready}
 use Rattle.ftc_network.proofs.LastServer.{none_withheld}
 use Rattle.ftc_network.proofs.Released.{one_fewer}
 use Rattle.ftc_network.proofs.Results.{none_mapped, some_mapped}
+use Rattle.ftc_network.proofs.Heads.{same_head}
 use Rattle.ftc_network.proofs.releasing.release_at.Goals as goal
 
 pub returns-in-Some-clause-none : goal.returns-in-Some-clause-none
@@ -75,3 +76,8 @@ pub returns-in-None-clause-none : goal.returns-in-None-clause-none
 returns-in-None-clause-none c none setting state number run last is =
     let down : state.up number ≡ Rattle.std.proofs.Common.false = subst (IsSlot setting state number) c.in-None.is is in
     (none_withheld setting state number last (c.order_of_a_state.ensures setting state run) down, is)
+
+pub returns-in-Some-clause-heads : goal.returns-in-Some-clause-heads
+returns-in-Some-clause-heads c =
+    same_head c.args.slot.now c.in-Some.server c.release.new.self c.in-Some.is
+    (ap (λ (s : ServerState). s.head) c.release.ensures.others.rest)

@@ -22,6 +22,7 @@ use Rattle.ftc_network.specs.Events.{IsTaking}
 use Rattle.ftc_network.specs.Parts.{buffer_of}
 use Rattle.ftc_network.specs.Stand.{IsSlot, IsUp}
 use Rattle.ftc_network.proofs.ReadySlots.{same_runs}
+use Rattle.ftc_network.proofs.Heads.{same_head}
 use Rattle.ftc_network.proofs.taking.take_at.Goals as goal
 
 -- what is allowed of a link and its receiver, where it is a test on what is taken and the receiver with room for it
@@ -109,3 +110,9 @@ pub returns-in-Some-2-clause-buffer : goal.returns-in-Some-2-clause-buffer
 returns-in-Some-2-clause-buffer c =
     ap (λ (s : ServerState). s.buffer.items) c.take-in-Some-2.ensures.rest
     ∙ (ap (λ (s : ServerState). s.buffer.items) c.make_room.ensures.same.rest ∙ ap buffer_of (sym c.in-Some.is))
+
+pub returns-in-Some-2-clause-heads : goal.returns-in-Some-2-clause-heads
+returns-in-Some-2-clause-heads c =
+    same_head c.args.slot.now c.in-Some.server c.take-in-Some-2.new.self c.in-Some.is
+    (ap (λ (s : ServerState). s.head) c.take-in-Some-2.ensures.rest
+    ∙ ap (λ (s : ServerState). s.head) c.make_room.ensures.same.rest)

@@ -23,6 +23,7 @@ invariant_of-self c =
       rests_out given course c.self.invariant.1 c.take.new.self
           (taken_out (released_in (state_by (setting_by given) course.journal.items).trace) course.outlet c.take.new.self
           c.take.result c.take.ensures.some c.take.ensures.count c.take.ensures.same c.take.ensures.uncounted),
+      c.self.invariant.2,
     )
 
 pub returns-clause-some : goal.returns-clause-some

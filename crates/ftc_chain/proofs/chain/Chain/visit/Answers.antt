@@ -1,10 +1,14 @@
-use Rattle.std.proofs.Common.{refl, sym, subst}
+use Rattle.std.proofs.Common.{◌∙◌, refl, sym, ap, subst}
 use Rattle.std.proofs.Math.Logic.{∥∥₁_map}
 use Rattle.ftc_journal.specs.declared.event.Event.TheVariants as event
 use Rattle.ftc_journal.specs.declared.job.Job.TheVariants.{Visit}
+use Rattle.ftc_network.specs.declared.network.Network.{Network}
+use Rattle.ftc_network.specs.Slots.{head_at}
 use Rattle.ftc_network.specs.Stand.{IsNetwork}
 use Rattle.ftc_chain.specs.Doing.{MayDo, setting_by}
 use Rattle.ftc_chain.proofs.AtRest.{may_do}
+use Rattle.ftc_chain.proofs.HeadsKept.{once_as, once_kept, same_no_more, others_no_more, then_no_more, visited_no_more}
+use Rattle.ftc_chain.proofs.HeadsSeen.{others_stay, idle_stays, visited_others}
 use Rattle.ftc_chain.proofs.Made.{before, stepped, still_rests}
 use Rattle.ftc_chain.proofs.chain.Chain.visit.Goals as goal
 
@@ -14,6 +18,7 @@ invariant_of-self c = (
   ∥∥₁_map c.self.invariant.1 (λ is. still_rests (setting_by c.self.inside.given) c.self.inside.course c.make_room.new.self
       c.make_room.ensures.journal c.make_room.ensures.waiting c.make_room.ensures.drained (λ state stands.
       subst (IsNetwork (setting_by c.self.inside.given) state) (sym c.make_room.ensures.network) stands) is),
+  once_as c.self.inside.course.network c.make_room.new.self.network c.make_room.ensures.network c.self.invariant.2,
 )
 
 pub visit-requires : goal.visit-requires
@@ -32,6 +37,10 @@ invariant_of-self-in_err-visit c =
           (record { journal = c.make_room.new.self.journal; network = c.visit.new.network; outlet = c.make_room.new.self.outlet })
           c.make_room.ensures.journal c.make_room.ensures.waiting c.make_room.ensures.drained (λ state stands. c.in_err-visit.ensures.err (setting_by given) state
           (subst (IsNetwork (setting_by given) state) (sym c.make_room.ensures.network) stands)) is),
+      once_kept c.make_room.new.self.network c.visit.new.network
+          (others_no_more c.args.server c.make_room.new.self.network c.visit.new.network c.visit.ensures.others
+          c.visit.ensures.fewer)
+          (once_as c.self.inside.course.network c.make_room.new.self.network c.make_room.ensures.network c.self.invariant.2),
     )
 
 pub invariant_of-self-2 : goal.invariant_of-self-2
@@ -46,7 +55,13 @@ invariant_of-self-2 c =
           (Visit c.args.server c.args.packet)).1 legal)
           c.make_room.ensures.journal c.make_room.ensures.network c.make_room.ensures.waiting c.make_room.ensures.drained refl c.in_ok-push.ensures.ok
           (λ state run legal stands. (refl, c.in_ok-visit.ensures.ok state run legal stands))
-          c.release_due.ensures c.releases.ensures.end) (λ both. both.0),
+          c.release_due.ensures.released c.releases.ensures.end) (λ both. both.0),
+      once_kept c.visit.new.network c.release_due.new.course.network
+          (same_no_more c.visit.new.network c.release_due.new.course.network c.release_due.ensures.heads)
+          (once_kept c.make_room.new.self.network c.visit.new.network
+          (others_no_more c.args.server c.make_room.new.self.network c.visit.new.network c.visit.ensures.others
+          c.visit.ensures.fewer)
+          (once_as c.self.inside.course.network c.make_room.new.self.network c.make_room.ensures.network c.self.invariant.2)),
     )
 
 pub returns-clause-ok : goal.returns-clause-ok
@@ -60,4 +75,31 @@ returns-clause-ok c =
     (Visit c.args.server c.args.packet)).1 legal)
     c.make_room.ensures.journal c.make_room.ensures.network c.make_room.ensures.waiting c.make_room.ensures.drained refl c.in_ok-push.ensures.ok
     (λ state run legal stands. (refl, c.in_ok-visit.ensures.ok state run legal stands))
-    c.release_due.ensures c.releases.ensures.end) (λ both. both.1)
+    c.release_due.ensures.released c.releases.ensures.end) (λ both. both.1)
+
+pub returns-in_err-visit-clause-others : goal.returns-in_err-visit-clause-others
+returns-in_err-visit-clause-others c =
+    others_stay c.self.inside.given c.self.inside.course
+    (record { journal = c.make_room.new.self.journal; network = c.visit.new.network; outlet = c.make_room.new.self.outlet })
+    c.args.self.now c.self.view_is c.args.server (λ other differs. c.visit.ensures.others other differs
+    ∙ ap (λ (network : Network). head_at network other) c.make_room.ensures.network)
+
+pub returns-in_err-visit-clause-idle : goal.returns-in_err-visit-clause-idle
+returns-in_err-visit-clause-idle c other idle =
+    idle_stays c.self.inside.given c.self.inside.course
+    (record { journal = c.make_room.new.self.journal; network = c.visit.new.network; outlet = c.make_room.new.self.outlet })
+    c.args.self.now c.self.view_is other (visited_no_more c.args.server c.self.inside.course.network c.make_room.new.self.network c.visit.new.network
+    c.make_room.ensures.network c.visit.ensures.others c.visit.ensures.fewer) idle
+
+pub returns-clause-others : goal.returns-clause-others
+returns-clause-others c =
+    visited_others c.self.inside.given c.self.inside.course c.make_room.new.self c.visit.new.network
+    c.release_due.new.course c.args.self.now c.self.view_is c.make_room.ensures.network c.release_due.ensures.heads
+    c.args.server c.visit.ensures.others
+
+pub returns-clause-idle : goal.returns-clause-idle
+returns-clause-idle c other idle =
+    idle_stays c.self.inside.given c.self.inside.course c.release_due.new.course c.args.self.now c.self.view_is other
+    (then_no_more c.self.inside.course.network c.visit.new.network c.release_due.new.course.network (visited_no_more c.args.server c.self.inside.course.network c.make_room.new.self.network c.visit.new.network
+    c.make_room.ensures.network c.visit.ensures.others c.visit.ensures.fewer)
+    (same_no_more c.visit.new.network c.release_due.new.course.network c.release_due.ensures.heads)) idle

@@ -9,6 +9,8 @@ use Rattle.ftc_network.specs.Stand.{IsSlot}
 use Rattle.ftc_network.proofs.Allowed.{below_servers, slot_allowed}
 use Rattle.ftc_network.proofs.OneServer.{one_server, read_server, still_server, same_withheld}
 use Rattle.ftc_network.proofs.Results.{on_ok, on_err}
+use Rattle.ftc_network.proofs.Heads.{same_heads}
+use Rattle.ftc_network.specs.Slots.{head_of}
 use Rattle.ftc_network.proofs.network.Network.apply.Goals as goal
 
 pub index_mut-requires : goal.index_mut-requires
@@ -90,3 +92,17 @@ returns-clause-withheld c =
     on_ok c.apply_at.result _ _ (λ same.
     same_withheld old.servers.items place (old.ring.servers - 1) c.apply_at.new.slot within
     (same ∙ ap buffer_of (slot ∙ ap (server_in old.servers.items) (sym c.place_of.ensures)))) c.apply_at.ensures.buffer
+
+pub returns-clause-heads : goal.returns-clause-heads
+returns-clause-heads c =
+    let event : Event = event.Apply c.args.server c.args.origin c.args.group c.args.packet in
+    let old = c.args.self.now in
+    let place = c.place_of.result in
+    let below = below_servers event old c.args.server (λ setting state run legal.
+    (c.where_events_are.ensures.apply setting state c.args.server c.args.origin c.args.group c.args.packet run legal).0)
+    c.requires in
+    let within : place < length old.servers.items = omega (arith, below, old.each_server, c.place_of.ensures) in
+    let slot = read_server old.servers.items place c.args.server c.index_mut.result.now c.place_of.ensures within
+    c.index_mut.ensures.value in
+    same_heads old.servers.items place c.apply_at.new.slot within
+    (c.apply_at.ensures.heads ∙ ap head_of (slot ∙ ap (server_in old.servers.items) (sym c.place_of.ensures)))

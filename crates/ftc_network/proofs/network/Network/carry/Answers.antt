@@ -9,6 +9,8 @@ use Rattle.ftc_network.specs.Stand.{IsSlot}
 use Rattle.ftc_network.proofs.Allowed.{slot_allowed}
 use Rattle.ftc_network.proofs.OneServer.{one_server, read_server, still_server, same_withheld}
 use Rattle.ftc_network.proofs.Results.{on_ok, on_err}
+use Rattle.ftc_network.proofs.Heads.{same_heads}
+use Rattle.ftc_network.specs.Slots.{head_of}
 use Rattle.ftc_network.proofs.network.Network.carry.Goals as goal
 
 pub carry_at-requires : goal.carry_at-requires
@@ -62,3 +64,11 @@ returns-clause-withheld c =
     on_ok c.carry_at.result _ _ (λ same.
     same_withheld old.servers.items 0 (old.ring.servers - 1) c.carry_at.new.slot within (same ∙ ap buffer_of slot))
     c.carry_at.ensures.buffer
+
+pub returns-clause-heads : goal.returns-clause-heads
+returns-clause-heads c =
+    let old = c.args.self.now in
+    let some = c.servers.ensures.bounds.some in
+    let within : 0 < length old.servers.items = omega (arith, some, old.each_server) in
+    let slot = read_server old.servers.items 0 0 c.index_mut.result.now refl within c.index_mut.ensures.value in
+    same_heads old.servers.items 0 c.carry_at.new.slot within (c.carry_at.ensures.heads ∙ ap head_of slot)

@@ -1,4 +1,4 @@
-use Rattle.std.proofs.Common.{◌≡◌, ◌∙◌, ◌<◌, ◌+◌, ◌-◌, ℕ, Bool, false, None, length, refl, sym, ap, subst, arith}
+use Rattle.std.proofs.Common.{◌≡◌, ◌∙◌, ◌<◌, ◌+◌, ◌-◌, ℕ, Bool, false, None, length, refl, sym, ap, subst, arith, slice_set, get_or-set_same, get_or-set_other}
 use Rattle.ftc_journal.specs.declared.event.Event.{Event}
 use Rattle.ftc_journal.specs.declared.event.Event.TheVariants as event
 use Rattle.ftc_protocol.specs.Next.{next}
@@ -6,10 +6,11 @@ use Rattle.ftc_protocol.specs.Setting.{servers}
 use Rattle.ftc_ring.specs.Ring.{RingShape, next_of, previous_of}
 use Rattle.ftc_serial.proofs.Functions.{with_at_cases}
 use Rattle.ftc_standing.specs.Stand.{IsLink}
-use Rattle.ftc_network.specs.Parts.{parts_of}
+use Rattle.ftc_network.specs.Parts.{parts_of, server_in}
 use Rattle.ftc_network.proofs.Allowed.{below_servers}
 use Rattle.ftc_network.proofs.OneServer.{read_link, server_and_link, gone_withheld}
 use Rattle.ftc_network.proofs.ScriptLines.{lines_left}
+use Rattle.ftc_network.specs.Slots.{head_of}
 use Rattle.ftc_network.proofs.network.Network.crash.Goals as goal
 
 pub previous-before-requires : goal.previous-before-requires
@@ -67,3 +68,17 @@ returns-clause-withheld c =
     (c.where_events_are.ensures.crash setting state c.args.server run legal).0) c.requires.allowed in
     gone_withheld old.servers.items c.place_of.result (old.ring.servers - 1)
     (omega (arith, below, old.each_server, c.place_of.ensures))
+
+pub returns-clause-down : goal.returns-clause-down
+returns-clause-down c =
+    let old = c.args.self.now in
+    let below = below_servers (event.Crash c.args.server) old c.args.server (λ setting state run legal.
+    (c.where_events_are.ensures.crash setting state c.args.server run legal).0) c.requires.allowed in
+    ap head_of (ap (server_in (slice_set old.servers.items c.place_of.result None)) (sym c.place_of.ensures)
+    ∙ get_or-set_same old.servers.items c.place_of.result None None
+    (omega (arith, below, old.each_server, c.place_of.ensures)))
+
+pub returns-clause-others : goal.returns-clause-others
+returns-clause-others c other differs =
+    ap head_of (get_or-set_other c.args.self.now.servers.items c.place_of.result other None None
+    (λ same. differs (same ∙ c.place_of.ensures)))

@@ -9,6 +9,8 @@ use Rattle.ftc_network.specs.Stand.{IsSlot}
 use Rattle.ftc_network.proofs.Allowed.{slot_allowed}
 use Rattle.ftc_network.proofs.OneServer.{one_server, read_server, still_server, same_withheld}
 use Rattle.ftc_network.proofs.Results.{as_err}
+use Rattle.ftc_network.proofs.Heads.{same_heads}
+use Rattle.ftc_network.specs.Slots.{head_of}
 use Rattle.ftc_network.proofs.network.Network.enter.Goals as goal
 
 pub enter_at-requires : goal.enter_at-requires
@@ -60,3 +62,19 @@ returns-clause-withheld c =
     let slot = read_server old.servers.items 0 0 c.index_mut.result.now refl within c.index_mut.ensures.value in
     same_withheld old.servers.items 0 (old.ring.servers - 1) c.enter_at.new.slot within
     (c.in_ok-enter_at.ensures.buffer ∙ ap buffer_of slot)
+
+pub returns-clause-heads : goal.returns-clause-heads
+returns-clause-heads c =
+    let old = c.args.self.now in
+    let some = c.servers.ensures.bounds.some in
+    let within : 0 < length old.servers.items = omega (arith, some, old.each_server) in
+    let slot = read_server old.servers.items 0 0 c.index_mut.result.now refl within c.index_mut.ensures.value in
+    same_heads old.servers.items 0 c.enter_at.new.slot within (c.enter_at.ensures.heads ∙ ap head_of slot)
+
+pub returns-in_err-enter_at-clause-heads : goal.returns-in_err-enter_at-clause-heads
+returns-in_err-enter_at-clause-heads c =
+    let old = c.args.self.now in
+    let some = c.servers.ensures.bounds.some in
+    let within : 0 < length old.servers.items = omega (arith, some, old.each_server) in
+    let slot = read_server old.servers.items 0 0 c.index_mut.result.now refl within c.index_mut.ensures.value in
+    same_heads old.servers.items 0 c.enter_at.new.slot within (c.enter_at.ensures.heads ∙ ap head_of slot)

@@ -13,6 +13,8 @@ use Rattle.ftc_network.specs.Stand.{IsSlot}
 use Rattle.ftc_network.proofs.OneEach.{one_each, slot_there, link_there, receiver_up}
 use Rattle.ftc_network.proofs.Results.{on_ok, on_err_both}
 use Rattle.ftc_network.proofs.SentAlong.{leaver_below, leaver_inside, other_server, other_link, counts_after}
+use Rattle.ftc_network.proofs.Heads.{same_heads}
+use Rattle.ftc_network.specs.Slots.{head_of}
 use Rattle.ftc_network.proofs.network.Network.leave.Goals as goal
 
 -- a message that leaves makes no visit
@@ -128,3 +130,15 @@ returns-clause-err c =
     (subst (IsLink setting state server) (sym same) link))
     (λ number other differs stays. stays) (λ from other differs stays. stays) is.counts is.visits)
     c.leave_at.ensures.link c.leave_at.ensures.slot
+
+pub returns-clause-heads : goal.returns-clause-heads
+returns-clause-heads c =
+    let old = c.args.self.now in
+    let below = leaver_inside c.where_events_are.ensures.pass c.where_events_are.ensures.lose old (is_some c.args.lost)
+    c.args.server c.args.origin c.requires in
+    let within : c.place_of-2.result < length old.servers.items =
+    omega (arith, below, old.each_server, c.place_of-2.ensures) in
+    same_heads old.servers.items c.place_of-2.result c.leave_at.new.slot within
+    (c.leave_at.ensures.heads
+    ∙ ap head_of (get_or_read old.servers.items c.place_of-2.result c.index_mut.result.now within
+    c.index_mut.ensures.value None))

@@ -9,8 +9,8 @@ use Rattle.ftc_network.specs.Parts.{server_in}
 use Rattle.ftc_network.proofs.NewNetwork.{new_slot_stands}
 use Rattle.ftc_network.proofs.network.Network.new.Goals as goal
 
-pub returns : goal.returns
-returns c setting of =
+pub returns-clause-stands : goal.returns-clause-stands
+returns-clause-stands c setting of =
     let chain = c.args.spec.now in
     let ring : c.args.ring ≡ shape setting =
     c.requires ∙ (ap (λ (rules : List Rule). record { servers = length rules; failures = chain.failures }) (sym of.rules)

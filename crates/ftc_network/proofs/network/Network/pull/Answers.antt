@@ -19,6 +19,8 @@ use Rattle.ftc_network.proofs.OneServer.{one_server}
 use Rattle.ftc_network.proofs.PullWanted.{between_prop, later_prop, trace_few, may_pull, later_so, pull_follows}
 use Rattle.ftc_network.proofs.PulledServer.{another, gap_is}
 use Rattle.ftc_network.proofs.Results.{as_err}
+use Rattle.ftc_network.proofs.Heads.{same_heads}
+use Rattle.ftc_network.specs.Slots.{head_of}
 use Rattle.ftc_network.proofs.network.Network.pull.Goals as goal
 
 pub gains_between-requires : goal.gains_between-requires
@@ -161,3 +163,23 @@ returns-clause-ok c setting state run legal is =
       };
       visits = c.made_visits_stay.ensures setting state pulling old.visits.items run legal refl is.visits;
     }
+
+pub returns-clause-heads : goal.returns-clause-heads
+returns-clause-heads c =
+    let old = c.args.self.now in
+    let within : c.place_of-3.result < length old.servers.items =
+    omega (arith, old.each_server, c.place_of-3.ensures, c.next-receiver.ensures.within) in
+    same_heads old.servers.items c.place_of-3.result c.install_at.new.slot within
+    (c.install_at.ensures.heads
+    ∙ ap head_of (get_or_read old.servers.items c.place_of-3.result c.index_mut.result.now within
+    c.index_mut.ensures.value None))
+
+pub returns-in_err-install_at-clause-heads : goal.returns-in_err-install_at-clause-heads
+returns-in_err-install_at-clause-heads c =
+    let old = c.args.self.now in
+    let within : c.place_of-3.result < length old.servers.items =
+    omega (arith, old.each_server, c.place_of-3.ensures, c.next-receiver.ensures.within) in
+    same_heads old.servers.items c.place_of-3.result c.install_at.new.slot within
+    (c.install_at.ensures.heads
+    ∙ ap head_of (get_or_read old.servers.items c.place_of-3.result c.index_mut.result.now within
+    c.index_mut.ensures.value None))

@@ -1,4 +1,4 @@
-use Rattle.std.proofs.Common.{◌-◌, ◌∙◌, ℕ, refl, sym, ap, subst, arith}
+use Rattle.std.proofs.Common.{◌-◌, ◌∙◌, ℕ, refl, sym, ap, subst, arith, true, false, ◌≡◌, Option}
 use Rattle.std.proofs.Math.Bool.{Bool-set}
 use Rattle.std.proofs.Math.Logic.{∥∥₁_elim}
 use Rattle.ftc_journal.specs.declared.event.Event.{Event}
@@ -19,9 +19,11 @@ use Rattle.ftc_network.specs.Stand.{IsSlot}
 use Rattle.ftc_network.proofs.GotReplicas.{sources_are, anew_in, are_got}
 use Rattle.ftc_network.proofs.NearServers.{alone_by, some_of, up_in, within_ring, within_setting, near_live, previous_is, following_is, up_at}
 use Rattle.ftc_network.proofs.ReadySlots.{idle_ready}
-use Rattle.ftc_network.proofs.Replaced.{slot_ready, each_replaced, fewer_withheld, up_again, slot_dropped, link_cut}
+use Rattle.ftc_network.proofs.Replaced.{slot_ready, each_replaced, fewer_withheld, up_again, slot_dropped, link_cut, other_heads}
 use Rattle.ftc_network.proofs.ScriptLines.{lines_left}
 use Rattle.ftc_network.proofs.Untold.{is_below}
+use Rattle.ftc_server.specs.declared.server.Server.{Server}
+use Rattle.ftc_network.specs.Slots.{head_of, IsIdleHead}
 use Rattle.ftc_network.proofs.network.Network.recover.Goals as goal
 
 pub neighbours-requires : goal.neighbours-requires
@@ -151,3 +153,31 @@ returns-clause-withheld c =
     fewer_withheld old.servers.items c.replace.new.servers.items c.args.server c.in-Some.near.following
     c.in_ok-undone.new
     c.replace.ensures near.after.other anew.buffer (old.ring.servers - 1)
+
+pub returns-in_default-clause-anew : goal.returns-in_default-clause-anew
+returns-in_default-clause-anew c =
+    let server = c.args.server in
+    let old = c.args.self.now in
+    let up = is_up old.servers.items in
+    let both : true ≡ false = ∥∥₁_elim c.requires.allowed (Bool-set _ _) (λ given.
+    let orderly = c.order_of_a_state.ensures given.setting given.state given.run in
+    let down = orderly.recoveries given.state.entered server given.line in
+    absurd (c.the_live.ensures.admissible_not_alone (shape given.setting) given.state.up server down.0 down.1
+    orderly.admissible
+    (alone_by (servers given.setting) up given.state.up server (up_in given.setting given.state (parts_of old) given.stands)
+    (subst (λ (ring : RingShape). IsAlone ring.servers up server) given.stands.ring (c.in_default.ensures.none refl))))) in
+    absurd cc
+
+pub returns-clause-anew : goal.returns-clause-anew
+returns-clause-anew c =
+    let old = c.args.self.now in
+    let near = c.in-Some.ensures.some in
+    let previous = some_of (server_in old.servers.items c.in-Some.near.previous) near.before.up in
+    let following = some_of (server_in old.servers.items c.in-Some.near.following) near.after.up in
+    let anew = c.in_ok-undone.ensures.new previous.0 following.0 previous.1 following.1 in
+    subst (λ (o : Option Server). IsIdleHead (head_of o)) (sym c.replace.ensures.here) anew.idle
+
+pub returns-clause-others : goal.returns-clause-others
+returns-clause-others c =
+    other_heads c.args.self.now.servers.items c.replace.new.servers.items c.args.server c.in-Some.near.following
+    c.in_ok-undone.new c.replace.ensures c.in-Some.ensures.some.after.other

@@ -1,4 +1,4 @@
-use Rattle.std.proofs.Common.{◌≡◌, ◌+◌, ◌-◌, ◌<◌, None, length, refl, sym, ap, subst, arith}
+use Rattle.std.proofs.Common.{◌∙◌, ◌≡◌, ◌+◌, ◌-◌, ◌<◌, None, length, refl, sym, ap, subst, arith}
 use Rattle.std.proofs.lemmas.List.{get_or_read}
 use Rattle.ftc_journal.specs.declared.event.Event.{Event}
 use Rattle.ftc_journal.specs.declared.event.Event.TheVariants as event
@@ -9,6 +9,8 @@ use Rattle.ftc_network.specs.Parts.{parts_of, server_in}
 use Rattle.ftc_network.specs.Stand.{IsSlot}
 use Rattle.ftc_network.proofs.OneServer.{one_server}
 use Rattle.ftc_network.proofs.Results.{if_some}
+use Rattle.ftc_network.proofs.Heads.{same_heads}
+use Rattle.ftc_network.specs.Slots.{head_of}
 use Rattle.ftc_network.proofs.network.Network.release.Goals as goal
 
 pub returns-clause-none : goal.returns-clause-none
@@ -55,3 +57,13 @@ returns-clause-some c =
           })
           (c.made_visits_stay.ensures setting state event old.visits.items run released.0.legal refl is.visits),
     )) c.release_at.ensures.some
+
+pub returns-clause-heads : goal.returns-clause-heads
+returns-clause-heads c =
+    let old = c.args.self.now in
+    let number = c.len-last.result - 1 in
+    let some = c.servers.ensures.bounds.some in
+    let within : number < length old.servers.items = omega (arith, some, old.each_server, c.len-last.ensures) in
+    same_heads old.servers.items number c.release_at.new.slot within
+    (c.release_at.ensures.heads
+    ∙ ap head_of (get_or_read old.servers.items number c.index_mut.result.now within c.index_mut.ensures.value None))

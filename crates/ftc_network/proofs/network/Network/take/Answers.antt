@@ -11,6 +11,8 @@ use Rattle.ftc_network.specs.Stand.{IsSlot}
 use Rattle.ftc_network.proofs.Allowed.{below_servers}
 use Rattle.ftc_network.proofs.OneServer.{read_server, read_link, server_and_link, same_withheld}
 use Rattle.ftc_network.proofs.Results.{on_ok, on_err_both}
+use Rattle.ftc_network.proofs.Heads.{same_heads}
+use Rattle.ftc_network.specs.Slots.{head_of}
 use Rattle.ftc_network.proofs.network.Network.take.Goals as goal
 
 pub next-receiver-requires : goal.next-receiver-requires
@@ -125,3 +127,13 @@ returns-clause-withheld c =
     on_ok c.take_at.result _ _ (λ same.
     same_withheld old.servers.items c.place_of-2.result (old.ring.servers - 1) c.take_at.new.slot within
     (same ∙ ap buffer_of (slot ∙ ap (server_in old.servers.items) (sym c.place_of-2.ensures)))) c.take_at.ensures.buffer
+
+pub returns-clause-heads : goal.returns-clause-heads
+returns-clause-heads c =
+    let old = c.args.self.now in
+    let within : c.place_of-2.result < length old.servers.items =
+    omega (arith, c.next-receiver.ensures.within, old.each_server, c.place_of-2.ensures) in
+    let slot = read_server old.servers.items c.place_of-2.result c.next-receiver.result c.index_mut-2.result.now
+    c.place_of-2.ensures within c.index_mut-2.ensures.value in
+    same_heads old.servers.items c.place_of-2.result c.take_at.new.slot within
+    (c.take_at.ensures.heads ∙ ap head_of (slot ∙ ap (server_in old.servers.items) (sym c.place_of-2.ensures)))

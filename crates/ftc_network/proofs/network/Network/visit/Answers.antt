@@ -1,4 +1,4 @@
-use Rattle.std.proofs.Common.{◌≡◌, ◌∙◌, ◌<◌, ◌++◌, [], ◌∷◌, ℕ, List, None, length, slice_set, sym, ap, subst, arith, get_or-set_same, get_or-set_other}
+use Rattle.std.proofs.Common.{◌≡◌, ◌∙◌, ◌<◌, ◌++◌, [], ◌∷◌, ℕ, List, None, length, slice_set, sym, ap, subst, arith, get_or-set_same, get_or-set_other, Option}
 use Rattle.std.proofs.Math.Logic.{∥∥₁_map}
 use Rattle.ftc_journal.specs.declared.event.Event.{Event}
 use Rattle.ftc_journal.specs.declared.event.Event.TheVariants as event
@@ -8,11 +8,14 @@ use Rattle.ftc_ring.specs.Ring.{RingShape}
 use Rattle.ftc_visits.specs.Made.{AreMade}
 use Rattle.ftc_visits.specs.declared.visit.MadeVisit.{MadeVisit}
 use Rattle.ftc_network.specs.Parts.{parts_of, server_in, link_in}
-use Rattle.ftc_network.specs.Stand.{IsSlot, IsIdleSlot}
+use Rattle.ftc_network.specs.Slots.{head_of, runs_in, IsIdleHead}
+use Rattle.ftc_network.specs.Stand.{IsSlot}
 use Rattle.ftc_network.proofs.Allowed.{below_servers, slot_allowed}
 use Rattle.ftc_network.proofs.Changed.{server_set}
 use Rattle.ftc_network.proofs.OneServer.{read_server, still_server}
 use Rattle.ftc_network.proofs.Results.{as_err}
+use Rattle.ftc_server.specs.declared.server.Server.{Server}
+use Rattle.ftc_network.proofs.Heads.{idle_runs}
 use Rattle.ftc_network.proofs.network.Network.visit.Goals as goal
 
 pub index_mut-requires : goal.index_mut-requires
@@ -95,7 +98,7 @@ returns-clause-ok c setting state run legal is =
     })
 
 pub returns-clause-idle : goal.returns-clause-idle
-returns-clause-idle c before =
+returns-clause-idle c =
     let old = c.args.self.now in
     let place = c.place_of.result in
     let below = below_servers (event.Visit c.args.server c.args.packet c.args.worker) old c.args.server
@@ -103,17 +106,33 @@ returns-clause-idle c before =
     (c.where_events_are.ensures.visit setting state c.args.server c.args.packet c.args.worker run legal).0) c.requires in
     let within : place < length old.servers.items = omega (arith, below, old.each_server, c.place_of.ensures) in
     let new = c.visit_at.new.slot in
-    subst IsIdleSlot
-    (sym (ap (server_in (slice_set old.servers.items place new)) (sym c.place_of.ensures)
-    ∙ get_or-set_same old.servers.items place new None within)) c.visit_at.ensures.idle
+    let there : server_in (slice_set old.servers.items place new) c.args.server ≡ new =
+    ap (server_in (slice_set old.servers.items place new)) (sym c.place_of.ensures)
+    ∙ get_or-set_same old.servers.items place new None within in
+    subst (λ (o : Option Server). IsIdleHead (head_of o)) (sym there) c.visit_at.ensures.idle
+
+pub returns-clause-fewer : goal.returns-clause-fewer
+returns-clause-fewer c worker before =
+    let old = c.args.self.now in
+    let place = c.place_of.result in
+    let below = below_servers (event.Visit c.args.server c.args.packet c.args.worker) old c.args.server
+    (λ setting state run legal.
+    (c.where_events_are.ensures.visit setting state c.args.server c.args.packet c.args.worker run legal).0) c.requires in
+    let within : place < length old.servers.items = omega (arith, below, old.each_server, c.place_of.ensures) in
+    let new = c.visit_at.new.slot in
+    let there : server_in (slice_set old.servers.items place new) c.args.server ≡ new =
+    ap (server_in (slice_set old.servers.items place new)) (sym c.place_of.ensures)
+    ∙ get_or-set_same old.servers.items place new None within in
+    ap (λ (o : Option Server). runs_in (head_of o) worker) there
+    ∙ idle_runs (head_of new) c.visit_at.ensures.idle worker
 
 pub returns-clause-others : goal.returns-clause-others
 returns-clause-others c other differs =
     get_or-set_other c.args.self.now.servers.items c.place_of.result other c.visit_at.new.slot None
     (λ same. differs (same ∙ c.place_of.ensures))
 
-pub returns-in_err-visit-clause-idle : goal.returns-in_err-visit-clause-idle
-returns-in_err-visit-clause-idle c before =
+pub returns-in_err-visit-clause-fewer : goal.returns-in_err-visit-clause-fewer
+returns-in_err-visit-clause-fewer c worker before =
     let old = c.args.self.now in
     let place = c.place_of.result in
     let below = below_servers (event.Visit c.args.server c.args.packet c.args.worker) old c.args.server
@@ -121,9 +140,11 @@ returns-in_err-visit-clause-idle c before =
     (c.where_events_are.ensures.visit setting state c.args.server c.args.packet c.args.worker run legal).0) c.requires in
     let within : place < length old.servers.items = omega (arith, below, old.each_server, c.place_of.ensures) in
     let new = c.visit_at.new.slot in
-    subst IsIdleSlot
-    (sym (ap (server_in (slice_set old.servers.items place new)) (sym c.place_of.ensures)
-    ∙ get_or-set_same old.servers.items place new None within)) c.visit_at.ensures.idle
+    let there : server_in (slice_set old.servers.items place new) c.args.server ≡ new =
+    ap (server_in (slice_set old.servers.items place new)) (sym c.place_of.ensures)
+    ∙ get_or-set_same old.servers.items place new None within in
+    ap (λ (o : Option Server). runs_in (head_of o) worker) there
+    ∙ idle_runs (head_of new) c.visit_at.ensures.idle worker
 
 pub returns-in_err-visit-clause-others : goal.returns-in_err-visit-clause-others
 returns-in_err-visit-clause-others c other differs =

@@ -3,9 +3,10 @@ use Rattle.ftc_chain.specs.ChainRun.{setting_in, state_of}
 use Rattle.ftc_protocol.specs.Measure.{work_left}
 use Rattle.ftc_protocol.specs.Run.{IsRun}
 use Rattle.ftc_protocol.specs.Setting.{IsSetting}
+use Rattle.ftc_chain.specs.Slots.{AreIdle}
 use Rattle.ftc_alone.specs.Alone.{IsSameGiven}
 use Rattle.ftc_alone.proofs.FinishSteps.{LeadsBack}
-use Rattle.ftc_alone.proofs.finishing.finish.Given as goal
+use Rattle.ftc_alone.proofs.finishing.finish_idle.Given as goal
 
 abbrev pub invariant-loop-job : goal.invariant-loop-job
 invariant-loop-job l = record {
@@ -13,6 +14,7 @@ invariant-loop-job l = record {
   right : ∥ IsSetting (setting_in l.chain) ∥₁;
   run : ∥ IsRun (setting_in l.chain) l.chain.journal ∥₁;
   back : ∥ LeadsBack l.fn.chain l.chain ∥₁;
+  idle : AreIdle l.chain;
 }
 
 abbrev pub decreases-loop-job : goal.decreases-loop-job
