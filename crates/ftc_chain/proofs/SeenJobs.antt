@@ -40,8 +40,8 @@ seen_jobs given course setting state jobs are =
     (sym (head_as course.network.servers.items server)) in
     record {
       each = λ done. (
-          (λ any. let both = (are.each done).0 any in (both.0, untaken_as runs seen same done both.1)),
-          (λ both. (are.each done).1 (both.0, untaken_as seen runs back done both.1)),
+        (λ any. let both = (are.each done).0 any in (both.0, untaken_as runs seen same done both.1)),
+        (λ both. (are.each done).1 (both.0, untaken_as seen runs back done both.1)),
       );
       once = are.once;
     }

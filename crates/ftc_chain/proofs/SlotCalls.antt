@@ -106,9 +106,9 @@ head_reads_no_more old new worker key change (read.Value value) (running, runs, 
       | inl same ↦ absurd (runs_some (slot_at old.slots worker) running runs.slot
           (ap (slot_at old.slots) (sym same) ∙ none))
       | inr differs ↦ elim (cases_Bool (conflicts old.locks worker (partition_of old.partitions key) change other)) [
-          | inl way ↦ has.wounded other way ∙ wounded_none worker (slot_at old.slots other) none
-          | inr clear ↦ has.others other differs clear ∙ none
-        ]
+        | inl way ↦ has.wounded other way ∙ wounded_none worker (slot_at old.slots other) none
+        | inr clear ↦ has.others other differs clear ∙ none
+      ]
     ]
 head_reads_no_more old new worker key change (read.Blocked holder) (running, runs, oldest, same) other none =
     ap (λ (head : HeadState). slot_at head.slots other) same ∙ none
@@ -187,12 +187,12 @@ pub once_begun : (old new : Network) (worker server packet : ℕ) →
     AreOtherHeads server old new → RunsOnce old → RunsOnce new
 once_begun old new worker server packet idle here others once slot one other differs runs = elim (cases_eq slot worker) [
   | inl same ↦ elim (cases_eq other server) [
-      | inl at ↦ absurd (runs (ap (λ (h : Option HeadState). runs_in h slot)
-          (others one (λ one_at. differs (one_at ∙ sym at)))
-          ∙ (ap (runs_in (head_at old one)) same ∙ idle one)))
-      | inr away ↦ ap (λ (h : Option HeadState). runs_in h slot) (others other away)
-          ∙ (ap (runs_in (head_at old other)) same ∙ idle other)
-    ]
+    | inl at ↦ absurd (runs (ap (λ (h : Option HeadState). runs_in h slot)
+        (others one (λ one_at. differs (one_at ∙ sym at)))
+        ∙ (ap (runs_in (head_at old one)) same ∙ idle one)))
+    | inr away ↦ ap (λ (h : Option HeadState). runs_in h slot) (others other away)
+        ∙ (ap (runs_in (head_at old other)) same ∙ idle other)
+  ]
   | inr apart ↦
       let as_before = λ (at : ℕ). elim (cases_eq at server) as (λ _.
       runs_in (head_at new at) slot ≡ runs_in (head_at old at) slot) [
@@ -413,7 +413,9 @@ module _ (given : Given) (old new : Course) (worker server : ℕ) (rests : IsRes
   end_by live commit.Idle is undone (idle, rest) =
       absurd (runs_some (slot_at live_is.live.head.slots worker) live_is.running live_is.runs idle)
   end_by live (commit.Unfinished key) is undone (running, change, there, asked, rest) = (
-    change, asking running (Read key change) there asked, nothing_differs live is (same_head live_is.live live rest),
+    change,
+    asking running (Read key change) there asked,
+    nothing_differs live is (same_head live_is.live live rest),
   )
   end_by live commit.NoMemory is undone (running, end, there, asked, rest) = (
     end,

@@ -36,8 +36,11 @@ told_so old new worker key (Blocked holder) wounded reads =
 told_so old new worker key (Wounded by) wounded reads = (
   by,
   refl,
-  (reads.head.0, reads.head.1,
-      reads.rest ∙ ap (λ (head : HeadState). record (state_of old) { head = head }) reads.head.2),
+  (
+    reads.head.0,
+    reads.head.1,
+    reads.rest ∙ ap (λ (head : HeadState). record (state_of old) { head = head }) reads.head.2,
+  ),
 )
 told_so old new worker key Idle wounded reads = absurd (not_idle old.head worker wounded reads.head.0)
 told_so old new worker key NotAsked wounded reads =

@@ -23,8 +23,7 @@ pub loop-event-preserved : goal.loop-event-preserved
 loop-event-preserved c =
     let first : ChainRun = c.args.chain.now in let now : ChainRun = c.loop-event.chain in let new : ChainRun = c.play_one.new.chain in
     let items : List Event = c.as_slice-event-items.result.now in
-    let taken : take (c.loop-event.event-index + 1) items ≡ take c.loop-event.event-index items ++ c.event-item.result ∷ [] = one_taken_more items c.loop-event.event-index c.event-item.result c.loop-event-test.true c.event-item.is in
-    (
+    let taken : take (c.loop-event.event-index + 1) items ≡ take c.loop-event.event-index items ++ c.event-item.result ∷ [] = one_taken_more items c.loop-event.event-index c.event-item.result c.loop-event-test.true c.event-item.is in (
       subst (λ (es : List Event). ∥ HasPlayed es first new ∥₁) (sym taken)
           (∥∥₁_map₂ c.loop-event.invariant.0 c.in_ok-play_one.ensures.ok
           (played_on (take c.loop-event.event-index items) (c.event-item.result ∷ []) first now new)),
