@@ -1,0 +1,4 @@
+pub mod Visits
+pub mod Given
+pub mod Outlets
+pub mod Choices

@@ -1,0 +1,232 @@
+//! What lies under the latch. In each hold a worker makes one call that changes the chain, and what is released goes to
+//! the writer.
+
+ghost use Rattle.std.specs.Prelude.{◌≡◌, ◌≤◌, ◌<◌, ◌+◌, length};
+ghost use Rattle.ftc_journal.specs.declared.job.Job.TheVariants as job;
+ghost use Rattle.ftc_chain.specs.Slots.{IsIdle, AreIdle};
+ghost use Rattle.ftc_workers.specs.Choices.{MayBegin};
+ghost use Rattle.ftc_workers.specs.Given.{given_of};
+ghost use Rattle.ftc_workers.specs.Outlets.{sent_of, room_of};
+ghost use Rattle.ftc_workers.specs.Visits.{visits};
+
+use crate::calls::{begin, commit, few, quit, read, step};
+use crate::choosing::{Choice, choose};
+use crate::outlet::pass_on;
+use crate::tally::{Run, Tally};
+use ftc_base::{Answers, Bytes, Key, NoMemory, PacketNo, ServerId, WorkerId};
+use ftc_chain::Chain;
+use ftc_journal::Job;
+use ftc_mbox::{Plan, Rules, copy_rules};
+use ftc_server::CommitAnswer;
+use ftc_stream::Sender;
+use ftc_txn::ReadAnswer;
+use std::alloc::Global;
+use std::sync::ledger::Book;
+
+/// The chain, with the book of the commits that were made since it was handed in.
+#[derive(Drop)]
+pub struct Latch<'a, L: Run> {
+    pub chain: Chain<'a>,
+    pub book: Book<L>,
+    /// Where released packets go, where they are taken out.
+    pub outlet: Option<Sender>,
+    /// All workers ended.
+    pub ended: bool,
+    /// The writer met a fault, and the workers are to end.
+    pub stopped: bool,
+    /// How often something changed, wrapping.
+    pub moves: u64,
+    pub ghost counted: { visits chain.journal ≡ L.start + book.total },
+    pub ghost given: { given_of chain ≡ L.given },
+    pub ghost sent: { sent_of outlet chain.drained ≡ chain.drained },
+    pub ghost room: { length chain.packets ≤ room_of outlet (length chain.packets) },
+}
+
+/// A visit that a worker began: the server, and the packet as it is there.
+#[derive(Debug, Drop)]
+pub struct Begun {
+    pub server: ServerId,
+    pub packet: PacketNo,
+    pub bytes: Bytes,
+}
+
+/// What a worker found to do.
+#[derive(Debug, Drop)]
+pub enum Found {
+    /// It made a step, and there may be new work.
+    Stepped,
+    /// It began this visit.
+    Begun(Begun),
+    /// It waits.
+    Nothing,
+    /// It ends.
+    End,
+}
+
+impl<'a, L: Run> Latch<'a, L> {
+    /// All slots are idle, and nothing was counted yet.
+    pub fn new(chain: Chain<'a>, book: Book<L>, outlet: Option<Sender>) -> Latch<'a, L>
+        requires start { visits chain.journal ≡ L.start + book.total }
+        requires given { given_of chain ≡ L.given }
+        requires idle { AreIdle chain }
+        requires sent { sent_of outlet chain.drained ≡ chain.drained }
+        requires room { length chain.packets ≤ room_of outlet (length chain.packets) }
+    {
+        Latch {
+            chain,
+            book,
+            outlet,
+            ended: false,
+            stopped: false,
+            moves: 0,
+        }
+    }
+
+    /// A copy of the chain's rules.
+    pub fn rules(&self, alloc: Global) -> Result<Rules, NoMemory> {
+        copy_rules(alloc, self.chain.spec().rules())
+    }
+
+    /// A slot that is idle begins a visit, where an age is left.
+    fn begin(&mut self, worker: WorkerId, server: ServerId, packet: PacketNo) -> Found
+        requires may { MayBegin self.old.chain (job.Visit server packet) }
+        requires idle { IsIdle self.old.chain worker }
+    {
+        if !self.chain.ages_left(server) {
+            return Found::End;
+        }
+        begin(&mut self.chain, worker, server, packet);
+        match self.chain.look(worker) {
+            Ok(Some(bytes)) => Found::Begun(Begun {
+                server,
+                packet,
+                bytes,
+            }),
+            Ok(None) => Found::Stepped,
+            Err(_) => Found::End,
+        }
+    }
+
+    /// Begins the visit of a job, or makes its step.
+    fn make(&mut self, worker: WorkerId, job: &Job) -> Found
+        requires may { MayBegin self.old.chain job.now }
+        requires idle { IsIdle self.old.chain worker }
+    {
+        if let Job::Visit { server, packet } = *job {
+            return self.begin(worker, server, packet);
+        }
+        match step(&mut self.chain, job) {
+            Ok(()) => Found::Stepped,
+            Err(_) => Found::End,
+        }
+    }
+
+    /// Makes a step or begins a visit. A slot that runs something gives that up first.
+    pub fn find(&mut self, worker: WorkerId) -> Found {
+        if self.stopped {
+            return Found::End;
+        }
+        if self.chain.answers(worker).is_some() {
+            quit(&mut self.chain, worker);
+            return Found::Stepped;
+        }
+        match choose(&self.chain) {
+            Choice::Do(job) => self.make(worker, &job),
+            Choice::Wait => Found::Nothing,
+            Choice::Finished | Choice::NoMemory => Found::End,
+        }
+    }
+
+    /// What a slot runs reads a key.
+    pub fn read(&mut self, worker: WorkerId, key: &Key) -> ReadAnswer {
+        read(&mut self.chain, worker, key)
+    }
+
+    /// The answers of what a slot runs.
+    pub fn answers(&self, worker: WorkerId) -> Option<Answers> {
+        let answers = self.chain.answers(worker)?;
+        Answers::try_from(answers.as_slice()).ok()
+    }
+
+    /// A slot gives up what it runs.
+    pub fn quit(&mut self, worker: WorkerId) {
+        quit(&mut self.chain, worker)
+    }
+
+    /// Commits what a slot runs, and counts what was done.
+    pub fn commit(&mut self, worker: WorkerId, plan: &Plan, mine: &mut Tally<L>) -> CommitAnswer
+        requires { 0 < mine.old.share.parts }
+        ensures { mine.new.share.parts ≡ mine.old.share.parts }
+    {
+        let answer = commit(&mut self.chain, worker, plan);
+        few(&self.chain);
+        match answer {
+            CommitAnswer::Done => {
+                self.book.add(&mut mine.share, 1);
+                self.book.audit(&mut mine.share);
+                mine.count += 1;
+            }
+            _ => {}
+        }
+        answer
+    }
+
+    /// Sends what was released, and tells that something changed.
+    pub fn flush(&mut self) {
+        self.moves = self.moves.wrapping_add(1);
+        let Latch {
+            chain,
+            book: _,
+            outlet,
+            ended: _,
+            stopped: _,
+            moves: _,
+        } = self;
+        if let Some(sender) = outlet {
+            pass_on(chain, sender);
+        }
+    }
+
+    /// Tells that all workers ended.
+    pub fn end(&mut self) {
+        self.ended = true;
+    }
+
+    /// Tells the workers to end.
+    pub fn stop(&mut self) {
+        self.stopped = true;
+    }
+
+    /// Puts two tallies together.
+    pub fn merge(&mut self, mine: &mut Tally<L>, other: Tally<L>)
+        ensures { mine.new.share.parts ≡ mine.old.share.parts + other.share.parts }
+    {
+        let Tally { share, count } = other;
+        mine.share.merge(share);
+        few(&self.chain);
+        self.book.audit(&mut mine.share);
+        mine.count += count;
+    }
+
+    /// The chain, and how many commits it has since it was handed in.
+    pub fn close(self, all: Tally<L>) -> (Chain<'a>, u64)
+        requires { all.share.parts ≡ L.parts }
+        ensures counted { visits result.0.journal ≡ L.start + result.1 }
+        ensures given { given_of result.0 ≡ L.given }
+    {
+        let Latch {
+            chain,
+            book,
+            outlet,
+            ended: _,
+            stopped: _,
+            moves: _,
+        } = self;
+        drop(outlet);
+        let Tally { share, count } = all;
+        let mut book = book;
+        let mut share = share;
+        book.audit(&mut share);
+        (chain, count)
+    }
+}

@@ -1,0 +1,67 @@
+//! How workers are started and joined.
+
+ghost use Rattle.std.specs.Prelude.{◌≡◌, ◌+◌, ◌≤◌, ◌<◌};
+ghost use denote.Param.Send.{IsSync, IsSend};
+
+use crate::shared::Shared;
+use crate::tally::{Run, Tally};
+use crate::visiting::work;
+use ftc_base::WorkerId;
+use ftc_outside::Gate;
+use std::alloc::Global;
+use std::sync::Wait;
+use std::thread::{Threads, join};
+
+/// Runs one worker in the slot of that number.
+fn work_in<L: Run, R: Wait, G: Gate>(
+    rt: &R,
+    alloc: Global,
+    shared: &Shared<'_, L>,
+    slot: u8,
+    gate: &G,
+    mine: Tally<L>,
+) -> Tally<L>
+    requires slot { slot < 64 }
+    requires part { mine.share.parts ≡ 1 }
+    ensures { result.share.parts ≡ 1 }
+{
+    let worker = WorkerId::new(slot).unwrap();
+    work(rt, alloc, shared, worker, gate, mine)
+}
+
+/// Starts so many workers in the slots from this one on, and joins them. The caller runs one that can't be started.
+pub fn spread<L: Run + Send + Sync, R: Threads + Wait + Sync, G: Gate>(
+    rt: &R,
+    alloc: Global,
+    shared: &Shared<'_, L>,
+    slot: u8,
+    count: u8,
+    gate: &G,
+    mine: Tally<L>,
+) -> Tally<L>
+    requires some { 0 < count }
+    requires slots { slot + count ≤ 64 }
+    requires parts { mine.share.parts ≡ count }
+    ensures { result.share.parts ≡ count }
+{
+    if count == 1 {
+        return work_in(rt, alloc, shared, slot, gate, mine);
+    }
+    let mut mine = mine;
+    let one = mine.split();
+    let next = slot + 1;
+    let rest = count - 1;
+    let first = move || -> Tally<L>
+        requires { (slot < 64) × (one.share.parts ≡ 1) }
+        ensures { result.share.parts ≡ 1 }
+    { work_in(rt, alloc, shared, slot, gate, one) };
+    let others = move || -> Tally<L>
+        requires { IsSync R.row × IsSync L.row × IsSend L.row × IsSync G.row × (0 < rest) × (next + rest ≤ 64) ×
+            (mine.share.parts ≡ rest) }
+        ensures { result.share.parts ≡ rest }
+    { spread(rt, alloc, shared, next, rest, gate, mine) };
+    let (one, others) = join(rt, first, others);
+    let mut all = others;
+    shared.latch.lock(rt).merge(&mut all, one);
+    all
+}

@@ -1,0 +1,355 @@
+//! Small runs of workers.
+
+ghost use Rattle.std.specs.Prelude.{◌≡◌, length, IfOk, IfSome};
+ghost use Rattle.ftc_workers.specs.Choices.{MayBegin};
+
+use crate::calls::{begin, step};
+use crate::choosing::{Choice, choose};
+use crate::{run, run_to};
+use ftc_base::{Bytes, Items, NoMemory, PacketNo, Refuse, ServerId, WorkerId};
+use ftc_chain::Chain;
+use ftc_journal::{Event, Job};
+use ftc_mbox::{ChainSpec, Rule};
+use ftc_outside::{FailingDesk, Gate, ListTap, MemoryDesk, OpenGate, Tap};
+use ftc_pcap::{Capture, CaptureFault, read_capture};
+use ftc_ring::Ring;
+use ftc_script::{Script, accepted, read_script};
+use ftc_stream::{PutFault, Taps};
+use std::alloc::{AllocError, Global};
+use std::sync::Arc;
+use std::sync::atomic::{AtomicBool, AtomicU64, Ordering};
+use std::test::Fail;
+use std::thread;
+
+/// How often a gate looks before it lets a visit go on all the same.
+const MOST_TURNS: u32 = 10_000_000;
+
+/// A UDP datagram without content. The last byte of its source is its byte 29.
+const FRAME: [u8; 42] = [
+    2, 0, 0, 0, 0, 1, 2, 0, 0, 0, 0, 2, 8, 0, 0x45, 0, 0, 28, 0, 1, 0, 0, 64, 17, 0x46, 0x91, 10,
+    0, 0, 5, 198, 51, 100, 7, 0x13, 0x89, 0, 53, 0, 8, 0xb7, 0xe0,
+];
+
+/// The header of a capture, and the head of a packet of 42 bytes.
+const HEADER: [u8; 24] = [
+    0xd4, 0xc3, 0xb2, 0xa1, 2, 0, 4, 0, 0, 0, 0, 0, 0, 0, 0, 0, 0xff, 0xff, 0, 0, 1, 0, 0, 0,
+];
+
+const HEAD: [u8; 16] = [1, 0, 0, 0, 0, 0, 0, 0, 42, 0, 0, 0, 42, 0, 0, 0];
+
+/// One monitor, without replicas.
+fn one_monitor(alloc: Global) -> Result<ChainSpec, NoMemory> {
+    let mut rules = Items::new(alloc);
+    rules.push(Rule::Monitor { groups: 8 })?;
+    Ok(ChainSpec::new(0, 4, rules))
+}
+
+/// Three monitors, of whose servers two may be down.
+fn three_monitors(alloc: Global) -> Result<ChainSpec, NoMemory> {
+    let mut rules = Items::new(alloc);
+    rules.push(Rule::Monitor { groups: 8 })?;
+    rules.push(Rule::Monitor { groups: 8 })?;
+    rules.push(Rule::Monitor { groups: 8 })?;
+    Ok(ChainSpec::new(2, 4, rules))
+}
+
+/// The packet from a source whose last byte is that.
+fn frame_from(source: u8) -> [u8; 42] {
+    let mut frame = FRAME;
+    frame[29] = source;
+    frame
+}
+
+/// A capture of so many packets, from two sources in turn.
+fn capture_of(alloc: Global, packets: u8) -> Result<Capture, Refuse<CaptureFault>> {
+    let mut text = Bytes::new(alloc);
+    text.append(&HEADER)?;
+    for packet in 0..packets {
+        text.append(&HEAD)?;
+        text.append(&frame_from(5 + packet % 2))?;
+    }
+    read_capture(alloc, text.as_slice())
+}
+
+/// The ring of a chain.
+fn ring_of(spec: &ChainSpec) -> Option<Ring>
+    ensures { IfSome result (λ ring. ring ≡ record { servers = length spec.now.rules; failures = spec.now.failures }) }
+{
+    let servers = spec.rules().len() as u8;
+    Ring::new(servers, spec.failures())
+}
+
+/// The script without lines, for that ring and so many packets.
+fn empty_script(alloc: Global, ring: &Ring, packets: u32) -> Result<Script, Fail>
+    ensures ring { IfOk result (λ script. script.ring ≡ ring.now) }
+    ensures packets { IfOk result (λ script. script.packets ≡ packets) }
+{
+    let _servers = ring.servers();
+    accepted();
+    match read_script(alloc, b"", ring, packets) {
+        Ok(script) => Ok(script),
+        Err(_) => Err(Fail::new("the script is right")),
+    }
+}
+
+/// How many visits of the journal are in slots below that number.
+fn visits_below(chain: &Chain<'_>, slots: u8) -> u32 {
+    let mut count = 0u32;
+    for event in chain.journal().as_slice() {
+        match event {
+            Event::Visit { worker, .. } if worker.number() < slots => {
+                count = count.saturating_add(1)
+            }
+            _ => {}
+        }
+    }
+    count
+}
+
+#[test]
+fn three_workers_make_six_visits(rt: HostRuntime) -> Result<(), Fail> {
+    let alloc = rt.alloc();
+    let spec = three_monitors(alloc)?;
+    let capture = capture_of(alloc, 2)?;
+    let ring = ring_of(&spec).expect(&rt, "a ring");
+    let script = empty_script(alloc, &ring, capture.packets.len() as u32)?;
+    let chain = Chain::new(alloc, &spec, &capture.packets, &script)?;
+    let worked = run(&rt, alloc, chain, 3, &OpenGate);
+    assert!(rt; worked.chain.finished());
+    assert_eq!(rt; worked.commits, 6);
+    assert_eq!(rt; visits_below(&worked.chain, 3), 6);
+    Ok(())
+}
+
+#[test]
+fn many_packets_go_through(rt: HostRuntime) -> Result<(), Fail> {
+    let alloc = rt.alloc();
+    let spec = three_monitors(alloc)?;
+    let capture = capture_of(alloc, 200)?;
+    let ring = ring_of(&spec).expect(&rt, "a ring");
+    let script = empty_script(alloc, &ring, capture.packets.len() as u32)?;
+    let chain = Chain::new(alloc, &spec, &capture.packets, &script)?;
+    let worked = run(&rt, alloc, chain, 4, &OpenGate);
+    assert!(rt; worked.chain.finished());
+    assert_eq!(rt; worked.commits, 600);
+    assert_eq!(rt; visits_below(&worked.chain, 4), 600);
+    Ok(())
+}
+
+/// A gate that holds each visit until two have come, and counts those that saw the other.
+#[derive(Drop)]
+struct Meeting {
+    come: AtomicU64,
+    seen: AtomicU64,
+}
+
+impl Gate for Meeting {
+    fn pause(&self, _server: ServerId, _packet: PacketNo) {
+        self.come.fetch_add(1, Ordering::SeqCst);
+        for _ in 0..MOST_TURNS {
+            if self.come.load(Ordering::SeqCst) >= 2 {
+                self.seen.fetch_add(1, Ordering::SeqCst);
+                return;
+            }
+            thread::yield_now();
+        }
+    }
+}
+
+#[test]
+fn two_visits_are_open_at_once(rt: HostRuntime) -> Result<(), Fail> {
+    let alloc = rt.alloc();
+    let spec = one_monitor(alloc)?;
+    let capture = capture_of(alloc, 2)?;
+    let ring = ring_of(&spec).expect(&rt, "a ring");
+    let script = empty_script(alloc, &ring, capture.packets.len() as u32)?;
+    let chain = Chain::new(alloc, &spec, &capture.packets, &script)?;
+    let gate = Meeting {
+        come: AtomicU64::new(0),
+        seen: AtomicU64::new(0),
+    };
+    let worked = run(&rt, alloc, chain, 2, &gate);
+    assert!(rt; worked.chain.finished());
+    assert_eq!(rt; worked.commits, 2);
+    assert_eq!(rt; gate.seen.load(Ordering::SeqCst), 2);
+    Ok(())
+}
+
+/// Does the first job: its step is made, or its visit begins.
+fn do_job(chain: &mut Chain<'_>, worker: WorkerId, job: &Job) -> bool
+    requires { MayBegin chain.old job.now }
+{
+    if let Job::Visit { server, packet } = *job {
+        if chain.answers(worker).is_some() || !chain.ages_left(server) {
+            return false;
+        }
+        begin(chain, worker, server, packet);
+        return true;
+    }
+    step(chain, job).is_ok()
+}
+
+/// Does the first job, if there is one.
+fn do_first(chain: &mut Chain<'_>, worker: WorkerId) -> bool {
+    match choose(chain) {
+        Choice::Do(job) => do_job(chain, worker, &job),
+        _ => false,
+    }
+}
+
+#[test]
+fn slots_that_run_give_up_first(rt: HostRuntime) -> Result<(), Fail> {
+    let alloc = rt.alloc();
+    let spec = one_monitor(alloc)?;
+    let capture = capture_of(alloc, 2)?;
+    let ring = ring_of(&spec).expect(&rt, "a ring");
+    let script = empty_script(alloc, &ring, capture.packets.len() as u32)?;
+    let mut chain = Chain::new(alloc, &spec, &capture.packets, &script)?;
+    let worker = WorkerId::new(40).expect(&rt, "a slot");
+    assert!(rt; do_first(&mut chain, worker));
+    assert!(rt; do_first(&mut chain, worker));
+    assert!(rt; chain.answers(worker).is_some());
+    let worked = run(&rt, alloc, chain, 1, &OpenGate);
+    assert!(rt; worked.chain.finished());
+    assert_eq!(rt; worked.commits, 2);
+    assert_eq!(rt; visits_below(&worked.chain, 1), 2);
+    Ok(())
+}
+
+/// A desk with a file `out` that has the header.
+fn desk_with_out(alloc: Global) -> Result<MemoryDesk, NoMemory> {
+    let mut desk = MemoryDesk::new(alloc);
+    desk.put("out", &HEADER)?;
+    Ok(desk)
+}
+
+/// Taps of one list.
+fn one_list(alloc: Global) -> Result<Taps, AllocError> {
+    let mut list: Vec<Box<dyn Tap + Send>> = Vec::new(alloc);
+    list.push(Box::new(alloc, ListTap::new(alloc))?)?;
+    Ok(Taps::new(list))
+}
+
+/// The length of the file `out`, and 0 where there is none.
+fn out_len(desk: &MemoryDesk) -> usize {
+    match desk.get("out") {
+        Some(held) => held.len(),
+        None => 0,
+    }
+}
+
+#[test]
+fn what_is_released_is_written(rt: HostRuntime) -> Result<(), Fail> {
+    let alloc = rt.alloc();
+    let spec = three_monitors(alloc)?;
+    let capture = capture_of(alloc, 20)?;
+    let ring = ring_of(&spec).expect(&rt, "a ring");
+    let script = empty_script(alloc, &ring, capture.packets.len() as u32)?;
+    let chain = Chain::new(alloc, &spec, &capture.packets, &script)?;
+    let mut desk = desk_with_out(alloc)?;
+    let mut taps = one_list(alloc)?;
+    let written = run_to(
+        &rt, alloc, chain, 3, &OpenGate, &capture, "out", &mut desk, &mut taps,
+    );
+    assert_eq!(rt; written.result, Ok(()));
+    assert!(rt; written.chain.finished());
+    assert_eq!(rt; written.commits, 60);
+    assert_eq!(rt; written.put.len(), 20);
+    assert_eq!(rt; out_len(&desk), 24 + 20 * 58);
+    let lines = taps.lines(alloc)?;
+    assert_eq!(rt; lines.at(0).as_slice(), b"list 20".as_slice());
+    Ok(())
+}
+
+#[test]
+fn a_fault_ends_the_workers(rt: HostRuntime) -> Result<(), Fail> {
+    let alloc = rt.alloc();
+    let spec = three_monitors(alloc)?;
+    let capture = capture_of(alloc, 20)?;
+    let ring = ring_of(&spec).expect(&rt, "a ring");
+    let script = empty_script(alloc, &ring, capture.packets.len() as u32)?;
+    let chain = Chain::new(alloc, &spec, &capture.packets, &script)?;
+    let inner = desk_with_out(alloc)?;
+    let mut desk = FailingDesk::new(alloc, inner, &[1])?;
+    let mut taps = one_list(alloc)?;
+    let written = run_to(
+        &rt, alloc, chain, 3, &OpenGate, &capture, "out", &mut desk, &mut taps,
+    );
+    assert_eq!(rt; written.result, Err(PutFault::Failed));
+    assert_eq!(rt; written.put.len(), 1);
+    assert_eq!(rt; out_len(desk.inner()), 24 + 58);
+    let lines = taps.lines(alloc)?;
+    assert_eq!(rt; lines.at(0).as_slice(), b"list 1".as_slice());
+    Ok(())
+}
+
+/// A tap that raises a flag when it is told packet 0.
+#[derive(Drop)]
+struct FlagTap {
+    flag: Arc<AtomicBool, Global>,
+}
+
+impl Tap for FlagTap {
+    ghost use Rattle.std.specs.Prelude.{None, [], true, false};
+
+    ghost face = { λ tap. record { told = None; line = []; leaves = λ _. false; constant = true } };
+
+    fn see(&mut self, _alloc: Global, number: PacketNo, _bytes: &[u8]) -> Result<bool, NoMemory> {
+        if number == 0 {
+            self.flag.store(true, Ordering::SeqCst);
+        }
+        Ok(true)
+    }
+
+    fn line(&self, alloc: Global) -> Result<Bytes, NoMemory> {
+        Ok(Bytes::new(alloc))
+    }
+}
+
+/// A gate that holds packet 1 until the flag is raised.
+#[derive(Drop)]
+struct FlagGate {
+    flag: Arc<AtomicBool, Global>,
+    seen: AtomicBool,
+}
+
+impl Gate for FlagGate {
+    fn pause(&self, _server: ServerId, packet: PacketNo) {
+        if packet != 1 {
+            return;
+        }
+        for _ in 0..MOST_TURNS {
+            if self.flag.load(Ordering::SeqCst) {
+                self.seen.store(true, Ordering::SeqCst);
+                return;
+            }
+            thread::yield_now();
+        }
+    }
+}
+
+#[test]
+fn a_packet_is_written_while_another_waits(rt: HostRuntime) -> Result<(), Fail> {
+    let alloc = rt.alloc();
+    let spec = one_monitor(alloc)?;
+    let capture = capture_of(alloc, 2)?;
+    let ring = ring_of(&spec).expect(&rt, "a ring");
+    let script = empty_script(alloc, &ring, capture.packets.len() as u32)?;
+    let chain = Chain::new(alloc, &spec, &capture.packets, &script)?;
+    let flag = Arc::new(alloc, AtomicBool::new(false))?;
+    let gate = FlagGate {
+        flag: Arc::try_clone(&flag)?,
+        seen: AtomicBool::new(false),
+    };
+    let mut list: Vec<Box<dyn Tap + Send>> = Vec::new(alloc);
+    list.push(Box::new(alloc, FlagTap { flag })?)?;
+    let mut taps = Taps::new(list);
+    let mut desk = desk_with_out(alloc)?;
+    let written = run_to(
+        &rt, alloc, chain, 2, &gate, &capture, "out", &mut desk, &mut taps,
+    );
+    assert_eq!(rt; written.result, Ok(()));
+    assert!(rt; gate.seen.load(Ordering::SeqCst));
+    assert_eq!(rt; written.put.len(), 2);
+    Ok(())
+}
