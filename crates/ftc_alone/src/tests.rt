@@ -64,41 +64,67 @@ fn journal_of(alloc: Global, text: &[u8]) -> Result<Journal, Fail> {
     }
 }
 
+/// The lines of a chain's events.
+fn lines(alloc: Global, chain: &Chain<'_>) -> Result<Bytes, Fail> {
+    let text = print(alloc, chain.journal())?;
+    Ok(text)
+}
+
+/// Runs a schedule from the opening over two middleboxes and one packet. The answer is whether the run is finished, and
+/// its lines.
+fn ran(alloc: Global, schedule: &Journal) -> Result<(bool, Bytes), Fail> {
+    let spec = two_passes(alloc)?;
+    let packets = one_packet(alloc)?;
+    let Some(ring) = ring_of(&spec) else {
+        return Err(Fail::new("a ring"));
+    };
+    let script = empty_script(alloc, &ring, packets.len() as u32)?;
+    let mut chain = Chain::new(alloc, &spec, &packets, &script)?;
+    run(&mut chain, schedule)?;
+    Ok((chain.finished(), lines(alloc, &chain)?))
+}
+
+/// Plays a schedule over them. The answer is whether the run is finished then, its lines, and its lines when all that
+/// is left was done.
+fn played(alloc: Global, schedule: &Journal) -> Result<(bool, Bytes, Bytes), Fail> {
+    let spec = two_passes(alloc)?;
+    let packets = one_packet(alloc)?;
+    let Some(ring) = ring_of(&spec) else {
+        return Err(Fail::new("a ring"));
+    };
+    let script = empty_script(alloc, &ring, packets.len() as u32)?;
+    let mut chain = Chain::new(alloc, &spec, &packets, &script)?;
+    play(&mut chain, schedule)?;
+    let finished = chain.finished();
+    let first = lines(alloc, &chain)?;
+    finish(&mut chain)?;
+    Ok((finished, first, lines(alloc, &chain)?))
+}
+
 #[test]
 fn what_is_left_is_done_in_order(rt: HostRuntime) -> Result<(), Fail> {
     let alloc = rt.alloc();
-    let spec = two_passes(alloc)?;
-    let packets = one_packet(alloc)?;
-    let ring = ring_of(&spec).expect(&rt, "a ring");
-    let script = empty_script(alloc, &ring, packets.len() as u32)?;
-    let mut chain = Chain::new(alloc, &spec, &packets, &script)?;
-    run(&mut chain, &Journal::new(alloc))?;
-    assert!(rt; chain.finished());
+    let (finished, lines) = ran(alloc, &Journal::new(alloc))?;
+    assert!(rt; finished);
     let expected =
         b"ftc-journal 2\nenter 0\nvisit 0 0 63\npass 0 0\ntake 0 0\nvisit 1 0 63\npass 1 0\nrelease 0\n".as_slice();
-    assert_eq!(rt; print(alloc, chain.journal())?.as_slice(), expected);
+    assert_eq!(rt; lines.as_slice(), expected);
     Ok(())
 }
 
 #[test]
 fn what_is_not_legal_is_passed_over(rt: HostRuntime) -> Result<(), Fail> {
     let alloc = rt.alloc();
-    let spec = two_passes(alloc)?;
-    let packets = one_packet(alloc)?;
-    let ring = ring_of(&spec).expect(&rt, "a ring");
-    let script = empty_script(alloc, &ring, packets.len() as u32)?;
-    let mut chain = Chain::new(alloc, &spec, &packets, &script)?;
     let schedule = journal_of(
         alloc,
         b"ftc-journal 2\nenter 0\ntake 0 0\nvisit 0 0 2\nenter 0\npass 0 0\nrelease 0\n",
     )?;
-    play(&mut chain, &schedule)?;
-    let played = b"ftc-journal 2\nenter 0\nvisit 0 0 2\npass 0 0\n".as_slice();
-    assert_eq!(rt; print(alloc, chain.journal())?.as_slice(), played);
-    assert!(rt; !chain.finished());
-    finish(&mut chain)?;
+    let (finished, first, last) = played(alloc, &schedule)?;
+    let expected = b"ftc-journal 2\nenter 0\nvisit 0 0 2\npass 0 0\n".as_slice();
+    assert_eq!(rt; first.as_slice(), expected);
+    assert!(rt; !finished);
     let expected =
         b"ftc-journal 2\nenter 0\nvisit 0 0 2\npass 0 0\ntake 0 0\nvisit 1 0 63\npass 1 0\nrelease 0\n".as_slice();
-    assert_eq!(rt; print(alloc, chain.journal())?.as_slice(), expected);
+    assert_eq!(rt; last.as_slice(), expected);
     Ok(())
 }
