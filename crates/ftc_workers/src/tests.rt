@@ -1,6 +1,6 @@
 //! Small runs of workers.
 
-ghost use Rattle.std.specs.Prelude.{◌≡◌, length, IfOk, IfSome};
+ghost use Rattle.std.specs.Prelude.{◌≡◌, ◌≤◌, [], length, IfOk, IfSome};
 ghost use Rattle.ftc_workers.specs.Choices.{MayBegin};
 
 use crate::calls::{begin, step};
@@ -10,16 +10,17 @@ use ftc_base::{Bytes, Items, NoMemory, PacketNo, Refuse, ServerId, WorkerId};
 use ftc_chain::Chain;
 use ftc_journal::{Event, Job};
 use ftc_mbox::{ChainSpec, Rule};
-use ftc_outside::{FailingDesk, Gate, ListTap, MemoryDesk, OpenGate, Tap};
+use ftc_outside::{Desk, FailingDesk, Gate, ListTap, MemoryDesk, OpenGate, Tap};
 use ftc_pcap::{Capture, CaptureFault, read_capture};
 use ftc_ring::Ring;
 use ftc_script::{Script, accepted, read_script};
 use ftc_stream::{PutFault, Taps};
 use std::alloc::{AllocError, Global};
-use std::sync::Arc;
 use std::sync::atomic::{AtomicBool, AtomicU64, Ordering};
+use std::sync::{Arc, Wait};
 use std::test::Fail;
 use std::thread;
+use std::thread::Threads;
 
 /// How often a gate looks before it lets a visit go on all the same.
 const MOST_TURNS: u32 = 10_000_000;
@@ -106,33 +107,101 @@ fn visits_below(chain: &Chain<'_>, slots: u8) -> u32 {
     count
 }
 
+/// A chain of middleboxes, a capture, and the script without lines for them.
+#[derive(Drop)]
+struct Parts {
+    spec: ChainSpec,
+    capture: Capture,
+    script: Script,
+    ghost ring: { script.ring ≡ record { servers = length spec.rules; failures = spec.failures } },
+    ghost count: { script.packets ≡ length capture.packets },
+}
+
+impl Parts {
+    fn new(alloc: Global, spec: ChainSpec, packets: u8) -> Result<Parts, Fail> {
+        let Ok(capture) = capture_of(alloc, packets) else {
+            return Err(Fail::new("the capture is right"));
+        };
+        let Some(ring) = ring_of(&spec) else {
+            return Err(Fail::new("a ring"));
+        };
+        let script = empty_script(alloc, &ring, capture.packets.len() as u32)?;
+        Ok(Parts {
+            spec,
+            capture,
+            script,
+        })
+    }
+
+    /// The chain of them before its first event.
+    fn chain(&self, alloc: Global) -> Result<Chain<'_>, NoMemory>
+        ensures { IfOk result (λ chain. chain.drained ≡ []) }
+    {
+        Chain::new(alloc, &self.spec, &self.capture.packets, &self.script)
+    }
+}
+
+/// How a run of workers ended. (What a contract says of it is no clause here, so that no proof carries it along.)
+#[derive(Clone, Copy, Debug, PartialEq, Eq)]
+struct Ran {
+    finished: bool,
+    commits: u64,
+    /// The visits in the workers' slots.
+    visits: u32,
+}
+
+/// So many workers run over a chain.
+fn ran_over<R: AllocGlobal + Threads + Wait + Sync, G: Gate>(
+    rt: &R,
+    chain: Chain<'_>,
+    workers: u8,
+    gate: &G,
+) -> Ran
+    requires { (1 ≤ workers) × (workers ≤ 32) }
+{
+    let worked = run(rt, rt.alloc(), chain, workers, gate);
+    Ran {
+        finished: worked.chain.finished(),
+        commits: worked.commits,
+        visits: visits_below(&worked.chain, workers),
+    }
+}
+
+/// The same from the first event on.
+fn run_parts<R: AllocGlobal + Threads + Wait + Sync, G: Gate>(
+    rt: &R,
+    parts: &Parts,
+    workers: u8,
+    gate: &G,
+) -> Result<Ran, NoMemory>
+    requires { (1 ≤ workers) × (workers ≤ 32) }
+{
+    Ok(ran_over(rt, parts.chain(rt.alloc())?, workers, gate))
+}
+
 #[test]
 fn three_workers_make_six_visits(rt: HostRuntime) -> Result<(), Fail> {
-    let alloc = rt.alloc();
-    let spec = three_monitors(alloc)?;
-    let capture = capture_of(alloc, 2)?;
-    let ring = ring_of(&spec).expect(&rt, "a ring");
-    let script = empty_script(alloc, &ring, capture.packets.len() as u32)?;
-    let chain = Chain::new(alloc, &spec, &capture.packets, &script)?;
-    let worked = run(&rt, alloc, chain, 3, &OpenGate);
-    assert!(rt; worked.chain.finished());
-    assert_eq!(rt; worked.commits, 6);
-    assert_eq!(rt; visits_below(&worked.chain, 3), 6);
+    let parts = Parts::new(rt.alloc(), three_monitors(rt.alloc())?, 2)?;
+    let ended = run_parts(&rt, &parts, 3, &OpenGate)?;
+    let expected = Ran {
+        finished: true,
+        commits: 6,
+        visits: 6,
+    };
+    assert_eq!(rt; ended, expected);
     Ok(())
 }
 
 #[test]
 fn many_packets_go_through(rt: HostRuntime) -> Result<(), Fail> {
-    let alloc = rt.alloc();
-    let spec = three_monitors(alloc)?;
-    let capture = capture_of(alloc, 200)?;
-    let ring = ring_of(&spec).expect(&rt, "a ring");
-    let script = empty_script(alloc, &ring, capture.packets.len() as u32)?;
-    let chain = Chain::new(alloc, &spec, &capture.packets, &script)?;
-    let worked = run(&rt, alloc, chain, 4, &OpenGate);
-    assert!(rt; worked.chain.finished());
-    assert_eq!(rt; worked.commits, 600);
-    assert_eq!(rt; visits_below(&worked.chain, 4), 600);
+    let parts = Parts::new(rt.alloc(), three_monitors(rt.alloc())?, 200)?;
+    let ended = run_parts(&rt, &parts, 4, &OpenGate)?;
+    let expected = Ran {
+        finished: true,
+        commits: 600,
+        visits: 600,
+    };
+    assert_eq!(rt; ended, expected);
     Ok(())
 }
 
@@ -158,19 +227,14 @@ impl Gate for Meeting {
 
 #[test]
 fn two_visits_are_open_at_once(rt: HostRuntime) -> Result<(), Fail> {
-    let alloc = rt.alloc();
-    let spec = one_monitor(alloc)?;
-    let capture = capture_of(alloc, 2)?;
-    let ring = ring_of(&spec).expect(&rt, "a ring");
-    let script = empty_script(alloc, &ring, capture.packets.len() as u32)?;
-    let chain = Chain::new(alloc, &spec, &capture.packets, &script)?;
+    let parts = Parts::new(rt.alloc(), one_monitor(rt.alloc())?, 2)?;
     let gate = Meeting {
         come: AtomicU64::new(0),
         seen: AtomicU64::new(0),
     };
-    let worked = run(&rt, alloc, chain, 2, &gate);
-    assert!(rt; worked.chain.finished());
-    assert_eq!(rt; worked.commits, 2);
+    let ended = run_parts(&rt, &parts, 2, &gate)?;
+    assert!(rt; ended.finished);
+    assert_eq!(rt; ended.commits, 2);
     assert_eq!(rt; gate.seen.load(Ordering::SeqCst), 2);
     Ok(())
 }
@@ -197,22 +261,30 @@ fn do_first(chain: &mut Chain<'_>, worker: WorkerId) -> bool {
     }
 }
 
+/// A slot begins the first visit, and then a worker runs. None where the slot doesn't run then.
+fn ran_behind<R: AllocGlobal + Threads + Wait + Sync>(
+    rt: &R,
+    parts: &Parts,
+    slot: WorkerId,
+) -> Result<Option<Ran>, NoMemory> {
+    let mut chain = parts.chain(rt.alloc())?;
+    if !do_first(&mut chain, slot) || !do_first(&mut chain, slot) || chain.answers(slot).is_none() {
+        return Ok(None);
+    }
+    Ok(Some(ran_over(rt, chain, 1, &OpenGate)))
+}
+
 #[test]
 fn slots_that_run_give_up_first(rt: HostRuntime) -> Result<(), Fail> {
-    let alloc = rt.alloc();
-    let spec = one_monitor(alloc)?;
-    let capture = capture_of(alloc, 2)?;
-    let ring = ring_of(&spec).expect(&rt, "a ring");
-    let script = empty_script(alloc, &ring, capture.packets.len() as u32)?;
-    let mut chain = Chain::new(alloc, &spec, &capture.packets, &script)?;
-    let worker = WorkerId::new(40).expect(&rt, "a slot");
-    assert!(rt; do_first(&mut chain, worker));
-    assert!(rt; do_first(&mut chain, worker));
-    assert!(rt; chain.answers(worker).is_some());
-    let worked = run(&rt, alloc, chain, 1, &OpenGate);
-    assert!(rt; worked.chain.finished());
-    assert_eq!(rt; worked.commits, 2);
-    assert_eq!(rt; visits_below(&worked.chain, 1), 2);
+    let parts = Parts::new(rt.alloc(), one_monitor(rt.alloc())?, 2)?;
+    let slot = WorkerId::new(40).expect(&rt, "a slot");
+    let ended = ran_behind(&rt, &parts, slot)?;
+    let expected = Ran {
+        finished: true,
+        commits: 2,
+        visits: 2,
+    };
+    assert_eq!(rt; ended, Some(expected));
     Ok(())
 }
 
@@ -238,48 +310,86 @@ fn out_len(desk: &MemoryDesk) -> usize {
     }
 }
 
+/// How a run of workers that is written ended, and how many packets were put.
+#[derive(Clone, Copy, Debug, PartialEq, Eq)]
+struct Wrote {
+    result: Result<(), PutFault>,
+    finished: bool,
+    commits: u64,
+    put: usize,
+}
+
+/// So many workers run over a chain, and what they release is appended to `out`.
+fn write_parts<R: AllocGlobal + Threads + Wait + Sync, G: Gate, D: Desk>(
+    rt: &R,
+    parts: &Parts,
+    workers: u8,
+    gate: &G,
+    desk: &mut D,
+    taps: &mut Taps,
+) -> Result<Wrote, NoMemory>
+    requires { (1 ≤ workers) × (workers ≤ 32) }
+{
+    let alloc = rt.alloc();
+    let chain = parts.chain(alloc)?;
+    let written = run_to(
+        rt,
+        alloc,
+        chain,
+        workers,
+        gate,
+        &parts.capture,
+        "out",
+        desk,
+        taps,
+    );
+    Ok(Wrote {
+        result: written.result,
+        finished: written.chain.finished(),
+        commits: written.commits,
+        put: written.put.len(),
+    })
+}
+
+/// The line of the first tap.
+fn first_line(alloc: Global, taps: &Taps) -> Result<Bytes, Fail> {
+    let lines = taps.lines(alloc)?;
+    if lines.len() == 0 {
+        return Err(Fail::new("a line"));
+    }
+    Ok(lines.at(0).copy()?)
+}
+
 #[test]
 fn what_is_released_is_written(rt: HostRuntime) -> Result<(), Fail> {
     let alloc = rt.alloc();
-    let spec = three_monitors(alloc)?;
-    let capture = capture_of(alloc, 20)?;
-    let ring = ring_of(&spec).expect(&rt, "a ring");
-    let script = empty_script(alloc, &ring, capture.packets.len() as u32)?;
-    let chain = Chain::new(alloc, &spec, &capture.packets, &script)?;
+    let parts = Parts::new(alloc, three_monitors(alloc)?, 20)?;
     let mut desk = desk_with_out(alloc)?;
     let mut taps = one_list(alloc)?;
-    let written = run_to(
-        &rt, alloc, chain, 3, &OpenGate, &capture, "out", &mut desk, &mut taps,
-    );
-    assert_eq!(rt; written.result, Ok(()));
-    assert!(rt; written.chain.finished());
-    assert_eq!(rt; written.commits, 60);
-    assert_eq!(rt; written.put.len(), 20);
+    let ended = write_parts(&rt, &parts, 3, &OpenGate, &mut desk, &mut taps)?;
+    let expected = Wrote {
+        result: Ok(()),
+        finished: true,
+        commits: 60,
+        put: 20,
+    };
+    assert_eq!(rt; ended, expected);
     assert_eq!(rt; out_len(&desk), 24 + 20 * 58);
-    let lines = taps.lines(alloc)?;
-    assert_eq!(rt; lines.at(0).as_slice(), b"list 20".as_slice());
+    assert_eq!(rt; first_line(alloc, &taps)?.as_slice(), b"list 20".as_slice());
     Ok(())
 }
 
 #[test]
 fn a_fault_ends_the_workers(rt: HostRuntime) -> Result<(), Fail> {
     let alloc = rt.alloc();
-    let spec = three_monitors(alloc)?;
-    let capture = capture_of(alloc, 20)?;
-    let ring = ring_of(&spec).expect(&rt, "a ring");
-    let script = empty_script(alloc, &ring, capture.packets.len() as u32)?;
-    let chain = Chain::new(alloc, &spec, &capture.packets, &script)?;
-    let inner = desk_with_out(alloc)?;
-    let mut desk = FailingDesk::new(alloc, inner, &[1])?;
+    let parts = Parts::new(alloc, three_monitors(alloc)?, 20)?;
+    let mut desk = FailingDesk::new(alloc, desk_with_out(alloc)?, &[1])?;
     let mut taps = one_list(alloc)?;
-    let written = run_to(
-        &rt, alloc, chain, 3, &OpenGate, &capture, "out", &mut desk, &mut taps,
-    );
-    assert_eq!(rt; written.result, Err(PutFault::Failed));
-    assert_eq!(rt; written.put.len(), 1);
+    let ended = write_parts(&rt, &parts, 3, &OpenGate, &mut desk, &mut taps)?;
+    assert_eq!(rt; ended.result, Err(PutFault::Failed));
+    assert_eq!(rt; ended.put, 1);
     assert_eq!(rt; out_len(desk.inner()), 24 + 58);
-    let lines = taps.lines(alloc)?;
-    assert_eq!(rt; lines.at(0).as_slice(), b"list 1".as_slice());
+    assert_eq!(rt; first_line(alloc, &taps)?.as_slice(), b"list 1".as_slice());
     Ok(())
 }
 
@@ -328,28 +438,27 @@ impl Gate for FlagGate {
     }
 }
 
+/// Taps of one that raises the flag.
+fn one_flag(alloc: Global, flag: Arc<AtomicBool, Global>) -> Result<Taps, AllocError> {
+    let mut list: Vec<Box<dyn Tap + Send>> = Vec::new(alloc);
+    list.push(Box::new(alloc, FlagTap { flag })?)?;
+    Ok(Taps::new(list))
+}
+
 #[test]
 fn a_packet_is_written_while_another_waits(rt: HostRuntime) -> Result<(), Fail> {
     let alloc = rt.alloc();
-    let spec = one_monitor(alloc)?;
-    let capture = capture_of(alloc, 2)?;
-    let ring = ring_of(&spec).expect(&rt, "a ring");
-    let script = empty_script(alloc, &ring, capture.packets.len() as u32)?;
-    let chain = Chain::new(alloc, &spec, &capture.packets, &script)?;
+    let parts = Parts::new(alloc, one_monitor(alloc)?, 2)?;
     let flag = Arc::new(alloc, AtomicBool::new(false))?;
     let gate = FlagGate {
         flag: Arc::try_clone(&flag)?,
         seen: AtomicBool::new(false),
     };
-    let mut list: Vec<Box<dyn Tap + Send>> = Vec::new(alloc);
-    list.push(Box::new(alloc, FlagTap { flag })?)?;
-    let mut taps = Taps::new(list);
+    let mut taps = one_flag(alloc, flag)?;
     let mut desk = desk_with_out(alloc)?;
-    let written = run_to(
-        &rt, alloc, chain, 2, &gate, &capture, "out", &mut desk, &mut taps,
-    );
-    assert_eq!(rt; written.result, Ok(()));
+    let ended = write_parts(&rt, &parts, 2, &gate, &mut desk, &mut taps)?;
+    assert_eq!(rt; ended.result, Ok(()));
     assert!(rt; gate.seen.load(Ordering::SeqCst));
-    assert_eq!(rt; written.put.len(), 2);
+    assert_eq!(rt; ended.put, 2);
     Ok(())
 }
