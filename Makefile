@@ -4,6 +4,8 @@
 CASES ?= ../shared/cases
 CASE_SETS = first-path first-path-refused middleboxes middleboxes-refused ring loss crash check check-refused ports watch \
 	watch-refused make
+# Runs by workers make one journal or another, so they are judged by a check.
+JUDGED_SETS = middleboxes ring loss crash
 
 SOURCES := $(shell find crates crates.txt -name out -prune -o -type f -print)
 
@@ -29,7 +31,8 @@ demo: bin/ftc
 test:
 	rt ci
 	@if [ -x "$(CASES)/compare" ]; then \
-		$(MAKE) lines && "$(CASES)/compare" bin/ftc $(addprefix $(CASES)/,$(CASE_SETS)); \
+		$(MAKE) lines && FTC="$$PWD/bin/ftc" "$(CASES)/compare" examples/alone $(addprefix $(CASES)/,$(CASE_SETS)) && \
+		"$(CASES)/judge" bin/ftc $(addprefix $(CASES)/,$(JUDGED_SETS)); \
 	fi
 
 # What the program says on standard error, and its exit codes.

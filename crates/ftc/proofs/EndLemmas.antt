@@ -1,5 +1,5 @@
 -- What the steps of a run leave is what it leaves at its end.
-use Rattle.std.proofs.Common.{◌≡◌, ◌≢◌, ◌∙◌, sym, refl, ℕ, Bool, true, false, if◌then◌else◌, List, Option, Some, inr, ◌⊎◌, ap, subst}
+use Rattle.std.proofs.Common.{◌≡◌, ◌≢◌, ◌∙◌, sym, refl, ℕ, Bool, true, false, if◌then◌else◌, List, Option, Some, inl, inr, ◌⊎◌, subst}
 use Rattle.std.specs.Prelude.{Ok}
 use Rattle.std.specs.Str.{bytes_eq}
 use Rattle.std.specs.List.{AllByRecursion}
@@ -30,20 +30,17 @@ use Rattle.ftc_protocol.specs.Run.{IsRun, state_after}
 use Rattle.ftc_protocol.specs.Setting.{Setting, IsSetting, setting_of}
 use Rattle.ftc_protocol.specs.State.{opening}
 use Rattle.ftc_report.specs.Output.{out_bytes}
-use Rattle.ftc_report.specs.Report.{report_of}
-use Rattle.ftc_stream.specs.Taps.{AreLeft}
 use Rattle.ftc_check.specs.Laws.{WholeRunsAreRight, RightRunsAreVisited, RightRunsAreSettled}
 use Rattle.ftc_check.specs.Verdict.{IsVerdict}
 use Rattle.ftc_check.specs.declared.verdict.Checked.TheVariants.{Yes}
-use Rattle.ftc_words.specs.Command.{Named, Mode}
-use Rattle.ftc.specs.Output.{MayHold}
+use Rattle.ftc_words.specs.Command.{Named, Mode, plain, workers, alone}
 use Rattle.ftc.specs.Status.{desk_status}
-use Rattle.ftc.specs.Writing.{IsUnwritten, AreDifferent, AreWritten, AreCutShort, AreCutBeside}
+use Rattle.ftc.specs.Writing.{IsUnwritten, AreDifferent, AreWritten, AreCutShort}
 use Rattle.ftc.specs.Texts.{AreTexts}
-use Rattle.ftc.specs.Driven.{IsFinishedDrive}
+use Rattle.ftc.specs.Driven.{IsFinishedRun, HasWritten, HasBegun}
 use Rattle.ftc.proofs.Moments.{EveryMoment, sound_throughout}
 use Rattle.ftc.specs.Checking.{IsRightRun}
-use Rattle.ftc.specs.Done.{IsDone, IsDoneBeside, IsCutShort, Ends, lines_of, report_bytes}
+use Rattle.ftc.specs.Done.{IsDone, IsDoneBeside, IsChosen, WereTold, IsOutOpen, IsCut, IsCutShort, Ends, lines_of, report_bytes}
 
 -- ---- the files with one more
 
@@ -73,8 +70,8 @@ pub record EndLaws : Type 0 where
 module _ (laws : EndLaws) (names : Named) (mode : Mode) (old : Files) (apart : AreDifferent names) (chain : Chain)
     (capture : Capture) (script : ScriptShape) (schedule journal : List Event) (end : State)
     (texts : AreTexts names mode old chain capture script schedule)
-    (run : IsFinishedDrive (setting_of chain (bytes_of capture.packets) script) schedule journal end)
-    (lines : List (List ℕ)) (plain : AllByRecursion HasNoFeed lines) where
+    (run : IsFinishedRun (setting_of chain (bytes_of capture.packets) script) journal end)
+    (chosen : IsChosen mode chain capture script schedule journal) (lines : List (List ℕ)) (plain : AllByRecursion HasNoFeed lines) where
   abbrev setting : Setting
   setting = setting_of chain (bytes_of capture.packets) script
 
@@ -138,7 +135,7 @@ module _ (laws : EndLaws) (names : Named) (mode : Mode) (old : Files) (apart : A
       right = right;
       schedule = schedule;
       schedule_right = texts.schedule_right;
-      chosen = run.chosen;
+      chosen = chosen;
       journal_file = written.journal_file;
       report_file = written.report_file;
       others = written.others;
@@ -203,16 +200,6 @@ module _ (laws : EndLaws) (names : Named) (mode : Mode) (old : Files) (apart : A
     report_order = rw (← same names.report) cut.report_order;
   }
 
-  -- the writing was cut short
-  pub ended_cut : (taps left : List Face) (mid new : Files) → SameFiles old mid → (sound : Type 0) (error : DeskError) →
-      (sound → error ≡ desk.Failed → ⊥) → AreCutShort names out (spelling journal) report mid new →
-      (new names.report ≡ mid names.report) ⊎ (lines ≡ lines_of left) →
-      Ends sound names mode taps left old new (desk_status error)
-  ended_cut taps left mid new same sound desk.Failed safe cut of_taps =
-      inr (cut_short left new (moved mid new same cut) (rw (← same names.report) of_taps), λ s. safe s refl)
-  ended_cut taps left mid new same sound desk.NoMemory safe cut of_taps =
-      inr (cut_short left new (moved mid new same cut) (rw (← same names.report) of_taps))
-
 -- what the serial run of a run's trace released is what the run released
 abbrev pub ReleasedLaw : Type 0
 ReleasedLaw =
@@ -220,30 +207,55 @@ ReleasedLaw =
     (end : State) → serial_run setting.rules (serial.opening setting.packets) (trace_of journal) ≡ Some end →
     end.released ≡ released_in (state_after setting (opening setting) journal).trace
 
+-- what was said of the files as they are when the texts were read, of the files as they were
+open_before : (names : Named) (mode : Mode) (old mid new : Files) → SameFiles old mid → IsOutOpen names mode mid new →
+    IsOutOpen names mode old new
+open_before names plain old mid new same others = λ name not. others name not ∙ same name
+open_before names (workers count) old mid new same others = λ name not. others name not ∙ same name
+open_before names (alone name move) old mid new same none = none
+
 module _ (laws : EndLaws) (names : Named) (mode : Mode) (old : Files) (apart : AreDifferent names) (chain : Chain)
-    (capture : Capture) (script : ScriptShape) (schedule journal : List Event) (end : State)
-    (texts : AreTexts names mode old chain capture script schedule)
-    (run : IsFinishedDrive (setting_of chain (bytes_of capture.packets) script) schedule journal end)
-    (taps left : List Face) (mid new : Files) (same : SameFiles old mid) where
+    (capture : Capture) (script : ScriptShape) (schedule : List Event)
+    (texts : AreTexts names mode old chain capture script schedule) (taps left : List Face) (mid new : Files)
+    (same : SameFiles old mid) where
   abbrev of : Setting
   of = setting_of chain (bytes_of capture.packets) script
 
+  abbrev MayBe : List Event → Type 0
+  MayBe journal = IsChosen mode chain capture script schedule journal
+
+  abbrev Told : List Released → Type 0
+  Told records = WereTold mode taps left records
+
   -- all was written, with the lines of the taps that are left, and these were told
-  pub ended_beside : ReleasedLaw → AllByRecursion HasNoFeed (lines_of left) → AreLeft end.released taps left →
-      AreWritten names (out_bytes capture end.released) (spelling journal)
-      (report_of of journal (lines_of left)) mid new →
+  pub ended_beside : ReleasedLaw → HasWritten names chain capture script MayBe Told left mid new →
       IsDoneBeside names mode taps left old new
   unfolding ended_done done right
-  ended_beside law plain told written = record {
-    done = ended_done laws names mode old apart chain capture script schedule journal end texts run (lines_of left) plain
-        mid new same written;
-    told = ∥∥₁_map run.whole.run (λ legal. subst (λ (items : List Released). AreLeft items taps left)
-        (law of run.right journal legal end run.whole.serial) told);
+  ended_beside law has = record {
+    done = ended_done laws names mode old apart chain capture script schedule has.journal has.end texts has.run has.chosen
+        (lines_of left) has.plain mid new same has.written;
+    told = ∥∥₁_map has.run.whole.run (λ legal. subst Told
+        (law of has.run.right has.journal legal has.end has.run.whole.serial) has.told);
   }
 
-  pub ended_cut_beside : (sound : Type 0) (error : DeskError) → (sound → error ≡ desk.Failed → ⊥) →
-      AreCutBeside names (out_bytes capture end.released) (spelling journal) (report_of of journal) (lines_of left) mid new
-      → Ends sound names mode taps left old new (desk_status error)
-  ended_cut_beside sound error safe cut =
-      ended_cut laws names mode old apart chain capture script schedule journal end texts run cut.lines cut.plain
-      taps left mid new same sound error safe cut.cut cut.of_taps
+  begun : HasBegun names chain capture script MayBe left mid new → IsCutShort names mode left old new
+  begun has =
+      let cut = has.cut in
+      cut_short laws names mode old apart chain capture script schedule has.journal has.end texts has.run has.chosen
+      cut.lines cut.plain left new
+      (moved laws names mode old apart chain capture script schedule has.journal has.end texts has.run has.chosen
+      cut.lines cut.plain mid new same cut.cut) (rw (← same names.report) cut.of_taps)
+
+  is_cut : IsOutOpen names mode mid new ⊎ HasBegun names chain capture script MayBe left mid new →
+      IsCut names mode left old new
+  is_cut (inl others) = inl (open_before names mode old mid new same others)
+  is_cut (inr has) = inr (begun has)
+
+  -- the writing failed
+  pub ended_cut : (sound : Type 0) (error : DeskError) → (sound → error ≡ desk.Failed → ⊥) →
+      (error ≡ desk.Failed → IsOutOpen names mode mid new ⊎ HasBegun names chain capture script MayBe left mid new) →
+      SameFiles mid new ⊎ (IsOutOpen names mode mid new ⊎ HasBegun names chain capture script MayBe left mid new) →
+      Ends sound names mode taps left old new (desk_status error)
+  ended_cut sound desk.Failed safe failed refused = inr (is_cut (failed refl), λ s. safe s refl)
+  ended_cut sound desk.NoMemory safe failed (inl as_before) = inl (λ name. as_before name ∙ same name)
+  ended_cut sound desk.NoMemory safe failed (inr cut) = inr (is_cut cut)

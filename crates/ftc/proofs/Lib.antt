@@ -10,3 +10,7 @@ pub mod WatchLemmas
 pub mod PortLemmas
 pub mod MakeLemmas
 pub mod WriteLemmas
+pub mod CompleteLemmas
+pub mod RunLemmas
+pub mod ReportLemmas
+pub mod FateLemmas

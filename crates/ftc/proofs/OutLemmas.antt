@@ -1,6 +1,6 @@
 -- Pieces that are written one after another.
-use Rattle.std.proofs.Common.{◌≡◌, ◌<◌, ℕ, zero, suc, ◌+◌, List, [], ◌∷◌, ◌++◌, length, take, drop, ap, sym, refl, ◌∙◌, append_assoc, append-nil, Bool, arith, add-one, inl, inr}
-use Rattle.std.specs.Prelude.{slice_get, IfSome, Option, Some, unwrap_or, ◌⊎◌, OnErr, Result, Ok, Err}
+use Rattle.std.proofs.Common.{◌≡◌, ◌<◌, ℕ, zero, suc, ◌+◌, List, [], ◌∷◌, ◌++◌, length, take, drop, ap, sym, subst, refl, ◌∙◌, append_assoc, append-nil, Bool, arith, add-one, inl, inr}
+use Rattle.std.specs.Prelude.{slice_get, IfSome, Option, Some, None, unwrap_or, ◌⊎◌, OnErr, Result, Ok, Err}
 use Rattle.std.specs.List.{flat_map}
 use Rattle.std.proofs.lemmas.List.{take-append-drop}
 use Rattle.std.proofs.lemmas.Grind.{common_steps}
@@ -9,7 +9,7 @@ use Rattle.ftc_base.specs.declared.released.Released.{Released}
 use Rattle.ftc_pcap.specs.declared.capture.Capture.{Capture}
 use Rattle.ftc_pcap.specs.declared.packets.Packet.{Packet}
 use Rattle.ftc_pcap.specs.Grammar.{record_bytes, rewritten}
-use Rattle.ftc_report.specs.Output.{released_record}
+use Rattle.ftc_report.specs.Output.{released_record, out_bytes}
 use Rattle.ftc.specs.Output.{MayHold}
 
 -- the piece of the item at a place stands behind those of the items before it
@@ -95,3 +95,24 @@ has_front was now before more whole is whole-is = inr (before, is, (more, whole-
 
 pub moved_on : (old new : Option (List ℕ)) (piece before : List ℕ) → new ≡ Some (unwrap_or old [] ++ piece) → old ≡ Some before → (after : List ℕ) × (new ≡ Some after) × (after ++ [] ≡ before ++ piece)
 moved_on old new piece before grown is = (before ++ piece, grown ∙ ap (λ (o : Option (List ℕ)). Some (unwrap_or o [] ++ piece)) is, append-nil (before ++ piece))
+
+-- a file that isn't there now was never there, where it would have grown
+pub absent_at_first : (old now : Option (List ℕ)) → ((held : List ℕ) → old ≡ Some held → (before : List ℕ) × (now ≡ Some before))
+    → now ≡ None → old ≡ None
+absent_at_first None now grown gone = refl
+absent_at_first (Some held) now grown gone = let (before, is) = grown held refl in let no : None ≡ Some before = sym gone ∙ is in cc
+
+-- what was begun anew has a front of the whole
+pub begun_anew : (was mid now : Option (List ℕ)) (whole : List ℕ) → mid ≡ Some [] → MayHold mid now whole → MayHold was now whole
+begun_anew was mid now whole empty (inl same) = inr ([], same ∙ empty, (whole, refl))
+begun_anew was mid now whole empty (inr front) = inr front
+
+pub begun_out : (was mid now : Option (List ℕ)) (capture : Capture) (first : List ℕ) (items released : List Released) →
+    mid ≡ Some [] → first ≡ capture.header → items ≡ released →
+    MayHold mid now (([] ++ first) ++ flat_map (released_record capture) items) → MayHold was now (out_bytes capture released)
+begun_out was mid now capture first items released empty header same held =
+    let whole : ([] ++ first) ++ flat_map (released_record capture) items ≡ out_bytes capture released =
+    ap (λ (front : List ℕ). front ++ flat_map (released_record capture) items) header
+    ∙ ap (λ (all : List Released). capture.header ++ flat_map (released_record capture) all) same in
+    subst (λ (bytes : List ℕ). MayHold was now bytes) whole
+    (begun_anew was mid now (([] ++ first) ++ flat_map (released_record capture) items) empty held)

@@ -1,5 +1,5 @@
 -- What a run leaves: files that a check says Yes of, or some fronts of them.
-use Rattle.std.specs.Prelude.{◌≡◌, ◌⊎◌, ℕ, List, map, Some}
+use Rattle.std.specs.Prelude.{◌≡◌, ◌⊎◌, ℕ, List, [], ◌∷◌, ◌++◌, map, Some}
 use Rattle.ftc_base.specs.declared.released.Released.{Released}
 use Rattle.ftc_outside.specs.Desk.{Files, SameFiles}
 use Rattle.ftc_outside.specs.Tap.{Face}
@@ -16,17 +16,25 @@ use Rattle.ftc_report.specs.Report.{report_of}
 use Rattle.ftc_stream.specs.Taps.{AreLeft}
 use Rattle.ftc.specs.declared.status.Status.{Status}
 use Rattle.ftc.specs.declared.status.Status.TheVariants as status
-use Rattle.ftc_words.specs.Command.{Named, Mode}
+use Rattle.ftc_words.specs.Command.{Named, Mode, alone}
 use Rattle.ftc.specs.Output.{MayHold, SameElsewhere, written_by}
 use Rattle.ftc.specs.Refused.{IsRunRefused}
 use Rattle.ftc.specs.Texts.{HasSchedule}
 use Rattle.ftc.specs.Checking.{IsRightRun, state_of}
 
--- The one part that varies: which of the finished runs a run leaves. It is the one that one thread drives by a
--- schedule.
-abbrev pub IsChosen : Chain → Capture → ScriptShape → List Event → List Event → Type 0
-IsChosen chain capture script schedule journal =
+-- the journal is that of the run which one thread drives by the schedule
+abbrev pub IsDriven : Chain → Capture → ScriptShape → List Event → List Event → Type 0
+IsDriven chain capture script schedule journal =
     ∥ IsDrive (setting_of chain (bytes_of capture.packets) script) schedule journal ∥₁
+
+-- workers make any run, by how they come to their turns
+abbrev pub IsAny : List Event → Type 0
+IsAny journal = Unit {0}
+
+-- Which of the finished runs a run leaves.
+abbrev pub IsChosen : Mode → Chain → Capture → ScriptShape → List Event → List Event → Type 0
+IsChosen (alone name move) chain capture script schedule journal = IsDriven chain capture script schedule journal
+IsChosen other chain capture script schedule journal = IsAny journal
 
 -- the report of a journal, with these lines of taps
 abbrev pub report_bytes : Chain → Capture → ScriptShape → List Event → List (List ℕ) → List ℕ
@@ -39,7 +47,7 @@ pub record IsDone (names : Named) (mode : Mode) (lines : List (List ℕ)) (old n
   pub right : IsRightRun names new
   pub schedule : List Event
   pub schedule_right : HasSchedule mode old schedule
-  pub chosen : IsChosen right.judged.chain right.judged.capture right.judged.script schedule right.judged.journal
+  pub chosen : IsChosen mode right.judged.chain right.judged.capture right.judged.script schedule right.judged.journal
   pub journal_file : new names.journal ≡ Some (spelling right.judged.journal)
   pub report_file : new names.report
       ≡ Some (report_bytes right.judged.chain right.judged.capture right.judged.script right.judged.journal lines)
@@ -49,12 +57,24 @@ pub record IsDone (names : Named) (mode : Mode) (lines : List (List ℕ)) (old n
 abbrev pub lines_of : List Face → List (List ℕ)
 lines_of taps = map (λ tap. tap.line) taps
 
--- It is done, and its report has the lines of the taps that are left: each that is gone is none that stays for good,
--- and each other was told the released packets, in their order.
+-- Each tap that is gone is none that stays for good, and each other was told these records, in their order.
+abbrev pub AreToldAll : List Face → List Face → List Released → Type 0
+AreToldAll taps left records = AreLeft records taps left
+
+-- The same, where others may have been told before these.
+abbrev pub AreToldAtLast : List Face → List Face → List Released → Type 0
+AreToldAtLast taps left records = (before : List Released) × AreLeft (before ++ records) taps left
+
+-- What the taps were told of a run's released packets; with workers OUT may have been made again.
+abbrev pub WereTold : Mode → List Face → List Face → List Released → Type 0
+WereTold (alone name move) taps left records = AreToldAll taps left records
+WereTold other taps left records = AreToldAtLast taps left records
+
+-- It is done, its report has the lines of the taps that are left, and these were told.
 pub record IsDoneBeside (names : Named) (mode : Mode) (taps left : List Face) (old new : Files) : Type 0 where
   pub done : IsDone names mode (lines_of left) old new
-  pub told : ∥ AreLeft (released_in (state_of done.right.judged.chain done.right.judged.capture
-      done.right.judged.script done.right.judged.journal).trace) taps left ∥₁
+  pub told : ∥ WereTold mode taps left (released_in (state_of done.right.judged.chain done.right.judged.capture
+      done.right.judged.script done.right.judged.journal).trace) ∥₁
 
 -- The file is as it was, or has some front of what it would have.
 abbrev pub IsFrontOf : List ℕ → Files → Files → Files → Type 0
@@ -75,12 +95,22 @@ pub record IsCutShort (names : Named) (mode : Mode) (left : List Face) (old new 
   pub of_taps : (new names.report ≡ old names.report) ⊎ (lines ≡ lines_of left)
   pub others : SameElsewhere (written_by names) old new
 
+-- With workers OUT grows while the run goes on: what it holds where the run fails before the journal is begun, the
+-- writer's calls say. No other file has changed then.
+abbrev pub IsOutOpen : Named → Mode → Files → Files → Type 0
+IsOutOpen names (alone name move) old new = ⊥
+IsOutOpen names other old new = SameElsewhere (names.out ∷ []) old new
+
+-- What a run leaves that failed in its writing.
+abbrev pub IsCut : Named → Mode → List Face → Files → Files → Type 0
+IsCut names mode left old new = IsOutOpen names mode old new ⊎ IsCutShort names mode left old new
+
 -- How a run with these names ends, which had these taps and leaves those. A run that fails has changed nothing yet, or
 -- was cut short. Where the desk is sound, it fails only where the first text that is not right is missing.
 abbrev pub Ends : Type 0 → Named → Mode → List Face → List Face → Files → Files → Status → Type 0
 Ends sound names mode taps left old new status.Done = IsDoneBeside names mode taps left old new
 Ends sound names mode taps left old new status.DeskFault =
     (IsRunRefused sound names mode old status.DeskFault × SameFiles old new)
-    ⊎ (IsCutShort names mode left old new × (sound → ⊥))
-Ends sound names mode taps left old new status.NoMemory = SameFiles old new ⊎ IsCutShort names mode left old new
+    ⊎ (IsCut names mode left old new × (sound → ⊥))
+Ends sound names mode taps left old new status.NoMemory = SameFiles old new ⊎ IsCut names mode left old new
 Ends sound names mode taps left old new refused = IsRunRefused sound names mode old refused × SameFiles old new

@@ -2,6 +2,7 @@ pub mod Status
 pub mod Ended
 pub mod Output
 pub mod Driven
+pub mod Settled
 pub mod Texts
 pub mod Checking
 pub mod Refused
@@ -11,3 +12,4 @@ pub mod Answers
 pub mod Watching
 pub mod Porting
 pub mod Making
+pub mod Completing

@@ -42,18 +42,22 @@ pub record AreCutShort (names : Named) (out journal report : List ℕ) (old new 
   pub report_order : (new names.report ≡ old names.report)
       ⊎ ((new names.out ≡ Some out) × (new names.journal ≡ Some journal))
 
--- OUT and the journal hold all that was to be written
-pub record AreEventsWritten (names : Named) (out journal : List ℕ) (old new : Files) : Type 0 where
-  pub out_file : new names.out ≡ Some out
+-- the journal and the report hold all that was to be written
+pub record AreTextsWritten (names : Named) (journal report : List ℕ) (old new : Files) : Type 0 where
   pub journal_file : new names.journal ≡ Some journal
-  pub others : SameElsewhere (names.out ∷ names.journal ∷ []) old new
+  pub report_file : new names.report ≡ Some report
+  pub others : SameElsewhere (names.journal ∷ names.report ∷ []) old new
 
--- each of the two is as it was, or holds some front of it
-pub record AreEventsCutShort (names : Named) (out journal : List ℕ) (old new : Files) : Type 0 where
-  pub out_file : MayHold (old names.out) (new names.out) out
+-- Each of the two is as it was, or holds some front of it: of a report of some taps' lines. The report was begun only
+-- behind the journal, and with the lines of the taps that are left.
+pub record AreTextsCut (names : Named) (journal : List ℕ) (report : List (List ℕ) → List ℕ) (left : List (List ℕ))
+    (old new : Files) : Type 0 where
+  pub lines : List (List ℕ)
+  pub plain : AllByRecursion HasNoFeed lines
   pub journal_file : MayHold (old names.journal) (new names.journal) journal
-  pub others : SameElsewhere (names.out ∷ names.journal ∷ []) old new
-  pub journal_order : (new names.journal ≡ old names.journal) ⊎ (new names.out ≡ Some out)
+  pub report_file : MayHold (old names.report) (new names.report) (report lines)
+  pub others : SameElsewhere (names.journal ∷ names.report ∷ []) old new
+  pub order : (new names.report ≡ old names.report) ⊎ ((new names.journal ≡ Some journal) × (lines ≡ left))
 
 -- The three files were cut short, with a report of some taps' lines: those of the taps that are left, where any of it
 -- was written.

@@ -1,15 +1,18 @@
-//! The run of a chain on one thread.
+//! The run of a chain on one thread, and what is made of a run that is finished.
 
 ghost use Rattle.std.specs.Prelude.{◌≡◌, length, IfOk};
 ghost use Rattle.ftc_report.specs.Output.{AreWritable};
 ghost use Rattle.ftc_report.specs.Report.{report_of};
 ghost use Rattle.ftc_serial.specs.Held.{rules_of, state_of};
 ghost use Rattle.ftc_serial.specs.Packets.{bytes_of};
-ghost use Rattle.ftc_protocol.specs.Run.{IsRun};
+ghost use Rattle.ftc_chain.specs.ChainRun.{setting_in, state_of as state_of_run};
+ghost use Rattle.ftc_protocol.specs.Drive.{IsDrive};
+ghost use Rattle.ftc_protocol.specs.Run.{IsFinished};
 ghost use Rattle.ftc_protocol.specs.Setting.{setting_of};
-ghost use Rattle.ftc.specs.Driven.{IsFinishedDrive};
+ghost use Rattle.ftc.specs.Driven.{IsFinishedRun};
 ghost use Rattle.ftc.specs.Texts.{ring_of};
 
+use crate::fates::fates_of;
 use crate::numbers::numbers_fit;
 use crate::texts::Texts;
 use ftc_alone::run;
@@ -17,7 +20,7 @@ use ftc_base::{Bytes, Lines, NoMemory};
 use ftc_chain::Chain;
 use ftc_machine::trace_of;
 use ftc_protocol::{accepted, drive as drives, serial_of_a_run};
-use ftc_report::{chain_after, released_fit, report};
+use ftc_report::{chain_after, print, released_fit};
 use ftc_serial::Serial;
 use std::alloc::Global;
 
@@ -28,13 +31,17 @@ pub struct Driven<'a> {
     pub serial: Serial,
 }
 
-/// Plays the schedule over a new chain, and then does what is left.
-pub fn drive<'a>(alloc: Global, texts: &'a Texts) -> Result<Driven<'a>, NoMemory>
+/// Puts the serial chain beside a run that is finished.
+pub fn close<'a>(alloc: Global, texts: &Texts, chain: Chain<'a>) -> Result<Driven<'a>, NoMemory>
     requires ring { texts.now.script.ring ≡ ring_of texts.now.spec }
     requires packets { texts.now.script.packets ≡ length texts.now.capture.packets }
-    ensures driven { IfOk result (λ driven. IsFinishedDrive
+    requires setting { setting_in chain
+        ≡ setting_of texts.now.spec (bytes_of texts.now.capture.packets) texts.now.script }
+    requires finished { ∥ IsFinished (setting_in chain) (state_of_run chain) ∥₁ }
+    ensures journal { IfOk result (λ driven. driven.chain.journal ≡ chain.entry.journal) }
+    ensures finished { IfOk result (λ driven. IsFinishedRun
         (setting_of texts.now.spec (bytes_of texts.now.capture.packets) texts.now.script)
-        texts.now.schedule.items driven.chain.journal (state_of driven.serial)) }
+        driven.chain.journal (state_of driven.serial)) }
     ensures writable { IfOk result (λ driven. AreWritable texts.now.capture.packets (state_of driven.serial).released) }
     ensures rules { IfOk result (λ driven. rules_of driven.serial ≡ texts.now.spec.rules) }
 {
@@ -42,11 +49,8 @@ pub fn drive<'a>(alloc: Global, texts: &'a Texts) -> Result<Driven<'a>, NoMemory
     accepted();
     let _ = texts.spec.rules();
     let _ = texts.script.ring();
-    drives();
     serial_of_a_run();
     let packets = &texts.capture.packets;
-    let mut chain = Chain::new(alloc, &texts.spec, packets, &texts.script)?;
-    run(&mut chain, &texts.schedule)?;
     let journal = chain.journal();
     numbers_fit(journal);
     let trace = trace_of(alloc, journal)?;
@@ -55,7 +59,26 @@ pub fn drive<'a>(alloc: Global, texts: &'a Texts) -> Result<Driven<'a>, NoMemory
     Ok(Driven { chain, serial })
 }
 
-/// The text of the report of a run, with these lines of taps.
+/// Plays the schedule over a new chain, and then does what is left.
+pub fn drive<'a>(alloc: Global, texts: &'a Texts) -> Result<Driven<'a>, NoMemory>
+    requires ring { texts.now.script.ring ≡ ring_of texts.now.spec }
+    requires packets { texts.now.script.packets ≡ length texts.now.capture.packets }
+    ensures finished { IfOk result (λ driven. IsFinishedRun
+        (setting_of texts.now.spec (bytes_of texts.now.capture.packets) texts.now.script)
+        driven.chain.journal (state_of driven.serial)) }
+    ensures chosen { IfOk result (λ driven. ∥ IsDrive
+        (setting_of texts.now.spec (bytes_of texts.now.capture.packets) texts.now.script)
+        texts.now.schedule.items driven.chain.journal ∥₁) }
+    ensures writable { IfOk result (λ driven. AreWritable texts.now.capture.packets (state_of driven.serial).released) }
+    ensures rules { IfOk result (λ driven. rules_of driven.serial ≡ texts.now.spec.rules) }
+{
+    drives();
+    let mut chain = Chain::new(alloc, &texts.spec, &texts.capture.packets, &texts.script)?;
+    run(&mut chain, &texts.schedule)?;
+    close(alloc, texts, chain)
+}
+
+/// The text of the report of a run that is finished, with these lines of taps.
 pub fn report_of(
     alloc: Global,
     texts: &Texts,
@@ -64,11 +87,13 @@ pub fn report_of(
 ) -> Result<Bytes, NoMemory>
     requires ring { texts.now.script.ring ≡ ring_of texts.now.spec }
     requires packets { texts.now.script.packets ≡ length texts.now.capture.packets }
-    requires run { ∥ IsRun (setting_of texts.now.spec (bytes_of texts.now.capture.packets) texts.now.script)
-        driven.now.chain.journal ∥₁ }
+    requires finished { IsFinishedRun
+        (setting_of texts.now.spec (bytes_of texts.now.capture.packets) texts.now.script)
+        driven.now.chain.journal (state_of driven.now.serial) }
+    requires rules { rules_of driven.now.serial ≡ texts.now.spec.rules }
     ensures { IfOk result (λ text. text ≡ report_of (setting_of texts.now.spec
         (bytes_of texts.now.capture.packets) texts.now.script) driven.now.chain.journal lines.now) }
 {
-    let (packets, journal) = (&texts.capture.packets, driven.chain.journal());
-    report(alloc, &texts.spec, packets, &texts.script, journal, lines)
+    let fates = fates_of(alloc, texts, driven.chain.journal(), &driven.serial)?;
+    print(alloc, &fates, &driven.serial, lines)
 }

@@ -1,22 +1,26 @@
 //! Runs a chain of middleboxes over a capture, checks the files of such a run, and makes a script of heartbeats.
 #![tactic(auto)]
 
+mod completing;
 mod drive;
+mod fates;
 mod files;
 mod judge;
 mod making;
 mod numbers;
 mod output;
 mod porting;
+mod running;
 mod status;
 mod telling;
 mod texts;
 mod top;
 mod watching;
+mod workers;
 mod writing;
 
 use ftc_audit::AuditTap;
-use ftc_outside::{CountTap, FileDesk, Tap};
+use ftc_outside::{CountTap, FileDesk, OpenGate, Tap};
 use ftc_stream::Taps;
 use status::Status;
 use std::alloc::{AllocError, Global};
@@ -36,35 +40,41 @@ fn lent<'a>(alloc: Global, texts: &'a [String]) -> Result<Vec<&'a str>, AllocErr
     Ok(words)
 }
 
-/// Runs the command of the program's words over the system's files.
-fn ended(rt: &HostRuntime) -> Status {
-    let Ok(args) = env::args(rt) else {
-        return Status::NoMemory;
-    };
-    let Ok(texts) = args.skip(1).collect::<Vec<String>>(rt.alloc()) else {
-        return Status::NoMemory;
+/// The program's words. None where there was no memory.
+fn given_words(rt: &HostRuntime) -> Option<Vec<String>> {
+    let args = env::args(rt).ok()?;
+    args.skip(1).collect::<Vec<String>>(rt.alloc()).ok()
+}
+
+/// Says how the command ended. The answer is its exit code.
+fn say(rt: &HostRuntime, status: Status) -> ExitCode {
+    let (code, _) = tell(rt.alloc(), status, &mut rt.stderr());
+    code
+}
+
+/// Runs the command of the program's words over the system's files. Two taps are told of released packets: one counts
+/// them, the other the endpoints from which they come.
+fn main(rt: HostRuntime) -> ExitCode {
+    let Some(texts) = given_words(&rt) else {
+        return say(&rt, Status::NoMemory);
     };
     let Ok(words) = lent(rt.alloc(), &texts) else {
-        return Status::NoMemory;
+        return say(&rt, Status::NoMemory);
     };
+    // A list that a function made and gave out could be of any taps, and no contract of it would say anything.
     let mut list: Vec<Box<dyn Tap + Send>> = Vec::new(rt.alloc());
     let counts = Box::new(rt.alloc(), CountTap::new());
     let audit = Box::new(rt.alloc(), AuditTap::new(rt.alloc(), MOST_ENDPOINTS));
     let (Ok(counts), Ok(audit)) = (counts, audit) else {
-        return Status::NoMemory;
+        return say(&rt, Status::NoMemory);
     };
     if list.push(counts).is_err() || list.push(audit).is_err() {
-        return Status::NoMemory;
+        return say(&rt, Status::NoMemory);
     }
-    let mut desk = FileDesk::new(rt);
     let mut taps = Taps::new(list);
-    top::run(rt, &words, &mut desk, &mut taps)
-}
-
-fn main(rt: HostRuntime) -> ExitCode {
-    let status = ended(&rt);
-    let (code, _) = tell(rt.alloc(), status, &mut rt.stderr());
-    code
+    let mut desk = FileDesk::new(&rt);
+    let status = top::run(&rt, &words, &mut desk, &OpenGate, &mut taps);
+    say(&rt, status)
 }
 
 #[cfg(test)]

@@ -14,6 +14,7 @@ ghost use Rattle.ftc.specs.Texts.{ring_of};
 ghost use Rattle.ftc.specs.Watching.{AreMade, AreMadeShort};
 
 use crate::drive::drive;
+use crate::fates::fates_of;
 use crate::output::write_text;
 use crate::status::Status;
 use crate::texts::{Texts, ring_of};
@@ -21,7 +22,6 @@ use ftc_base::{Bytes, NoMemory, Refuse};
 use ftc_conf::read_chain;
 use ftc_gen::{generate, is_a_capture};
 use ftc_journal::Journal;
-use ftc_machine::fates_of;
 use ftc_mbox::ChainSpec;
 use ftc_outside::{Desk, DeskError};
 use ftc_pcap::{Capture, one_fault, one_reading, read_capture};
@@ -101,8 +101,7 @@ fn told_of_drive(alloc: Global, texts: &Texts) -> Result<Bytes, NoMemory>
         (bytes_of texts.now.capture.packets) texts.now.script) texts.now.schedule.items) }
 {
     let driven = drive(alloc, texts)?;
-    let (packets, journal) = (&texts.capture.packets, driven.chain.journal());
-    let fates = fates_of(alloc, &texts.spec, packets, &texts.script, journal)?;
+    let fates = fates_of(alloc, texts, driven.chain.journal(), &driven.serial)?;
     summary(alloc, &fates, &driven.serial)
 }
 

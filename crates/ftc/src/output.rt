@@ -1,6 +1,7 @@
 //! Writing the files of a run.
 
-ghost use Rattle.std.specs.Prelude.{◌≡◌, ◌≤◌, ◌++◌, OnOk, OnErr, IsErrOf, Some, None};
+ghost use Rattle.std.specs.Prelude.{◌≡◌, ◌≤◌, ◌++◌, ℕ, List, OnOk, OnErr, IsErrOf, Some, None};
+ghost use Rattle.std.specs.List.{flat_map};
 ghost use Rattle.ftc_outside.specs.Desk.{SameButAt, GrewAt, MayHaveGrownAt, Rose};
 ghost use Rattle.ftc_journal.specs.Text.{spelling};
 ghost use Rattle.ftc_report.specs.Output.{released_record, out_bytes, IsWritable, AreWritable};
@@ -59,8 +60,61 @@ fn flush_long<D: Desk>(
     Ok(())
 }
 
-/// Writes the capture's header, and the records of the released packets in this order, to a new file
-/// of that name. The file grows by large pieces.
+/// Adds a first piece and the records of released packets in this order to a file. The file grows by large pieces.
+pub fn append_records<D: Desk>(
+    alloc: Global,
+    desk: &mut D,
+    name: &str,
+    capture: &Capture,
+    first: Bytes,
+    released: &[Released],
+) -> Result<(), DeskError>
+    requires { AreWritable capture.now.packets released.now }
+    ensures grown { D.tells desk.old → (held : List ℕ) → D.file desk.old name.now ≡ Some held →
+        OnOk result (D.file desk.new name.now
+        ≡ Some ((held ++ first) ++ flat_map (released_record capture.now) released.now)) }
+    ensures refused { D.tells desk.old → (held : List ℕ) → D.file desk.old name.now ≡ Some held →
+        OnErr result (MayHold (D.file desk.old name.now) (D.file desk.new name.now)
+        ((held ++ first) ++ flat_map (released_record capture.now) released.now)) }
+    ensures others { D.tells desk.old → SameButAt name.now (D.file desk.old) (D.file desk.new) }
+    ensures tells { D.tells desk.old → D.tells desk.new }
+    ensures sound { D.sound desk.old → D.sound desk.new }
+    ensures count { D.faults desk.old ≤ D.faults desk.new }
+    ensures cause { IsErrOf result DeskError.Failed → Rose (D.faults desk.old) (D.faults desk.new) }
+    ensures still { (IsErrOf result DeskError.Failed → ⊥) → D.faults desk.new ≡ D.faults desk.old }
+    ensures absent { D.tells desk.old → D.sound desk.old → IsErrOf result DeskError.Failed →
+        D.file desk.old name.now ≡ None }
+{
+    let mut piece = first;
+    for packet in released {
+        flush_long(alloc, desk, name, &mut piece)?;
+        add_record(alloc, capture, packet, &mut piece)?;
+    }
+    desk.append(alloc, name, piece.as_slice())
+}
+
+/// Writes the capture's header to a new file of that name.
+pub fn write_front<D: Desk>(
+    alloc: Global,
+    desk: &mut D,
+    name: &str,
+    capture: &Capture,
+) -> Result<(), DeskError>
+    ensures written { D.tells desk.old → OnOk result (D.file desk.new name.now ≡ Some capture.now.header) }
+    ensures others { D.tells desk.old → SameButAt name.now (D.file desk.old) (D.file desk.new) }
+    ensures tells { D.tells desk.old → D.tells desk.new }
+    ensures sound { D.sound desk.old → D.sound desk.new }
+    ensures count { D.faults desk.old ≤ D.faults desk.new }
+    ensures cause { IsErrOf result DeskError.Failed → Rose (D.faults desk.old) (D.faults desk.new) }
+    ensures still { (IsErrOf result DeskError.Failed → ⊥) → D.faults desk.new ≡ D.faults desk.old }
+    ensures safe { D.tells desk.old → D.sound desk.old → IsErrOf result DeskError.Failed → ⊥ }
+{
+    let mut header = Bytes::new(alloc);
+    write_header(capture, &mut header)?;
+    write_text(alloc, desk, name, &header)
+}
+
+/// Writes the capture's header, and the records of the released packets in this order, to a new file of that name.
 pub fn write_out<D: Desk>(
     alloc: Global,
     desk: &mut D,
@@ -82,13 +136,9 @@ pub fn write_out<D: Desk>(
     ensures safe { D.tells desk.old → D.sound desk.old → IsErrOf result DeskError.Failed → ⊥ }
 {
     desk.make(alloc, name)?;
-    let mut piece = Bytes::new(alloc);
-    write_header(capture, &mut piece)?;
-    for packet in released.as_slice() {
-        flush_long(alloc, desk, name, &mut piece)?;
-        add_record(alloc, capture, packet, &mut piece)?;
-    }
-    desk.append(alloc, name, piece.as_slice())
+    let mut header = Bytes::new(alloc);
+    write_header(capture, &mut header)?;
+    append_records(alloc, desk, name, capture, header, released.as_slice())
 }
 
 /// Writes a text to a new file of that name.

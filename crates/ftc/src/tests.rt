@@ -8,21 +8,36 @@ mod statuses;
 mod taps;
 mod watches;
 mod worked;
+mod workers;
 
 use crate::status::Status;
 use crate::top;
 use ftc_base::Bytes;
-use ftc_outside::{Desk, MemoryDesk};
+use ftc_outside::{Desk, MemoryDesk, OpenGate};
 use ftc_stream::Taps;
+use std::sync::Wait;
 use std::test::Fail;
+use std::thread::Threads;
 
-/// Runs the command of the words without taps.
-pub fn run<R: AllocGlobal, D: Desk>(rt: &R, words: &[&str], desk: &mut D) -> Status {
+/// Runs the command of the words without taps, and with a gate that holds nobody.
+pub fn run<R: AllocGlobal + Threads + Wait + Sync, D: Desk>(
+    rt: &R,
+    words: &[&str],
+    desk: &mut D,
+) -> Status {
     let mut taps = Taps::new(Vec::new(rt.alloc()));
-    top::run(rt, words, desk, &mut taps)
+    top::run(rt, words, desk, &OpenGate, &mut taps)
 }
 
-/// The words of a run.
+/// The words of a run by a schedule.
+pub const ALONE: [&str; 9] = [
+    "run", "chain", "script", "capture", "out", "journal", "report", "--alone", "schedule",
+];
+
+/// The schedule without events.
+pub const EMPTY: &[u8] = b"ftc-journal 2\n";
+
+/// The words of a run by as many workers as there are where no option says it.
 pub const WORDS: [&str; 7] = [
     "run", "chain", "script", "capture", "out", "journal", "report",
 ];
@@ -48,11 +63,12 @@ pub fn capture_of<R: AllocGlobal>(rt: &R, packets: &[&[u8]]) -> Result<Bytes, Fa
     Ok(capture)
 }
 
-/// A desk with this chain, this capture and an empty script.
+/// A desk with this chain, this capture, an empty script and an empty schedule.
 pub fn desk_of<R: AllocGlobal>(rt: &R, chain: &[u8], capture: &[u8]) -> Result<MemoryDesk, Fail> {
     let mut desk = MemoryDesk::new(rt.alloc());
     desk.put("chain", chain)?;
     desk.put("script", b"")?;
     desk.put("capture", capture)?;
+    desk.put("schedule", EMPTY)?;
     Ok(desk)
 }

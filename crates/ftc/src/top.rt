@@ -5,40 +5,43 @@ ghost use Rattle.ftc_outside.specs.Desk.{SameFiles, Rose};
 ghost use Rattle.ftc_words.specs.Shown.{named_of, shown_mode, shown};
 ghost use Rattle.std.specs.List.{list_all};
 ghost use Rattle.ftc_words.specs.Given.{is_name};
-ghost use Rattle.ftc_words.specs.Command.{is_built, are_distinct, files_of, named_by, IsWithin};
+ghost use Rattle.ftc_words.specs.Command.{is_built, are_distinct, files_of, named_by, AreWorkers, IsWithin};
 ghost use Rattle.ftc.specs.Answers.{IsRunAnswer};
 ghost use Rattle.ftc.specs.Writing.{AreDifferent};
 ghost use Rattle.ftc.specs.Checking.{IsCheckEnd, IsYesOrRefused};
 ghost use Rattle.ftc.specs.Done.{Ends};
 ghost use Rattle.ftc.specs.Ended.{asked, IsAnswer, HasEnded, IsQuiet, HasTexts, HasFiles, HasRightRun, WasLeft};
 
-use crate::drive::drive;
 use crate::judge::judge;
 use crate::making::make_capture;
 use crate::porting::{PortNames, tell_ports};
+use crate::running::run_texts;
 use crate::status::Status;
 use crate::texts::read_texts;
 use crate::watching::{WatchNames, watch_beats};
-use crate::writing::write_files;
 use ftc_base::{NoMemory, ServerId};
 use ftc_check::{one_verdict, right_files, right_runs};
 use ftc_journal::spellings;
-use ftc_outside::Desk;
+use ftc_outside::{Desk, Gate};
 use ftc_pcap::{one_fault, one_reading};
 use ftc_protocol::{every_moment, losses, what_a_run_released};
 use ftc_stream::{Seen, Taps};
 use ftc_words::{Command, Mode, Names, read_command};
 use std::alloc::Global;
+use std::sync::Wait;
+use std::thread::Threads;
 
-/// Runs with these names, by a schedule where one is named.
-fn run_names<D: Desk>(
-    alloc: Global,
+/// Runs with these names, as the mode says.
+fn run_names<R: AllocGlobal + Threads + Wait + Sync, D: Desk, G: Gate>(
+    rt: &R,
     names: Names<'_>,
     mode: Mode<'_>,
     desk: &mut D,
+    gate: &G,
     taps: &mut Taps,
 ) -> Status
     requires apart { AreDifferent (named_of names) }
+    requires workers { AreWorkers (shown_mode mode) }
     ensures ends { D.tells desk.old → Ends (D.sound desk.old) (named_of names.entry) (shown_mode mode.entry)
         (⟦<Taps as Seen>⟧.faces taps.old) (⟦<Taps as Seen>⟧.faces taps.new) (D.file desk.old) (D.file desk.new)
         result }
@@ -56,24 +59,22 @@ fn run_names<D: Desk>(
     losses();
     every_moment();
     what_a_run_released();
-    let texts = match read_texts(alloc, names, mode, desk) {
+    let texts = match read_texts(rt.alloc(), names, mode, desk) {
         Ok(texts) => texts,
         Err(status) => return status,
     };
-    let Ok(driven) = drive(alloc, &texts) else {
-        return Status::NoMemory;
-    };
-    match write_files(alloc, names, desk, taps, &texts, &driven) {
+    match run_texts(rt, rt.alloc(), names, mode, &texts, desk, gate, taps) {
         Ok(()) => Status::Done,
         Err(error) => Status::from(error),
     }
 }
 
 /// Runs a command that is built.
-fn run_command<D: Desk>(
-    alloc: Global,
+fn run_command<R: AllocGlobal + Threads + Wait + Sync, D: Desk, G: Gate>(
+    rt: &R,
     command: &Command<'_>,
     desk: &mut D,
+    gate: &G,
     taps: &mut Taps,
 ) -> Status
     requires built { is_built (shown command.now) ≡ true }
@@ -103,8 +104,9 @@ fn run_command<D: Desk>(
     one_reading();
     one_fault();
     one_verdict();
+    let alloc = rt.alloc();
     match command {
-        Command::Run { names, mode } => run_names(alloc, *names, *mode, desk, taps),
+        Command::Run { names, mode } => run_names(rt, *names, *mode, desk, gate, taps),
         Command::Check { names } => judge(alloc, *names, desk),
         Command::Make {
             packets,
@@ -144,8 +146,15 @@ fn run_command<D: Desk>(
 
 /// Runs the command of the words, if they are one's that is built.
 ///
-/// The taps are lent: a run tells them of each packet that it wrote, and drops those that leave.
-pub fn run<R: AllocGlobal, D: Desk>(rt: &R, words: &[&str], desk: &mut D, taps: &mut Taps) -> Status
+/// The gate is passed by each visit of a worker. The taps are lent: a run tells them of each packet that it wrote, and
+/// drops those that leave.
+pub fn run<R: AllocGlobal + Threads + Wait + Sync, D: Desk, G: Gate>(
+    rt: &R,
+    words: &[&str],
+    desk: &mut D,
+    gate: &G,
+    taps: &mut Taps,
+) -> Status
     // Nothing is asked of the caller; without this line no `dyn` value may be lent.
     requires { ⊤ }
 
@@ -186,7 +195,7 @@ pub fn run<R: AllocGlobal, D: Desk>(rt: &R, words: &[&str], desk: &mut D, taps: 
         Err(NoMemory) => return Status::NoMemory,
     };
     match read {
-        Some(command) => run_command(rt.alloc(), &command, desk, taps),
+        Some(command) => run_command(rt, &command, desk, gate, taps),
         None => Status::Usage,
     }
 }

@@ -1,4 +1,5 @@
 mod FinishSteps
 mod IdleRuns
+mod Listed
 mod PlayedParts
 mod Results

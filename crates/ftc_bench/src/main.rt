@@ -1,7 +1,8 @@
-//! Times of the calls on which each hop of a packet stands. They are printed where the word `bench` is given.
+//! Times of the calls on which each hop of a packet stands, and of workers before slow middleboxes. They are printed where the word `bench` is given.
 #![tactic(auto)]
 
 mod samples;
+mod slow;
 
 ghost use Rattle.std.specs.Prelude.{◌≤◌};
 ghost use Rattle.ftc_message.specs.WellFormed.{IsWellFormed};
@@ -14,6 +15,7 @@ use ftc_store::Store;
 use ftc_txn::{Head, ReadAnswer};
 use ftc_vector::Vector;
 use samples::{kept_logs, message, one_log};
+use slow::slow_run;
 use std::env;
 use std::time::Instant;
 
@@ -155,4 +157,8 @@ fn main(rt: HostRuntime) {
         "a generated capture of 100000 packets",
         generating(&rt),
     );
+    let _ = println!(rt; "5000 packets through four middleboxes, each visit 20 us long");
+    say(&rt, "  by 1 worker", slow_run(&rt, 1));
+    say(&rt, "  by 2 workers", slow_run(&rt, 2));
+    say(&rt, "  by 4 workers", slow_run(&rt, 4));
 }

@@ -1,5 +1,5 @@
 -- A commit that makes a visit.
-use Rattle.std.proofs.Common.{◌≡◌, ◌≢◌, ◌∙◌, ◌++◌, [], ◌∷◌, ◌<◌, ◌-◌, ◌^◌, ◌↔◌, ℕ, List, length, Bool, false, Option, Some, None, Result, Ok, Err, OnOk, refl, sym, ap, subst}
+use Rattle.std.proofs.Common.{◌≡◌, ◌≢◌, ◌∙◌, ◌++◌, [], ◌∷◌, ◌<◌, ◌-◌, ◌^◌, ◌↔◌, ℕ, List, length, false, Option, Some, None, Result, Ok, Err, OnOk, refl, sym, ap, subst}
 use Rattle.std.specs.Prelude.{is_err}
 use Rattle.std.proofs.Math.Logic.{∥∥₁_map, ∥∥₁_elim, ∥∥₁_prop}
 use Rattle.ftc_base.specs.declared.ask.Ask.TheVariants.{Finish}
@@ -17,25 +17,24 @@ use Rattle.ftc_protocol.specs.State.{ChainState}
 use Rattle.ftc_server.specs.declared.answers.CommitAnswer.{CommitAnswer}
 use Rattle.ftc_server.specs.declared.answers.CommitAnswer.TheVariants as commit
 use Rattle.ftc_server.specs.declared.server.Server.{Server}
-use Rattle.ftc_server.specs.Steps.{EndsVisit}
 use Rattle.ftc_txn.specs.Head.{HeadState}
-use Rattle.ftc_txn.specs.Slots.{Running, slot_at, packet_of}
+use Rattle.ftc_txn.specs.Slots.{Running, packet_of}
 use Rattle.ftc_network.specs.declared.network.Network.{Network}
 use Rattle.ftc_network.specs.Parts.{server_in}
 use Rattle.ftc_network.specs.Slots.{head_of, head_at, runs_in, AreSameHeads, IsAtRest, SlotEndsVisit, FollowsCommit}
 use Rattle.ftc_network.specs.Events.{StandsStill}
-use Rattle.ftc_network.specs.Stand.{IsSlot, IsUp, IsNetwork}
+use Rattle.ftc_network.specs.Stand.{IsNetwork}
 use Rattle.ftc_chain.specs.declared.course.Course.{Course}
 use Rattle.ftc_chain.specs.declared.given.Given.{Given}
 use Rattle.ftc_chain.specs.ChainRun.{ChainRun}
 use Rattle.ftc_chain.specs.Course.{IsCourse, IsResting, RunsOnce, HasReleased, HasMade, state_by}
 use Rattle.ftc_chain.specs.Doing.{setting_by, HasDone}
-use Rattle.ftc_chain.specs.Slots.{IsAt, HasCommittedAt, CommitsAt}
-use Rattle.ftc_chain.proofs.AtRest.{may_do, events_are}
+use Rattle.ftc_chain.specs.Slots.{HasCommittedAt, CommitsAt}
+use Rattle.ftc_chain.proofs.AtRest.{events_are}
 use Rattle.ftc_chain.proofs.HeadsKept.{head_as, once_as, once_kept, others_no_more}
 use Rattle.ftc_chain.proofs.Made.{run_of, still_rests, stepped}
 use Rattle.ftc_chain.proofs.Releases.{is_run_state}
-use Rattle.ftc_chain.proofs.SlotCalls.{IsLive, live_of, after_end, Asks, asked_as, inside_of, other_heads, ends_no_more, undone_at}
+use Rattle.ftc_chain.proofs.SlotCalls.{live_of, after_end, Asks, asked_as, inside_of, other_heads, ends_no_more, undone_at}
 
 -- a network between two calls is at rest
 pub at_rest_there : (setting : Setting) (course : Course) (network : Network) → network ≡ course.network →

@@ -1,18 +1,14 @@
 -- Heads through the calls of a network, and as a contract sees them.
-use Rattle.std.proofs.Common.{◌≡◌, ◌≢◌, ◌∙◌, ℕ, zero, suc, List, [], ◌∷◌, map, Option, Some, None, length, slice_index_or, inl, inr, refl, sym, ap, subst, arith}
+use Rattle.std.proofs.Common.{◌≡◌, ◌∙◌, ℕ, zero, suc, List, [], ◌∷◌, map, Option, Some, None, length, slice_index_or, inl, inr, refl, sym, ap, subst, arith}
 use Rattle.std.proofs.lemmas.Bool.{cases_eq}
-use Rattle.std.proofs.Math.Logic.{∥∥₁_elim}
-use Rattle.std.specs.Coded.{Coded-set, coded_ℕ}
 use Rattle.ftc_journal.specs.declared.job.Job.{Job}
 use Rattle.ftc_journal.specs.declared.job.Job.TheVariants as job
-use Rattle.ftc_protocol.specs.Setting.{Setting, shape}
+use Rattle.ftc_protocol.specs.Setting.{Setting}
 use Rattle.ftc_protocol.specs.State.{ChainState}
 use Rattle.ftc_ring.specs.Ring.{RingShape}
 use Rattle.ftc_server.specs.declared.server.Server.{Server}
 use Rattle.ftc_txn.specs.Head.{HeadState}
-use Rattle.ftc_txn.specs.Slots.{Running, slot_at}
 use Rattle.ftc_network.specs.declared.network.Network.{Network}
-use Rattle.ftc_network.specs.Parts.{server_in}
 use Rattle.ftc_network.specs.Slots.{head_of, head_at, runs_in, AreSameHeads, AreOtherHeads, IsIdleHead, RunNoMore}
 use Rattle.ftc_network.specs.Stand.{IsNetwork}
 use Rattle.ftc_chain.specs.Course.{RunsOnce}

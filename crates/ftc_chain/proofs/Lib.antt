@@ -3,6 +3,7 @@ mod Commits
 mod Drained
 mod HeadsKept
 mod HeadsSeen
+mod LinkFrames
 mod Made
 mod NewHeads
 mod Outlets

@@ -1,11 +1,10 @@
 -- What the calls on slots leave of a chain.
-use Rattle.std.proofs.Common.{◌≡◌, ◌≢◌, ◌∙◌, ◌<◌, ℕ, Bool, true, false, List, map, Option, Some, None, length, slice_set, slice_index_or, inl, inr, refl, sym, ap, subst, get_or-set_same, get_or-set_other, length-set}
-use Rattle.std.specs.Prelude.{IfSome, option_map}
+use Rattle.std.proofs.Common.{◌≡◌, ◌≢◌, ◌∙◌, ◌<◌, ℕ, Bool, List, Option, Some, None, length, slice_set, inl, inr, refl, sym, ap, subst, get_or-set_same, get_or-set_other, length-set}
+use Rattle.std.specs.Prelude.{option_map}
 use Rattle.std.proofs.lemmas.Bool.{cases_eq, cases_lt, cases_Bool}
 use Rattle.std.proofs.lemmas.List.{get_or_past}
 use Rattle.ftc_base.specs.declared.ask.Ask.{Ask}
 use Rattle.ftc_base.specs.declared.ask.Ask.TheVariants.{Read, Finish}
-use Rattle.ftc_base.specs.declared.ask.Finish.{Finish as End}
 use Rattle.ftc_mbox.specs.Ask.{ask}
 use Rattle.ftc_protocol.specs.Drive.{IsNoneDue}
 use Rattle.ftc_protocol.specs.Next.{bytes_of}
@@ -16,17 +15,16 @@ use Rattle.ftc_server.specs.declared.answers.CommitAnswer.{CommitAnswer}
 use Rattle.ftc_server.specs.declared.answers.CommitAnswer.TheVariants as commit
 use Rattle.ftc_server.specs.declared.server.Server.{Server}
 use Rattle.ftc_server.specs.Looks.{ask_in}
-use Rattle.ftc_server.specs.Slots.{is_running}
 use Rattle.ftc_server.specs.State.{ServerState, state_of as fields_of}
 use Rattle.ftc_server.specs.Steps.{Reads, EndsVisit}
-use Rattle.ftc_txn.specs.Head.{HeadState, RunsUnwounded, ages_left, next_age}
-use Rattle.ftc_txn.specs.Slots.{Running, slot_at, begun, restarted, packet_of}
-use Rattle.ftc_txn.specs.Steps.{begins, restarts, HasQuit}
+use Rattle.ftc_txn.specs.Head.{HeadState, RunsUnwounded, next_age}
+use Rattle.ftc_txn.specs.Slots.{Running, slot_at, begun, restarted}
+use Rattle.ftc_txn.specs.Steps.{begins, restarts}
 use Rattle.ftc_txn.specs.declared.answers.ReadAnswer.{ReadAnswer}
 use Rattle.ftc_txn.specs.declared.answers.ReadAnswer.TheVariants as read
 use Rattle.ftc_network.specs.declared.network.Network.{Network}
 use Rattle.ftc_network.specs.Parts.{server_in}
-use Rattle.ftc_network.specs.Slots.{head_of, head_at, runs_in, ages_left_in, is_running_in, AreSameHeads, AreOtherHeads, RunNoMore, SlotQuits, SlotReads, SlotEndsVisit, bytes_run, bytes_run_at}
+use Rattle.ftc_network.specs.Slots.{head_of, head_at, runs_in, AreOtherHeads, RunNoMore, SlotQuits, SlotReads, SlotEndsVisit, bytes_run, bytes_run_at}
 use Rattle.ftc_network.specs.Stand.{IsSlot, IsUp}
 use Rattle.ftc_txn.specs.Slots.{wounded_by}
 use Rattle.ftc_txn.specs.Steps.{Reads as HeadReads}
@@ -35,9 +33,9 @@ use Rattle.ftc_locks.specs.Locks.{conflicts}
 use Rattle.ftc_chain.specs.declared.course.Course.{Course}
 use Rattle.ftc_chain.specs.declared.given.Given.{Given}
 use Rattle.ftc_chain.specs.ChainRun.{ChainRun}
-use Rattle.ftc_chain.specs.Course.{IsResting, RunsOnce, HasMade, state_by}
+use Rattle.ftc_chain.specs.Course.{IsResting, RunsOnce, state_by}
 use Rattle.ftc_chain.specs.Doing.{setting_by}
-use Rattle.ftc_chain.specs.Slots.{head_in, runs_at, ask_at, bytes_in, IsIdle, Answered, Looks, OthersStay, IsAt, HasRead, IsUnasked, ReadsAt, IsAsking, HasCommittedAt, HasRestarted, CommitsAt, QuitsIn, HasQuitAt}
+use Rattle.ftc_chain.specs.Slots.{head_in, runs_at, ask_at, IsIdle, Looks, OthersStay, IsAt, HasRead, ReadsAt, IsAsking, CommitsAt, QuitsIn, HasQuitAt}
 use Rattle.ftc_chain.proofs.HeadsKept.{head_as, SlotsRunNoMore, none_runs}
 use Rattle.ftc_ring.specs.Ring.{RingShape}
 use Rattle.ftc_chain.proofs.HeadsSeen.{head_seen, but_heads, as_it_was}

@@ -4,3 +4,4 @@ pub mod Outlet
 pub mod Course
 pub mod Messages
 pub mod Slots
+pub mod Frames

@@ -15,6 +15,7 @@ use ftc_base::{NoMemory, PacketNo, Released, ServerId, WorkerId};
 use ftc_jobs::{Jobs, all_jobs, first_job, is_legal};
 use ftc_journal::{Event, Job, Journal};
 use ftc_mbox::ChainSpec;
+use ftc_message::Seen;
 use ftc_network::Network;
 use ftc_pcap::Packets;
 use ftc_protocol::{
@@ -189,9 +190,20 @@ impl<'a> Chain<'a> {
         ensures heads { OnOk result (HeadsAfter job.now self.old self.new) }
         ensures err { OnErr result (self.new ≡ self.old) }
     {
+        self.make(job, None)
+    }
+
+    /// The same, with what was seen of a link's frames, which is for a take there.
+    pub(crate) fn make(&mut self, job: &Job, seen: Option<Seen>) -> Result<(), NoMemory>
+        requires other { is_visit job.now ≡ false }
+        requires legal { ∥ IsLegalJob (setting_in self.old) (state_of self.old) job.now ∥₁ }
+        ensures ok { OnOk result (∥ HasMade FINISHING_SLOT job.now self.old self.new ∥₁) }
+        ensures heads { OnOk result (HeadsAfter job.now self.old self.new) }
+        ensures err { OnErr result (self.new ≡ self.old) }
+    {
         releases();
         self.course.make_room()?;
-        let event = self.given.happen(&mut self.course.network, job)?;
+        let event = self.given.happen(&mut self.course.network, job, seen)?;
         self.course.journal.push(event)?;
         release_due(&mut self.course);
         Ok(())

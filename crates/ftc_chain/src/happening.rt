@@ -14,6 +14,7 @@ use crate::given::Given;
 use ftc_base::{Answers, NoMemory, PacketNo, ServerId, WorkerId};
 use ftc_journal::{Event, Job, VisitNames};
 use ftc_mbox::{Plan, Rule};
+use ftc_message::Seen;
 use ftc_network::Network;
 use ftc_protocol::{accepted, jobs_of_events};
 
@@ -90,8 +91,13 @@ impl<'a> Given<'a> {
         network.propagate(self.alloc, origin)
     }
 
-    /// A job whose event is the job with nothing added is done.
-    fn happen_plainly(&self, network: &mut Network, job: &Job) -> Result<(), NoMemory>
+    /// A job whose event is the job with nothing added is done. What was seen of a link's frames is for a take there.
+    fn happen_plainly(
+        &self,
+        network: &mut Network,
+        job: &Job,
+        seen: Option<Seen>,
+    ) -> Result<(), NoMemory>
         requires plain { is_plain job.now ≡ true }
         requires may { ∥ MayDo (setting_by self.now) job.now network.old ∥₁ }
         ensures ok { OnOk result (IsDone (setting_by self.now) FINISHING_SLOT job.now network.old network.new) }
@@ -102,7 +108,7 @@ impl<'a> Given<'a> {
     {
         match *job {
             Job::Enter { packet } => self.enter(network, packet),
-            Job::Take { link, origin } => network.take(self.alloc, link, origin),
+            Job::Take { link, origin } => network.take(self.alloc, link, origin, seen),
             Job::Apply {
                 server,
                 origin,
@@ -122,8 +128,13 @@ impl<'a> Given<'a> {
         }
     }
 
-    /// A job other than a visit is done. The answer is its event.
-    pub fn happen(&self, network: &mut Network, job: &Job) -> Result<Event, NoMemory>
+    /// A job other than a visit is done. The answer is its event. What was seen of a link's frames is for a take there.
+    pub fn happen(
+        &self,
+        network: &mut Network,
+        job: &Job,
+        seen: Option<Seen>,
+    ) -> Result<Event, NoMemory>
         requires other { is_visit job.now ≡ false }
         requires may { ∥ MayDo (setting_by self.now) job.now network.old ∥₁ }
         ensures ok { IfOk result (λ event. HasDone (setting_by self.now) FINISHING_SLOT job.now event network.old network.new) }
@@ -139,7 +150,7 @@ impl<'a> Given<'a> {
         let Some(event) = plain_event(job) else {
             unreachable!()
         };
-        self.happen_plainly(network, job)?;
+        self.happen_plainly(network, job, seen)?;
         Ok(event)
     }
 

@@ -5,6 +5,7 @@
 mod chain;
 mod course;
 mod events;
+mod frames;
 mod given;
 mod happening;
 mod messages;

@@ -58,6 +58,16 @@ impl<'a> Chain<'a> {
         }
     }
 
+    /// Whether some slot runs the visit of a packet at a server.
+    pub fn is_running(&self, server: ServerId, packet: PacketNo) -> bool
+        ensures { result ≡ is_running_at self.now server packet }
+    {
+        if server.number() >= self.course.network.ring.servers() {
+            return false;
+        }
+        self.course.network.is_running(server, packet)
+    }
+
     /// Whether an age is left for a slot to begin at a server. True where it is down.
     pub fn ages_left(&self, server: ServerId) -> bool
         ensures { result ≡ ages_left_at self.now server }

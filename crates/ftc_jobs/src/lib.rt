@@ -15,6 +15,7 @@ mod works;
 pub use all::{Jobs, all_jobs};
 pub use first::first_job;
 pub use legal::is_legal;
+pub use links::oldest_at;
 
 #[cfg(test)]
 mod tests;

@@ -24,6 +24,7 @@ is_queued queued message spelled sound origin logs =
     let same : message_in queued ≡ message = message_in-frame queued message spelled sound in
     record {
       read = ap message_of spelled ∙ is_read message sound.typed sound.right ∙ ap read_as (sym same);
+      spelled = spelled ∙ ap spelling (sym same);
       sound = subst IsSound (sym same) sound;
       origin = origin ∙ ap (λ (m : Message). m.origin) (sym same);
       logs = logs ∙ ap (λ (m : Message). length m.logs) (sym same);

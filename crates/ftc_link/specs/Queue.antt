@@ -2,6 +2,7 @@
 use Rattle.std.specs.Prelude.{◌≡◌, ℕ, Bool, List, [], ◌∷◌, length, Option, Some, None, Result, Ok, Err}
 use Rattle.ftc_message.specs.declared.fault.FrameFault.{FrameFault}
 use Rattle.ftc_message.specs.declared.message.Message.{Message}
+use Rattle.ftc_message.specs.Spelling.{spelling}
 use Rattle.ftc_message.specs.Reading.{message_of}
 use Rattle.ftc_message.specs.WellFormed.{IsTyped, IsWellFormed}
 use Rattle.ftc_link.specs.declared.queued.Queued.{Queued}
@@ -33,6 +34,7 @@ message_in queued = message_read (message_of queued.frame)
 -- the frame is one of a sound message, whose origin and count of logs are kept beside it
 pub record IsQueued (queued : Queued) : Type 0 where
   pub read : message_of queued.frame ≡ Ok (message_in queued)
+  pub spelled : queued.frame ≡ spelling (message_in queued)
   pub sound : IsSound (message_in queued)
   pub origin : queued.origin ≡ (message_in queued).origin
   pub logs : queued.logs ≡ length (message_in queued).logs

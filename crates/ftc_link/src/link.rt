@@ -1,7 +1,9 @@
 //! The link from one server to the next on the ring.
 
-ghost use Rattle.std.specs.Prelude.{◌≡◌, [], ℕ, false, length, Some, IsOk, IfOk, OnErr};
+ghost use Rattle.std.specs.Prelude.{◌≡◌, [], ℕ, false, length, Some, Ok, IsOk, IfOk, OnErr};
 ghost use Rattle.std.specs.Option.{option_map};
+ghost use Rattle.ftc_message.specs.Spelling.{spelling};
+ghost use Rattle.ftc_message.specs.Reading.{message_of};
 ghost use Rattle.ftc_message.specs.WellFormed.{IsWellFormed};
 ghost use Rattle.ftc_link.specs.declared.link.Sent.TheVariants as sent;
 ghost use Rattle.ftc_link.specs.Queue.{IsSound, oldest_of};
@@ -10,7 +12,7 @@ ghost use Rattle.ftc_link.specs.Sending.{answer_of, after_answer};
 
 use crate::queued::Queued;
 use ftc_base::{NoMemory, PacketNo, ServerId};
-use ftc_message::Message;
+use ftc_message::{Message, Seen};
 use std::alloc::Global;
 use std::collections::VecDeque;
 use std::marker::Model;
@@ -130,6 +132,34 @@ impl Link {
         };
         let message = oldest.read(alloc)?;
         self.queue.pop_front();
+        Ok(Some(message))
+    }
+
+    /// The oldest frame, which spells the oldest message. None exactly where nothing is queued.
+    pub fn frame(&self) -> Option<&[u8]>
+        ensures read { option_map (λ frame. message_of frame.now) result ≡ option_map Ok (oldest_of self.now.messages) }
+        ensures spelled { option_map (λ frame. frame.now) result ≡ option_map spelling (oldest_of self.now.messages) }
+    {
+        Some(self.queue.front()?.frame.as_slice())
+    }
+
+    /// Takes the oldest message out, as [`Link::take`] does. Where what was seen is of the oldest frame, its message is
+    /// used and no memory is taken, and elsewhere what was seen is passed over.
+    pub fn take_seen(&mut self, alloc: Global, seen: Seen) -> Result<Option<Message>, NoMemory>
+        ensures taken { IfOk result (IsTaken self.old self.new) }
+        ensures refused { OnErr result (self.new ≡ self.old) }
+        ensures empty { self.old.messages ≡ [] → IsOk result }
+        ensures known { oldest_of self.old.messages ≡ Some seen.message → IsOk result }
+    {
+        let is_oldest = match self.frame() {
+            Some(frame) => seen.is_of(frame),
+            None => false,
+        };
+        if !is_oldest {
+            return self.take(alloc);
+        }
+        self.queue.pop_front();
+        let Seen { frame: _, message } = seen;
         Ok(Some(message))
     }
 

@@ -3,7 +3,7 @@ ghost use Rattle.ftc_message.specs.WellFormed.{IsWellFormed};
 
 use crate::{Link, Sent};
 use ftc_base::{Bytes, NoMemory, ServerId};
-use ftc_message::{Logs, Message, Needs};
+use ftc_message::{Logs, Message, Needs, Seen, encode};
 use ftc_vector::Commits;
 use std::alloc::Global;
 use std::test::Fail;
@@ -63,5 +63,49 @@ fn lost_and_down_leave_a_gap(rt: HostRuntime) -> Result<(), Fail> {
     assert_eq!(rt; link.send(rt.alloc(), &four, None, true)?, Sent::Sent);
     link.clear();
     assert!(rt; link.gap() && link.logs().is_none());
+    Ok(())
+}
+
+/// The frame of a message.
+fn frame_of(alloc: Global, origin: u32) -> Result<Bytes, NoMemory> {
+    encode(alloc, &message(alloc, origin)?)
+}
+
+/// What is seen of it.
+fn seen_of(alloc: Global, origin: u32) -> Result<Seen, Fail> {
+    let frame = frame_of(alloc, origin)?;
+    Ok(Seen::make(alloc, frame.as_slice()).ok().ok_or("a frame")?)
+}
+
+/// A link on which the messages 4 and 5 are queued.
+fn two_queued(alloc: Global) -> Result<Link, Fail> {
+    let mut link = Link::new(alloc, ServerId::new(2).ok_or("a server")?);
+    link.send(alloc, &message(alloc, 4)?, None, true)?;
+    link.send(alloc, &message(alloc, 5)?, None, true)?;
+    Ok(link)
+}
+
+/// Whether the oldest frame is that one.
+fn shows(link: &Link, frame: &Bytes) -> bool {
+    link.frame() == Some(frame.as_slice())
+}
+
+/// The origin of the message that is taken.
+fn taken(link: &mut Link, alloc: Global, seen: Seen) -> Result<Option<u32>, NoMemory> {
+    match link.take_seen(alloc, seen)? {
+        Some(message) => Ok(Some(message.origin)),
+        None => Ok(None),
+    }
+}
+
+#[test]
+fn seen_frames_are_taken_where_they_are_the_oldest(rt: HostRuntime) -> Result<(), Fail> {
+    let mut link = two_queued(rt.alloc())?;
+    let (stranger, seen) = (seen_of(rt.alloc(), 5)?, seen_of(rt.alloc(), 5)?);
+    assert!(rt; shows(&link, &frame_of(rt.alloc(), 4)?));
+    assert_eq!(rt; taken(&mut link, rt.alloc(), stranger)?, Some(4));
+    assert!(rt; shows(&link, &frame_of(rt.alloc(), 5)?));
+    assert_eq!(rt; taken(&mut link, rt.alloc(), seen)?, Some(5));
+    assert!(rt; link.frame().is_none());
     Ok(())
 }

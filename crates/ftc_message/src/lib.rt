@@ -18,6 +18,7 @@ mod need;
 mod need_bytes;
 mod part_bytes;
 mod parts;
+mod seen;
 mod writes;
 
 pub use commits_bytes::{append_commits, commits_at};
@@ -31,6 +32,7 @@ pub use logs::{LogList, Logs};
 pub use message::Message;
 pub use need::{Need, Needs};
 pub use need_bytes::{append_needs, needs_at};
+pub use seen::Seen;
 
 #[cfg(test)]
 mod tests;

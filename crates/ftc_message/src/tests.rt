@@ -5,7 +5,7 @@ ghost use Rattle.ftc_message.specs.Bounds.{MarksSome};
 ghost use Rattle.ftc_message.specs.WellFormed.{IsWellFormed};
 
 use crate::{
-    FrameCause, Log, Logs, Message, Need, Needs, append_commits, append_log, append_needs,
+    FrameCause, Log, Logs, Message, Need, Needs, Seen, append_commits, append_log, append_needs,
     commits_at, decode, encode, log_at, needs_at,
 };
 use ftc_base::{
@@ -288,4 +288,21 @@ fn parts_of_a_frame_both_ways(rt: HostRuntime) -> Result<(), Fail> {
     };
     assert!(rt; read == commits(rt.alloc())? && rest.is_empty());
     Ok(())
+}
+
+#[test]
+fn seen_frames_and_those_that_are_none(rt: HostRuntime) -> Result<(), Fail> {
+    let seen = Seen::make(rt.alloc(), FRAME.as_slice())
+        .ok()
+        .ok_or("a frame")?;
+    assert!(rt; seen.is_of(FRAME.as_slice()));
+    assert!(rt; !seen.is_of(&FRAME[..73]));
+    assert_eq!(rt; seen.message.origin, 4);
+    match Seen::make(rt.alloc(), &FRAME[..73]) {
+        Err(Refuse::Bad(fault)) => {
+            assert_eq!(rt; (fault.at, fault.cause), (66, FrameCause::Cut));
+            Ok(())
+        }
+        _ => Err(Fail::new("a frame that is cut")),
+    }
 }

@@ -1,5 +1,5 @@
 -- What a slot runs that another wounded begins again by a read.
-use Rattle.std.proofs.Common.{◌≡◌, ◌≢◌, ◌∙◌, ℕ, true, false, List, Option, Some, None, refl, sym, ap}
+use Rattle.std.proofs.Common.{◌≡◌, ◌∙◌, ℕ, true, false, List, Option, None, refl, sym, ap}
 use Rattle.std.specs.Prelude.{is_some}
 use Rattle.ftc_server.specs.declared.answers.CommitAnswer.TheVariants as commit
 use Rattle.ftc_server.specs.declared.server.Server.{Server}

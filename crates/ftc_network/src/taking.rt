@@ -1,11 +1,15 @@
 //! The receiver of a link takes a message.
 
-ghost use Rattle.std.specs.Prelude.{◌≡◌, ◌+◌, ◌==◌, ℕ, OnOk, OnErr};
+ghost use Rattle.std.specs.Prelude.{◌≡◌, ◌<◌, ◌+◌, ◌==◌, ℕ, [], Ok, IsOk, IfOk, OnOk, OnErr};
+ghost use Rattle.std.specs.Option.{option_map};
 ghost use Rattle.ftc_journal.specs.declared.event.Event.TheVariants as event;
+ghost use Rattle.ftc_link.specs.Queue.{oldest_of};
+ghost use Rattle.ftc_link.specs.Taking.{IsTaken};
+ghost use Rattle.ftc_message.specs.Reading.{message_of};
 ghost use Rattle.ftc_protocol.specs.Setting.{Setting, servers};
 ghost use Rattle.ftc_protocol.specs.State.{ChainState};
 ghost use Rattle.ftc_network.specs.Events.{IsAllowed, IsTaking, EndsFollow, Follows, StandsStill, SlotStandsStill};
-ghost use Rattle.ftc_network.specs.Parts.{buffer_of, withheld_in};
+ghost use Rattle.ftc_network.specs.Parts.{buffer_of, link_in, withheld_in};
 ghost use Rattle.ftc_network.specs.Slots.{head_of, AreSameHeads};
 
 use crate::laws::{servers_beside, slots_stay_ready};
@@ -13,11 +17,28 @@ use crate::network::Network;
 use crate::places::place_of;
 use ftc_base::{NoMemory, PacketNo, ServerId};
 use ftc_link::Link;
+use ftc_message::{Message, Seen};
 use ftc_refinement::{what_stays, what_take_does, what_take_wants, where_events_are};
 use ftc_server::Server;
 use ftc_standing::{a_message_is_taken, links_stand_still};
 use ftc_visits::made_visits_stay;
 use std::alloc::Global;
+
+/// Takes the oldest message of a link out, with what was seen of its frames.
+fn take_from(
+    link: &mut Link,
+    alloc: Global,
+    seen: Option<Seen>,
+) -> Result<Option<Message>, NoMemory>
+    ensures taken { IfOk result (IsTaken link.old link.new) }
+    ensures refused { OnErr result (link.new ≡ link.old) }
+    ensures empty { link.old.messages ≡ [] → IsOk result }
+{
+    match seen {
+        Some(seen) => link.take_seen(alloc, seen),
+        None => link.take(alloc),
+    }
+}
 
 /// The receiver of a link holds its oldest message.
 fn take_at(
@@ -27,6 +48,7 @@ fn take_at(
     sender: ServerId,
     origin: PacketNo,
     by_ring: bool,
+    seen: Option<Seen>,
 ) -> Result<(), NoMemory>
     requires { ∥ IsTaking sender origin by_ring link.old slot.old ∥₁ }
     ensures ok { OnOk result ((setting : Setting) (state : ChainState) → by_ring ≡ (sender + 1 == servers setting) →
@@ -46,7 +68,7 @@ fn take_at(
         Some(server) => {
             let logs = link.logs().unwrap_or(0);
             server.make_room(logs)?;
-            if let Some(message) = link.take(alloc)? {
+            if let Some(message) = take_from(link, alloc, seen)? {
                 server.take(message, by_ring);
             }
             Ok(())
@@ -56,8 +78,24 @@ fn take_at(
 }
 
 impl Network {
-    /// The receiver of a link takes its oldest message.
-    pub fn take(&mut self, alloc: Global, link: ServerId, origin: PacketNo) -> Result<(), NoMemory>
+    /// The oldest frame of a link, which spells its oldest message. None exactly where nothing is queued there.
+    pub fn frame(&self, link: ServerId) -> Option<&[u8]>
+        requires { link < self.now.ring.servers }
+        ensures { option_map (λ frame. message_of frame.now) result
+            ≡ option_map Ok (oldest_of (link_in self.now.links.items link).messages) }
+    {
+        self.links[place_of(link)].frame()
+    }
+
+    /// The receiver of a link takes its oldest message. What was seen of the link's frames is of use only where it is of
+    /// the oldest.
+    pub fn take(
+        &mut self,
+        alloc: Global,
+        link: ServerId,
+        origin: PacketNo,
+        seen: Option<Seen>,
+    ) -> Result<(), NoMemory>
         requires { ∥ IsAllowed (event.Take link origin) self.old ∥₁ }
         ensures ok { OnOk result (Follows (event.Take link origin) self.old self.new) }
         ensures err { OnErr result (StandsStill self.old self.new) }
@@ -77,6 +115,7 @@ impl Network {
             link,
             origin,
             by_ring,
+            seen,
         )
     }
 }

@@ -14,7 +14,7 @@ use Rattle.ftc_standing.proofs.Arriving.{first_is, none_there, there_here}
 use Rattle.ftc_standing.proofs.SamePlaces.{at_place}
 use Rattle.ftc_refinement.proofs.InTurn.{first_oldest}
 
-at_test : (test : Where → Bool) (o : Option Message) (message : Message) → where_it test o ≡ Some message →
+pub at_test : (test : Where → Bool) (o : Option Message) (message : Message) → where_it test o ≡ Some message →
     (o ≡ Some message) × (test message.place ≡ true)
 at_test test None message is = absurd (none-some message is)
 at_test test (Some other) message is =
@@ -24,7 +24,7 @@ at_test test (Some other) message is =
       | false ↦ λ e none. absurd (none-some message none)
     ] refl is
 
-queued_by : (link : ℕ) (place : Where) → is_queued_on link place ≡ true → place ≡ Queued link
+pub queued_by : (link : ℕ) (place : Where) → is_queued_on link place ≡ true → place ≡ Queued link
 queued_by link (Held server visited by_ring) is = absurd cc
 queued_by link (Queued other) is = ap (λ l. Queued l) (eqb-true other link is)
 

@@ -164,8 +164,14 @@ abbrev pub named_by : Command → List (List ℕ)
 named_by (run names mode) = six_of names
 named_by other = files_of other
 
+-- where workers run, there is at least one and no more than there may be
+abbrev pub AreWorkers : Mode → Type 0
+AreWorkers (workers count) = (1 ≤ count) × (count ≤ MOST_THREADS)
+AreWorkers other = Unit {0}
+
 -- its numbers lie in their bounds
 abbrev pub IsWithin : Command → Type 0
+IsWithin (run names mode) = AreWorkers mode
 IsWithin (make packets seed capture) = (1 ≤ packets) × (packets ≤ MOST_RECORDS) × (seed ≤ 4294967295)
 IsWithin (ports chain capture journal server) = server < MOST_SERVERS
 IsWithin (watch limit chain capture beats script) = (1 ≤ limit) × (limit ≤ MOST_MISSED)
@@ -197,6 +203,7 @@ spelled (w ∷ ws) =
 -- the commands that the program has
 abbrev pub is_built : Command → Bool
 is_built (run names plain) = true
+is_built (run names (workers count)) = true
 is_built (run names (alone schedule None)) = true
 is_built (make packets seed capture) = true
 is_built (check names) = true

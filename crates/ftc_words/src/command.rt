@@ -29,7 +29,7 @@ pub enum Mode<'a> {
     Plain,
     /// By so many workers.
     Workers {
-        count: u32,
+        count: u8,
     },
     /// On one thread, by the events of a schedule.
     Alone {
@@ -74,9 +74,7 @@ impl Command<'_> {
         ensures { result ≡ spec_is_built (shown self.now) }
     {
         match self {
-            Command::Run { mode, .. } => {
-                matches!(mode, Mode::Plain | Mode::Alone { moved: None, .. })
-            }
+            Command::Run { mode, .. } => !matches!(mode, Mode::Alone { moved: Some(_), .. }),
             Command::Make { .. }
             | Command::Check { .. }
             | Command::Ports { .. }

@@ -5,7 +5,7 @@ ghost use Rattle.std.specs.List.{list_all, list_any};
 ghost use Rattle.std.specs.Str.{bytes_eq};
 ghost use Rattle.ftc_words.specs.Given.{is_name, texts_of};
 ghost use Rattle.ftc_words.specs.Shown.{shown, named_of, shown_move, shown_mode, sorted_of};
-ghost use Rattle.ftc_words.specs.Command.{number_in, named, names_of, move_of, mode_of, are_distinct, of_form, run_form, check_form, make_form, ports_form, watch_form, plain, of_word, forms, spelled, six_of, files_of, named_by, IsWithin};
+ghost use Rattle.ftc_words.specs.Command.{number_in, named, names_of, move_of, workers, mode_of, are_distinct, of_form, run_form, check_form, make_form, ports_form, watch_form, plain, of_word, forms, spelled, six_of, files_of, named_by, AreWorkers, IsWithin};
 
 use crate::command::{Command, Mode, Move, Names};
 use crate::limits::MOST_MISSED;
@@ -31,6 +31,15 @@ fn server_in(word: &str) -> Option<u8>
     Some(server as u8)
 }
 
+/// The number of workers that the word says.
+fn workers_in(word: &str) -> Option<u8>
+    ensures number { result ≡ number_in 1 MOST_THREADS word.now }
+    ensures within { IfSome result (λ count. AreWorkers (workers count)) }
+{
+    let count = number_in(word, 1, u32::from(MOST_THREADS))?;
+    Some(count as u8)
+}
+
 /// The planned move of these two words, if there is one.
 fn move_of<'a>(moved: Option<(&'a str, &'a str)>) -> Option<Option<Move<'a>>>
     ensures { option_map (option_map shown_move) result ≡ move_of (option_map (λ m. (m.0.now, m.1.now)) moved.entry) }
@@ -46,14 +55,15 @@ fn move_of<'a>(moved: Option<(&'a str, &'a str)>) -> Option<Option<Move<'a>>>
 
 /// What the options say of a run, where they may stand together.
 fn mode_of<'a>(sorted: &Sorted<'a>) -> Option<Mode<'a>>
-    ensures { option_map shown_mode result ≡ mode_of (sorted_of sorted.now) }
+    ensures mode { option_map shown_mode result ≡ mode_of (sorted_of sorted.now) }
+    ensures within { IfSome result (λ mode. AreWorkers (shown_mode mode)) }
 {
     match sorted.workers {
         Some(count) => {
             if sorted.schedule.is_some() || sorted.moved.is_some() {
                 return None;
             }
-            let count = number_in(count, 1, u32::from(MOST_THREADS))?;
+            let count = workers_in(count)?;
             Some(Mode::Workers { count })
         }
         None => match sorted.schedule {
@@ -138,6 +148,7 @@ fn names_in<'a>(words: &[&'a str]) -> Option<Names<'a>>
 }
 
 fn run_of<'a>(words: &[&'a str], mode: &Mode<'a>) -> Option<Command<'a>>
+    requires { AreWorkers (shown_mode mode.now) }
     ensures command { option_map shown result ≡ of_form run_form (shown_mode mode.now) (texts_of words.now) }
     ensures distinct { IfSome result (λ command. are_distinct (files_of (shown command)) ≡ true) }
     ensures within { IfSome result (λ command. IsWithin (shown command)) }
@@ -223,6 +234,7 @@ fn watch_of<'a>(words: &[&'a str]) -> Option<Command<'a>>
 
 /// The command of that word, with these words besides its options.
 fn of_word<'a>(word: &str, mode: &Mode<'a>, words: &[&'a str]) -> Option<Command<'a>>
+    requires { AreWorkers (shown_mode mode.now) }
     ensures command { option_map shown result ≡ of_word forms word.now (shown_mode mode.now) (texts_of words.now) }
     ensures distinct { IfSome result (λ command. are_distinct (files_of (shown command)) ≡ true) }
     ensures within { IfSome result (λ command. IsWithin (shown command)) }

@@ -127,16 +127,29 @@ fn words_of_no_command(rt: HostRuntime) {
 }
 
 #[test]
-fn commands_that_are_not_built(rt: HostRuntime) -> Result<(), Fail> {
-    let cases: [&[&str]; 2] = [
-        &["run", "c", "s", "p", "o", "j", "r", "--workers", "4"],
-        &[
-            "run", "c", "s", "p", "o", "j", "r", "--alone", "e", "--move", "1", "f",
-        ],
+fn a_planned_move_is_not_built(rt: HostRuntime) -> Result<(), Fail> {
+    let words = [
+        "run", "c", "s", "p", "o", "j", "r", "--alone", "e", "--move", "1", "f",
     ];
-    for words in cases {
-        assert!(rt; command_of(words).is_none());
-        assert!(rt; read_command(rt.alloc(), words)?.is_none());
+    assert!(rt; command_of(&words).is_none());
+    assert!(rt; read_command(rt.alloc(), &words)?.is_none());
+    Ok(())
+}
+
+#[test]
+fn a_run_by_workers_is_read(rt: HostRuntime) -> Result<(), Fail> {
+    let words = ["run", "c", "s", "--workers", "32", "p", "o", "j", "r"];
+    match read_command(rt.alloc(), &words)? {
+        Some(
+            Command::Run {
+                names,
+                mode: Mode::Workers { count },
+            },
+        ) => {
+            assert_eq!(rt; names.capture, "p");
+            assert_eq!(rt; count, 32);
+        }
+        _ => assert!(rt; false),
     }
     Ok(())
 }

@@ -8,31 +8,30 @@ use Rattle.ftc_jobs.specs.All.{AreJobs, IsUntaken}
 use Rattle.ftc_protocol.specs.Jobs.{IsFirstJob}
 use Rattle.ftc_serial.specs.Words.{AnyOf}
 use Rattle.ftc_chain.specs.ChainRun.{ChainRun, setting_in, state_of}
-use Rattle.ftc_chain.specs.Doing.{is_visit}
 use Rattle.ftc_chain.specs.Slots.{is_running_at}
-use Rattle.ftc_workers.specs.Choices.{MayBegin}
+use Rattle.ftc_workers.specs.Choices.{is_run, MayBegin}
 
--- a job that isn't a visit is nobody's
-untaken_step : (run : ChainRun) (done : Job) → is_visit done ≡ false →
+-- a job is nobody's where no slot runs the visit that it is
+untaken_step : (run : ChainRun) (done : Job) → is_run (is_running_at run) done ≡ false →
     IsUntaken (is_running_at run) done
-untaken_step run (job.Visit server packet) other = absurd cc
-untaken_step run (job.Enter packet) other = tt
-untaken_step run (job.Take link origin) other = tt
-untaken_step run (job.Apply server origin group packet) other = tt
-untaken_step run (job.Pass server origin) other = tt
-untaken_step run (job.Lose server origin) other = tt
-untaken_step run (job.Carry origin) other = tt
-untaken_step run (job.Crash server) other = tt
-untaken_step run (job.Recover server) other = tt
-untaken_step run (job.Pull link) other = tt
-untaken_step run (job.Propagate origin) other = tt
+untaken_step run (job.Visit server packet) free = free
+untaken_step run (job.Enter packet) free = tt
+untaken_step run (job.Take link origin) free = tt
+untaken_step run (job.Apply server origin group packet) free = tt
+untaken_step run (job.Pass server origin) free = tt
+untaken_step run (job.Lose server origin) free = tt
+untaken_step run (job.Carry origin) free = tt
+untaken_step run (job.Crash server) free = tt
+untaken_step run (job.Recover server) free = tt
+untaken_step run (job.Pull link) free = tt
+untaken_step run (job.Propagate origin) free = tt
 
--- the first job, where that is no visit
-pub may_first : (run : ChainRun) (done : Job) → is_visit done ≡ false →
+-- the first job, where no slot runs it
+pub may_first : (run : ChainRun) (done : Job) → is_run (is_running_at run) done ≡ false →
     ∥ IsFirstJob (setting_in run) (state_of run) done ∥₁ → MayBegin run done
-may_first run done other first = record {
+may_first run done free first = record {
   legal = ∥∥₁_map first (λ is. is.legal);
-  untaken = untaken_step run done other;
+  untaken = untaken_step run done free;
 }
 
 -- a job of the list of those that nobody does

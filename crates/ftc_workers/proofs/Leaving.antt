@@ -1,11 +1,11 @@
 -- What the calls on a chain leave of it, for the latch.
-use Rattle.std.proofs.Common.{◌≡◌, ◌+◌, ◌++◌, ◌∷◌, ℕ, List, Option, false, ap, sym, ◌∙◌, arith, Result, Ok, Err, OnOk, OnErr}
+use Rattle.std.proofs.Common.{◌≡◌, ◌+◌, ◌++◌, ◌∷◌, ℕ, List, Option, false, refl, ap, sym, ◌∙◌, arith, Result, Ok, Err, OnOk, OnErr}
 use Rattle.std.proofs.Math.Logic.{∥∥₁_elim}
 use Rattle.std.specs.Coded.{Coded-set, coded_ℕ}
 use Rattle.ftc_journal.specs.declared.event.Event.{Event}
 use Rattle.ftc_journal.specs.declared.job.Job.{Job}
 use Rattle.ftc_journal.specs.declared.job.Job.TheVariants as job
-use Rattle.ftc_protocol.specs.Jobs.{event_of}
+use Rattle.ftc_protocol.specs.Jobs.{event_of, IsLegalJob}
 use Rattle.ftc_protocol.specs.Next.{next}
 use Rattle.ftc_server.specs.declared.answers.CommitAnswer.{CommitAnswer}
 use Rattle.ftc_server.specs.declared.answers.CommitAnswer.TheVariants as answer
@@ -88,6 +88,20 @@ pub gone_by_step : {A E : Type 0} (result : Result A E) (slot : ℕ) (job : Job)
 gone_by_step (Ok value) slot job old new other ok err =
     gone_by_job slot 0 job old new (step_counts (setting_in old) (state_of old) slot job other) ok
 gone_by_step (Err fault) slot job old new other ok err = gone_nowhere old new err
+
+-- a message is taken, or that is refused
+pub gone_by_take : {A E : Type 0} (result : Result A E) (slot link : ℕ) (old new : ChainRun) →
+    ∥ ((origin : ℕ) × IsLegalJob (setting_in old) (state_of old) (job.Take link origin)) ∥₁ →
+    OnOk result ((origin : ℕ) → IsLegalJob (setting_in old) (state_of old) (job.Take link origin) →
+    ∥ HasMade slot (job.Take link origin) old new ∥₁) → OnErr result (new ≡ old) → HasGone 0 old new
+gone_by_take (Ok value) slot link old new legal ok err =
+    gone_by 0 old new
+    (∥∥₁_elim legal (Coded-set the_code new _) (λ is.
+    ∥∥₁_elim (ok is.0 is.1) (Coded-set the_code new _) (made_rest slot (job.Take link is.0) old new)))
+    (∥∥₁_elim legal (Coded-set coded_ℕ _ _) (λ is.
+    (gone_by_job slot 0 (job.Take link is.0) old new
+    (step_counts (setting_in old) (state_of old) slot (job.Take link is.0) refl) (ok is.0 is.1)).visits_more))
+gone_by_take (Err fault) slot link old new legal ok err = gone_nowhere old new err
 
 -- ---- a commit
 

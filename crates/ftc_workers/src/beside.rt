@@ -3,7 +3,7 @@
 ghost use Rattle.std.specs.Prelude.{◌≡◌, ◌≤◌, ◌<◌, OnOk, OnErr};
 ghost use Rattle.ftc_stream.specs.Ending.{Ended};
 
-use crate::shared::{Shared, end, stop};
+use crate::shared::{Shared, end, stop, wait_to_write, write};
 use crate::spreading::spread;
 use crate::tally::{Run, Tally};
 use ftc_outside::Gate;
@@ -12,30 +12,6 @@ use std::alloc::Global;
 use std::sync::Wait;
 use std::thread;
 use std::thread::{Promise, Threads};
-
-/// Whether all workers ended, and how often something changed.
-#[derive(Clone, Copy)]
-struct Progress {
-    ended: bool,
-    moves: u64,
-}
-
-/// How far the workers are.
-fn look<L: Run, R: Wait>(rt: &R, shared: &Shared<'_, L>) -> Progress {
-    let latch = shared.latch.lock(rt);
-    Progress {
-        ended: latch.ended,
-        moves: latch.moves,
-    }
-}
-
-/// Waits until the workers are further than that, or have ended.
-fn wait_past<L: Run, R: Wait>(rt: &R, shared: &Shared<'_, L>, moves: u64) {
-    let latch = shared.latch.lock(rt);
-    if latch.moves == moves && !latch.ended {
-        let _latch = shared.moved.wait(rt, latch);
-    }
-}
 
 /// Writes while the workers run.
 fn write_while<L: Run, R: Wait, S: Sink>(
@@ -47,13 +23,13 @@ fn write_while<L: Run, R: Wait, S: Sink>(
     ensures ended { Ended S.went S.broke result sink.old sink.new }
 {
     for _ in rt.forever() {
-        let seen = look(rt, shared);
+        let ended = write(rt, shared);
         let count = sink.write_some()?;
-        if seen.ended {
+        if ended {
             return Ok(());
         }
         if count == 0 {
-            wait_past(rt, shared, seen.moves);
+            wait_to_write(rt, shared);
         }
     }
     unreachable!()

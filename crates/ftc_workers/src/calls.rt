@@ -13,6 +13,7 @@ use ftc_base::{Key, NoMemory, PacketNo, ServerId, WorkerId};
 use ftc_chain::Chain;
 use ftc_journal::Job;
 use ftc_mbox::Plan;
+use ftc_message::Seen;
 use ftc_server::CommitAnswer;
 use ftc_txn::ReadAnswer;
 
@@ -23,6 +24,14 @@ pub fn step(chain: &mut Chain<'_>, job: &Job) -> Result<(), NoMemory>
     ensures { HasGone 0 chain.old chain.new }
 {
     chain.step(job)
+}
+
+/// Takes the oldest message of a link, by its frame that was read where nobody waits for it.
+pub fn take_seen(chain: &mut Chain<'_>, link: ServerId, seen: Seen) -> Result<(), NoMemory>
+    requires { ∥ ((origin : ℕ) × IsLegalJob (setting_in chain.old) (state_of chain.old) (job.Take link origin)) ∥₁ }
+    ensures { HasGone 0 chain.old chain.new }
+{
+    chain.take_seen(link, seen)
 }
 
 /// A slot that is idle begins a visit that no slot runs.

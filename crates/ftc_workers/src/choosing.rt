@@ -1,10 +1,10 @@
 //! Which job a worker does next.
 
-ghost use Rattle.std.specs.Prelude.{◌≡◌, false, IfSome, IfOk};
+ghost use Rattle.std.specs.Prelude.{◌≡◌, IfSome};
 ghost use Rattle.ftc_serial.specs.Words.{AnyOf};
 ghost use Rattle.ftc_journal.specs.declared.job.Job.{Job as AJob};
-ghost use Rattle.ftc_chain.specs.Doing.{is_visit};
-ghost use Rattle.ftc_workers.specs.Choices.{MayBegin, IsChoice};
+ghost use Rattle.ftc_chain.specs.Slots.{is_running_at};
+ghost use Rattle.ftc_workers.specs.Choices.{is_run, IsChoice};
 
 use ftc_base::NoMemory;
 use ftc_chain::{Chain, Jobs};
@@ -34,21 +34,46 @@ fn is_enter(job: &Job) -> bool {
     }
 }
 
+/// Whether a job is no enter.
+fn is_work(job: &Job) -> bool {
+    !is_enter(job)
+}
+
+/// The first job of the list that is no enter.
+fn first_work(jobs: &Jobs) -> Option<Job>
+    ensures { IfSome result (λ job. AnyOf (λ (other : AJob). other ≡ job) jobs.now) }
+{
+    for job in jobs.as_slice() {
+        if is_work(job) {
+            return Some(*job);
+        }
+    }
+    None
+}
+
+/// The enter of the list.
+fn first_enter(jobs: &Jobs) -> Option<Job>
+    ensures { IfSome result (λ job. AnyOf (λ (other : AJob). other ≡ job) jobs.now) }
+{
+    for job in jobs.as_slice() {
+        if is_enter(job) {
+            return Some(*job);
+        }
+    }
+    None
+}
+
 /// The first job of the list that is no enter. Where there is none, the enter, if packets are let in.
 fn pick(jobs: &Jobs, lets_in: bool) -> Option<Job>
     ensures { IfSome result (λ job. AnyOf (λ (other : AJob). other ≡ job) jobs.now) }
 {
-    let mut enter = None;
-    for job in jobs.as_slice() {
-        if !is_enter(job) {
-            return Some(*job);
-        }
-        enter = Some(*job);
+    match first_work(jobs) {
+        Some(job) => Some(job),
+        None => if lets_in { first_enter(jobs) } else { None },
     }
-    if lets_in { enter } else { None }
 }
 
-/// A job that isn't a visit which some slot runs. The first job is a visit.
+/// A job that isn't a visit which some slot runs. The first job is one.
 fn choose_beside(chain: &Chain<'_>) -> Choice
     ensures { IsChoice chain.now result }
 {
@@ -62,26 +87,25 @@ fn choose_beside(chain: &Chain<'_>) -> Choice
     }
 }
 
-/// Whether a job is a visit.
-fn is_visit(job: &Job) -> bool
-    ensures { result ≡ is_visit job.now }
+/// Whether a job is a visit that some slot runs.
+fn is_run(chain: &Chain<'_>, job: &Job) -> bool
+    ensures { result ≡ is_run (is_running_at chain.now) job.now }
 {
-    match job {
-        Job::Visit { .. } => true,
+    match *job {
+        Job::Visit { server, packet } => chain.is_running(server, packet),
         _ => false,
     }
 }
 
-/// The first job, where that is no visit: it needs neither memory nor a list, and where it is an enter, there is no
-/// work beside it. Where the first job is a visit, a slot may run it, so a job is taken from the list of those that
-/// nobody does.
+/// The first job, where no slot runs it: it needs neither memory nor a list, and where it is an enter, there is no work
+/// beside it. Where a slot runs the visit that it is, a job is taken from the list of those that no slot runs.
 pub fn choose(chain: &Chain<'_>) -> Choice
     ensures { IsChoice chain.now result }
 {
     let Some(job) = chain.next() else {
         return Choice::Finished;
     };
-    if is_visit(&job) {
+    if is_run(chain, &job) {
         return choose_beside(chain);
     }
     Choice::Do(job)

@@ -15,8 +15,8 @@ use ftc_outside::Gate;
 use ftc_stream::{PutFault, Sender, Sink};
 use std::alloc::Global;
 use std::marker::Brand;
+use std::sync::Wait;
 use std::sync::ledger::Blank;
-use std::sync::{Condvar, Mutex, Wait};
 use std::thread::Threads;
 
 /// The chain, how many commits the workers made, and how the writing ended.
@@ -53,14 +53,10 @@ fn drive_named<'a, L: Run + Send + Sync, R: Threads + Wait + Sync, G: Gate, S: S
 {
     let (book, share) = blank.open::<L>();
     let all = Tally { share, count: 0 };
-    let shared = Shared {
-        latch: Mutex::new(Latch::new(chain, book, Some(sender))),
-        moved: Condvar::new(),
-    };
+    let shared = Shared::new(Latch::new(chain, book, Some(sender)));
     let Back { all, sink, result } = run_beside(rt, alloc, &shared, workers, gate, all, sink);
     let result = write_after(sink, result);
-    let Shared { latch, moved: _ } = shared;
-    let (chain, commits) = latch.into_inner().close(all);
+    let (chain, commits) = shared.into_inner().close(all);
     Driven {
         chain,
         commits,

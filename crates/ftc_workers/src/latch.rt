@@ -1,15 +1,16 @@
 //! What lies under the latch. In each hold a worker makes one call that changes the chain, and what is released goes to
 //! the writer.
 
-ghost use Rattle.std.specs.Prelude.{◌≡◌, ◌≤◌, ◌<◌, ◌+◌, length};
+ghost use Rattle.std.specs.Prelude.{◌≡◌, ◌≤◌, ◌<◌, ◌+◌, false, length};
 ghost use Rattle.ftc_journal.specs.declared.job.Job.TheVariants as job;
+ghost use Rattle.ftc_chain.specs.Doing.{is_visit};
 ghost use Rattle.ftc_chain.specs.Slots.{IsIdle, AreIdle};
 ghost use Rattle.ftc_workers.specs.Choices.{MayBegin};
 ghost use Rattle.ftc_workers.specs.Given.{given_of};
 ghost use Rattle.ftc_workers.specs.Outlets.{sent_of, room_of};
 ghost use Rattle.ftc_workers.specs.Visits.{visits};
 
-use crate::calls::{begin, commit, few, quit, read, step};
+use crate::calls::{begin, commit, few, quit, read, step, take_seen};
 use crate::choosing::{Choice, choose};
 use crate::outlet::pass_on;
 use crate::tally::{Run, Tally};
@@ -17,11 +18,15 @@ use ftc_base::{Answers, Bytes, Key, NoMemory, PacketNo, ServerId, WorkerId};
 use ftc_chain::Chain;
 use ftc_journal::Job;
 use ftc_mbox::{Plan, Rules, copy_rules};
+use ftc_message::Seen;
 use ftc_server::CommitAnswer;
 use ftc_stream::Sender;
 use ftc_txn::ReadAnswer;
 use std::alloc::Global;
 use std::sync::ledger::Book;
+
+/// So many packets are sent before the writer is told to write while workers have something to do.
+const BATCH: u32 = 64;
 
 /// The chain, with the book of the commits that were made since it was handed in.
 #[derive(Drop)]
@@ -30,12 +35,20 @@ pub struct Latch<'a, L: Run> {
     pub book: Book<L>,
     /// Where released packets go, where they are taken out.
     pub outlet: Option<Sender>,
+    /// The one worker that looks for jobs. Others would only stand in its way under the latch.
+    pub leader: Option<WorkerId>,
+    /// That worker is held, by the gate or by an older transaction, and another may take its place.
+    pub is_held: bool,
+    /// A worker was woken to take that place, and isn't there yet.
+    pub is_woken: bool,
     /// All workers ended.
     pub ended: bool,
     /// The writer met a fault, and the workers are to end.
     pub stopped: bool,
-    /// How often something changed, wrapping.
-    pub moves: u64,
+    /// How many packets were sent since the writer was told to write.
+    pub unwritten: u32,
+    /// The writer is told to write.
+    pub is_due: bool,
     pub ghost counted: { visits chain.journal ≡ L.start + book.total },
     pub ghost given: { given_of chain ≡ L.given },
     pub ghost sent: { sent_of outlet chain.drained ≡ chain.drained },
@@ -50,17 +63,37 @@ pub struct Begun {
     pub bytes: Bytes,
 }
 
+/// The oldest frame of a link, which a worker reads outside the latch, and the origin of its message.
+#[derive(Debug, Drop)]
+pub struct Copied {
+    pub link: ServerId,
+    pub origin: PacketNo,
+    pub frame: Bytes,
+}
+
 /// What a worker found to do.
 #[derive(Debug, Drop)]
 pub enum Found {
-    /// It made a step, and there may be new work.
+    /// It made a step.
     Stepped,
+    /// It made a step, or gave a visit up, after which slots that were blocked may go on.
+    Freed,
     /// It began this visit.
     Begun(Begun),
+    /// It copied this frame.
+    Copied(Copied),
     /// It waits.
     Nothing,
     /// It ends.
     End,
+}
+
+/// What was found, where the step that was made frees slots.
+fn freed_by(found: Found) -> Found {
+    match found {
+        Found::Stepped => Found::Freed,
+        other => other,
+    }
 }
 
 impl<'a, L: Run> Latch<'a, L> {
@@ -76,9 +109,13 @@ impl<'a, L: Run> Latch<'a, L> {
             chain,
             book,
             outlet,
+            leader: None,
+            is_held: false,
+            is_woken: false,
             ended: false,
             stopped: false,
-            moves: 0,
+            unwritten: 0,
+            is_due: false,
         }
     }
 
@@ -107,17 +144,89 @@ impl<'a, L: Run> Latch<'a, L> {
         }
     }
 
-    /// Begins the visit of a job, or makes its step.
+    /// Makes the step of a job other than a visit.
+    fn step(&mut self, job: &Job) -> Found
+        requires other { is_visit job.now ≡ false }
+        requires may { MayBegin self.old.chain job.now }
+    {
+        match step(&mut self.chain, job) {
+            Ok(()) => Found::Stepped,
+            Err(_) => Found::End,
+        }
+    }
+
+    /// Copies the frame that a job takes. Where there is no memory for the copy, the step is made at once.
+    fn copy(&mut self, job: &Job, link: ServerId, origin: PacketNo) -> Found
+        requires other { is_visit job.now ≡ false }
+        requires may { MayBegin self.old.chain job.now }
+    {
+        match self.chain.frame(link) {
+            Ok(Some(frame)) => Found::Copied(Copied {
+                link,
+                origin,
+                frame,
+            }),
+            _ => self.step(job),
+        }
+    }
+
+    /// Begins the visit of a job, copies the frame that it takes, or makes its step.
     fn make(&mut self, worker: WorkerId, job: &Job) -> Found
         requires may { MayBegin self.old.chain job.now }
         requires idle { IsIdle self.old.chain worker }
     {
-        if let Job::Visit { server, packet } = *job {
-            return self.begin(worker, server, packet);
+        match *job {
+            Job::Visit { server, packet } => self.begin(worker, server, packet),
+            Job::Take { link, origin } => self.copy(job, link, origin),
+            Job::Crash { .. } => freed_by(self.step(job)),
+            _ => self.step(job),
         }
-        match step(&mut self.chain, job) {
-            Ok(()) => Found::Stepped,
-            Err(_) => Found::End,
+    }
+
+    /// Takes the message of a frame that was read, where it may still be taken. False where there was no memory.
+    pub fn take_seen(&mut self, link: ServerId, origin: PacketNo, seen: Seen) -> bool {
+        if !self.chain.legal(&Job::Take { link, origin }) {
+            return true;
+        }
+        take_seen(&mut self.chain, link, seen).is_ok()
+    }
+
+    /// A worker looks for jobs from now on, unless another does that isn't held. False where another does.
+    pub fn lead(&mut self, worker: WorkerId) -> bool {
+        let leads = match self.leader {
+            Some(leader) => leader == worker || self.is_held,
+            None => true,
+        };
+        if leads {
+            self.leader = Some(worker);
+            self.is_held = false;
+        }
+        self.is_woken = false;
+        leads
+    }
+
+    /// A worker looks for no more jobs.
+    pub fn stand_back(&mut self, worker: WorkerId) {
+        if self.leader == Some(worker) {
+            self.leader = None;
+        }
+    }
+
+    /// A worker may be held for long. True where another is to be woken, which takes its place if it still is held then.
+    pub fn hold(&mut self, worker: WorkerId) -> bool {
+        if self.leader != Some(worker) {
+            return false;
+        }
+        self.is_held = true;
+        let wakes = !self.is_woken;
+        self.is_woken = true;
+        wakes
+    }
+
+    /// A worker isn't held any more.
+    pub fn come_back(&mut self, worker: WorkerId) {
+        if self.leader == Some(worker) {
+            self.is_held = false;
         }
     }
 
@@ -128,7 +237,7 @@ impl<'a, L: Run> Latch<'a, L> {
         }
         if self.chain.answers(worker).is_some() {
             quit(&mut self.chain, worker);
-            return Found::Stepped;
+            return Found::Freed;
         }
         match choose(&self.chain) {
             Choice::Do(job) => self.make(worker, &job),
@@ -139,6 +248,7 @@ impl<'a, L: Run> Latch<'a, L> {
 
     /// What a slot runs reads a key.
     pub fn read(&mut self, worker: WorkerId, key: &Key) -> ReadAnswer {
+        self.come_back(worker);
         read(&mut self.chain, worker, key)
     }
 
@@ -148,8 +258,9 @@ impl<'a, L: Run> Latch<'a, L> {
         Answers::try_from(answers.as_slice()).ok()
     }
 
-    /// A slot gives up what it runs.
-    pub fn quit(&mut self, worker: WorkerId) {
+    /// A worker ends: its slot gives up what it runs.
+    pub fn leave(&mut self, worker: WorkerId) {
+        self.stand_back(worker);
         quit(&mut self.chain, worker)
     }
 
@@ -158,6 +269,7 @@ impl<'a, L: Run> Latch<'a, L> {
         requires { 0 < mine.old.share.parts }
         ensures { mine.new.share.parts ≡ mine.old.share.parts }
     {
+        self.come_back(worker);
         let answer = commit(&mut self.chain, worker, plan);
         few(&self.chain);
         match answer {
@@ -171,20 +283,50 @@ impl<'a, L: Run> Latch<'a, L> {
         answer
     }
 
-    /// Sends what was released, and tells that something changed.
-    pub fn flush(&mut self) {
-        self.moves = self.moves.wrapping_add(1);
+    /// Sends what was released. True where so much is unwritten that the writer is to be told.
+    pub fn flush(&mut self) -> bool {
         let Latch {
             chain,
             book: _,
             outlet,
+            leader: _,
+            is_held: _,
+            is_woken: _,
             ended: _,
             stopped: _,
-            moves: _,
+            unwritten,
+            is_due,
         } = self;
         if let Some(sender) = outlet {
-            pass_on(chain, sender);
+            *unwritten = unwritten.saturating_add(pass_on(chain, sender));
         }
+        if *unwritten < BATCH {
+            return false;
+        }
+        *is_due = true;
+        *unwritten = 0;
+        true
+    }
+
+    /// A worker waits, and the writer is to write what was sent. False where nothing was.
+    pub fn rest(&mut self) -> bool {
+        if self.unwritten == 0 {
+            return false;
+        }
+        self.is_due = true;
+        self.unwritten = 0;
+        true
+    }
+
+    /// The writer begins to write. True where all workers ended.
+    pub fn write(&mut self) -> bool {
+        self.is_due = false;
+        self.ended
+    }
+
+    /// Whether the writer is to write on.
+    pub fn writes_on(&self) -> bool {
+        self.is_due || self.ended
     }
 
     /// Tells that all workers ended.
@@ -218,9 +360,13 @@ impl<'a, L: Run> Latch<'a, L> {
             chain,
             book,
             outlet,
+            leader: _,
+            is_held: _,
+            is_woken: _,
             ended: _,
             stopped: _,
-            moves: _,
+            unwritten: _,
+            is_due: _,
         } = self;
         drop(outlet);
         let Tally { share, count } = all;

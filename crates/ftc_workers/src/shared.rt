@@ -1,21 +1,56 @@
-//! The one latch, and what tells of changes under it. Who makes work wakes those that wait.
+//! The one latch, and what tells of changes under it.
+//!
+//! One worker at a time looks for jobs, and does one after the other: two would only stand in each other's way under the
+//! latch. Before a visit of its passes the gate, which may hold it for long, and where it is blocked, it wakes another,
+//! which looks for jobs in its place if it still is held then. A worker that comes back from a visit looks itself, unless
+//! another does. So wherever a job can be done, a worker is awake that looks for one, or comes to.
 
-ghost use Rattle.std.specs.Prelude.{◌≡◌, ◌<◌};
+ghost use Rattle.std.specs.Prelude.{◌≡◌, ◌<◌, ◌+◌};
 
-use crate::latch::{Found, Latch};
+use crate::latch::{Copied, Found, Latch};
 use crate::tally::{Run, Tally};
 use ftc_base::{Answers, Key, NoMemory, WorkerId};
 use ftc_mbox::{Plan, Rules};
+use ftc_message::Seen;
 use ftc_server::CommitAnswer;
 use ftc_txn::ReadAnswer;
 use std::alloc::Global;
 use std::sync::{Condvar, Mutex, Wait};
+use std::thread::yield_now;
 
 /// The latch, and what tells of a change under it.
 #[derive(Drop)]
 pub struct Shared<'a, L: Run> {
-    pub latch: Mutex<Latch<'a, L>>,
-    pub moved: Condvar,
+    latch: Mutex<Latch<'a, L>>,
+    /// Tells a worker that doesn't look for jobs that it may.
+    work: Condvar,
+    /// Tells workers that an older transaction blocked that they may ask again.
+    freed: Condvar,
+    /// Tells the writer to write.
+    output: Condvar,
+}
+
+impl<'a, L: Run> Shared<'a, L> {
+    /// Nobody waits yet.
+    pub fn new(latch: Latch<'a, L>) -> Shared<'a, L> {
+        Shared {
+            latch: Mutex::new(latch),
+            work: Condvar::new(),
+            freed: Condvar::new(),
+            output: Condvar::new(),
+        }
+    }
+
+    /// What lay under the latch.
+    pub fn into_inner(self) -> Latch<'a, L> {
+        let Shared {
+            latch,
+            work: _,
+            freed: _,
+            output: _,
+        } = self;
+        latch.into_inner()
+    }
 }
 
 /// How a visit goes on.
@@ -48,21 +83,66 @@ pub fn rules<L: Run, R: Wait>(
     shared.latch.lock(rt).rules(alloc)
 }
 
-/// Finds something to do, and waits where there is nothing.
+/// Finds something to do. Where another worker looks for jobs, or where there is nothing, it waits.
 pub fn find<L: Run, R: Wait>(rt: &R, shared: &Shared<'_, L>, worker: WorkerId) -> Found {
     let mut latch = shared.latch.lock(rt);
+    if !latch.lead(worker) {
+        drop(shared.work.wait(rt, latch));
+        // Whoever woke this worker may be back before it takes its place.
+        yield_now();
+        return Found::Nothing;
+    }
     let found = latch.find(worker);
     match found {
         Found::Nothing => {
-            let _latch = shared.moved.wait(rt, latch);
+            latch.stand_back(worker);
+            if latch.rest() {
+                shared.output.notify_one();
+            }
+            let _latch = shared.work.wait(rt, latch);
             Found::Nothing
         }
-        Found::Stepped => {
-            latch.flush();
-            Found::Stepped
+        Found::Stepped | Found::Freed => {
+            if latch.flush() {
+                shared.output.notify_one();
+            }
+            found
         }
         other => other,
     }
+}
+
+/// This worker may be held for long: another may take its place.
+pub fn hold<L: Run, R: Wait>(rt: &R, shared: &Shared<'_, L>, worker: WorkerId) {
+    let wakes = shared.latch.lock(rt).hold(worker);
+    if wakes {
+        shared.work.notify_one();
+    }
+}
+
+/// Slots may have become idle: those that were blocked ask again.
+pub fn free<L: Run>(shared: &Shared<'_, L>) {
+    shared.freed.notify_all();
+}
+
+/// Reads a frame, takes its message where it may still be taken, and sends what was released. False where there was no
+/// memory.
+pub fn take<L: Run, R: Wait>(
+    rt: &R,
+    alloc: Global,
+    shared: &Shared<'_, L>,
+    copied: &Copied,
+) -> bool {
+    let seen = Seen::make(alloc, copied.frame.as_slice()).ok();
+    let Some(seen) = seen else {
+        return false;
+    };
+    let mut latch = shared.latch.lock(rt);
+    let taken = latch.take_seen(copied.link, copied.origin, seen);
+    if latch.flush() {
+        shared.output.notify_one();
+    }
+    taken
 }
 
 /// Reads a key, and waits where an older transaction has its partition.
@@ -70,7 +150,10 @@ pub fn read<L: Run, R: Wait>(rt: &R, shared: &Shared<'_, L>, worker: WorkerId, k
     let mut latch = shared.latch.lock(rt);
     match latch.read(worker, key) {
         ReadAnswer::Blocked { .. } => {
-            let _latch = shared.moved.wait(rt, latch);
+            if latch.hold(worker) {
+                shared.work.notify_one();
+            }
+            let _latch = shared.freed.wait(rt, latch);
             Turn::Again
         }
         _ => turn_of(latch.answers(worker)),
@@ -90,14 +173,16 @@ fn try_commit<L: Run, R: Wait>(
 {
     let mut latch = shared.latch.lock(rt);
     let answer = latch.commit(worker, plan, mine);
-    latch.flush();
+    if latch.flush() {
+        shared.output.notify_one();
+    }
     match answer {
         CommitAnswer::NoMemory => Turn::NoMemory,
         _ => turn_of(latch.answers(worker)),
     }
 }
 
-/// Commits what the slot runs, and wakes who waits.
+/// Commits what the slot runs, and wakes those that it blocked.
 pub fn commit<L: Run, R: Wait>(
     rt: &R,
     shared: &Shared<'_, L>,
@@ -109,24 +194,46 @@ pub fn commit<L: Run, R: Wait>(
     ensures { mine.new.share.parts ≡ mine.old.share.parts }
 {
     let turn = try_commit(rt, shared, worker, plan, mine);
-    shared.moved.notify_all();
+    free(shared);
     turn
 }
 
-/// The slot gives up what it runs, and wakes who waits.
+/// The worker ends: its slot gives up what it runs, and all others look again.
 pub fn leave<L: Run, R: Wait>(rt: &R, shared: &Shared<'_, L>, worker: WorkerId) {
-    shared.latch.lock(rt).quit(worker);
-    shared.moved.notify_all();
+    shared.latch.lock(rt).leave(worker);
+    shared.work.notify_all();
+    shared.freed.notify_all();
 }
 
-/// Tells that all workers ended.
+/// Tells the writer that all workers ended.
 pub fn end<L: Run, R: Wait>(rt: &R, shared: &Shared<'_, L>) {
     shared.latch.lock(rt).end();
-    shared.moved.notify_all();
+    shared.output.notify_all();
 }
 
 /// Tells the workers to end.
 pub fn stop<L: Run, R: Wait>(rt: &R, shared: &Shared<'_, L>) {
     shared.latch.lock(rt).stop();
-    shared.moved.notify_all();
+    shared.work.notify_all();
+    shared.freed.notify_all();
+}
+
+/// The writer begins to write. True where all workers ended.
+pub fn write<L: Run, R: Wait>(rt: &R, shared: &Shared<'_, L>) -> bool {
+    shared.latch.lock(rt).write()
+}
+
+/// The writer wrote all that it saw, and waits until it is told to write.
+pub fn wait_to_write<L: Run, R: Wait>(rt: &R, shared: &Shared<'_, L>) {
+    let latch = shared.latch.lock(rt);
+    if !latch.writes_on() {
+        let _latch = shared.output.wait(rt, latch);
+    }
+}
+
+/// Puts two tallies together.
+pub fn merge<L: Run, R: Wait>(rt: &R, shared: &Shared<'_, L>, mine: &mut Tally<L>, other: Tally<L>)
+    ensures { mine.new.share.parts ≡ mine.old.share.parts + other.share.parts }
+{
+    shared.latch.lock(rt).merge(mine, other);
 }

@@ -3,7 +3,7 @@
 ghost use Rattle.std.specs.Prelude.{◌≡◌, ◌+◌, ◌≤◌, ◌<◌};
 ghost use denote.Param.Send.{IsSync, IsSend};
 
-use crate::shared::Shared;
+use crate::shared::{Shared, merge};
 use crate::tally::{Run, Tally};
 use crate::visiting::work;
 use ftc_base::WorkerId;
@@ -62,6 +62,6 @@ pub fn spread<L: Run + Send + Sync, R: Threads + Wait + Sync, G: Gate>(
     { spread(rt, alloc, shared, next, rest, gate, mine) };
     let (one, others) = join(rt, first, others);
     let mut all = others;
-    shared.latch.lock(rt).merge(&mut all, one);
+    merge(rt, shared, &mut all, one);
     all
 }

@@ -3,7 +3,7 @@
 ghost use Rattle.std.specs.Prelude.{◌≡◌};
 
 use crate::latch::{Begun, Found};
-use crate::shared::{Shared, Turn, commit, find, leave, read, rules};
+use crate::shared::{Shared, Turn, commit, find, free, hold, leave, read, rules, take};
 use crate::tally::{Run, Tally};
 use ftc_base::{Answers, Ask, WorkerId};
 use ftc_mbox::{Plan, Rule, Rules, ask};
@@ -28,6 +28,7 @@ fn finish<L: Run, R: Wait, G: Gate>(
 {
     match Plan::make(alloc, rule, begun.bytes.as_slice(), answers) {
         Ok(Some(plan)) => {
+            hold(rt, shared, worker);
             gate.pause(begun.server, begun.packet);
             commit(rt, shared, worker, &plan, mine)
         }
@@ -127,9 +128,14 @@ fn work_by<L: Run, R: Wait, G: Gate>(
 {
     for _ in rt.forever() {
         match find(rt, shared, worker) {
-            Found::Stepped => shared.moved.notify_all(),
-            Found::Nothing => {}
+            Found::Stepped | Found::Nothing => {}
+            Found::Freed => free(shared),
             Found::End => return,
+            Found::Copied(copied) => {
+                if !take(rt, alloc, shared, &copied) {
+                    return;
+                }
+            }
             Found::Begun(begun) => {
                 if !visit_by(rt, alloc, shared, worker, rules, &begun, gate, mine) {
                     return;

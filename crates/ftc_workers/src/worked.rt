@@ -14,8 +14,8 @@ use ftc_chain::Chain;
 use ftc_outside::Gate;
 use std::alloc::Global;
 use std::marker::Brand;
+use std::sync::Wait;
 use std::sync::ledger::Blank;
-use std::sync::{Condvar, Mutex, Wait};
 use std::thread::Threads;
 
 /// The chain, and how many commits the workers made.
@@ -45,13 +45,9 @@ fn run_named<'a, L: Run + Send + Sync, R: Threads + Wait + Sync, G: Gate>(
 {
     let (book, share) = blank.open::<L>();
     let all = Tally { share, count: 0 };
-    let shared = Shared {
-        latch: Mutex::new(Latch::new(chain, book, None)),
-        moved: Condvar::new(),
-    };
+    let shared = Shared::new(Latch::new(chain, book, None));
     let all = spread(rt, alloc, &shared, 0, workers, gate, all);
-    let Shared { latch, moved: _ } = shared;
-    let (chain, commits) = latch.into_inner().close(all);
+    let (chain, commits) = shared.into_inner().close(all);
     Worked { chain, commits }
 }
 

@@ -2,7 +2,7 @@
 
 use crate::status::Status;
 use crate::tests::frames::DATAGRAM;
-use crate::tests::{MONITOR, WORDS, capture_of, desk_of, run};
+use crate::tests::{ALONE, MONITOR, capture_of, desk_of, run};
 use ftc_base::Bytes;
 use ftc_check::Checked;
 use ftc_conf::ChainCause;
@@ -10,7 +10,9 @@ use ftc_journal::JournalCause;
 use ftc_outside::{FailingDesk, MemoryDesk};
 use ftc_script::ScriptCause;
 use std::process::Abort;
+use std::sync::Wait;
 use std::test::Fail;
+use std::thread::Threads;
 
 /// The words of a check.
 pub const CHECK: [&str; 7] = [
@@ -57,10 +59,10 @@ fn ring_desk<R: Abort + AllocGlobal>(rt: &R, order: &[usize]) -> Result<MemoryDe
 }
 
 /// A desk on which a run through one monitor was done.
-fn run_desk<R: Abort + AllocGlobal>(rt: &R) -> Result<MemoryDesk, Fail> {
+fn run_desk<R: Abort + AllocGlobal + Threads + Wait + Sync>(rt: &R) -> Result<MemoryDesk, Fail> {
     let capture = capture_of(rt, &[&DATAGRAM])?;
     let mut desk = desk_of(rt, MONITOR, capture.as_slice())?;
-    assert_eq!(rt; run(rt, &WORDS, &mut desk), Status::Done);
+    assert_eq!(rt; run(rt, &ALONE, &mut desk), Status::Done);
     Ok(desk)
 }
 

@@ -2,12 +2,14 @@
 
 use crate::status::Status;
 use crate::tests::frames::{DATAGRAM, SEGMENT};
-use crate::tests::{WORDS, capture_of, desk_of, run};
+use crate::tests::{ALONE, capture_of, desk_of, run};
 use ftc_audit::PortsCause;
 use ftc_journal::JournalCause;
 use ftc_outside::{FailingDesk, MemoryDesk};
 use std::process::Abort;
+use std::sync::Wait;
 use std::test::Fail;
+use std::thread::Threads;
 
 /// The words of the table of server 0.
 const PORTS: [&str; 5] = ["ports", "chain", "capture", "journal", "0"];
@@ -20,10 +22,10 @@ const TABLE: &[u8] =
     b"ftc-ports 1\nports 2\nport 20000 tcp 10.0.0.5:5001\nport 20001 udp 10.0.0.5:5001\n";
 
 /// A desk on which a run of a segment and a datagram from one host was done.
-fn run_desk<R: Abort + AllocGlobal>(rt: &R) -> Result<MemoryDesk, Fail> {
+fn run_desk<R: Abort + AllocGlobal + Threads + Wait + Sync>(rt: &R) -> Result<MemoryDesk, Fail> {
     let capture = capture_of(rt, &[&SEGMENT, &DATAGRAM])?;
     let mut desk = desk_of(rt, CHAIN, capture.as_slice())?;
-    assert_eq!(rt; run(rt, &WORDS, &mut desk), Status::Done);
+    assert_eq!(rt; run(rt, &ALONE, &mut desk), Status::Done);
     Ok(desk)
 }
 

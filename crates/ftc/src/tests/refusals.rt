@@ -2,17 +2,19 @@
 
 use crate::status::Status;
 use crate::tests::frames::DATAGRAM;
-use crate::tests::{HEADER, MONITOR, WORDS, capture_of, desk_of, run};
+use crate::tests::{ALONE, HEADER, MONITOR, WORDS, capture_of, desk_of, run};
 use ftc_base::ServerId;
 use ftc_conf::ChainCause;
 use ftc_outside::{FailingDesk, MemoryDesk};
 use ftc_pcap::CaptureCause;
 use ftc_script::ScriptCause;
 use std::process::Abort;
+use std::sync::Wait;
 use std::test::Fail;
+use std::thread::Threads;
 
 /// The run ends so, and makes no file.
-fn is_refused<R: Abort + AllocGlobal>(
+fn is_refused<R: Abort + AllocGlobal + Threads + Wait + Sync>(
     rt: &R,
     mut desk: MemoryDesk,
     ending: Status,
@@ -119,21 +121,21 @@ fn a_call_that_fails(rt: HostRuntime) -> Result<(), Fail> {
     let capture = capture_of(&rt, &[&DATAGRAM])?;
     let bytes = capture.as_slice();
     let events: &[u8] = b"ftc-journal 2\nenter 0\nvisit 0 0 63\npass 0 0\nrelease 0\n";
-    // What the files hold where the call of that number fails: three fetch the texts.
+    // What the files hold where the call of that number fails: four fetch the texts.
     let cases: [(u64, Option<&[u8]>, Option<&[u8]>, Option<&[u8]>); 8] = [
         (0, None, None, None),
-        (2, None, None, None),
         (3, None, None, None),
-        (4, Some(b""), None, None),
-        (5, Some(bytes), None, None),
-        (6, Some(bytes), Some(b""), None),
-        (7, Some(bytes), Some(events), None),
-        (8, Some(bytes), Some(events), Some(b"")),
+        (4, None, None, None),
+        (5, Some(b""), None, None),
+        (6, Some(bytes), None, None),
+        (7, Some(bytes), Some(b""), None),
+        (8, Some(bytes), Some(events), None),
+        (9, Some(bytes), Some(events), Some(b"")),
     ];
     for (call, out, journal, report) in cases {
         let desk = desk_of(&rt, MONITOR, bytes)?;
         let mut desk = FailingDesk::new(rt.alloc(), desk, &[call])?;
-        assert_eq!(rt; run(&rt, &WORDS, &mut desk), Status::DeskFault, "at {call}");
+        assert_eq!(rt; run(&rt, &ALONE, &mut desk), Status::DeskFault, "at {call}");
         assert_eq!(rt; desk.inner().get("out"), out, "at {call}");
         assert_eq!(rt; desk.inner().get("journal"), journal, "at {call}");
         assert_eq!(rt; desk.inner().get("report"), report, "at {call}");

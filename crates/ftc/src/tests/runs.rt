@@ -5,9 +5,11 @@ use crate::tests::frames::{
     ALL_ONES, ALL_ONES_OUT, ARP, DATAGRAM, DATAGRAM_OUT, ICMP, IPV6, NEIGHBOUR, REPLY, REPLY_IN,
     SEGMENT, SEGMENT_OUT, STRAY, UNSUMMED, UNSUMMED_OUT,
 };
-use crate::tests::{HEADER, MONITOR, WORDS, capture_of, desk_of, run};
+use crate::tests::{ALONE, HEADER, MONITOR, capture_of, desk_of, run};
 use std::process::Abort;
+use std::sync::Wait;
 use std::test::Fail;
+use std::thread::Threads;
 
 /// A chain of one translation to the ports 20000 to 20009.
 pub const TRANSLATION: &[u8] =
@@ -22,7 +24,7 @@ const ONE_RELEASED: &[u8] =
     b"ftc-report 1\npackets 1\nreleased 1\nfiltered 0\nlost 0\nfate 0 released\nstore 0 1\nkey 6d0007 0000000000000001\n";
 
 /// The run is done and leaves these files.
-fn leaves<R: Abort + AllocGlobal>(
+fn leaves<R: Abort + AllocGlobal + Threads + Wait + Sync>(
     rt: &R,
     chain: &[u8],
     capture: &[u8],
@@ -31,7 +33,7 @@ fn leaves<R: Abort + AllocGlobal>(
     report: &[u8],
 ) -> Result<(), Fail> {
     let mut desk = desk_of(rt, chain, capture)?;
-    assert_eq!(rt; run(rt, &WORDS, &mut desk), Status::Done);
+    assert_eq!(rt; run(rt, &ALONE, &mut desk), Status::Done);
     assert_eq!(rt; desk.get("out"), Some(out));
     assert_eq!(rt; desk.get("journal"), Some(journal));
     assert_eq!(rt; desk.get("report"), Some(report));
@@ -83,7 +85,7 @@ fn a_translation_changes_flows_alone(rt: HostRuntime) -> Result<(), Fail> {
     let capture = capture_of(&rt, &[&ARP, &IPV6, &ICMP, &SEGMENT, &UNSUMMED])?;
     let out = capture_of(&rt, &[&ARP, &IPV6, &ICMP, &SEGMENT_OUT, &UNSUMMED_OUT])?;
     let mut desk = desk_of(&rt, TRANSLATION, capture.as_slice())?;
-    assert_eq!(rt; run(&rt, &WORDS, &mut desk), Status::Done);
+    assert_eq!(rt; run(&rt, &ALONE, &mut desk), Status::Done);
     assert_eq!(rt; desk.get("out"), Some(out.as_slice()));
     Ok(())
 }
@@ -105,7 +107,7 @@ fn a_checksum_of_zero_is_written_as_ones(rt: HostRuntime) -> Result<(), Fail> {
     let capture = capture_of(&rt, &[&ALL_ONES])?;
     let out = capture_of(&rt, &[&ALL_ONES_OUT])?;
     let mut desk = desk_of(&rt, TRANSLATION, capture.as_slice())?;
-    assert_eq!(rt; run(&rt, &WORDS, &mut desk), Status::Done);
+    assert_eq!(rt; run(&rt, &ALONE, &mut desk), Status::Done);
     assert_eq!(rt; desk.get("out"), Some(out.as_slice()));
     Ok(())
 }

@@ -2,17 +2,14 @@
 
 use crate::status::Status;
 use crate::tests::checks::CHECK;
-use crate::tests::{WORDS, capture_of, desk_of, run};
+use crate::tests::{ALONE, capture_of, desk_of, run};
 use ftc_journal::JournalCause;
 use ftc_outside::{FailingDesk, MemoryDesk};
 use ftc_trials::{A, TRIALS, Trial};
 use std::process::Abort;
+use std::sync::Wait;
 use std::test::Fail;
-
-/// The words of a run by a schedule.
-const ALONE: [&str; 9] = [
-    "run", "chain", "script", "capture", "out", "journal", "report", "--alone", "schedule",
-];
+use std::thread::Threads;
 
 /// A desk with the texts of a trial.
 fn trial_desk<R: AllocGlobal>(rt: &R, trial: &Trial) -> Result<MemoryDesk, Fail> {
@@ -24,7 +21,10 @@ fn trial_desk<R: AllocGlobal>(rt: &R, trial: &Trial) -> Result<MemoryDesk, Fail>
 }
 
 /// The run is driven as it is written down, and a check of its files says Yes.
-fn is_driven<R: Abort + AllocGlobal>(rt: &R, trial: &Trial) -> Result<(), Fail> {
+fn is_driven<R: Abort + AllocGlobal + Threads + Wait + Sync>(
+    rt: &R,
+    trial: &Trial,
+) -> Result<(), Fail> {
     let mut desk = trial_desk(rt, trial)?;
     let (journal, report) = (trial.journal.as_bytes(), trial.report.as_bytes());
     assert_eq!(rt; run(rt, &ALONE, &mut desk), Status::Done, "{}", trial.name);
@@ -73,30 +73,30 @@ fn pair_desk<R: AllocGlobal>(rt: &R) -> Result<MemoryDesk, Fail> {
 }
 
 #[test]
-fn a_run_without_a_schedule_is_that_of_the_empty_one(rt: HostRuntime) -> Result<(), Fail> {
-    let mut plain = pair_desk(&rt)?;
-    let mut scheduled = pair_desk(&rt)?;
-    scheduled.put("schedule", b"ftc-journal 1\n")?;
-    assert_eq!(rt; run(&rt, &WORDS, &mut plain), Status::Done);
-    assert_eq!(rt; run(&rt, &ALONE, &mut scheduled), Status::Done);
+fn an_empty_schedule_has_either_header(rt: HostRuntime) -> Result<(), Fail> {
+    let mut second = pair_desk(&rt)?;
+    let mut first = pair_desk(&rt)?;
+    first.put("schedule", b"ftc-journal 1\n")?;
+    assert_eq!(rt; run(&rt, &ALONE, &mut second), Status::Done);
+    assert_eq!(rt; run(&rt, &ALONE, &mut first), Status::Done);
     for name in ["out", "journal", "report"] {
-        assert!(rt; plain.get(name).is_some(), "{name}");
-        assert_eq!(rt; plain.get(name), scheduled.get(name), "{name}");
+        assert!(rt; second.get(name).is_some(), "{name}");
+        assert_eq!(rt; second.get(name), first.get(name), "{name}");
     }
     Ok(())
 }
 
 #[test]
 fn what_a_schedule_cannot_ask_is_passed_over(rt: HostRuntime) -> Result<(), Fail> {
-    let mut plain = pair_desk(&rt)?;
+    let mut empty = pair_desk(&rt)?;
     let mut scheduled = pair_desk(&rt)?;
     // A release of what isn't withheld, a server that isn't there, a packet that isn't there, and a release on demand.
     let strangers =
         b"ftc-journal 2\nrelease 0\ncrash 0\nvisit 9 0 63\nenter 7\nenter 0\nenter 0\nrelease 0\n";
     scheduled.put("schedule", strangers)?;
-    assert_eq!(rt; run(&rt, &WORDS, &mut plain), Status::Done);
+    assert_eq!(rt; run(&rt, &ALONE, &mut empty), Status::Done);
     assert_eq!(rt; run(&rt, &ALONE, &mut scheduled), Status::Done);
-    assert_eq!(rt; plain.get("journal"), scheduled.get("journal"));
+    assert_eq!(rt; empty.get("journal"), scheduled.get("journal"));
     Ok(())
 }
 
@@ -121,7 +121,9 @@ fn schedules_that_are_refused(rt: HostRuntime) -> Result<(), Fail> {
         assert_eq!(rt; desk.get("out"), None);
     }
     let mut desk = pair_desk(&rt)?;
-    assert_eq!(rt; run(&rt, &ALONE, &mut desk), Status::DeskFault);
+    let mut words = ALONE;
+    words[8] = "missing";
+    assert_eq!(rt; run(&rt, &words, &mut desk), Status::DeskFault);
     Ok(())
 }
 

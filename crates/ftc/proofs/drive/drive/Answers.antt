@@ -1,48 +1,31 @@
-use Rattle.std.proofs.Common.{◌≡◌, ◌∙◌, ap, sym, subst, ℕ, List, Some}
-use Rattle.std.specs.List.{AllByRecursion}
-use Rattle.std.specs.Prelude.{IsSome}
+use Rattle.std.proofs.Common.{◌≡◌, ◌∙◌, ap, sym, subst, List}
+use Rattle.std.proofs.lemmas.Result.{IfOk-weaker}
 use Rattle.ftc_journal.specs.declared.event.Event.{Event}
-use Rattle.ftc_journal.specs.declared.form.Version.TheVariants as version
-use Rattle.ftc_journal.specs.Spelling.{IsEvent}
-use Rattle.ftc_machine.proofs.RunInputs.{bytes_count}
-use Rattle.ftc_chain.specs.ChainRun.{setting_in}
+use Rattle.ftc_chain.specs.ChainRun.{ChainRun, setting_in}
 use Rattle.ftc_protocol.specs.Drive.{IsDrive}
-use Rattle.ftc_protocol.specs.Setting.{Setting, IsSetting, setting_of}
-use Rattle.ftc_report.proofs.Ended.{has_end}
-use Rattle.ftc_serial.specs.Held.{state_of}
+use Rattle.ftc_protocol.specs.Setting.{Setting, setting_of}
 use Rattle.ftc_serial.specs.Packets.{bytes_of}
-use Rattle.ftc_serial.specs.Serial.{opening, serial_run}
-use Rattle.ftc_serial.specs.Trace.{trace_of}
-use Rattle.ftc_serial.specs.declared.step.Step.{Step}
-use Rattle.ftc.proofs.DriveLemmas.{is_run, finished_drive}
+use Rattle.ftc.proofs.DriveLemmas.{driven_is_finished}
 use Rattle.ftc.proofs.drive.drive.Goals as goal
 
-pub chain_after-requires : goal.chain_after-requires
-chain_after-requires c =
-    let texts = c.args.texts.now in
-    let packets : List (List ℕ) = bytes_of texts.capture.packets in
-    let setting : Setting = setting_of texts.spec packets texts.script in
-    let journal : List Event = c.run.new.chain.journal in
-    let right : IsSetting setting = c.accepted.ensures.setting texts.spec packets texts.script c.rules.ensures.bounds c.ring.ensures.accepted
-    c.requires.ring (c.requires.packets ∙ sym (bytes_count texts.capture.packets)) in
-    let chosen : ∥ IsDrive setting texts.schedule.items journal ∥₁ =
-    subst (λ (given : Setting). ∥ IsDrive given texts.schedule.items journal ∥₁) (ap setting_in c.in_ok-chain.ensures.new) c.in_ok-run.ensures.ok in
-    let steps : c.in_ok-trace.trace ≡ trace_of journal = c.in_ok-trace.ensures ∙ ap trace_of c.journal-journal.ensures.same in
-    subst (λ (taken : List Step). IsSome (serial_run texts.spec.rules (opening packets) taken)) (sym steps)
-    (has_end setting journal c.serial_of_a_run.ensures ∣ right ∣₁ (is_run c.drive.ensures.run setting texts.schedule.items journal chosen))
+pub close-requires : goal.close-requires
+close-requires c =
+    let run : ChainRun = c.run.new.chain in
+    let kept : setting_in run ≡ setting_in c.in_ok-chain.chain = ap setting_in c.run.ensures.given in
+    record {
+      ring = c.requires.ring;
+      packets = c.requires.packets;
+      setting = kept ∙ ap setting_in c.in_ok-chain.ensures.new;
+      finished = driven_is_finished c.drive.ensures.run run c.args.texts.now.schedule.items
+          (subst (λ (of : Setting). ∥ IsDrive of c.args.texts.now.schedule.items run.journal ∥₁) (sym kept) c.in_ok-run.ensures.ok);
+    }
 
-pub returns-clause-driven : goal.returns-clause-driven
-returns-clause-driven c =
+pub returns-clause-chosen : goal.returns-clause-chosen
+returns-clause-chosen c =
     let texts = c.args.texts.now in
-    let packets : List (List ℕ) = bytes_of texts.capture.packets in
-    let setting : Setting = setting_of texts.spec packets texts.script in
-    let journal : List Event = c.run.new.chain.journal in
-    let right : IsSetting setting = c.accepted.ensures.setting texts.spec packets texts.script c.rules.ensures.bounds c.ring.ensures.accepted
-    c.requires.ring (c.requires.packets ∙ sym (bytes_count texts.capture.packets)) in
-    let chosen : ∥ IsDrive setting texts.schedule.items journal ∥₁ =
-    subst (λ (given : Setting). ∥ IsDrive given texts.schedule.items journal ∥₁) (ap setting_in c.in_ok-chain.ensures.new) c.in_ok-run.ensures.ok in
-    let steps : c.in_ok-trace.trace ≡ trace_of journal = c.in_ok-trace.ensures ∙ ap trace_of c.journal-journal.ensures.same in
-    finished_drive c.drive.ensures.run setting texts.schedule.items journal (state_of c.in_ok-serial.serial) right chosen
-    (subst (λ (taken : List Step). serial_run texts.spec.rules (opening packets) taken ≡ Some (state_of c.in_ok-serial.serial)) steps
-    c.in_ok-serial.ensures.state)
-    (subst (λ (events : List Event). AllByRecursion (IsEvent version.Second) events) c.journal-journal.ensures.same c.numbers_fit.ensures)
+    let setting : Setting = setting_of texts.spec (bytes_of texts.capture.packets) texts.script in
+    let run : ChainRun = c.run.new.chain in
+    let chosen : ∥ IsDrive setting texts.schedule.items run.journal ∥₁ =
+    subst (λ (of : Setting). ∥ IsDrive of texts.schedule.items run.journal ∥₁) (ap setting_in c.in_ok-chain.ensures.new) c.in_ok-run.ensures.ok in
+    IfOk-weaker c.close.result _ _ (λ driven same.
+    subst (λ (events : List Event). ∥ IsDrive setting texts.schedule.items events ∥₁) (sym same) chosen) c.close.ensures.journal

@@ -1,59 +1,12 @@
-use Rattle.std.proofs.Common.{◌++◌, ◌∙◌, List, ℕ, refl, length, rules, drop, ap}
-use Rattle.std.specs.List.{flat_map}
-use Rattle.std.proofs.lemmas.Option.{slice_get_read}
+use Rattle.std.proofs.Common.{[], rules}
 use Rattle.std.proofs.lemmas.Result.{on_err_weaker}
-use Rattle.ftc_report.specs.Output.{released_record}
-use Rattle.ftc.proofs.OutLemmas.{may_hold, whole_is, has_front, next_is, on_err}
+use Rattle.ftc.proofs.OutLemmas.{begun_out}
 use Rattle.ftc.proofs.output.write_out.Goals as goal
-
-pub returns-in_err-flush_long-clause-refused : goal.returns-in_err-flush_long-clause-refused
-returns-in_err-flush_long-clause-refused g c = λ t.
-    let sofar = c.loop-packet.invariant in
-    let items = c.as_slice-packet-items.result.now in
-    let record_of = released_record c.args.capture.now in
-    let header = c.args.capture.now.header in
-    let (before, is, sum) = sofar.written t in
-    let whole = whole_is record_of items c.loop-packet.packet-index header before c.loop-packet.piece sum in
-    let held = may_hold (g.D.Desk.file c.args.desk.now c.args.name.now) _ _ before c.loop-packet.piece (flat_map record_of (drop c.loop-packet.packet-index items)) (header ++ flat_map record_of items) is whole (c.in_err-flush_long.ensures.refused (sofar.tells t)) in
-    on_err c.from_residual-in_err-flush_long.result _ (rw c.as_slice-packet-items.ensures at held)
-
-pub returns-in_err-add_record-clause-refused : goal.returns-in_err-add_record-clause-refused
-returns-in_err-add_record-clause-refused g c = λ t.
-    let sofar = c.loop-packet.invariant in
-    let items = c.as_slice-packet-items.result.now in
-    let record_of = released_record c.args.capture.now in
-    let header = c.args.capture.now.header in
-    let (before, is, sum) = sofar.written t in
-    let (after, now, same) = c.in_ok-flush_long.ensures.moved (sofar.tells t) before is in
-    let whole = whole_is record_of items c.loop-packet.packet-index header after c.flush_long.new.piece (same ∙ sum) in
-    let held = has_front (g.D.Desk.file c.args.desk.now c.args.name.now) _ after _ (header ++ flat_map record_of items) now whole in
-    on_err c.from_residual-in_err-add_record.result _ (rw c.as_slice-packet-items.ensures at held)
-
-pub loop-packet-preserved : goal.loop-packet-preserved
-loop-packet-preserved g c =
-    let sofar = c.loop-packet.invariant in
-    let items = c.as_slice-packet-items.result.now in
-    let record_of = released_record c.args.capture.now in
-    let header = c.args.capture.now.header in
-    let there = slice_get_read items (length items) c.loop-packet.packet-index c.packet-item.result refl (search rules) c.packet-item.is in
-    record {
-      written = λ t.
-          let (before, is, sum) = sofar.written t in
-          let (after, now, same) = c.in_ok-flush_long.ensures.moved (sofar.tells t) before is in
-          (after, now, ap (λ (piece : List ℕ). after ++ piece) c.in_ok-add_record.ensures.ok ∙ next_is record_of items c.loop-packet.packet-index c.packet-item.result header after c.flush_long.new.piece there (same ∙ sum));
-      others = search rules;
-      tells = search rules;
-      count = search rules;
-      still = search rules;
-      sound = search rules;
-    }
 
 pub returns-clause-refused : goal.returns-clause-refused
 returns-clause-refused g c = λ t.
-    let sofar = c.loop-packet.invariant in
-    let items = c.as_slice-packet-items.result.now in
-    let record_of = released_record c.args.capture.now in
-    let header = c.args.capture.now.header in
-    let (before, is, sum) = sofar.written t in
-    let whole = whole_is record_of items c.loop-packet.packet-index header before c.loop-packet.piece sum in
-    on_err_weaker c.append.result (λ cut. rw c.as_slice-packet-items.ensures at (may_hold (g.D.Desk.file c.args.desk.now c.args.name.now) _ _ before c.loop-packet.piece (flat_map record_of (drop c.loop-packet.packet-index items)) (header ++ flat_map record_of items) is whole (rw c.as_slice.ensures at cut))) (c.append.ensures.refused (sofar.tells t))
+    on_err_weaker c.append_records.result
+    (λ held. begun_out (g.D.Desk.file c.args.desk.now c.args.name.now) (g.D.Desk.file c.make.new.self c.args.name.now)
+    (g.D.Desk.file c.append_records.new.desk c.args.name.now) c.args.capture.now c.write_header.new.out
+    c.as_slice.result.now c.args.released.now (c.in_ok-make.ensures.made t) (search rules) (search rules) held)
+    (c.append_records.ensures.refused (c.make.ensures.tells t) [] (c.in_ok-make.ensures.made t))

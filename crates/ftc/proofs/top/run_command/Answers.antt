@@ -14,9 +14,16 @@ use Rattle.ftc.proofs.WatchLemmas.{no_output, watch_completes}
 use Rattle.ftc.proofs.top.run_command.Goals as goal
 
 pub run_names-requires : goal.run_names-requires
-run_names-requires g c = record {
-  apart = run_differs (named_of c.in-Run.names) (shown_mode c.in-Run.mode) (subst (λ (command : Command). are_distinct (files_of (shown command)) ≡ true) c.in-Run.is c.requires.distinct);
-}
+run_names-requires g c = (
+  c.type_bounds.sync-R,
+  (
+    c.type_bounds.sync-G,
+    (
+      run_differs (named_of c.in-Run.names) (shown_mode c.in-Run.mode) (subst (λ (command : Command). are_distinct (files_of (shown command)) ≡ true) c.in-Run.is c.requires.distinct),
+      subst (λ (command : Command). IsWithin (shown command)) c.in-Run.is c.requires.within,
+    ),
+  ),
+)
 
 pub returns-in-Run-clause-complete : goal.returns-in-Run-clause-complete
 returns-in-Run-clause-complete g c = λ tells texts still.

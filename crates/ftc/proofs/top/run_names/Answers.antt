@@ -1,14 +1,13 @@
 use Rattle.std.proofs.Common.{ap, Err}
-use Rattle.ftc_serial.specs.Held.{state_of}
-use Rattle.ftc.proofs.EndLemmas.{EndLaws, ended_beside, ended_cut_beside}
+use Rattle.ftc.proofs.EndLemmas.{EndLaws, ended_beside, ended_cut}
 use Rattle.ftc.proofs.Refusing.{ends_refused}
 use Rattle.ftc.proofs.top.run_names.Goals as goal
 
 pub returns-in-Err-clause-ends : goal.returns-in-Err-clause-ends
 returns-in-Err-clause-ends g c = λ t. ends_refused _ _ _ _ _ _ _ c.in-Err.status (c.in-Err.ensures.refused t) (c.in-Err.ensures.files t)
 
-pub returns-in-Ok-write_files-clause-ends : goal.returns-in-Ok-write_files-clause-ends
-returns-in-Ok-write_files-clause-ends g c = λ t.
+pub returns-in-Ok-run_texts-clause-ends : goal.returns-in-Ok-run_texts-clause-ends
+returns-in-Ok-run_texts-clause-ends g c = λ t.
     let told = c.in-Ok.ensures.tells t in
     let laws : EndLaws = record {
       printed = c.spellings.ensures.printed;
@@ -20,9 +19,8 @@ returns-in-Ok-write_files-clause-ends g c = λ t.
     } in
     let texts = c.in-Ok.texts in
     ended_beside laws _ _ _ c.requires.apart texts.spec texts.capture texts.script texts.schedule.items
-    c.in-Ok-drive.driven.chain.journal (state_of c.in-Ok-drive.driven.serial) (c.in-Ok.ensures.accepted t)
-    c.in-Ok-drive.ensures.driven _ _ _ _ (c.in-Ok.ensures.files t) c.what_a_run_released.ensures.records
-    c.in-Ok-write_files.ensures.plain c.in-Ok-write_files.ensures.told (c.in-Ok-write_files.ensures.written told)
+    (c.in-Ok.ensures.accepted t) _ _ _ _ (c.in-Ok.ensures.files t) c.what_a_run_released.ensures.records
+    (c.in-Ok-run_texts.ensures.done told)
 
 pub returns-clause-ends : goal.returns-clause-ends
 returns-clause-ends g c = λ t.
@@ -36,7 +34,8 @@ returns-clause-ends g c = λ t.
       lost = c.losses.ensures.place;
     } in
     let texts = c.in-Ok.texts in
-    rw c.from.ensures (ended_cut_beside laws _ _ _ c.requires.apart texts.spec texts.capture texts.script
-    texts.schedule.items c.in-Ok-drive.driven.chain.journal (state_of c.in-Ok-drive.driven.serial)
-    (c.in-Ok.ensures.accepted t) c.in-Ok-drive.ensures.driven _ _ _ _ (c.in-Ok.ensures.files t) _
-    c.in-Err-write_files.error (λ s same. c.in-Err-write_files.ensures.safe told (c.in-Ok.ensures.sound s) (ap Err same)) (c.in-Err-write_files.ensures.refused told))
+    rw c.from.ensures (ended_cut laws _ _ _ c.requires.apart texts.spec texts.capture texts.script
+    texts.schedule.items (c.in-Ok.ensures.accepted t) _ _ _ _ (c.in-Ok.ensures.files t) _
+    c.in-Err-run_texts.error (λ s same. c.in-Err-run_texts.ensures.safe told (c.in-Ok.ensures.sound s) (ap Err same))
+    (λ same. c.in-Err-run_texts.ensures.failed told (ap Err same))
+    (c.in-Err-run_texts.ensures.refused told))

@@ -1,4 +1,5 @@
-use Rattle.std.proofs.Common.{◌≡◌, ◌∙◌, ◌+◌, ◌==◌, ◌∷◌, ℕ, Bool, true, false, Option, Some, ap, sym, subst}
+use Rattle.std.proofs.Common.{◌≡◌, ◌∙◌, ◌+◌, ◌==◌, ◌∷◌, ℕ, Bool, true, false, Option, Some, Result, Ok, Err, ap, sym, subst}
+use Rattle.std.specs.Prelude.{OnErr}
 use Rattle.std.proofs.Math.Bool.{Bool-set}
 use Rattle.std.proofs.Math.Logic.{∥∥₁_elim}
 use Rattle.ftc_journal.specs.declared.event.Event.TheVariants as event
@@ -21,7 +22,7 @@ use Rattle.ftc_standing.specs.Stand.{IsLink}
 use Rattle.ftc_network.specs.Events.{IsTaking}
 use Rattle.ftc_network.specs.Parts.{buffer_of}
 use Rattle.ftc_network.specs.Stand.{IsSlot, IsUp}
-use Rattle.ftc_network.proofs.ReadySlots.{same_runs}
+use Rattle.ftc_network.proofs.ReadySlots.{same_runs, roomed_still}
 use Rattle.ftc_network.proofs.Heads.{same_head}
 use Rattle.ftc_network.proofs.taking.take_at.Goals as goal
 
@@ -43,24 +44,35 @@ taken_up link origin by_ring queue after slot server roomed message test value s
     (ap (λ (q : Queue). q.messages) takes.oldest)
     (room given.setting given.state (next_of (servers given.setting) link) up.at))
 
-pub take-requires-in-Some-2-clause-new : goal.take-requires-in-Some-2-clause-new
-take-requires-in-Some-2-clause-new c =
-    let takes : TakesOldest c.args.link.now c.take.new.self c.in-Some-2.message =
-    subst (IsTaken c.args.link.now c.take.new.self) c.in-Some-2.is c.in_ok-message-in-Some.ensures.taken in
-    taken_up c.args.sender c.args.origin c.args.by_ring c.args.link.now c.take.new.self c.args.slot.now c.in-Some.server
+-- what is so is so of every refusal
+at_err : {A E : Type 0} (result : Result A E) (Fact : Type 0) → Fact → OnErr result Fact
+at_err (Ok value) Fact fact = tt
+at_err (Err fault) Fact fact = fact
+
+pub returns-in_err-make_room-in-Some-clause-slot : goal.returns-in_err-make_room-in-Some-clause-slot
+returns-in_err-make_room-in-Some-clause-slot c =
+    at_err c.from_residual.result _ (roomed_still c.args.slot.now c.in-Some.server c.make_room.new.self c.in-Some.is
+    c.make_room.ensures.same (λ setting state number at fields.
+    c.what_stays.ensures.roomed setting state number c.in-Some.server c.make_room.new.self at fields))
+
+pub take-requires-clause-new : goal.take-requires-clause-new
+take-requires-clause-new c =
+    let takes : TakesOldest c.args.link.now c.take_from.new.link c.in-Some-2.message =
+    subst (IsTaken c.args.link.now c.take_from.new.link) c.in-Some-2.is c.in_ok-message-in-Some.ensures.taken in
+    taken_up c.args.sender c.args.origin c.args.by_ring c.args.link.now c.take_from.new.link c.args.slot.now c.in-Some.server
     c.make_room.new.self c.in-Some-2.message (is_held c.in-Some-2.message.origin c.make_room.new.self.held.items) false
     c.in-Some.is takes
     (λ setting state number is. c.what_stays.ensures.roomed setting state number c.in-Some.server c.make_room.new.self is
     c.make_room.ensures.same)
     (λ setting state run legal ring queued first is.
     (c.what_take_wants.ensures.received setting state c.args.sender c.args.origin c.args.link.now c.in-Some-2.message
-    c.take.new.self.messages c.make_room.new.self run legal queued first is).0) c.requires
+    c.take_from.new.link.messages c.make_room.new.self run legal queued first is).0) c.requires
 
-pub take-requires-in-Some-2-clause-open : goal.take-requires-in-Some-2-clause-open
-take-requires-in-Some-2-clause-open c =
-    let takes : TakesOldest c.args.link.now c.take.new.self c.in-Some-2.message =
-    subst (IsTaken c.args.link.now c.take.new.self) c.in-Some-2.is c.in_ok-message-in-Some.ensures.taken in
-    taken_up c.args.sender c.args.origin c.args.by_ring c.args.link.now c.take.new.self c.args.slot.now c.in-Some.server
+pub take-requires-clause-open : goal.take-requires-clause-open
+take-requires-clause-open c =
+    let takes : TakesOldest c.args.link.now c.take_from.new.link c.in-Some-2.message =
+    subst (IsTaken c.args.link.now c.take_from.new.link) c.in-Some-2.is c.in_ok-message-in-Some.ensures.taken in
+    taken_up c.args.sender c.args.origin c.args.by_ring c.args.link.now c.take_from.new.link c.args.slot.now c.in-Some.server
     c.make_room.new.self c.in-Some-2.message
     (is_open c.make_room.new.self.id (arrived c.in-Some-2.message c.args.by_ring)) true c.in-Some.is takes
     (λ setting state number is. c.what_stays.ensures.roomed setting state number c.in-Some.server c.make_room.new.self is
@@ -68,7 +80,7 @@ take-requires-in-Some-2-clause-open c =
     (λ setting state run legal ring queued first is.
     subst (λ (b : Bool). is_open c.make_room.new.self.id (arrived c.in-Some-2.message b) ≡ true) (sym ring)
     (c.what_take_wants.ensures.received setting state c.args.sender c.args.origin c.args.link.now c.in-Some-2.message
-    c.take.new.self.messages c.make_room.new.self run legal queued first is).1) c.requires
+    c.take_from.new.link.messages c.make_room.new.self run legal queued first is).1) c.requires
 
 pub returns-in-Some-2-clause-ok : goal.returns-in-Some-2-clause-ok
 returns-in-Some-2-clause-ok c setting state ring run legal queued is =
@@ -76,20 +88,20 @@ returns-in-Some-2-clause-ok c setting state ring run legal queued is =
     let receiver = next_of (servers setting) link in
     let old = c.in-Some.server in
     let roomed = c.make_room.new.self in
-    let new = c.take-in-Some-2.new.self in
-    let takes : TakesOldest c.args.link.now c.take.new.self c.in-Some-2.message =
-    subst (IsTaken c.args.link.now c.take.new.self) c.in-Some-2.is c.in_ok-message-in-Some.ensures.taken in
+    let new = c.take.new.self in
+    let takes : TakesOldest c.args.link.now c.take_from.new.link c.in-Some-2.message =
+    subst (IsTaken c.args.link.now c.take_from.new.link) c.in-Some-2.is c.in_ok-message-in-Some.ensures.taken in
     let first = ap (λ (q : Queue). q.messages) takes.oldest in
     let up : IsUp setting state receiver old = subst (IsSlot setting state receiver) c.in-Some.is is in
     let at = c.what_stays.ensures.roomed setting state receiver old roomed up.at c.make_room.ensures.same in
     let taken : HasTaken roomed new c.in-Some-2.message (link + 1 == servers setting) =
-    subst (λ (b : Bool). HasTaken roomed new c.in-Some-2.message b) ring c.take-in-Some-2.ensures in
+    subst (λ (b : Bool). HasTaken roomed new c.in-Some-2.message b) ring c.take.ensures in
     let at_after = c.what_take_does.ensures.received setting state link c.args.origin c.args.link.now c.in-Some-2.message
-    c.take.new.self.messages roomed new run legal queued first at taken in (
+    c.take_from.new.link.messages roomed new run legal queued first at taken in (
       subst (IsLink setting (next setting state (event.Take link c.args.origin)) link)
-          (ap (λ (q : Queue). record q { messages = c.take.new.self.messages }) takes.oldest)
+          (ap (λ (q : Queue). record q { messages = c.take_from.new.link.messages }) takes.oldest)
           (c.a_message_is_taken.ensures.link setting state link c.args.origin c.args.link.now c.in-Some-2.message
-          c.take.new.self.messages run legal queued first),
+          c.take_from.new.link.messages run legal queued first),
       record {
         up = up.up;
         at = at_after;
@@ -108,11 +120,11 @@ returns-in-None-clause-ok c setting state ring run legal queued is =
 
 pub returns-in-Some-2-clause-buffer : goal.returns-in-Some-2-clause-buffer
 returns-in-Some-2-clause-buffer c =
-    ap (λ (s : ServerState). s.buffer.items) c.take-in-Some-2.ensures.rest
+    ap (λ (s : ServerState). s.buffer.items) c.take.ensures.rest
     ∙ (ap (λ (s : ServerState). s.buffer.items) c.make_room.ensures.same.rest ∙ ap buffer_of (sym c.in-Some.is))
 
 pub returns-in-Some-2-clause-heads : goal.returns-in-Some-2-clause-heads
 returns-in-Some-2-clause-heads c =
-    same_head c.args.slot.now c.in-Some.server c.take-in-Some-2.new.self c.in-Some.is
-    (ap (λ (s : ServerState). s.head) c.take-in-Some-2.ensures.rest
+    same_head c.args.slot.now c.in-Some.server c.take.new.self c.in-Some.is
+    (ap (λ (s : ServerState). s.head) c.take.ensures.rest
     ∙ ap (λ (s : ServerState). s.head) c.make_room.ensures.same.rest)

@@ -4,4 +4,4 @@ use Rattle.ftc_workers.proofs.choosing.choose.Goals as goal
 
 pub returns : goal.returns
 returns c =
-    may_first c.args.chain.now c.in-Some.job (sym c.is_visit.ensures ∙ c.if-is_visit.false) c.in-Some.ensures.first
+    may_first c.args.chain.now c.in-Some.job (sym c.is_run.ensures ∙ c.if-is_run.false) c.in-Some.ensures.first

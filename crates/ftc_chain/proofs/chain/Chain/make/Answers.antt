@@ -1,0 +1,92 @@
+use Rattle.std.proofs.Common.{◌∙◌, refl, sym, ap, subst}
+use Rattle.std.proofs.Math.Logic.{∥∥₁_map}
+use Rattle.ftc_base.specs.declared.limits.TheConstants.{FINISHING_SLOT}
+use Rattle.ftc_network.specs.declared.network.Network.{Network}
+use Rattle.ftc_network.specs.Slots.{head_at}
+use Rattle.ftc_network.specs.Stand.{IsNetwork}
+use Rattle.ftc_chain.specs.declared.course.Course.{Course}
+use Rattle.ftc_chain.specs.Doing.{MayDo, setting_by}
+use Rattle.ftc_chain.proofs.AtRest.{may_do}
+use Rattle.ftc_chain.proofs.HeadsKept.{once_as, once_kept, once_after, same_no_more}
+use Rattle.ftc_chain.proofs.HeadsSeen.{heads_after, as_it_was}
+use Rattle.ftc_chain.proofs.Made.{before, stepped, still_rests}
+use Rattle.ftc_chain.proofs.Permitted.{on_any_err}
+use Rattle.ftc_chain.proofs.chain.Chain.make.Goals as goal
+
+pub invariant_of-self : goal.invariant_of-self
+invariant_of-self c = (
+  c.self.invariant.0,
+  ∥∥₁_map c.self.invariant.1 (λ is. still_rests (setting_by c.self.inside.given) c.self.inside.course c.make_room.new.self
+      c.make_room.ensures.journal c.make_room.ensures.waiting c.make_room.ensures.drained (λ state stands.
+      subst (IsNetwork (setting_by c.self.inside.given) state) (sym c.make_room.ensures.network) stands) is),
+  once_as c.self.inside.course.network c.make_room.new.self.network c.make_room.ensures.network c.self.invariant.2,
+)
+
+pub happen-requires-clause-may : goal.happen-requires-clause-may
+happen-requires-clause-may c =
+    let given = c.self.inside.given in
+    let course = c.self.inside.course in
+    ∥∥₁_map (before given course c.args.job.now c.args.self.now c.self.view_is c.self.invariant.1 c.requires.legal) (λ both.
+    subst (MayDo (setting_by given) c.args.job.now) (sym c.make_room.ensures.network)
+    (may_do (setting_by given) course c.args.job.now c.in_ok-make_room.ensures.few both.0.course_is both.1))
+
+pub invariant_of-self-in_err-event : goal.invariant_of-self-in_err-event
+invariant_of-self-in_err-event c =
+    let given = c.self.inside.given in (
+      c.self.invariant.0,
+      ∥∥₁_map c.self.invariant.1 (λ is. still_rests (setting_by given) c.self.inside.course
+          (record { journal = c.make_room.new.self.journal; network = c.happen.new.network; outlet = c.make_room.new.self.outlet })
+          c.make_room.ensures.journal c.make_room.ensures.waiting c.make_room.ensures.drained (λ state stands. c.in_err-event.ensures.err (setting_by given) state
+          (subst (IsNetwork (setting_by given) state) (sym c.make_room.ensures.network) stands)) is),
+      once_kept c.make_room.new.self.network c.happen.new.network
+          (same_no_more c.make_room.new.self.network c.happen.new.network c.in_err-event.ensures.same)
+          (once_as c.self.inside.course.network c.make_room.new.self.network c.make_room.ensures.network c.self.invariant.2),
+    )
+
+pub invariant_of-self-2 : goal.invariant_of-self-2
+invariant_of-self-2 c =
+    let given = c.self.inside.given in (
+      c.self.invariant.0,
+      ∥∥₁_map (stepped given FINISHING_SLOT c.args.job.now c.self.inside.course c.make_room.new.self
+          (record { journal = c.push.new.self; network = c.happen.new.network; outlet = c.make_room.new.self.outlet }) c.release_due.new.course c.in_ok-event.event
+          c.args.self.now c.self.view_is c.self.invariant.1 c.requires.legal (λ setting state legal. legal)
+          c.make_room.ensures.journal c.make_room.ensures.network c.make_room.ensures.waiting c.make_room.ensures.drained refl c.in_ok-push.ensures.ok c.in_ok-event.ensures.ok
+          c.release_due.ensures.released c.releases.ensures.end) (λ both. both.0),
+      once_after c.args.job.now c.self.inside.course.network c.make_room.new.self.network c.happen.new.network
+          c.release_due.new.course.network c.make_room.ensures.network c.in_ok-event.ensures.heads c.release_due.ensures.heads
+          c.self.invariant.2,
+    )
+
+pub returns-clause-ok : goal.returns-clause-ok
+returns-clause-ok c =
+    let given = c.self.inside.given in
+    ∥∥₁_map (stepped given FINISHING_SLOT c.args.job.now c.self.inside.course c.make_room.new.self
+    (record { journal = c.push.new.self; network = c.happen.new.network; outlet = c.make_room.new.self.outlet }) c.release_due.new.course c.in_ok-event.event
+    c.args.self.now c.self.view_is c.self.invariant.1 c.requires.legal (λ setting state legal. legal)
+    c.make_room.ensures.journal c.make_room.ensures.network c.make_room.ensures.waiting c.make_room.ensures.drained refl c.in_ok-push.ensures.ok c.in_ok-event.ensures.ok
+    c.release_due.ensures.released c.releases.ensures.end) (λ both. both.1)
+
+pub returns-clause-heads : goal.returns-clause-heads
+returns-clause-heads c =
+    heads_after c.self.inside.given c.self.inside.course c.make_room.new.self c.happen.new.network c.release_due.new.course
+    c.args.self.now c.self.view_is c.make_room.ensures.network c.release_due.ensures.heads c.args.job.now
+    c.in_ok-event.ensures.heads
+
+pub returns-in_err-event-clause-err : goal.returns-in_err-event-clause-err
+returns-in_err-event-clause-err c =
+    let given = c.self.inside.given in
+    let course = c.self.inside.course in
+    let new : Course = record {
+      journal = c.make_room.new.self.journal;
+      network = c.happen.new.network;
+      outlet = c.make_room.new.self.outlet;
+    } in
+    on_any_err c.from_residual-in_err-event.result _
+    (as_it_was given course new c.args.self.now c.self.view_is c.make_room.ensures.journal c.make_room.ensures.drained
+    c.self.invariant.1
+    (∥∥₁_map c.self.invariant.1 (still_rests (setting_by given) course new c.make_room.ensures.journal
+    c.make_room.ensures.waiting c.make_room.ensures.drained (λ state stands.
+    c.in_err-event.ensures.err (setting_by given) state
+    (subst (IsNetwork (setting_by given) state) (sym c.make_room.ensures.network) stands))))
+    (λ server. c.in_err-event.ensures.same server
+    ∙ ap (λ (network : Network). head_at network server) c.make_room.ensures.network))
