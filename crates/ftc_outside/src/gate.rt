@@ -1,5 +1,7 @@
 //! What a visit passes before its commit.
 
+ghost use Rattle.std.specs.Prelude.{◌≡◌};
+
 use ftc_base::{PacketNo, ServerId};
 
 /// A worker passes it between the last read of a visit and its commit, while it holds no latch. It learns nothing of
@@ -7,6 +9,12 @@ use ftc_base::{PacketNo, ServerId};
 pub trait Gate: Sync {
     /// Holds the visit of a packet at a server for as long as it likes.
     fn pause(&self, server: ServerId, packet: PacketNo);
+
+    /// Whether it holds nobody. A gate that may hold a visit says false, and another worker is woken at each visit to go
+    /// on in its place.
+    fn is_open(&self) -> bool {
+        false
+    }
 }
 
 /// It holds nobody.
@@ -15,4 +23,10 @@ pub struct OpenGate;
 
 impl Gate for OpenGate {
     fn pause(&self, _server: ServerId, _packet: PacketNo) {}
+
+    fn is_open(&self) -> bool
+        ensures { result ≡ true }
+    {
+        true
+    }
 }

@@ -11,6 +11,24 @@ use ftc_outside::Gate;
 use std::alloc::Global;
 use std::sync::Wait;
 
+/// After so many of its commits a worker lets another take its place, where the gate holds nobody.
+const TURN: u64 = 64;
+
+/// Passes the gate. Where that may hold the visit, another worker is woken first, which costs more than a visit does.
+fn pass<L: Run, R: Wait, G: Gate>(
+    rt: &R,
+    shared: &Shared<'_, L>,
+    worker: WorkerId,
+    begun: &Begun,
+    gate: &G,
+    commits: u64,
+) {
+    if !gate.is_open() || commits % TURN == 0 {
+        hold(rt, shared, worker);
+    }
+    gate.pause(begun.server, begun.packet);
+}
+
 /// Plans how the visit ends, passes the gate and commits.
 fn finish<L: Run, R: Wait, G: Gate>(
     rt: &R,
@@ -28,8 +46,7 @@ fn finish<L: Run, R: Wait, G: Gate>(
 {
     match Plan::make(alloc, rule, begun.bytes.as_slice(), answers) {
         Ok(Some(plan)) => {
-            hold(rt, shared, worker);
-            gate.pause(begun.server, begun.packet);
+            pass(rt, shared, worker, begun, gate, mine.count);
             commit(rt, shared, worker, &plan, mine)
         }
         _ => Turn::NoMemory,
