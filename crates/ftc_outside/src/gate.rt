@@ -1,6 +1,6 @@
 //! What a visit passes before its commit.
 
-ghost use Rattle.std.specs.Prelude.{◌≡◌};
+ghost use Rattle.std.specs.Prelude.{◌≡◌, true};
 
 use ftc_base::{PacketNo, ServerId};
 
