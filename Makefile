@@ -9,7 +9,7 @@ JUDGED_SETS = middleboxes ring loss crash
 
 SOURCES := $(shell find crates crates.txt -name out -prune -o -type f -print)
 
-.PHONY: build demo test lines bench install uninstall clean
+.PHONY: build demo test edits lines bench install uninstall clean
 
 # Where `make install` puts the program and its manual page.
 PREFIX ?= /usr/local
@@ -30,10 +30,15 @@ demo: bin/ftc
 
 test:
 	rt ci
+	edits/try --match
 	@if [ -x "$(CASES)/compare" ]; then \
 		$(MAKE) lines && FTC="$$PWD/bin/ftc" "$(CASES)/compare" examples/alone $(addprefix $(CASES)/,$(CASE_SETS)) && \
 		"$(CASES)/judge" bin/ftc $(addprefix $(CASES)/,$(JUDGED_SETS)); \
 	fi
+
+# The edits beyond those that `make test` tries. All of them take as long as the rest of it; `edits/try CRATE` tries one crate's.
+edits:
+	edits/try
 
 # What the program says on standard error, and its exit codes.
 lines: bin/ftc
