@@ -10,8 +10,10 @@ ghost use Rattle.ftc_workers.specs.Given.{given_of};
 ghost use Rattle.ftc_workers.specs.Outlets.{sent_of, room_of};
 ghost use Rattle.ftc_workers.specs.Visits.{visits};
 
+use crate::batch::Batch;
 use crate::calls::{begin, commit, few, quit, read, step, take_seen};
 use crate::choosing::{Choice, choose};
+use crate::leading::Lead;
 use crate::outlet::pass_on;
 use crate::tally::{Run, Tally};
 use ftc_base::{Answers, Bytes, Key, NoMemory, PacketNo, ServerId, WorkerId};
@@ -25,9 +27,6 @@ use ftc_txn::ReadAnswer;
 use std::alloc::Global;
 use std::sync::ledger::Book;
 
-/// So many packets are sent before the writer is told to write while workers have something to do.
-const BATCH: u32 = 64;
-
 /// The chain, with the book of the commits that were made since it was handed in.
 #[derive(Drop)]
 pub struct Latch<'a, L: Run> {
@@ -35,20 +34,12 @@ pub struct Latch<'a, L: Run> {
     pub book: Book<L>,
     /// Where released packets go, where they are taken out.
     pub outlet: Option<Sender>,
-    /// The one worker that looks for jobs. Others would only stand in its way under the latch.
-    pub leader: Option<WorkerId>,
-    /// That worker is held, by the gate or by an older transaction, and another may take its place.
-    pub is_held: bool,
-    /// A worker was woken to take that place, and isn't there yet.
-    pub is_woken: bool,
+    pub lead: Lead,
+    pub batch: Batch,
     /// All workers ended.
     pub ended: bool,
     /// The writer met a fault, and the workers are to end.
     pub stopped: bool,
-    /// How many packets were sent since the writer was told to write.
-    pub unwritten: u32,
-    /// The writer is told to write.
-    pub is_due: bool,
     pub ghost counted: { visits chain.journal ≡ L.start + book.total },
     pub ghost given: { given_of chain ≡ L.given },
     pub ghost sent: { sent_of outlet chain.drained ≡ chain.drained },
@@ -109,13 +100,10 @@ impl<'a, L: Run> Latch<'a, L> {
             chain,
             book,
             outlet,
-            leader: None,
-            is_held: false,
-            is_woken: false,
+            lead: Lead::new(),
+            batch: Batch::new(),
             ended: false,
             stopped: false,
-            unwritten: 0,
-            is_due: false,
         }
     }
 
@@ -191,45 +179,6 @@ impl<'a, L: Run> Latch<'a, L> {
         take_seen(&mut self.chain, link, seen).is_ok()
     }
 
-    /// A worker looks for jobs from now on, unless another does that isn't held. False where another does.
-    pub fn lead(&mut self, worker: WorkerId) -> bool {
-        let leads = match self.leader {
-            Some(leader) => leader == worker || self.is_held,
-            None => true,
-        };
-        if leads {
-            self.leader = Some(worker);
-            self.is_held = false;
-        }
-        self.is_woken = false;
-        leads
-    }
-
-    /// A worker looks for no more jobs.
-    pub fn stand_back(&mut self, worker: WorkerId) {
-        if self.leader == Some(worker) {
-            self.leader = None;
-        }
-    }
-
-    /// A worker may be held for long. True where another is to be woken, which takes its place if it still is held then.
-    pub fn hold(&mut self, worker: WorkerId) -> bool {
-        if self.leader != Some(worker) {
-            return false;
-        }
-        self.is_held = true;
-        let wakes = !self.is_woken;
-        self.is_woken = true;
-        wakes
-    }
-
-    /// A worker isn't held any more.
-    pub fn come_back(&mut self, worker: WorkerId) {
-        if self.leader == Some(worker) {
-            self.is_held = false;
-        }
-    }
-
     /// Makes a step or begins a visit. A slot that runs something gives that up first.
     pub fn find(&mut self, worker: WorkerId) -> Found {
         if self.stopped {
@@ -248,7 +197,7 @@ impl<'a, L: Run> Latch<'a, L> {
 
     /// What a slot runs reads a key.
     pub fn read(&mut self, worker: WorkerId, key: &Key) -> ReadAnswer {
-        self.come_back(worker);
+        self.lead.come_back(worker);
         read(&mut self.chain, worker, key)
     }
 
@@ -260,7 +209,7 @@ impl<'a, L: Run> Latch<'a, L> {
 
     /// A worker ends: its slot gives up what it runs.
     pub fn leave(&mut self, worker: WorkerId) {
-        self.stand_back(worker);
+        self.lead.give_up(worker);
         quit(&mut self.chain, worker)
     }
 
@@ -269,7 +218,7 @@ impl<'a, L: Run> Latch<'a, L> {
         requires { 0 < mine.old.share.parts }
         ensures { mine.new.share.parts ≡ mine.old.share.parts }
     {
-        self.come_back(worker);
+        self.lead.come_back(worker);
         let answer = commit(&mut self.chain, worker, plan);
         few(&self.chain);
         match answer {
@@ -289,44 +238,26 @@ impl<'a, L: Run> Latch<'a, L> {
             chain,
             book: _,
             outlet,
-            leader: _,
-            is_held: _,
-            is_woken: _,
+            lead: _,
+            batch,
             ended: _,
             stopped: _,
-            unwritten,
-            is_due,
         } = self;
-        if let Some(sender) = outlet {
-            *unwritten = unwritten.saturating_add(pass_on(chain, sender));
+        match outlet {
+            Some(sender) => batch.add(pass_on(chain, sender)),
+            None => false,
         }
-        if *unwritten < BATCH {
-            return false;
-        }
-        *is_due = true;
-        *unwritten = 0;
-        true
-    }
-
-    /// A worker waits, and the writer is to write what was sent. False where nothing was.
-    pub fn rest(&mut self) -> bool {
-        if self.unwritten == 0 {
-            return false;
-        }
-        self.is_due = true;
-        self.unwritten = 0;
-        true
     }
 
     /// The writer begins to write. True where all workers ended.
     pub fn write(&mut self) -> bool {
-        self.is_due = false;
+        self.batch.begin();
         self.ended
     }
 
     /// Whether the writer is to write on.
     pub fn writes_on(&self) -> bool {
-        self.is_due || self.ended
+        self.batch.is_due() || self.ended
     }
 
     /// Tells that all workers ended.
@@ -360,13 +291,10 @@ impl<'a, L: Run> Latch<'a, L> {
             chain,
             book,
             outlet,
-            leader: _,
-            is_held: _,
-            is_woken: _,
+            lead: _,
+            batch: _,
             ended: _,
             stopped: _,
-            unwritten: _,
-            is_due: _,
         } = self;
         drop(outlet);
         let Tally { share, count } = all;

@@ -2,11 +2,13 @@
 //! count their commits in a ledger.
 #![tactic(auto)]
 
+mod batch;
 mod beside;
 mod calls;
 mod choosing;
 mod driving;
 mod latch;
+mod leading;
 mod outlet;
 mod shared;
 mod spreading;

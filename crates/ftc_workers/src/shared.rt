@@ -1,9 +1,9 @@
 //! The one latch, and what tells of changes under it.
 //!
 //! One worker at a time looks for jobs, and does one after the other: two would only stand in each other's way under the
-//! latch. Before a visit of its passes the gate, which may hold it for long, and where it is blocked, it wakes another,
-//! which looks for jobs in its place if it still is held then. A worker that comes back from a visit looks itself, unless
-//! another does. So wherever a job can be done, a worker is awake that looks for one, or comes to.
+//! latch. Where it may be held for long, before a gate that isn't open or by an older transaction, it wakes another, which
+//! looks for jobs in its place if it still is held then. A worker that comes back from a visit looks itself, unless another
+//! does. So wherever a job can be done, a worker is awake that looks for one, or comes to.
 
 ghost use Rattle.std.specs.Prelude.{◌≡◌, ◌<◌, ◌+◌};
 
@@ -86,7 +86,7 @@ pub fn rules<L: Run, R: Wait>(
 /// Finds something to do. Where another worker looks for jobs, or where there is nothing, it waits.
 pub fn find<L: Run, R: Wait>(rt: &R, shared: &Shared<'_, L>, worker: WorkerId) -> Found {
     let mut latch = shared.latch.lock(rt);
-    if !latch.lead(worker) {
+    if !latch.lead.take(worker) {
         drop(shared.work.wait(rt, latch));
         // Whoever woke this worker may be back before it takes its place.
         yield_now();
@@ -95,8 +95,8 @@ pub fn find<L: Run, R: Wait>(rt: &R, shared: &Shared<'_, L>, worker: WorkerId) -
     let found = latch.find(worker);
     match found {
         Found::Nothing => {
-            latch.stand_back(worker);
-            if latch.rest() {
+            latch.lead.give_up(worker);
+            if latch.batch.close() {
                 shared.output.notify_one();
             }
             let _latch = shared.work.wait(rt, latch);
@@ -114,7 +114,7 @@ pub fn find<L: Run, R: Wait>(rt: &R, shared: &Shared<'_, L>, worker: WorkerId) -
 
 /// This worker may be held for long: another may take its place.
 pub fn hold<L: Run, R: Wait>(rt: &R, shared: &Shared<'_, L>, worker: WorkerId) {
-    let wakes = shared.latch.lock(rt).hold(worker);
+    let wakes = shared.latch.lock(rt).lead.hold(worker);
     if wakes {
         shared.work.notify_one();
     }
@@ -150,7 +150,7 @@ pub fn read<L: Run, R: Wait>(rt: &R, shared: &Shared<'_, L>, worker: WorkerId, k
     let mut latch = shared.latch.lock(rt);
     match latch.read(worker, key) {
         ReadAnswer::Blocked { .. } => {
-            if latch.hold(worker) {
+            if latch.lead.hold(worker) {
                 shared.work.notify_one();
             }
             let _latch = shared.freed.wait(rt, latch);
