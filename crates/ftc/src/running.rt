@@ -1,6 +1,7 @@
 //! A run, from its texts to the files that it writes.
 
 ghost use Rattle.std.specs.Prelude.{◌≡◌, ◌≤◌, ◌⊎◌, ◌∷◌, [], length, OnOk, OnErr, IsErrOf};
+ghost use Rattle.ftc_base.specs.declared.limits.TheConstants.{MOST_THREADS};
 ghost use Rattle.ftc_outside.specs.Desk.{SameFiles, Rose};
 ghost use Rattle.ftc_words.specs.Command.{AreWorkers};
 ghost use Rattle.ftc_words.specs.Shown.{named_of, shown_mode};
@@ -75,7 +76,7 @@ fn run_by_workers<R: Threads + Wait + Sync, D: Desk, G: Gate>(
     taps: &mut Taps,
 ) -> Result<(), DeskError>
     requires apart { AreDifferent (named_of names) }
-    requires workers { (1 ≤ workers) × (workers ≤ 32) }
+    requires workers { (1 ≤ workers) × (workers ≤ MOST_THREADS) }
     requires ring { texts.now.script.ring ≡ ring_of texts.now.spec }
     requires packets { texts.now.script.packets ≡ length texts.now.capture.packets }
     ensures done { D.tells desk.old → OnOk result (HasWritten (named_of names.entry)

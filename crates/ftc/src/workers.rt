@@ -1,6 +1,7 @@
 //! The run of a chain by worker threads, whose released packets are written while it goes on.
 
 ghost use Rattle.std.specs.Prelude.{◌≡◌, ◌↔◌, ◌≤◌, length, None, IfOk, IsErrOf};
+ghost use Rattle.ftc_base.specs.declared.limits.TheConstants.{MOST_THREADS};
 ghost use Rattle.ftc_outside.specs.Desk.{SameButAt, Rose};
 ghost use Rattle.ftc_report.specs.Output.{AreWritable};
 ghost use Rattle.ftc_serial.specs.Held.{rules_of, state_of};
@@ -71,7 +72,7 @@ pub fn work<'a, R: Threads + Wait + Sync, D: Desk, G: Gate>(
     desk: &mut D,
     taps: &mut Taps,
 ) -> Result<Worked<'a>, DeskError>
-    requires workers { (1 ≤ workers) × (workers ≤ 32) }
+    requires workers { (1 ≤ workers) × (workers ≤ MOST_THREADS) }
     requires ring { texts.now.script.ring ≡ ring_of texts.now.spec }
     requires packets { texts.now.script.packets ≡ length texts.now.capture.packets }
     ensures finished { IfOk result (λ worked. IsFinishedRun

@@ -1,6 +1,7 @@
 //! A writer beside the workers: the calling thread writes what they release.
 
 ghost use Rattle.std.specs.Prelude.{◌≡◌, ◌≤◌, ◌<◌, OnOk, OnErr};
+ghost use Rattle.ftc_base.specs.declared.limits.TheConstants.{MOST_THREADS};
 ghost use Rattle.ftc_stream.specs.Ending.{Ended};
 
 use crate::shared::{Shared, end, stop, wait_to_write, write};
@@ -97,7 +98,7 @@ fn spread_to_end<L: Run + Send + Sync, R: Threads + Wait + Sync, G: Gate>(
     gate: &G,
     all: Tally<L>,
 ) -> Tally<L>
-    requires some { (0 < workers) × (workers ≤ 32) }
+    requires some { (0 < workers) × (workers ≤ MOST_THREADS) }
     requires parts { all.share.parts ≡ workers }
     ensures { result.share.parts ≡ workers }
 {
@@ -117,7 +118,7 @@ pub fn run_beside<'a, L: Run + Send + Sync, R: Threads + Wait + Sync, G: Gate, S
     all: Tally<L>,
     sink: &'a mut S,
 ) -> Back<'a, L, S>
-    requires workers { (1 ≤ workers) × (workers ≤ 32) }
+    requires workers { (1 ≤ workers) × (workers ≤ MOST_THREADS) }
     requires parts { all.share.parts ≡ workers }
     ensures same { result.sink.ghost_name ≡ sink.entry.ghost_name }
     ensures parts { result.all.share.parts ≡ workers }
@@ -128,14 +129,14 @@ pub fn run_beside<'a, L: Run + Send + Sync, R: Threads + Wait + Sync, G: Gate, S
         thread::scope_env(),
         rt,
         |scope| -> Back<L, S>
-            requires { (0 < workers) × (workers ≤ 32) × (all.share.parts ≡ workers) }
+            requires { (0 < workers) × (workers ≤ MOST_THREADS) × (all.share.parts ≡ workers) }
             ensures same { result.sink.ghost_name ≡ sink.entry.ghost_name }
             ensures parts { result.all.share.parts ≡ workers }
             ensures kept { S.kept sink.entry.now result.sink.now }
             ensures ended { Ended S.went S.broke result.result sink.entry.now result.sink.now }
         {
             let job = move || -> Tally<L>
-                requires { (0 < workers) × (workers ≤ 32) × (all.share.parts ≡ workers) }
+                requires { (0 < workers) × (workers ≤ MOST_THREADS) × (all.share.parts ≡ workers) }
                 ensures { result.share.parts ≡ workers }
             { spread_to_end(rt, alloc, shared, workers, gate, all) };
             match scope.spawn_with(AllParts(workers), job) {

@@ -1,6 +1,7 @@
 //! Workers run over a chain beside a sink.
 
 ghost use Rattle.std.specs.Prelude.{◌≡◌, ◌+◌, ◌≤◌, [], length};
+ghost use Rattle.ftc_base.specs.declared.limits.TheConstants.{MOST_THREADS};
 ghost use Rattle.ftc_chain.specs.Slots.{AreIdle};
 ghost use Rattle.ftc_stream.specs.Ending.{Ended};
 ghost use Rattle.ftc_workers.specs.Given.{given_of};
@@ -42,7 +43,7 @@ fn drive_named<'a, L: Run + Send + Sync, R: Threads + Wait + Sync, G: Gate, S: S
     requires parts { blank.parts ≡ workers }
     requires start { visits chain.journal ≡ L.start }
     requires given { given_of chain ≡ L.given }
-    requires workers { (1 ≤ workers) × (workers ≤ 32) }
+    requires workers { (1 ≤ workers) × (workers ≤ MOST_THREADS) }
     requires drained { chain.drained ≡ [] }
     requires idle { AreIdle chain }
     requires ends { (sender.items ≡ []) × (length chain.packets ≤ sender.room) }
@@ -74,7 +75,7 @@ pub fn drive<'a, R: Threads + Wait + Sync, G: Gate, S: Sink>(
     gate: &G,
     sink: &mut S,
 ) -> Driven<'a>
-    requires workers { (1 ≤ workers) × (workers ≤ 32) }
+    requires workers { (1 ≤ workers) × (workers ≤ MOST_THREADS) }
     requires drained { chain.drained ≡ [] }
     requires idle { AreIdle chain }
     requires ends { (sender.items ≡ []) × (length chain.packets ≤ sender.room) }

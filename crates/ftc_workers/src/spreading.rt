@@ -1,6 +1,7 @@
 //! How workers are started and joined.
 
 ghost use Rattle.std.specs.Prelude.{◌≡◌, ◌+◌, ◌≤◌, ◌<◌};
+ghost use Rattle.ftc_base.specs.declared.limits.TheConstants.{MOST_SLOTS};
 ghost use denote.Param.Send.{IsSync, IsSend};
 
 use crate::shared::{Shared, merge};
@@ -21,7 +22,7 @@ fn work_in<L: Run, R: Wait, G: Gate>(
     gate: &G,
     mine: Tally<L>,
 ) -> Tally<L>
-    requires slot { slot < 64 }
+    requires slot { slot < MOST_SLOTS }
     requires part { mine.share.parts ≡ 1 }
     ensures { result.share.parts ≡ 1 }
 {
@@ -40,7 +41,7 @@ pub fn spread<L: Run + Send + Sync, R: Threads + Wait + Sync, G: Gate>(
     mine: Tally<L>,
 ) -> Tally<L>
     requires some { 0 < count }
-    requires slots { slot + count ≤ 64 }
+    requires slots { slot + count ≤ MOST_SLOTS }
     requires parts { mine.share.parts ≡ count }
     ensures { result.share.parts ≡ count }
 {
@@ -52,11 +53,11 @@ pub fn spread<L: Run + Send + Sync, R: Threads + Wait + Sync, G: Gate>(
     let next = slot + 1;
     let rest = count - 1;
     let first = move || -> Tally<L>
-        requires { (slot < 64) × (one.share.parts ≡ 1) }
+        requires { (slot < MOST_SLOTS) × (one.share.parts ≡ 1) }
         ensures { result.share.parts ≡ 1 }
     { work_in(rt, alloc, shared, slot, gate, one) };
     let others = move || -> Tally<L>
-        requires { IsSync R.row × IsSync L.row × IsSend L.row × IsSync G.row × (0 < rest) × (next + rest ≤ 64) ×
+        requires { IsSync R.row × IsSync L.row × IsSend L.row × IsSync G.row × (0 < rest) × (next + rest ≤ MOST_SLOTS) ×
             (mine.share.parts ≡ rest) }
         ensures { result.share.parts ≡ rest }
     { spread(rt, alloc, shared, next, rest, gate, mine) };

@@ -1,6 +1,7 @@
 //! Small runs of workers.
 
 ghost use Rattle.std.specs.Prelude.{◌≡◌, ◌≤◌, [], length, IfOk, IfSome};
+ghost use Rattle.ftc_base.specs.declared.limits.TheConstants.{MOST_THREADS};
 ghost use Rattle.ftc_workers.specs.Choices.{MayBegin};
 
 use crate::calls::{begin, step};
@@ -157,7 +158,7 @@ fn ran_over<R: AllocGlobal + Threads + Wait + Sync, G: Gate>(
     workers: u8,
     gate: &G,
 ) -> Ran
-    requires { (1 ≤ workers) × (workers ≤ 32) }
+    requires { (1 ≤ workers) × (workers ≤ MOST_THREADS) }
 {
     let worked = run(rt, rt.alloc(), chain, workers, gate);
     Ran {
@@ -174,7 +175,7 @@ fn run_parts<R: AllocGlobal + Threads + Wait + Sync, G: Gate>(
     workers: u8,
     gate: &G,
 ) -> Result<Ran, NoMemory>
-    requires { (1 ≤ workers) × (workers ≤ 32) }
+    requires { (1 ≤ workers) × (workers ≤ MOST_THREADS) }
 {
     Ok(ran_over(rt, parts.chain(rt.alloc())?, workers, gate))
 }
@@ -328,7 +329,7 @@ fn write_parts<R: AllocGlobal + Threads + Wait + Sync, G: Gate, D: Desk>(
     desk: &mut D,
     taps: &mut Taps,
 ) -> Result<Wrote, NoMemory>
-    requires { (1 ≤ workers) × (workers ≤ 32) }
+    requires { (1 ≤ workers) × (workers ≤ MOST_THREADS) }
 {
     let alloc = rt.alloc();
     let chain = parts.chain(alloc)?;

@@ -1,6 +1,7 @@
 //! Workers run over a chain.
 
 ghost use Rattle.std.specs.Prelude.{◌≡◌, ◌+◌, ◌≤◌};
+ghost use Rattle.ftc_base.specs.declared.limits.TheConstants.{MOST_THREADS};
 ghost use Rattle.ftc_chain.specs.Slots.{AreIdle};
 ghost use Rattle.ftc_workers.specs.Given.{given_of};
 ghost use Rattle.ftc_workers.specs.Visits.{visits};
@@ -39,7 +40,7 @@ fn run_named<'a, L: Run + Send + Sync, R: Threads + Wait + Sync, G: Gate>(
     requires start { visits chain.journal ≡ L.start }
     requires given { given_of chain ≡ L.given }
     requires idle { AreIdle chain }
-    requires workers { (1 ≤ workers) × (workers ≤ 32) }
+    requires workers { (1 ≤ workers) × (workers ≤ MOST_THREADS) }
     ensures counted { visits result.chain.journal ≡ L.start + result.commits }
     ensures given { given_of result.chain ≡ L.given }
 {
@@ -61,7 +62,7 @@ pub fn run<'a, R: Threads + Wait + Sync, G: Gate>(
     workers: u8,
     gate: &G,
 ) -> Worked<'a>
-    requires { (1 ≤ workers) × (workers ≤ 32) }
+    requires { (1 ≤ workers) × (workers ≤ MOST_THREADS) }
     ensures counted { visits result.chain.journal ≡ visits chain.entry.journal + result.commits }
     ensures given { given_of result.chain ≡ given_of chain.entry }
 {

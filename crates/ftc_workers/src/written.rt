@@ -1,6 +1,7 @@
 //! Workers run over a chain, and what they release is written while they run.
 
 ghost use Rattle.std.specs.Prelude.{◌≡◌, ◌≢◌, ◌+◌, ◌≤◌, ⊤, [], None, codes, OnOk, OnErr, IsErrOf};
+ghost use Rattle.ftc_base.specs.declared.limits.TheConstants.{MOST_THREADS};
 ghost use Rattle.ftc_outside.specs.Desk.{SameButAt, Rose};
 ghost use Rattle.ftc_stream.specs.Records.{writable, records, HasGrownBy, HasGrownInPart};
 ghost use Rattle.ftc_stream.specs.Taps.{AreLeft, AreLeftInPart};
@@ -47,7 +48,7 @@ pub fn run_to<'a, R: Threads + Wait + Sync, D: Desk, G: Gate>(
     desk: &mut D,
     taps: &mut Taps,
 ) -> Written<'a>
-    requires workers { (1 ≤ workers) × (workers ≤ 32) }
+    requires workers { (1 ≤ workers) × (workers ≤ MOST_THREADS) }
     requires drained { chain.drained ≡ [] }
     ensures counted { visits result.chain.journal ≡ visits chain.entry.journal + result.commits }
     ensures given { given_of result.chain ≡ given_of chain.entry }
