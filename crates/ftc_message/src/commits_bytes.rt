@@ -63,7 +63,7 @@ fn is_known(commits: &Commits, place: u8) -> bool
     ensures { result ≡ list_any is_some (not_zero (vector_of commits.now place)) }
 {
     let group = ServerId::new(place).unwrap();
-    !commits.of(group).is_zero()
+    !commits.is_zero(group)
 }
 
 /// How many numbers of a vector aren't 0.

@@ -16,6 +16,9 @@ use std::alloc::Global;
 /// What a frame begins with.
 pub(crate) const MAGIC: [u8; 4] = *b"FTC3";
 
+/// So many bytes are taken at first. A frame of a short packet and few logs fits, and a longer one takes more.
+const USUAL_FRAME: usize = 1_000;
+
 /// 0 with a packet, 1 without.
 fn kind(packet: &Option<Bytes>) -> u8
     ensures { result ≡ kind packet.now }
@@ -48,7 +51,7 @@ pub fn encode(alloc: Global, message: &Message) -> Result<Bytes, NoMemory>
     // What the types of the message's fields hold.
     ensures typed { OnOk result (IsTyped message.now) }
 {
-    let mut out = Bytes::new(alloc);
+    let mut out = Bytes::from_vec(Vec::with_capacity(alloc, USUAL_FRAME)?);
     out.append(&MAGIC)?;
     out.append(&[kind(&message.packet)])?;
     append_word(message.origin, &mut out)?;

@@ -4,3 +4,5 @@ pub mod Needs
 pub mod GroupLists
 pub mod OrderTests
 pub mod Zeros
+pub mod Held
+pub mod Alike

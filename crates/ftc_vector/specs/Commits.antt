@@ -1,8 +1,8 @@
 -- A vector for each group.
-use Rattle.std.specs.Prelude.{ℕ, List, [], map, slice_index_or, slice_set}
+use Rattle.std.specs.Prelude.{◌≡◌, ◌<◌, ◌≤◌, ◌+◌, ℕ, List, [], length, map, slice_index_or, slice_set}
 use Rattle.std.specs.List.{range_with_len}
 use Rattle.ftc_base.specs.declared.limits.TheConstants.{MOST_SERVERS}
-use Rattle.ftc_vector.specs.Vector.{merged}
+use Rattle.ftc_vector.specs.Vector.{by_partition, merged}
 
 -- what f gives for each group, from group 0 on
 unfoldable pub by_group : {A : Type 0} → (ℕ → A) → List A
@@ -19,3 +19,13 @@ all_merged a b = by_group (λ group. merged (vector_of a group) (vector_of b gro
 -- the group's vector is merged with the given one, and the others stay
 abbrev pub group_raised : List (List ℕ) → ℕ → List ℕ → List (List ℕ)
 group_raised commits group vector = slice_set commits group (merged (vector_of commits group) vector)
+
+-- the vector of a group, where those of the first groups are held and all others have 0 in each partition
+abbrev pub held_of : List (List ℕ) → ℕ → List ℕ
+held_of vectors group = slice_index_or vectors group (by_partition (λ _. 0))
+
+-- the vectors of the first groups, and behind them one that has 0 in each partition
+pub record AreHeld (vectors : List (List ℕ)) : Type 0 where
+  pub some : 0 < length vectors
+  pub few : length vectors ≤ MOST_SERVERS + 1
+  pub last : (place : ℕ) → length vectors ≡ place + 1 → held_of vectors place ≡ by_partition (λ _. 0)

@@ -1,11 +1,12 @@
 //! What the tails of the groups are known to have.
 
-ghost use Rattle.std.specs.Prelude.{◌≡◌, ◌<◌, ℕ, length, IfOk, nat_eq};
+ghost use Rattle.std.specs.Prelude.{◌≡◌, ◌≢◌, ◌<◌, ◌+◌, ◌==◌, ℕ, length, vec_capacity, IfOk, nat_eq};
+ghost use Rattle.std.specs.List.{list_all};
 ghost use Rattle.std.specs.Cmp.Lexicographic.{pointwise};
 ghost use Rattle.std.specs.Cmp.Rules.{comparing};
 ghost use Rattle.std.proofs.Common.{rules};
-ghost use Rattle.ftc_vector.specs.Vector.{by_partition, IsVector};
-ghost use Rattle.ftc_vector.specs.Commits.{by_group, vector_of, all_merged, group_raised};
+ghost use Rattle.ftc_vector.specs.Vector.{by_partition, merged, IsVector};
+ghost use Rattle.ftc_vector.specs.Commits.{by_group, vector_of, all_merged, group_raised, held_of, AreHeld};
 
 use crate::group_vectors::GROUPS;
 use crate::vector::{Vector, merge};
@@ -15,21 +16,64 @@ use std::alloc::Global;
 use std::marker::Model;
 
 /// A vector for each group, from group 0 on: the greatest that is known of its tail. The vectors lie on
-/// the heap, so that a message that carries them is cheap to move. A contract sees the list of the vectors.
+/// the heap, so that a message that carries them is cheap to move, and only as many as there are groups
+/// whose tails are known to have something. A contract sees the list of the vectors of all groups.
 #[derive(Debug, Drop)]
 pub struct Commits {
+    /// The vectors of the first groups, and behind them one that has 0 in each partition and stands for
+    /// all others. There is room for a vector of each group, so that no other call takes memory.
     vectors: Vec<Vector>,
 }
 
 impl Model for Commits {
-    ghost use Rattle.std.specs.Prelude.{◌≡◌, ℕ, List, length};
+    ghost use Rattle.std.specs.Prelude.{◌<◌, ℕ, List, vec_capacity};
     ghost use Rattle.ftc_base.specs.declared.limits.TheConstants.{MOST_SERVERS};
+    ghost use Rattle.ftc_vector.specs.Commits.{by_group, held_of, AreHeld};
 
     ghost Value = { List (List ℕ) };
 
-    ghost view = { λ commits. commits.vectors.items };
+    ghost view = { λ commits. by_group (held_of commits.vectors.items) };
 
-    ghost invariant = { λ commits. length commits.vectors.items ≡ MOST_SERVERS };
+    ghost invariant = { λ commits. AreHeld commits.vectors.items × (MOST_SERVERS < vec_capacity commits.vectors) };
+}
+
+/// Adds vectors of zeros, until the group has one of its own.
+fn reach(vectors: &mut Vec<Vector>, group: usize)
+    requires group { group < MOST_SERVERS }
+    requires held { AreHeld vectors.old.items }
+    requires room { MOST_SERVERS < vec_capacity vectors.old }
+    ensures same { (other : ℕ) → held_of vectors.new.items other ≡ held_of vectors.old.items other }
+    ensures own { group + 1 < length vectors.new.items }
+    ensures held { AreHeld vectors.new.items }
+    ensures room { MOST_SERVERS < vec_capacity vectors.new }
+{
+    while vectors.len() < group + 2 {
+        let pushed: Result<_, _> = vectors.push(Vector::zero());
+        pushed.unwrap();
+    }
+}
+
+/// Does nothing. Its contract says which bounds the numbers have.
+fn bounds(vectors: &[Vector])
+    ensures { (group : ℕ) → group < length vectors.now → IsVector (vector_of vectors.now group) }
+{
+    for vector in vectors {
+        let _ = vector.at(0);
+    }
+}
+
+/// Merges the vector of a group with the given one.
+fn raise(vectors: &mut Vec<Vector>, group: usize, vector: &Vector)
+    requires group { group < MOST_SERVERS }
+    requires held { AreHeld vectors.old.items }
+    requires room { MOST_SERVERS < vec_capacity vectors.old }
+    ensures own { held_of vectors.new.items group ≡ merged (held_of vectors.old.items group) vector.now }
+    ensures others { (other : ℕ) → other ≢ group → held_of vectors.new.items other ≡ held_of vectors.old.items other }
+    ensures held { AreHeld vectors.new.items }
+    ensures room { MOST_SERVERS < vec_capacity vectors.new }
+{
+    reach(vectors, group);
+    merge(&mut vectors[group], vector);
 }
 
 impl Commits {
@@ -37,7 +81,8 @@ impl Commits {
     pub fn new(alloc: Global) -> Result<Commits, NoMemory>
         ensures { IfOk result (λ commits. commits ≡ by_group (λ _. by_partition (λ _. 0))) }
     {
-        let vectors = Vec::from_slice(alloc, &[Vector::zero(); GROUPS])?;
+        let mut vectors = Vec::with_capacity(alloc, GROUPS + 1)?;
+        vectors.push(Vector::zero())?;
         Ok(Commits { vectors })
     }
 
@@ -45,7 +90,8 @@ impl Commits {
     pub fn copy(&self, alloc: Global) -> Result<Commits, NoMemory>
         ensures { IfOk result (λ copy. copy ≡ self.now) }
     {
-        let vectors = Vec::from_slice(alloc, self.vectors.as_slice())?;
+        let mut vectors = Vec::with_capacity(alloc, GROUPS + 1)?;
+        vectors.extend_from_slice(self.vectors.as_slice())?;
         Ok(Commits { vectors })
     }
 
@@ -54,7 +100,19 @@ impl Commits {
         ensures same { result.now ≡ vector_of self.now group }
         ensures size { length self.now ≡ MOST_SERVERS }
     {
-        &self.vectors[usize::from(group.number())]
+        let last = self.vectors.len() - 1;
+        &self.vectors[usize::from(group.number()).min(last)]
+    }
+
+    /// Whether a group's vector has 0 in each partition.
+    pub fn is_zero(&self, group: ServerId) -> bool
+        ensures { result ≡ list_all (λ number. number == 0) (vector_of self.now group) }
+    {
+        let place = usize::from(group.number());
+        if place + 1 >= self.vectors.len() {
+            return true;
+        }
+        self.vectors[place].is_zero()
     }
 
     /// Does nothing. Its contract says which bounds the numbers have.
@@ -62,17 +120,16 @@ impl Commits {
         ensures size { length self.now ≡ MOST_SERVERS }
         ensures each { (group : ℕ) → group < MOST_SERVERS → IsVector (vector_of self.now group) }
     {
-        for vector in &self.vectors {
-            let _ = vector.at(0);
-        }
+        bounds(self.vectors.as_slice());
     }
 
     /// Merges each group's vectors.
     pub fn merge(&mut self, other: &Commits)
         ensures { self.new ≡ all_merged self.old other.now }
     {
-        for (group, vector) in self.vectors.iter_mut().enumerate() {
-            merge(vector, &other.vectors[group]);
+        bounds(self.vectors.as_slice());
+        for group in 0..other.vectors.len() - 1 {
+            raise(&mut self.vectors, group, &other.vectors[group]);
         }
     }
 
@@ -80,7 +137,7 @@ impl Commits {
     pub fn raise(&mut self, group: ServerId, vector: &Vector)
         ensures { self.new ≡ group_raised self.old group vector.now }
     {
-        merge(&mut self.vectors[usize::from(group.number())], vector);
+        raise(&mut self.vectors, usize::from(group.number()), vector);
     }
 }
 
@@ -90,7 +147,15 @@ impl PartialEq for Commits {
     ghost laws = { Prim.search (comparing, rules) };
 
     fn eq(&self, other: &Commits) -> bool {
-        self.vectors == other.vectors
+        self.bounds();
+        other.bounds();
+        for number in 0..MOST_SERVERS {
+            let group = ServerId::new(number).unwrap();
+            if self.of(group) != other.of(group) {
+                return false;
+            }
+        }
+        true
     }
 }
 

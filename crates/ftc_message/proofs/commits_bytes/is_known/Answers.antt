@@ -9,5 +9,5 @@ use Rattle.ftc_message.proofs.commits_bytes.is_known.Goals as goal
 pub returns : goal.returns
 returns c =
     let is : c.unwrap-group.result ≡ c.args.place = search rules in
-    let same : c.of.result.now ≡ vector_of c.args.commits.now c.args.place = c.of.ensures.same ∙ ap (vector_of c.args.commits.now) is in
-    ap not c.is_zero.ensures ∙ any_known c.of.result.now ∙ ap (λ (vector : List ℕ). list_any is_some (not_zero vector)) same
+    ap not c.is_zero.ensures ∙ any_known (vector_of c.args.commits.now c.unwrap-group.result)
+    ∙ ap (λ (place : ℕ). list_any is_some (not_zero (vector_of c.args.commits.now place))) is

@@ -1,0 +1,103 @@
+-- The vectors of the first groups, and the one of zeros behind them that stands for all others.
+use Rattle.std.proofs.Common.{◌≡◌, ◌≢◌, ◌<◌, ◌≤◌, ◌+◌, ◌-◌, ◌==◌, ℕ, true, List, [], length, get_or, min, refl, sym, ◌∙◌, inl, inr, zero-add, arith}
+use Rattle.std.specs.List.{list_all}
+use Rattle.std.proofs.lemmas.Bool.{cases_lt, cases_eq}
+use Rattle.std.proofs.lemmas.List.{get_or_default, get_or_past, length-set}
+use Rattle.std.proofs.lemmas.List.FromFn.{length-map-range_with_len, get_or-map-range_with_len}
+use Rattle.ftc_base.specs.declared.limits.TheConstants.{MOST_SERVERS, MOST_PARTITIONS}
+use Rattle.ftc_vector.specs.Vector.{by_partition, merged, IsVector}
+use Rattle.ftc_vector.specs.Commits.{by_group, vector_of, all_merged, group_raised, held_of, AreHeld}
+use Rattle.ftc_vector.proofs.Partitions.{length-by_partition, get_or-by_partition, by_partition-from}
+use Rattle.ftc_vector.proofs.GroupLists.{same_groups, vector_of-all_merged, vector_of-raised, vector_of-other}
+
+abbrev zeros : List ℕ
+zeros = by_partition (λ _. 0)
+
+pub zeros_are : IsVector (by_partition (λ _. 0))
+zeros_are = record {
+  size = length-by_partition (λ _. 0);
+  bounds = λ p.
+      elim (cases_lt p MOST_PARTITIONS) [
+        | inl within ↦ omega (arith, get_or-by_partition {A = ℕ} (λ _. 0) p 0 within)
+        | inr past ↦ omega (arith, get_or_past {X = ℕ} (by_partition (λ _. 0)) p 0 (omega (arith, length-by_partition {A = ℕ} (λ _. 0))))
+      ];
+}
+
+pub length-by_group : {A : Type 0} (f : ℕ → A) → length (by_group f) ≡ MOST_SERVERS
+unfolding by_group
+length-by_group f = length-map-range_with_len f 0 MOST_SERVERS
+
+pub vector_of-by_group : (f : ℕ → List ℕ) (group : ℕ) → group < MOST_SERVERS → vector_of (by_group f) group ≡ f group
+unfolding by_group
+vector_of-by_group f group within = get_or-map-range_with_len f 0 MOST_SERVERS group group [] within (zero-add group)
+
+-- behind the last vector each has zeros, and it has them itself
+pub held_behind : (vectors : List (List ℕ)) (group : ℕ) → AreHeld vectors → length vectors ≤ group + 1 → held_of vectors group ≡ zeros
+held_behind vectors group held behind =
+    elim (cases_lt group (length vectors)) [
+      | inl within ↦ held.last group (omega (arith, within, behind))
+      | inr past ↦ get_or_past vectors group zeros past
+    ]
+
+-- the last vector is read for all groups behind it
+pub held_at : (vectors : List (List ℕ)) (group place : ℕ) (d : List ℕ) → AreHeld vectors
+    → place ≡ min group (length vectors - 1) → get_or vectors place d ≡ held_of vectors group
+held_at vectors group place d held is =
+    elim (cases_lt (group + 1) (length vectors)) [
+      | inl before ↦
+          let same : place ≡ group = omega (arith, is, before) in
+          rw same (get_or_default vectors group d zeros (omega (arith, before)))
+      | inr behind ↦
+          let last : length vectors ≡ place + 1 = omega (arith, is, behind, held.some) in
+          get_or_default vectors place d zeros (omega (arith, last)) ∙ held.last place last
+          ∙ sym (held_behind vectors group held behind)
+    ]
+
+pub held_is : (vectors : List (List ℕ)) (group : ℕ)
+    → ((place : ℕ) → place < length vectors → IsVector (vector_of vectors place)) → IsVector (held_of vectors group)
+held_is vectors group each =
+    elim (cases_lt group (length vectors)) [
+      | inl within ↦ rw (← get_or_default vectors group [] zeros within) (each group within)
+      | inr past ↦ rw (get_or_past vectors group zeros past) zeros_are
+    ]
+
+pub merged_zeros : (a : List ℕ) → length a ≡ MOST_PARTITIONS → merged a zeros ≡ a
+merged_zeros a long =
+    sym (by_partition-from _ a 0 long (λ p within. omega (arith, get_or-by_partition {A = ℕ} (λ _. 0) p 0 within)))
+
+pub all_merged_is : (old other new : List (List ℕ))
+    → ((group : ℕ) → group < MOST_SERVERS → held_of new group ≡ merged (held_of old group) (held_of other group))
+    → by_group (held_of new) ≡ all_merged (by_group (held_of old)) (by_group (held_of other))
+all_merged_is old other new each =
+    same_groups _ _ (length-by_group (held_of new)) (length-by_group (λ group. merged (vector_of (by_group (held_of old)) group) (vector_of (by_group (held_of other)) group)))
+    (λ group within. rw (
+      vector_of-by_group (held_of new) group within,
+      vector_of-all_merged (by_group (held_of old)) (by_group (held_of other)) group within,
+      vector_of-by_group (held_of old) group within,
+      vector_of-by_group (held_of other) group within,
+    ) (each group within))
+
+pub raised_is : (old new : List (List ℕ)) (group : ℕ) (vector : List ℕ) → group < MOST_SERVERS
+    → held_of new group ≡ merged (held_of old group) vector
+    → ((other : ℕ) → other ≢ group → held_of new other ≡ held_of old other)
+    → by_group (held_of new) ≡ group_raised (by_group (held_of old)) group vector
+raised_is old new group vector within own others =
+    let size : length (by_group (held_of old)) ≡ MOST_SERVERS = length-by_group (held_of old) in
+    same_groups _ _ (length-by_group (held_of new)) (omega (arith, length-set (by_group (held_of old)) group (merged (vector_of (by_group (held_of old)) group) vector), size))
+    (λ one before.
+    elim (cases_eq one group) [
+      | inl same ↦ rw same (rw (
+        vector_of-by_group (held_of new) group within,
+        vector_of-raised (by_group (held_of old)) group vector (omega (arith, size, within)),
+        vector_of-by_group (held_of old) group within,
+      ) own)
+      | inr differs ↦ rw (
+        vector_of-by_group (held_of new) one before,
+        vector_of-other (by_group (held_of old)) group one vector differs,
+        vector_of-by_group (held_of old) one before,
+      ) (others one differs)
+    ])
+
+pub none_of_zeros : true ≡ list_all (λ number. number == 0) (by_partition (λ _. 0))
+unfolding by_partition
+none_of_zeros = refl

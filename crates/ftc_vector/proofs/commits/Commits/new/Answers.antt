@@ -1,7 +1,0 @@
-use Rattle.std.proofs.Common.{refl}
-use Rattle.ftc_vector.specs.Commits.{by_group}
-use Rattle.ftc_vector.proofs.commits.Commits.new.Goals as goal
-
-pub returns : goal.returns
-unfolding by_group
-returns c = rw (c.in_ok-vectors.ensures.items, c.zero.ensures) refl
