@@ -11,10 +11,9 @@ use ftc_outside::Gate;
 use std::alloc::Global;
 use std::sync::Wait;
 
-/// After so many of its commits a worker lets another take its place, where the gate holds nobody.
-const TURN: u64 = 64;
-
-/// Passes the gate. Where that may hold the visit, another worker is woken first, which costs more than a visit does.
+/// Passes the gate. Where that may hold the visit, another worker is woken first, which costs more than a visit does. An
+/// open gate holds nobody: there another may take this worker's place now and then, ever less often, since what a worker
+/// works on is near it.
 fn pass<L: Run, R: Wait, G: Gate>(
     rt: &R,
     shared: &Shared<'_, L>,
@@ -23,7 +22,7 @@ fn pass<L: Run, R: Wait, G: Gate>(
     gate: &G,
     commits: u64,
 ) {
-    if !gate.is_open() || commits % TURN == 0 {
+    if !gate.is_open() || commits.is_power_of_two() {
         hold(rt, shared, worker);
     }
     gate.pause(begun.server, begun.packet);
