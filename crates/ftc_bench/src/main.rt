@@ -1,6 +1,7 @@
 //! Times of the calls on which each hop of a packet stands, and of workers before slow middleboxes. They are printed where the word `bench` is given.
 #![tactic(auto)]
 
+mod holds;
 mod samples;
 mod slow;
 
@@ -14,6 +15,7 @@ use ftc_message::{Log, Message, decode, encode};
 use ftc_store::Store;
 use ftc_txn::{Head, ReadAnswer};
 use ftc_vector::Vector;
+use holds::holds_of_a_run;
 use samples::{kept_logs, message, one_log};
 use slow::slow_run;
 use std::env;
@@ -135,6 +137,22 @@ fn both_ways(rt: &HostRuntime, groups: u8, partitions: u8) -> Option<()>
     Some(())
 }
 
+/// Prints how often a worker holds the latch for a packet, and for how long.
+fn say_holds(rt: &HostRuntime) {
+    let Some((holds, packets)) = holds_of_a_run(rt) else {
+        return;
+    };
+    let (count, packets) = (u128::from(holds.count), packets as u128);
+    if packets == 0 || count == 0 {
+        return;
+    }
+    let tenths = 10 * count / packets;
+    let (each, whole, part) = (holds.nanoseconds / count, tenths / 10, tenths % 10);
+    let _ = println!(rt;
+        "holds of the latch for a packet of that chain: {whole}.{part}, of {each} ns each"
+    );
+}
+
 fn main(rt: HostRuntime) {
     let Ok(mut words) = env::args(&rt) else {
         return;
@@ -161,4 +179,5 @@ fn main(rt: HostRuntime) {
     say(&rt, "  by 1 worker", slow_run(&rt, 1));
     say(&rt, "  by 2 workers", slow_run(&rt, 2));
     say(&rt, "  by 4 workers", slow_run(&rt, 4));
+    say_holds(&rt);
 }

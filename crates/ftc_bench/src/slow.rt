@@ -1,6 +1,7 @@
 //! Workers before slow middleboxes: how long a run takes with so many of them.
 
 ghost use Rattle.std.specs.Prelude.{◌≡◌, ◌≤◌, length, IfSome};
+ghost use Rattle.ftc_base.specs.declared.limits.TheConstants.{MOST_THREADS};
 
 use ftc_base::{PacketNo, ServerId};
 use ftc_chain::Chain;
@@ -60,16 +61,17 @@ fn ring_of(spec: &ChainSpec) -> Option<Ring>
 
 /// A chain of middleboxes, a made capture, and the script without lines for them.
 #[derive(Drop)]
-struct Load {
-    spec: ChainSpec,
-    capture: Capture,
-    script: Script,
+pub struct Load {
+    pub spec: ChainSpec,
+    pub capture: Capture,
+    pub script: Script,
     ghost ring: { script.ring ≡ record { servers = length spec.rules; failures = spec.failures } },
     ghost count: { script.packets ≡ length capture.packets },
 }
 
 impl Load {
-    fn new(alloc: Global) -> Option<Load> {
+    /// None where there was no memory.
+    pub fn new(alloc: Global) -> Option<Load> {
         accepted();
         let spec = read_chain(alloc, CHAIN).ok()?;
         let bytes = generate(alloc, PACKETS, 7).ok()?;
@@ -87,7 +89,7 @@ impl Load {
 
 /// The nanoseconds that so many workers need. None where there was no memory, or no clock.
 pub fn slow_run<R: AllocGlobal + Clock + Threads + Wait + Sync>(rt: &R, workers: u8) -> Option<u128>
-    requires { (1 ≤ workers) × (workers ≤ 32) }
+    requires { (1 ≤ workers) × (workers ≤ MOST_THREADS) }
 {
     let load = Load::new(rt.alloc())?;
     let chain = Chain::new(rt.alloc(), &load.spec, &load.capture.packets, &load.script).ok()?;
