@@ -4,38 +4,83 @@ use std::alloc::Global;
 use std::test::Fail;
 use std::{fs, process};
 
+/// A call on a desk.
+#[derive(Clone, Copy)]
+enum Call {
+    Make,
+    Append,
+    Fetch,
+}
+
+/// What came of a call.
+#[derive(Clone, Copy, Debug, PartialEq, Eq)]
+enum Came {
+    /// It was done, and a fetch gave the bytes of its line.
+    Done,
+    /// A fetch gave other bytes.
+    Other,
+    Failed,
+    NoMemory,
+}
+
+/// A line of a table: the call, the file's name, the bytes, and what comes of it.
+type Line<'a> = (Call, &'a str, &'a [u8], Came);
+
+/// What comes of a call that gives nothing.
+fn outcome(answer: Result<(), DeskError>) -> Came {
+    match answer {
+        Ok(()) => Came::Done,
+        Err(DeskError::Failed) => Came::Failed,
+        Err(DeskError::NoMemory) => Came::NoMemory,
+    }
+}
+
+/// Makes a call.
+fn make<D: Desk>(alloc: Global, desk: &mut D, call: Call, name: &str, bytes: &[u8]) -> Came {
+    match call {
+        Call::Make => outcome(desk.make(alloc, name)),
+        Call::Append => outcome(desk.append(alloc, name, bytes)),
+        Call::Fetch => match desk.fetch(alloc, name) {
+            Ok(found) if found.as_slice() == bytes => Came::Done,
+            Ok(_) => Came::Other,
+            Err(error) => outcome(Err(error)),
+        },
+    }
+}
+
+/// Makes the calls of a table. None where each goes as it says, and else the place of the first that doesn't.
+fn first_wrong<D: Desk>(alloc: Global, desk: &mut D, table: &[Line<'_>]) -> Option<usize> {
+    for place in 0..table.len() {
+        let (what, name, bytes, wanted) = table[place];
+        if make(alloc, desk, what, name, bytes) != wanted {
+            return Some(place);
+        }
+    }
+    None
+}
+
 #[test]
 fn a_desk_in_memory_keeps_files_by_name(rt: HostRuntime) -> Result<(), Fail> {
     let alloc = rt.alloc();
     let mut desk = MemoryDesk::new(alloc);
     desk.put("a", b"one")?;
-    desk.make(alloc, "b")?;
-    desk.append(alloc, "b", b"tw")?;
-    desk.append(alloc, "b", b"o")?;
-    desk.append(alloc, "-", b"shown")?;
-    assert_eq!(rt; desk.fetch(alloc, "a")?.as_slice(), b"one".as_slice());
-    assert_eq!(rt; desk.get("b"), Some(b"two".as_slice()));
-    assert_eq!(rt; desk.get("-"), Some(b"shown".as_slice()));
-    desk.make(alloc, "b")?;
+    let table: [Line<'_>; 11] = [
+        (Call::Make, "b", b"", Came::Done),
+        (Call::Append, "b", b"tw", Came::Done),
+        (Call::Append, "b", b"o", Came::Done),
+        (Call::Append, "-", b"shown", Came::Done),
+        (Call::Fetch, "a", b"one", Came::Done),
+        (Call::Fetch, "b", b"two", Came::Done),
+        (Call::Fetch, "-", b"shown", Came::Done),
+        (Call::Make, "b", b"", Came::Done),
+        (Call::Fetch, "b", b"", Came::Done),
+        (Call::Fetch, "c", b"", Came::Failed),
+        (Call::Append, "c", b"x", Came::Failed),
+    ];
+    assert_eq!(rt; first_wrong(alloc, &mut desk, &table), None);
     assert_eq!(rt; desk.get("b"), Some(b"".as_slice()));
-    match desk.fetch(alloc, "c") {
-        Err(DeskError::Failed) => {}
-        _ => assert!(rt; false, "there is no c"),
-    }
-    match desk.append(alloc, "c", b"x") {
-        Err(DeskError::Failed) => {}
-        _ => assert!(rt; false, "there is no c to add to"),
-    }
     assert_eq!(rt; desk.get("c"), None);
     Ok(())
-}
-
-/// Whether the desk's file of that name has these bytes.
-fn holds(desk: &FailingDesk, name: &str, bytes: &[u8]) -> bool {
-    match desk.inner().get(name) {
-        Some(held) => held == bytes,
-        None => false,
-    }
 }
 
 #[test]
@@ -43,14 +88,18 @@ fn the_listed_calls_fail_and_change_nothing(rt: HostRuntime) -> Result<(), Fail>
     let alloc = rt.alloc();
     let mut inner = MemoryDesk::new(alloc);
     inner.put("a", b"one")?;
-    let mut desk = FailingDesk::new(alloc, inner, &[1, 3])?;
-    assert!(rt; desk.fetch(alloc, "a").is_ok());
-    assert!(rt; desk.make(alloc, "a").is_err());
-    assert!(rt; holds(&desk, "a", b"one"));
-    assert!(rt; desk.append(alloc, "a", b"!").is_ok());
-    assert!(rt; desk.append(alloc, "a", b"?").is_err());
-    assert!(rt; desk.append(alloc, "a", b"!").is_ok());
-    assert!(rt; holds(&desk, "a", b"one!!"));
+    let mut desk = FailingDesk::new(alloc, inner, &[1, 4])?;
+    let table: [Line<'_>; 7] = [
+        (Call::Fetch, "a", b"one", Came::Done),
+        (Call::Make, "a", b"", Came::Failed),
+        (Call::Fetch, "a", b"one", Came::Done),
+        (Call::Append, "a", b"!", Came::Done),
+        (Call::Append, "a", b"?", Came::Failed),
+        (Call::Append, "a", b"!", Came::Done),
+        (Call::Fetch, "a", b"one!!", Came::Done),
+    ];
+    assert_eq!(rt; first_wrong(alloc, &mut desk, &table), None);
+    assert_eq!(rt; desk.inner().get("a"), Some(b"one!!".as_slice()));
     Ok(())
 }
 
@@ -58,24 +107,24 @@ fn the_listed_calls_fail_and_change_nothing(rt: HostRuntime) -> Result<(), Fail>
 fn a_real_file_is_made_and_added_to_and_fetched(rt: HostRuntime) -> Result<(), Fail> {
     let alloc = rt.alloc();
     let id = process::id(rt.process());
-    let name = format!(in alloc; "/tmp/ftc-desk-test-{id}")?;
+    let text = format!(in alloc; "/tmp/ftc-desk-test-{id}")?;
+    let name = text.as_str();
     let mut desk = FileDesk::new(&rt);
-    match desk.fetch(alloc, name.as_str()) {
-        Err(DeskError::Failed) => {}
-        _ => assert!(rt; false, "the file is not there yet"),
-    }
-    desk.make(alloc, name.as_str())?;
-    desk.append(alloc, name.as_str(), b"ab")?;
-    desk.append(alloc, name.as_str(), b"c")?;
-    let bytes = desk.fetch(alloc, name.as_str())?;
-    assert_eq!(rt; bytes.as_slice(), b"abc".as_slice());
-    desk.make(alloc, name.as_str())?;
-    assert!(rt; desk.fetch(alloc, name.as_str())?.is_empty());
-    fs::remove_file(&rt, name.as_str())?;
-    match desk.append(alloc, name.as_str(), b"d") {
-        Err(DeskError::Failed) => {}
-        _ => assert!(rt; false, "the file is gone"),
-    }
+    let table: [Line<'_>; 7] = [
+        (Call::Fetch, name, b"", Came::Failed),
+        (Call::Make, name, b"", Came::Done),
+        (Call::Append, name, b"ab", Came::Done),
+        (Call::Append, name, b"c", Came::Done),
+        (Call::Fetch, name, b"abc", Came::Done),
+        (Call::Make, name, b"", Came::Done),
+        (Call::Fetch, name, b"", Came::Done),
+    ];
+    assert_eq!(rt; first_wrong(alloc, &mut desk, &table), None);
+    fs::remove_file(&rt, name)?;
+    assert_eq!(rt;
+        make(alloc, &mut desk, Call::Append, name, b"d"),
+        Came::Failed
+    );
     Ok(())
 }
 

@@ -106,6 +106,29 @@ fn lines_are(alloc: Global, taps: &Taps, wanted: &[&[u8]]) -> Result<bool, NoMem
     )
 }
 
+/// Puts the packet of that number.
+fn put_packet<D: Desk>(
+    alloc: Global,
+    packet: PacketNo,
+    capture: &Capture,
+    desk: &mut D,
+    taps: &mut Taps,
+) -> Result<(), PutFault> {
+    let item = released(alloc, packet)?;
+    put(alloc, &item, capture, "out", desk, taps)
+}
+
+/// Writes what the writer's ring shows.
+fn write<D: Desk>(
+    alloc: Global,
+    writer: &mut Writer,
+    capture: &Capture,
+    desk: &mut D,
+    taps: &mut Taps,
+) -> Result<u32, PutFault> {
+    writer.write_some(alloc, capture, "out", desk, taps)
+}
+
 #[test]
 fn a_record_is_appended_and_told(rt: HostRuntime) -> Result<(), Fail> {
     let alloc = rt.alloc();
@@ -115,8 +138,7 @@ fn a_record_is_appended_and_told(rt: HostRuntime) -> Result<(), Fail> {
     list.push(Box::new(alloc, ListTap::new(alloc))?)?;
     list.push(Box::new(alloc, CountTap::new())?)?;
     let mut taps = Taps::new(list);
-    let item = released(alloc, 0)?;
-    put(alloc, &item, &capture, "out", &mut desk, &mut taps)?;
+    put_packet(alloc, 0, &capture, &mut desk, &mut taps)?;
     assert!(rt; lines_are(alloc, &taps, &[b"list 1", b"packets 1 bytes 42"])?);
     let mut wanted = Bytes::new(alloc);
     wanted.append(&HEADER)?;
@@ -137,32 +159,11 @@ fn a_tap_leaves_and_the_others_stay(rt: HostRuntime) -> Result<(), Fail> {
     list.push(Box::new(alloc, LeavingTap { told: true })?)?;
     list.push(Box::new(alloc, CountTap::new())?)?;
     let mut taps = Taps::new(list);
-    put(
-        alloc,
-        &released(alloc, 2)?,
-        &capture,
-        "out",
-        &mut desk,
-        &mut taps,
-    )?;
+    put_packet(alloc, 2, &capture, &mut desk, &mut taps)?;
     assert!(rt; lines_are(alloc, &taps, &[b"", b"list 1", b"packets 1 bytes 42"])?);
-    put(
-        alloc,
-        &released(alloc, 0)?,
-        &capture,
-        "out",
-        &mut desk,
-        &mut taps,
-    )?;
+    put_packet(alloc, 0, &capture, &mut desk, &mut taps)?;
     assert!(rt; lines_are(alloc, &taps, &[b"list 2", b"packets 2 bytes 84"])?);
-    put(
-        alloc,
-        &released(alloc, 1)?,
-        &capture,
-        "out",
-        &mut desk,
-        &mut taps,
-    )?;
+    put_packet(alloc, 1, &capture, &mut desk, &mut taps)?;
     assert!(rt; lines_are(alloc, &taps, &[b"list 3", b"packets 3 bytes 126"])?);
     assert!(rt; has_records(&desk, 3));
     Ok(())
@@ -176,14 +177,7 @@ fn items_without_a_record_are_passed_over(rt: HostRuntime) -> Result<(), Fail> {
     let mut list: Vec<Box<dyn Tap + Send>> = Vec::new(alloc);
     list.push(Box::new(alloc, ListTap::new(alloc))?)?;
     let mut taps = Taps::new(list);
-    put(
-        alloc,
-        &released(alloc, 2)?,
-        &capture,
-        "out",
-        &mut desk,
-        &mut taps,
-    )?;
+    put_packet(alloc, 2, &capture, &mut desk, &mut taps)?;
     let long = vec![in alloc; 0u8; MOST_CAPTURED + 1]?;
     let item = Released {
         packet: 1,
@@ -202,14 +196,13 @@ fn a_fault_of_the_desk_is_told_to_no_tap(rt: HostRuntime) -> Result<(), Fail> {
     let mut list: Vec<Box<dyn Tap + Send>> = Vec::new(alloc);
     list.push(Box::new(alloc, ListTap::new(alloc))?)?;
     let mut taps = Taps::new(list);
-    let item = released(alloc, 0)?;
     let mut empty = MemoryDesk::new(alloc);
-    let answer = put(alloc, &item, &capture, "out", &mut empty, &mut taps);
+    let answer = put_packet(alloc, 0, &capture, &mut empty, &mut taps);
     assert_eq!(rt; answer, Err(PutFault::Failed));
     assert_eq!(rt; empty.get("out"), None);
     let inner = desk_with_out(alloc)?;
     let mut failing = FailingDesk::new(alloc, inner, &[0])?;
-    let answer = put(alloc, &item, &capture, "out", &mut failing, &mut taps);
+    let answer = put_packet(alloc, 0, &capture, &mut failing, &mut taps);
     assert_eq!(rt; answer, Err(PutFault::Failed));
     assert!(rt; has_records(failing.inner(), 0));
     assert!(rt; lines_are(alloc, &taps, &[b"list 0"])?);
@@ -227,8 +220,7 @@ fn a_tap_without_memory_ends_the_telling(rt: HostRuntime) -> Result<(), Fail> {
     list.push(Box::new(alloc, PoorTap)?)?;
     list.push(Box::new(alloc, CountTap::new())?)?;
     let mut taps = Taps::new(list);
-    let item = released(alloc, 0)?;
-    let answer = put(alloc, &item, &capture, "out", &mut desk, &mut taps);
+    let answer = put_packet(alloc, 0, &capture, &mut desk, &mut taps);
     assert_eq!(rt; answer, Err(PutFault::NoMemory));
     assert!(rt; has_records(&desk, 1));
     assert!(rt; lines_are(alloc, &taps, &[b"list 1", b"", b"packets 0 bytes 0"])?);
@@ -242,14 +234,14 @@ fn what_is_sent_is_put_in_order(rt: HostRuntime) -> Result<(), Fail> {
     let mut desk = desk_with_out(alloc)?;
     let mut taps = Taps::new(Vec::new(alloc));
     let (mut sender, mut writer) = ring(alloc, 3)?;
-    let first = writer.write_some(alloc, &capture, "out", &mut desk, &mut taps)?;
+    let first = write(alloc, &mut writer, &capture, &mut desk, &mut taps)?;
     assert_eq!(rt; first, 0);
     sender.send(released(alloc, 2)?);
     sender.send(released(alloc, 0)?);
-    let second = writer.write_some(alloc, &capture, "out", &mut desk, &mut taps)?;
+    let second = write(alloc, &mut writer, &capture, &mut desk, &mut taps)?;
     assert_eq!(rt; second, 2);
     sender.send(released(alloc, 1)?);
-    let third = writer.write_some(alloc, &capture, "out", &mut desk, &mut taps)?;
+    let third = write(alloc, &mut writer, &capture, &mut desk, &mut taps)?;
     assert_eq!(rt; third, 1);
     assert!(rt; has_records(&desk, 3));
     let put = writer.into_put();
@@ -274,7 +266,7 @@ fn the_item_of_a_refused_put_is_not_listed(rt: HostRuntime) -> Result<(), Fail> 
     sender.send(released(alloc, 0)?);
     sender.send(released(alloc, 1)?);
     sender.send(released(alloc, 2)?);
-    let answer = writer.write_some(alloc, &capture, "out", &mut desk, &mut taps);
+    let answer = write(alloc, &mut writer, &capture, &mut desk, &mut taps);
     assert_eq!(rt; answer, Err(PutFault::Failed));
     assert!(rt; has_records(desk.inner(), 1));
     assert!(rt; lines_are(alloc, &taps, &[b"list 1"])?);
@@ -294,7 +286,7 @@ fn a_ring_for_nothing_writes_nothing(rt: HostRuntime) -> Result<(), Fail> {
     let mut desk = desk_with_out(alloc)?;
     let mut taps = Taps::new(Vec::new(alloc));
     let (_sender, mut writer) = ring(alloc, 0)?;
-    let written = writer.write_some(alloc, &capture, "out", &mut desk, &mut taps)?;
+    let written = write(alloc, &mut writer, &capture, &mut desk, &mut taps)?;
     assert_eq!(rt; written, 0);
     assert!(rt; has_records(&desk, 0));
     Ok(())
