@@ -1,5 +1,6 @@
 mod calls;
 mod doing;
 mod given;
+mod opening;
 mod runs;
 mod slots;

@@ -15,6 +15,3 @@ mod slots;
 
 pub use chain::Chain;
 pub use ftc_jobs::Jobs;
-
-#[cfg(test)]
-mod tests;
