@@ -1,6 +1,5 @@
 mod calls;
 mod doing;
 mod given;
-mod opening;
 mod runs;
 mod slots;

@@ -15,3 +15,6 @@ mod slots;
 
 pub use chain::Chain;
 pub use ftc_jobs::Jobs;
+
+#[cfg(test)]
+mod tests;
