@@ -13,7 +13,7 @@ use Rattle.ftc_serial.specs.declared.step.Step.{Step}
 use Rattle.ftc_serial.specs.Serial.{opening}
 use Rattle.ftc_audit.specs.declared.line.ClientLine.{ClientLine}
 use Rattle.ftc_audit.specs.Visits.{visits}
-use Rattle.ftc_audit.specs.Backends.{line_of, GaveBackend, SameClient}
+use Rattle.ftc_audit.specs.Backends.{client_line_of, GaveBackend, SameClient}
 use Rattle.ftc_audit.proofs.ByteRuns.{rule_at}
 use Rattle.ftc_audit.proofs.Runs.{end_of, ends_given}
 use Rattle.ftc_audit.proofs.Balancing.{backend_at, HasBackend, Holds, balancing}
@@ -38,7 +38,7 @@ one_backend rules packets steps server rule one other all known gave given same 
     let start = opening packets in
     let content : Content = (end_of rules start steps).maps server in
     let has : HasBackend content one = ends_given (Balance rule)
-    (line_of rule) Holds HasBackend kept rules server known one start steps tt gave in
+    (client_line_of rule) Holds HasBackend kept rules server known one start steps tt gave in
     let too : HasBackend content other = ends_given (Balance rule)
-    (line_of rule) Holds HasBackend kept rules server known other start steps tt given in
+    (client_line_of rule) Holds HasBackend kept rules server known other start steps tt given in
     some_once one.backend other.backend (sym has ∙ (ap (backend_at content) (same_key one other same) ∙ too))

@@ -28,7 +28,7 @@ use Rattle.ftc_serial.specs.declared.visit.Asked.{Asked}
 use Rattle.ftc_serial.specs.Take.{Outcome, asked, answer_at, ended, packet_after, taken}
 use Rattle.ftc_audit.specs.declared.line.ClientLine.{ClientLine}
 use Rattle.ftc_audit.specs.Visits.{Seen}
-use Rattle.ftc_audit.specs.Backends.{destination, line_of}
+use Rattle.ftc_audit.specs.Backends.{destination, client_line_of}
 use Rattle.ftc_audit.proofs.Runs.{IsKept}
 use Rattle.ftc_audit.proofs.Keys.{at_put, off_put}
 use Rattle.ftc_audit.proofs.Asked.{of_flow, ends_at_once, ends_after_one, ends_after_two}
@@ -77,7 +77,7 @@ module _ (rule : BalanceRule) where
     -- nothing is written, and the store has the line that there is
     record IsQuiet : Type 0 where
       pub nothing : outcome.writes ≡ []
-      pub had : (server : ℕ) (line : ClientLine) → line_of rule (seen server) ≡ Some line → HasBackend content line
+      pub had : (server : ℕ) (line : ClientLine) → client_line_of rule (seen server) ≡ Some line → HasBackend content line
 
     -- the next backend for a client that has none
     record IsNew : Type 0 where
@@ -87,7 +87,7 @@ module _ (rule : BalanceRule) where
       pub none : backend_at content (key_of flow) ≡ None
       pub within : IsBalanceRule rule → backend ≤ 4294967295
       pub writes : outcome.writes ≡ put (key_of flow) (to_be_bytes w32 backend) ∷ put turn_key turn ∷ []
-      pub gave : (server : ℕ) (line : ClientLine) → line_of rule (seen server) ≡ Some line
+      pub gave : (server : ℕ) (line : ClientLine) → client_line_of rule (seen server) ≡ Some line
           → record { backend = backend; protocol = flow.protocol; address = flow.source; port = flow.source_port } ≡ line
 
     -- what a visit writes, and the packet that goes on
@@ -98,11 +98,11 @@ module _ (rule : BalanceRule) where
         → outcome.packet ≡ packet_after packet told.end.verdict
     packet_of told is = ap (λ (t : Asked). packet_after packet t.end.verdict) is
 
-    no_line : (server : ℕ) (line : ClientLine) → flow_found packet ≡ None → line_of rule (seen server) ≡ Some line → ⊥
+    no_line : (server : ℕ) (line : ClientLine) → flow_found packet ≡ None → client_line_of rule (seen server) ≡ Some line → ⊥
     no_line server line none told = let is : None ≡ Some line = rw none at told in cc
 
     other_line : (server : ℕ) (line : ClientLine) (flow : Flow) → flow_found packet ≡ Some flow → comes flow ≡ false
-        → (after : Option (List ℕ)) → outcome.packet ≡ after → line_of rule (seen server) ≡ Some line → ⊥
+        → (after : Option (List ℕ)) → outcome.packet ≡ after → client_line_of rule (seen server) ≡ Some line → ⊥
     other_line server line flow found other None is told = let same : None ≡ Some line = rw (found, is) at told in cc
     other_line server line flow found other (Some after) is told = let same : None ≡ Some line = rw
         (found, is, other) at told in cc
@@ -110,7 +110,7 @@ module _ (rule : BalanceRule) where
     line_is : (server : ℕ) (line : ClientLine) (flow : Flow) (backend : ℕ) → flow_found packet ≡ Some flow
         → comes flow ≡ true
         → outcome.packet ≡ Some (with_destination packet backend flow.destination_port)
-        → line_of rule (seen server) ≡ Some line
+        → client_line_of rule (seen server) ≡ Some line
         → record { backend = backend; protocol = flow.protocol; address = flow.source; port = flow.source_port } ≡ line
     line_is server line flow backend found goes is told =
         let same : Some (record {
@@ -281,7 +281,7 @@ module _ (rule : BalanceRule) where
           ∙ off_put content own (to_be_bytes w32 is.backend) key apart) ∙ has
 
   -- what a visit leaves of the store
-  pub balancing : IsBalanceRule rule → IsKept (Balance rule) (line_of rule) Holds HasBackend
+  pub balancing : IsBalanceRule rule → IsKept (Balance rule) (client_line_of rule) Holds HasBackend
   balancing fits = record {
     holds = λ packet content held. tt;
     has = λ packet content line held has. elim (visited packet content) [

@@ -17,7 +17,7 @@ use Rattle.ftc_serial.proofs.Functions.{with_at_cases}
 use Rattle.ftc_serial.proofs.Legal.{visit_legal, told_legal}
 use Rattle.ftc_audit.specs.declared.line.PortLine.{PortLine}
 use Rattle.ftc_audit.specs.Visits.{Seen, waiting_bytes, seen_at, visits}
-use Rattle.ftc_audit.specs.Ports.{line_of, GavePort}
+use Rattle.ftc_audit.specs.Ports.{port_line_of, GavePort}
 use Rattle.ftc_audit.proofs.Runs.{end_of, outcome_is}
 use Rattle.ftc_audit.proofs.Translating.{IsPortKey, HasPort, Holds, comes, translating}
 
@@ -59,7 +59,7 @@ of_front rule server xs ys key value is = record {
   at = is.at;
   has = is.has;
   few = is.few;
-  gave = any_front (λ (seen : Seen). (seen.server ≡ server) × (line_of rule seen ≡ Some is.line)) xs ys is.gave;
+  gave = any_front (λ (seen : Seen). (seen.server ≡ server) × (port_line_of rule seen ≡ Some is.line)) xs ys is.gave;
 }
 
 of_behind : (rule : NatRule) (server : ℕ) (xs ys : List Seen) (key value : List ℕ) → IsOf rule server ys key value
@@ -69,7 +69,7 @@ of_behind rule server xs ys key value is = record {
   at = is.at;
   has = is.has;
   few = is.few;
-  gave = any_behind (λ (seen : Seen). (seen.server ≡ server) × (line_of rule seen ≡ Some is.line)) xs ys is.gave;
+  gave = any_behind (λ (seen : Seen). (seen.server ≡ server) × (port_line_of rule seen ≡ Some is.line)) xs ys is.gave;
 }
 
 module _ (rule : NatRule) (few : rule.last ≤ 65535) (rules : List Rule) (server : ℕ)
@@ -78,7 +78,7 @@ module _ (rule : NatRule) (few : rule.last ≤ 65535) (rules : List Rule) (serve
       (legal : IsLegal rules state (Visited at packet outcome)) → server ≡ at
       → taken (Nat rule) (visit_legal rules state at packet outcome legal).bytes (state.maps server) ≡ outcome
   is_outcome state at packet outcome legal same =
-      outcome_is (Nat rule) (line_of rule) (Holds rule) HasPort (translating rule few) rules server known state at
+      outcome_is (Nat rule) (port_line_of rule) (Holds rule) HasPort (translating rule few) rules server known state at
       packet outcome (visit_legal rules state at packet outcome legal) same
 
   -- a step leaves what stood there, or gave it
@@ -105,7 +105,7 @@ module _ (rule : NatRule) (few : rule.last ≤ 65535) (rules : List Rule) (serve
           few = from.few;
           gave = inl (
             sym same,
-            ap₂ (λ (b : List ℕ) (o : Outcome). line_of rule
+            ap₂ (λ (b : List ℕ) (o : Outcome). port_line_of rule
                 (record { server = at; before = b; outcome = o })) (ap waiting_bytes fair.waits) (sym is)
                 ∙ from.told,
           );

@@ -24,7 +24,7 @@ use Rattle.ftc_serial.specs.declared.step.Step.{Step}
 use Rattle.ftc_serial.specs.Serial.{opening}
 use Rattle.ftc_audit.specs.declared.line.PortLine.{PortLine}
 use Rattle.ftc_audit.specs.Visits.{Seen, AreOfBytes, visits}
-use Rattle.ftc_audit.specs.Ports.{source_port, line_of_flow, line_of, GavePort, SameInside}
+use Rattle.ftc_audit.specs.Ports.{source_port, port_line_of_flow, port_line_of, GavePort, SameInside}
 use Rattle.ftc_audit.proofs.Bytes.{word_fits}
 use Rattle.ftc_audit.proofs.ByteRuns.{rule_at, stay_bytes}
 use Rattle.ftc_audit.proofs.Runs.{end_of, ends_holding, ends_given}
@@ -40,7 +40,7 @@ pub record IsPortLine (line : PortLine) : Type 0 where
 
 flow_fits : (rule : NatRule) (bytes : List ℕ) (after : Option (List ℕ)) (line : PortLine) (flow : Flow)
     → AreBytes bytes → flow ≡ flow_in bytes
-    → line_of_flow rule after flow ≡ Some line → (line.address ≡ (flow_in bytes).source)
+    → port_line_of_flow rule after flow ≡ Some line → (line.address ≡ (flow_in bytes).source)
     × (line.port ≡ (flow_in bytes).source_port)
 flow_fits rule bytes None line flow are is told = absurd (cc)
 flow_fits rule bytes (Some after) line flow are is told =
@@ -71,11 +71,11 @@ unfolding flow_in
 source_fits bytes are = (omega (arith, word_fits bytes 26 are, word_fits bytes 28 are), word_fits bytes _ are)
 
 -- the line of a packet of bytes
-line_fits : (rule : NatRule) (seen : Seen) (line : PortLine) → AreBytes seen.before → line_of rule seen ≡ Some line
+line_fits : (rule : NatRule) (seen : Seen) (line : PortLine) → AreBytes seen.before → port_line_of rule seen ≡ Some line
     → IsPortLine line
 line_fits rule seen line are told =
     elim (flow_found seen.before) as (λ (o : Option Flow). flow_found seen.before ≡ o
-    → option_and_then (line_of_flow rule seen.outcome.packet) o ≡ Some line → IsPortLine line) [
+    → option_and_then (port_line_of_flow rule seen.outcome.packet) o ≡ Some line → IsPortLine line) [
       | None ↦ λ _ none. absurd (cc)
       | Some flow ↦ λ found some.
           let is = subst (λ (o : Option Flow). MatchOption o (¬ IsFlow seen.before) (λ f. IsFlow seen.before
@@ -88,13 +88,13 @@ line_fits rule seen line are told =
 pub gave_fits : (rule : NatRule) (server : ℕ) (run : List Seen) (line : PortLine) → AreOfBytes run
     → GavePort rule server run line → IsPortLine line
 gave_fits rule server run line are gave =
-    any_of_all (λ (seen : Seen). (seen.server ≡ server) × (line_of rule seen ≡ Some line)) (λ
+    any_of_all (λ (seen : Seen). (seen.server ≡ server) × (port_line_of rule seen ≡ Some line)) (λ
     (seen : Seen). AreBytes seen.before) run
     (λ seen told bytes. line_fits rule seen line bytes told.1) gave are
 
 -- a line that was given is of TCP or of UDP
 flow_named : (rule : NatRule) (after : Option (List ℕ)) (line : PortLine) (flow : Flow)
-    → line_of_flow rule after flow ≡ Some line → line.protocol ≡ flow.protocol
+    → port_line_of_flow rule after flow ≡ Some line → line.protocol ≡ flow.protocol
 flow_named rule None line flow told = absurd (cc)
 flow_named rule (Some after) line flow told =
     elim (leaves rule flow) as (λ t. (if t then Some (record {
@@ -118,11 +118,11 @@ flow_carries : (bytes : List ℕ) → IsFlow bytes → ((flow_in bytes).protocol
 unfolding flow_in
 flow_carries bytes is = is.carries
 
-line_named : (rule : NatRule) (seen : Seen) (line : PortLine) → line_of rule seen ≡ Some line
+line_named : (rule : NatRule) (seen : Seen) (line : PortLine) → port_line_of rule seen ≡ Some line
     → (line.protocol ≡ 6) ⊎ (line.protocol ≡ 17)
 line_named rule seen line told =
     elim (flow_found seen.before) as (λ (o : Option Flow). flow_found seen.before ≡ o
-    → option_and_then (line_of_flow rule seen.outcome.packet) o ≡ Some line
+    → option_and_then (port_line_of_flow rule seen.outcome.packet) o ≡ Some line
     → (line.protocol ≡ 6) ⊎ (line.protocol ≡ 17)) [
       | None ↦ λ _ none. absurd (cc)
       | Some flow ↦ λ found some.
@@ -185,11 +185,11 @@ ports_apart rules packets steps server rule one other all bytes known gave given
     let start = opening packets in
     let content : Content = (end_of rules start steps).maps server in
     let empty_holds = starts_holding rule in
-    let held : Holds rule content = ends_holding (Nat rule) (line_of rule)
+    let held : Holds rule content = ends_holding (Nat rule) (port_line_of rule)
     (Holds rule) HasPort kept rules server known start steps empty_holds in
-    let has : HasPort content one = ends_given (Nat rule) (line_of rule)
+    let has : HasPort content one = ends_given (Nat rule) (port_line_of rule)
     (Holds rule) HasPort kept rules server known one start steps empty_holds gave in
-    let too : HasPort content other = ends_given (Nat rule) (line_of rule)
+    let too : HasPort content other = ends_given (Nat rule) (port_line_of rule)
     (Holds rule) HasPort kept rules server known other start steps empty_holds given in (
       λ same. some_once one.outside other.outside (sym has ∙ (ap (port_at content) (same_key one other same) ∙ too)),
       λ equal. same_inside one other (gave_fits rule server (visits rules start steps) one are gave)

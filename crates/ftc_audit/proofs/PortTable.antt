@@ -28,7 +28,7 @@ use Rattle.ftc_serial.specs.Serial.{State, opening, serial_run}
 use Rattle.ftc_serial.proofs.Functions.{any_of_all}
 use Rattle.ftc_audit.specs.declared.line.PortLine.{PortLine}
 use Rattle.ftc_audit.specs.Visits.{Seen, visits}
-use Rattle.ftc_audit.specs.Ports.{line_of, GavePort, SameInside}
+use Rattle.ftc_audit.specs.Ports.{port_line_of, GavePort, SameInside}
 use Rattle.ftc_audit.specs.Stored.{line_at, line_in, is_nat}
 use Rattle.ftc_audit.specs.Table.{IsPortTable, IsTableOf, HasNat, AreApart, AreNamed}
 use Rattle.ftc_audit.proofs.ByteRuns.{rule_at, stay_bytes}
@@ -128,7 +128,7 @@ module _ (rules : List Rule) (packets : List (List ℕ)) (steps : List Step) (se
 
   has_line : (line : PortLine) → Gave line → HasPort content_then line
   has_line line gave =
-      ends_given (Nat rule) (line_of rule) (Holds rule) HasPort (translating rule is_rule.last) rules server known line
+      ends_given (Nat rule) (port_line_of rule) (Holds rule) HasPort (translating rule is_rule.last) rules server known line
       (opening packets) steps (starts_holding rule) gave
 
   -- the lines of the listed pairs

@@ -30,7 +30,7 @@ use Rattle.ftc_serial.specs.declared.visit.Asked.{Asked}
 use Rattle.ftc_serial.specs.Take.{Outcome, asked, answer_at, ended, packet_after, taken}
 use Rattle.ftc_audit.specs.declared.line.PortLine.{PortLine}
 use Rattle.ftc_audit.specs.Visits.{Seen}
-use Rattle.ftc_audit.specs.Ports.{source_port, line_of}
+use Rattle.ftc_audit.specs.Ports.{source_port, port_line_of}
 use Rattle.ftc_audit.proofs.Runs.{IsKept}
 use Rattle.ftc_audit.proofs.Keys.{at_put, off_put}
 use Rattle.ftc_audit.proofs.Asked.{of_flow, ends_at_once, ends_after_one, ends_after_two, ends_after_three}
@@ -80,7 +80,7 @@ module _ (rule : NatRule) where
     pub at : key ≡ outside_port_key line.protocol line.address line.port
     pub has : value ≡ to_be_bytes w16 line.outside
     pub few : line.outside ≤ rule.last
-    pub told : line_of rule seen ≡ Some line
+    pub told : port_line_of rule seen ≡ Some line
 
   module _ (packet : List ℕ) (content : Content) where
     abbrev outcome : Outcome
@@ -92,7 +92,7 @@ module _ (rule : NatRule) where
     -- nothing is written, and the store has the line that there is
     record IsQuiet : Type 0 where
       pub nothing : outcome.writes ≡ []
-      pub had : (server : ℕ) (line : PortLine) → line_of rule (seen server) ≡ Some line → HasPort content line
+      pub had : (server : ℕ) (line : PortLine) → port_line_of rule (seen server) ≡ Some line → HasPort content line
 
     -- the next port is drawn for an endpoint that has none
     record IsDrawn : Type 0 where
@@ -104,9 +104,9 @@ module _ (rule : NatRule) where
           ∷ put next_port_key (to_be_bytes w32 (next_of content + 1))
           ∷ put (inside_key flow.protocol (next_of content)) (endpoint flow.source flow.source_port)
           ∷ []
-      pub drawn : (server : ℕ) (line : PortLine) → line_of rule (seen server) ≡ Some line
+      pub drawn : (server : ℕ) (line : PortLine) → port_line_of rule (seen server) ≡ Some line
           → record { outside = next_of content; protocol = flow.protocol; address = flow.source; port = flow.source_port } ≡ line
-      pub gave : (server : ℕ) → line_of rule (seen server) ≡ Some (record {
+      pub gave : (server : ℕ) → port_line_of rule (seen server) ≡ Some (record {
         outside = next_of content;
         protocol = flow.protocol;
         address = flow.source;
@@ -121,22 +121,22 @@ module _ (rule : NatRule) where
         → outcome.packet ≡ packet_after packet told.end.verdict
     packet_of told is = ap (λ (t : Asked). packet_after packet t.end.verdict) is
 
-    no_line : (server : ℕ) (line : PortLine) → flow_found packet ≡ None → line_of rule (seen server) ≡ Some line → ⊥
+    no_line : (server : ℕ) (line : PortLine) → flow_found packet ≡ None → port_line_of rule (seen server) ≡ Some line → ⊥
     no_line server line none told = let is : None ≡ Some line = rw none at told in cc
 
     dropped : (server : ℕ) (line : PortLine) (flow : Flow) → flow_found packet ≡ Some flow → outcome.packet ≡ None
-        → line_of rule (seen server) ≡ Some line → ⊥
+        → port_line_of rule (seen server) ≡ Some line → ⊥
     dropped server line flow found is told = let same : None ≡ Some line = rw (found, is) at told in cc
 
     inside : (server : ℕ) (line : PortLine) (flow : Flow) → flow_found packet ≡ Some flow → leaves rule flow ≡ false
-        → (after : Option (List ℕ)) → outcome.packet ≡ after → line_of rule (seen server) ≡ Some line → ⊥
+        → (after : Option (List ℕ)) → outcome.packet ≡ after → port_line_of rule (seen server) ≡ Some line → ⊥
     inside server line flow found stays None is told = dropped server line flow found is told
     inside server line flow found stays (Some after) is told = let same : None ≡ Some line = rw
         (found, is, stays) at told in cc
 
     line_is : (server : ℕ) (line : PortLine) (flow : Flow) (port : ℕ) → flow_found packet ≡ Some flow
         → leaves rule flow ≡ true
-        → outcome.packet ≡ Some (with_source packet rule.outside port) → line_of rule (seen server) ≡ Some line
+        → outcome.packet ≡ Some (with_source packet rule.outside port) → port_line_of rule (seen server) ≡ Some line
         → record { outside = port; protocol = flow.protocol; address = flow.source; port = flow.source_port } ≡ line
     line_is server line flow port found goes is told =
         let same : Some (record {
@@ -151,7 +151,7 @@ module _ (rule : NatRule) where
 
     line_was : (server : ℕ) (flow : Flow) (port : ℕ) → flow_found packet ≡ Some flow → leaves rule flow ≡ true
         → outcome.packet ≡ Some (with_source packet rule.outside port)
-        → line_of rule (seen server) ≡ Some (record {
+        → port_line_of rule (seen server) ≡ Some (record {
           outside = port;
           protocol = flow.protocol;
           address = flow.source;
@@ -415,7 +415,7 @@ module _ (rule : NatRule) where
       ]
 
   -- what a visit leaves of the store
-  pub translating : rule.last ≤ 65535 → IsKept (Nat rule) (line_of rule) Holds HasPort
+  pub translating : rule.last ≤ 65535 → IsKept (Nat rule) (port_line_of rule) Holds HasPort
   translating few = record {
     holds = λ packet content held. elim (visited packet content) [
       | inl quiet ↦ subst (λ (writes : List Write). Holds (written writes content)) (sym quiet.nothing) held

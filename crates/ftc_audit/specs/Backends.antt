@@ -14,9 +14,9 @@ destination (Some flow) = flow.destination
 
 -- The line of a packet of this flow that came to the balanced address and port: its client endpoint, and the address to
 -- which it went on. A packet that was dropped has none.
-abbrev pub line_of_flow : BalanceRule → Option (List ℕ) → Flow → Option ClientLine
-line_of_flow rule None flow = None
-line_of_flow rule (Some after) flow =
+abbrev pub client_line_of_flow : BalanceRule → Option (List ℕ) → Flow → Option ClientLine
+client_line_of_flow rule None flow = None
+client_line_of_flow rule (Some after) flow =
     if flow.destination == rule.address && flow.destination_port == rule.port
     then Some (record {
       backend = destination (flow_found after);
@@ -27,12 +27,12 @@ line_of_flow rule (Some after) flow =
     else None
 
 -- the line of a visit
-abbrev pub line_of : BalanceRule → Seen → Option ClientLine
-line_of rule seen = option_and_then (line_of_flow rule seen.outcome.packet) (flow_found seen.before)
+abbrev pub client_line_of : BalanceRule → Seen → Option ClientLine
+client_line_of rule seen = option_and_then (client_line_of_flow rule seen.outcome.packet) (flow_found seen.before)
 
 -- one of the visits of that server has this line
 abbrev pub GaveBackend : BalanceRule → ℕ → List Seen → ClientLine → Type 0
-GaveBackend rule server run line = AnyOf (λ seen. (seen.server ≡ server) × (line_of rule seen ≡ Some line)) run
+GaveBackend rule server run line = AnyOf (λ seen. (seen.server ≡ server) × (client_line_of rule seen ≡ Some line)) run
 
 -- the same client endpoint
 pub record SameClient (one other : ClientLine) : Type 0 where

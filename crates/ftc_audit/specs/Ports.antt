@@ -15,9 +15,9 @@ source_port (Some flow) = flow.source_port
 
 -- The line of a packet of this flow that left the inside net: its inside endpoint, and the port with which it went on. A packet
 -- that was dropped has none.
-abbrev pub line_of_flow : NatRule → Option (List ℕ) → Flow → Option PortLine
-line_of_flow rule None flow = None
-line_of_flow rule (Some after) flow =
+abbrev pub port_line_of_flow : NatRule → Option (List ℕ) → Flow → Option PortLine
+port_line_of_flow rule None flow = None
+port_line_of_flow rule (Some after) flow =
     if leaves rule flow
     then Some (record {
       outside = source_port (flow_found after);
@@ -28,12 +28,12 @@ line_of_flow rule (Some after) flow =
     else None
 
 -- the line of a visit
-abbrev pub line_of : NatRule → Seen → Option PortLine
-line_of rule seen = option_and_then (line_of_flow rule seen.outcome.packet) (flow_found seen.before)
+abbrev pub port_line_of : NatRule → Seen → Option PortLine
+port_line_of rule seen = option_and_then (port_line_of_flow rule seen.outcome.packet) (flow_found seen.before)
 
 -- one of the visits of that server has this line
 abbrev pub GavePort : NatRule → ℕ → List Seen → PortLine → Type 0
-GavePort rule server run line = AnyOf (λ seen. (seen.server ≡ server) × (line_of rule seen ≡ Some line)) run
+GavePort rule server run line = AnyOf (λ seen. (seen.server ≡ server) × (port_line_of rule seen ≡ Some line)) run
 
 -- the same inside endpoint
 pub record SameInside (one other : PortLine) : Type 0 where

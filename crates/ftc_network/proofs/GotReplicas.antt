@@ -17,7 +17,7 @@ use Rattle.ftc_server.specs.Looks.{replica_in, replica_or_own}
 use Rattle.ftc_server.specs.Replicas.{replica_at}
 use Rattle.ftc_server.specs.Standing.{is_later_member}
 use Rattle.ftc_standing.specs.Stand.{IsReplicaSlot, replica_kept, got_by}
-use Rattle.ftc_network.specs.Reviving.{got_of, news, IsAnew}
+use Rattle.ftc_network.specs.Reviving.{got_of, all_fetched, IsAnew}
 use Rattle.ftc_network.proofs.GroupNews.{all_made, found_made, once_made}
 use Rattle.ftc_network.proofs.SharedGroups.{kept_is}
 
@@ -137,7 +137,7 @@ pub are_got : (setting : Setting) (state : ChainState) (server : ℕ) (previous 
     IsServerAt setting state (previous_live setting state server) previous →
     IsServerAt setting state (following_live setting state server) following → AreSources setting state server →
     AreGot setting state server previous following (got_of (shape setting) server previous following server)
-    (news (shape setting) server previous following)
+    (all_fetched (shape setting) server previous following)
 are_got setting state server previous following inside before after sources =
     let test = λ (group : ℕ). is_later_member (shape setting) group server in
     let make : ℕ → GroupReplica = λ group. record {

@@ -19,18 +19,18 @@ got_of ring server previous following group =
     then replica_in previous group else replica_in following group
 
 -- that replica, where it is a later member of the group
-abbrev pub new_of : RingShape → ℕ → Server → Server → ℕ → List GroupReplica
-new_of ring server previous following group =
+abbrev pub fetched_of : RingShape → ℕ → Server → Server → ℕ → List GroupReplica
+fetched_of ring server previous following group =
     if is_later_member ring group server
     then record { group = group; replica = got_of ring server previous following group } ∷ [] else []
 
 -- one of each group that it is a later member of
-abbrev pub news : RingShape → ℕ → Server → Server → List GroupReplica
-news ring server previous following = each_below (new_of ring server previous following) ring.servers
+abbrev pub all_fetched : RingShape → ℕ → Server → Server → List GroupReplica
+all_fetched ring server previous following = each_below (fetched_of ring server previous following) ring.servers
 
 -- the server begins anew with what it gets of its own group and of those that it is a later member of, and with what
 -- both know
 abbrev pub IsAnew : RingShape → ℕ → Rule → ℕ → Server → Server → Server → Type 0
 IsAnew ring server rule partitions previous following new =
     IsRevived ring server rule partitions (got_of ring server previous following server)
-    (news ring server previous following) (all_merged previous.known following.known) new
+    (all_fetched ring server previous following) (all_merged previous.known following.known) new

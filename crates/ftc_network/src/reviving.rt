@@ -5,7 +5,7 @@ ghost use Rattle.ftc_base.specs.declared.limits.TheConstants.{MOST_PARTITIONS};
 ghost use Rattle.ftc_ring.specs.Ring.{apart};
 ghost use Rattle.ftc_server.specs.Looks.{replica_in};
 ghost use Rattle.ftc_server.specs.Standing.{is_later_member};
-ghost use Rattle.ftc_network.specs.Reviving.{got_of, new_of, news, IsAnew};
+ghost use Rattle.ftc_network.specs.Reviving.{got_of, fetched_of, all_fetched, IsAnew};
 
 use ftc_base::{NoMemory, ServerId};
 use ftc_mbox::Rule;
@@ -87,7 +87,7 @@ fn add_group(
     requires group { group < ring.now.servers }
     requires previous { previous.now.id < ring.now.servers }
     ensures { OnOk result
-        (replicas.new ≡ replicas.old ++ new_of ring.now server previous.now following.now group) }
+        (replicas.new ≡ replicas.old ++ fetched_of ring.now server previous.now following.now group) }
 {
     if is_later_member(ring, group, server) {
         let replica = got(alloc, ring, server, group, previous, following)?;
@@ -107,7 +107,7 @@ fn got_all(
     requires server { server < ring.now.servers }
     requires previous { previous.now.id < ring.now.servers }
     ensures { IfOk result
-        (λ replicas. replicas ≡ news ring.now server previous.now following.now) }
+        (λ replicas. replicas ≡ all_fetched ring.now server previous.now following.now) }
 {
     let mut replicas = GroupReplicas::new(alloc);
     for number in 0..ring.servers() {

@@ -4,7 +4,7 @@ use Rattle.std.proofs.lemmas.Bool.{lt-ltb}
 use Rattle.ftc_server.specs.declared.recovering.GroupReplica.{GroupReplica}
 use Rattle.ftc_server.specs.Standing.{is_later_member}
 use Rattle.ftc_server.specs.Steps.{is_of_later}
-use Rattle.ftc_network.specs.Reviving.{got_of, news}
+use Rattle.ftc_network.specs.Reviving.{got_of, all_fetched}
 use Rattle.ftc_network.proofs.GroupNews.{all_made}
 use Rattle.ftc_network.proofs.MessageForms.{all_pass}
 use Rattle.ftc_network.proofs.reviving.revived.Goals as goal
@@ -25,4 +25,4 @@ revive-requires-clause-others c =
     subst (λ (replicas : List GroupReplica). list_all (is_of_later ring server) replicas ≡ true)
     (sym c.in_ok-others.ensures)
     (all_pass Fits (is_of_later ring server) (λ new is. is)
-    (news ring server c.args.previous.now c.args.following.now) made)
+    (all_fetched ring server c.args.previous.now c.args.following.now) made)

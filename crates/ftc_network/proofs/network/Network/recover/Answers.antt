@@ -14,7 +14,7 @@ use Rattle.ftc_standing.specs.Stand.{IsLink}
 use Rattle.ftc_visits.specs.Made.{AreMade}
 use Rattle.ftc_network.specs.Parts.{parts_of, server_in, link_in}
 use Rattle.ftc_network.specs.Recovering.{is_up, cut_off}
-use Rattle.ftc_network.specs.Reviving.{got_of, news}
+use Rattle.ftc_network.specs.Reviving.{got_of, all_fetched}
 use Rattle.ftc_network.specs.Stand.{IsSlot}
 use Rattle.ftc_network.proofs.GotReplicas.{sources_are, anew_in, are_got}
 use Rattle.ftc_network.proofs.NearServers.{alone_by, some_of, up_in, within_ring, within_setting, near_live, previous_is, following_is, up_at}
@@ -107,7 +107,7 @@ returns-clause-ok c setting state run due line rule is =
               up = up_again setting state server undone;
               at = c.what_revive_makes.ensures setting state server undone previous.0 following.0 made
                   (got_of (shape setting) server previous.0 following.0 server)
-                  (news (shape setting) server previous.0 following.0) run legal down.0 first last
+                  (all_fetched (shape setting) server previous.0 following.0) run legal down.0 first last
                   (are_got setting state server previous.0 following.0 down.0 first last sources) anew;
               ready = idle_ready made anew.idle;
             })
