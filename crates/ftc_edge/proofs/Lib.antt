@@ -1,1 +1,3 @@
 pub mod Covered
+pub mod Looked
+pub mod Needed

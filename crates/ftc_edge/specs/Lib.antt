@@ -1,2 +1,4 @@
 pub mod Due
+pub mod Known
+pub mod Stretches
 pub mod Carried

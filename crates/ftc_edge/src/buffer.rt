@@ -1,15 +1,17 @@
 //! The buffer behind the last server.
 
 ghost use Rattle.std.specs.Prelude.{◌≡◌, ◌≤◌, ◌+◌, ◌++◌, [], ◌∷◌, length, IsOk, OnOk};
-ghost use Rattle.std.specs.List.{position};
 ghost use Rattle.std.specs.Option.{option_map};
-ghost use Rattle.ftc_edge.specs.Due.{is_due, first_due, without_due, freed};
+ghost use Rattle.ftc_edge.specs.Due.{first_due, without_due, freed};
 
-use crate::known::are_known;
+use crate::held::Held;
+use crate::looking::{find_due, place_due};
+use crate::stretch::Stretch;
 use ftc_base::{Bytes, NoMemory, PacketNo};
 use ftc_message::Needs;
 use ftc_vector::Commits;
 use std::alloc::Global;
+use std::collections::VecDeque;
 use std::marker::Model;
 
 /// A packet that has passed all middleboxes, and what has to be known of the tails before it leaves.
@@ -27,31 +29,32 @@ pub struct Freed {
     pub bytes: Bytes,
 }
 
-/// The withheld packets in the order of withholding. A contract sees the list of them and how many more
-/// there is room for.
+/// The withheld packets in the order of withholding, which is mostly the order of leaving, so that taking out
+/// near the front moves few. A contract sees the list of them and how many more there is room for.
 #[derive(Debug, Drop)]
 pub struct Buffer {
-    held: Vec<Withheld>,
+    held: VecDeque<Held>,
+    /// How many packets there is room for, those that are held among them.
+    room: usize,
+    /// Those behind the packets that are near the front, and what they lack.
+    far: Stretch,
 }
 
 impl Model for Buffer {
-    ghost use Rattle.std.specs.Prelude.{◌-◌, vec_len, vec_capacity};
+    ghost use Rattle.std.specs.Prelude.{◌-◌};
+    ghost use Rattle.std.specs.VecDeque.{deque_len, deque_capacity};
     ghost use Rattle.ftc_edge.specs.Due.{WithheldPackets};
+    ghost use Rattle.ftc_edge.specs.Stretches.{IsKept};
 
     ghost Value = { WithheldPackets };
 
     ghost view = { λ buffer. record {
       items = buffer.held.items;
-      spare = vec_capacity buffer.held - vec_len buffer.held;
+      spare = buffer.room - deque_len buffer.held;
     } };
-}
 
-/// The place of the first packet that is due.
-fn place_of_due(held: &[Withheld], commits: &Commits) -> Option<usize>
-    ensures { result ≡ position (is_due commits.now) held.now }
-{
-    held.iter()
-        .position(|withheld| are_known(commits, &withheld.needs))
+    ghost invariant = { λ buffer. IsKept (deque_len buffer.held) buffer.room (deque_capacity buffer.held)
+        buffer.held.items buffer.far };
 }
 
 impl Buffer {
@@ -60,7 +63,9 @@ impl Buffer {
         ensures { result.items ≡ [] }
     {
         Buffer {
-            held: Vec::new(alloc),
+            held: VecDeque::new(alloc),
+            room: 0,
+            far: Stretch::new(alloc),
         }
     }
 
@@ -78,7 +83,12 @@ impl Buffer {
         ensures spare { self.old.spare ≤ self.new.spare }
         ensures succeeds { count ≤ self.old.spare → IsOk result }
     {
+        if count <= self.room - self.held.len() {
+            return Ok(());
+        }
+        self.far.make_room()?;
         self.held.reserve(count)?;
+        self.room = self.held.capacity();
         Ok(())
     }
 
@@ -89,22 +99,20 @@ impl Buffer {
             self.old.items ++ record { packet = packet; bytes = bytes; needs = needs } ∷ [] }
         ensures spare { self.old.spare ≤ self.new.spare + 1 }
     {
-        self.held.push_reserved(Withheld {
+        self.held.push_back_reserved(Held::new(Withheld {
             packet,
             bytes,
             needs,
-        });
+        }));
     }
 
     /// The packet that is due: the first withheld one all of whose needs are known at the tails.
     pub fn due(&self, commits: &Commits) -> Option<PacketNo>
         ensures { result ≡ option_map (λ withheld. withheld.packet) (first_due commits.now self.now.items) }
     {
-        let due = self
-            .held
-            .iter()
-            .find(|withheld| are_known(commits, &withheld.needs))?;
-        Some(due.packet)
+        let place = place_due(&self.held, &self.far, commits);
+        let due = self.held.get(place)?;
+        Some(due.withheld().packet)
     }
 
     /// Takes the packet that is due out. The others stay in their order.
@@ -113,8 +121,16 @@ impl Buffer {
         ensures others { self.new.items ≡ without_due commits.now self.old.items }
         ensures spare { self.new.spare + length self.new.items ≡ self.old.spare + length self.old.items }
     {
-        let place = place_of_due(self.held.as_slice(), commits)?;
-        let Withheld { packet, bytes, .. } = self.held.remove(place);
+        if self.held.is_empty() {
+            return None;
+        }
+        let place = find_due(&mut self.held, &mut self.far, commits);
+        let held = self.held.remove(place)?;
+        if place < self.far.begin {
+            self.far.begin -= 1;
+            self.far.end -= 1;
+        }
+        let Withheld { packet, bytes, .. } = held.into_withheld();
         Some(Freed { packet, bytes })
     }
 }

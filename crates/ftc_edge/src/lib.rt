@@ -5,8 +5,12 @@
 
 mod buffer;
 mod forwarder;
+mod held;
 mod known;
+mod lack;
 mod laws;
+mod looking;
+mod stretch;
 
 pub use buffer::{Buffer, Freed, Withheld};
 pub use forwarder::{Forwarder, propagating};

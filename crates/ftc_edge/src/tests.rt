@@ -100,6 +100,72 @@ fn the_first_that_is_due_leaves(rt: HostRuntime) -> Result<(), Fail> {
     Ok(())
 }
 
+/// How many packets stand in the row: more than are near the front.
+const ROW: u32 = 150;
+
+/// What the packet of that place in the row needs of a group: its turn in one of 16 partitions, and 1 in another.
+fn need_of_turn(group: u8, place: u32) -> Need
+    requires { group < MOST_SERVERS }
+{
+    let mut need = need(group, 40, 1);
+    need.marks
+        .set((place % 16) as u8, u64::from(place / 16) + 1);
+    need
+}
+
+/// Withholds the packet of that place in the row, which needs its turn in two groups.
+fn withhold_turn(buffer: &mut Buffer, alloc: Global, place: u32) -> Result<(), NoMemory> {
+    let mut needs = Needs::new(alloc);
+    for group in 1..3 {
+        let need = need_of_turn(group, place);
+        if !needs.has(need.group) {
+            needs.insert(need)?;
+        }
+    }
+    buffer.reserve(1)?;
+    buffer.withhold(place, Bytes::new(alloc), needs);
+    Ok(())
+}
+
+/// The tail of a group is known to have had the turn of the packet of that place in the row.
+fn know_turn(commits: &mut Commits, group: u8, place: u32)
+    requires { group < MOST_SERVERS }
+{
+    know(commits, group, 40, 1);
+    know(
+        commits,
+        group,
+        (place % 16) as u8,
+        u64::from(place / 16) + 1,
+    );
+}
+
+#[test]
+fn a_row_leaves_in_turn(rt: HostRuntime) -> Result<(), Fail> {
+    let mut buffer = Buffer::new(rt.alloc());
+    let nothing = Commits::new(rt.alloc())?;
+    let mut commits = Commits::new(rt.alloc())?;
+    for place in 0..ROW {
+        withhold_turn(&mut buffer, rt.alloc(), place)?;
+        assert!(rt; buffer.release(&commits).is_none());
+    }
+    for place in 0..ROW {
+        know_turn(&mut commits, 1, place);
+        assert!(rt; buffer.release(&commits).is_none());
+        know_turn(&mut commits, 2, place);
+        // What was known once may be unknown again.
+        assert!(rt; buffer.release(&nothing).is_none());
+        assert_eq!(rt; buffer.due(&commits), Some(place));
+        assert_eq!(rt;
+            buffer.release(&commits).map(|freed| freed.packet),
+            Some(place)
+        );
+        assert!(rt; buffer.due(&commits).is_none());
+    }
+    assert_eq!(rt; buffer.withheld(), 0);
+    Ok(())
+}
+
 /// A log without writes.
 fn log(origin: PacketNo, group: ServerId) -> Log {
     Log::new(group, origin, Marks::new(), PartSet::new(), Writes::new())

@@ -164,7 +164,7 @@ fn add_messages(
         HasJobsOf (IsOfMessages server) (is_running_by network.now) setting state jobs.old jobs.new) }
 {
     held_in_turn();
-    for held in live.held.as_slice() {
+    for held in live.held.iter() {
         add_message(jobs, network, script, server, &held.message)?;
     }
     Ok(())

@@ -28,7 +28,7 @@ fn all_up(network: &Network) -> bool
 fn all_by_ring(server: &Server) -> bool
     ensures { result ≡ all_by_ring server.now }
 {
-    server.held.as_slice().iter().all(|held| held.by_ring)
+    server.held.iter().all(|held| held.by_ring)
 }
 
 /// Whether a server is up, and each message that it holds came by the ring link.

@@ -81,7 +81,7 @@ fn job_of_work(
 fn are_rising(server: &Server)
     ensures { AllByRecursion IsRising server.now.held.items }
 {
-    for held in server.held.as_slice() {
+    for held in server.held.iter() {
         let _ = held.message.logs.len();
     }
 }

@@ -8,7 +8,7 @@ use Rattle.std.proofs.lemmas.List.Folds.{find_at}
 use Rattle.std.proofs.lemmas.List.Quantifiers.{position-Some}
 use Rattle.std.proofs.lemmas.Option.{slice_get_past}
 use Rattle.std.specs.List.{position_or_len, remove}
-use Rattle.std.specs.Prelude.{nat_lt, ◌==◌}
+use Rattle.std.specs.Prelude.{nat_lt, ◌==◌, IfSome, IsSome, OnSome}
 use Rattle.ftc_server.specs.declared.held.HeldMessage.{HeldMessage}
 use Rattle.ftc_server.specs.Holding.{is_of, found, without, with_changed}
 
@@ -206,6 +206,27 @@ changed_first origin change (x ∷ items) zero d at =
 changed_first origin change (x ∷ items) (suc place) d at =
     ap (λ (rest : List Held). x ∷ rest) (changed_first origin change items place d (next_at (is_of origin) x items place d at))
     ∙ ap (λ (t : Bool). cond t (change x ∷ items) (x ∷ with_changed origin change items)) (sym (at.before 0 (omega arith)))
+
+-- what is taken out at the place, and what is left
+pub taken_first : {A : Type 0} (test : A → Bool) (items : List A) (place : ℕ) (taken : Option A)
+    → position test items ≡ Some place → (place < length items → IsSome taken)
+    → IfSome taken (λ item. item ≡ get_or items place item) → taken ≡ find test items
+taken_first test [] place taken at there is = absurd cc
+taken_first {A} test (x ∷ items) place None at there is =
+    let taken = there (first_at test (x ∷ items) place x at).within in
+    absurd cc
+taken_first {A} test (x ∷ items) place (Some item) at there is =
+    ap (λ (y : A). Some y) is ∙ sym (found_first test (x ∷ items) place item (first_at test (x ∷ items) place item at))
+
+pub left_first : (origin : ℕ) (items left : List Held) (place : ℕ) (taken : Option Held)
+    → position (is_of origin) items ≡ Some place → (place < length items → IsSome taken)
+    → OnSome taken (left ≡ remove items place) → left ≡ without origin items
+left_first origin [] left place taken at there is = absurd cc
+left_first origin (x ∷ items) left place None at there is =
+    let taken = there (first_at (is_of origin) (x ∷ items) place x at).within in
+    absurd cc
+left_first origin (x ∷ items) left place (Some item) at there is =
+    is ∙ removed_first origin (x ∷ items) place x (first_at (is_of origin) (x ∷ items) place x at)
 
 pub none_out : (origin : ℕ) (items : List Held) → find (is_of origin) items ≡ None → without origin items ≡ items
 none_out origin [] none = refl

@@ -2,7 +2,9 @@
 
 ghost use Rattle.std.specs.Prelude.{◌≡◌, ◌≤◌, ◌<◌, ◌+◌, ◌++◌, [], ◌∷◌, length, filter, OnOk, IsOk, slice_get, Some};
 ghost use Rattle.std.specs.List.{position};
+ghost use Rattle.std.specs.Iterator.Runs.{YieldsRefsInOrder, YieldsRefsInReverse};
 ghost use Rattle.std.specs.Option.{option_copied};
+ghost use Rattle.std.specs.VecDeque.Iter.{deque_iter_rest, deque_iter_steps, deque_iter_steps_back};
 ghost use Rattle.ftc_server.specs.Holding.{is_of, found, is_held, without, with_changed};
 ghost use Rattle.ftc_server.specs.Replicas.{is_ready};
 ghost use Rattle.ftc_server.specs.Visited.{visited_by};
@@ -13,6 +15,8 @@ use ftc_base::{NoMemory, PacketNo};
 use ftc_message::Message;
 use ftc_replica::Replica;
 use std::alloc::Global;
+use std::collections::VecDeque;
+use std::collections::vec_deque::Iter;
 use std::marker::Model;
 
 /// A message that a server holds: whether its packet was visited there, and whether it came by the link
@@ -24,27 +28,31 @@ pub struct HeldMessage {
     pub message: Message,
 }
 
-/// The held messages in the order of taking. A contract sees the list of them, and for how many more there
-/// is room.
+/// The held messages in the order of taking, which is mostly the order of leaving, so that taking out near the
+/// front moves few. A contract sees the list of them, and for how many more there is room.
 #[derive(Debug, Drop)]
 pub struct HeldMessages {
-    list: Vec<HeldMessage>,
+    list: VecDeque<HeldMessage>,
 }
 
 impl Model for HeldMessages {
-    ghost use Rattle.std.specs.Prelude.{◌-◌, vec_len, vec_capacity};
+    ghost use Rattle.std.specs.Prelude.{◌-◌};
+    ghost use Rattle.std.specs.VecDeque.{deque_len, deque_capacity};
     ghost use Rattle.ftc_server.specs.Holding.{Holding};
 
     ghost Value = { Holding };
 
-    ghost view = { λ held. record { items = held.list.items; spare = vec_capacity held.list - vec_len held.list } };
+    ghost view = { λ held. record {
+      items = held.list.items;
+      spare = deque_capacity held.list - deque_len held.list;
+    } };
 }
 
 /// Where the message of that origin stands.
-fn place_of(items: &[HeldMessage], origin: PacketNo) -> Option<usize>
-    ensures { result ≡ position (is_of origin) items.now }
+fn place_of(list: &VecDeque<HeldMessage>, origin: PacketNo) -> Option<usize>
+    ensures { result ≡ position (is_of origin) list.now.items }
 {
-    items.iter().position(|held| held.message.origin == origin)
+    list.iter().position(|held| held.message.origin == origin)
 }
 
 impl HeldMessages {
@@ -53,7 +61,7 @@ impl HeldMessages {
         ensures { result.items ≡ [] }
     {
         HeldMessages {
-            list: Vec::new(alloc),
+            list: VecDeque::new(alloc),
         }
     }
 
@@ -73,10 +81,12 @@ impl HeldMessages {
     }
 
     /// All messages, in the order of taking.
-    pub fn as_slice(&self) -> &[HeldMessage]
-        ensures { result.now ≡ self.now.items }
+    pub fn iter(&self) -> Iter<'_, HeldMessage>
+        ensures rest { deque_iter_rest result ≡ self.now.items }
+        ensures runs { YieldsRefsInOrder (deque_iter_steps {X = HeldMessage}) deque_iter_rest }
+        ensures runs_back { YieldsRefsInReverse (deque_iter_steps_back {X = HeldMessage}) deque_iter_rest }
     {
-        self.list.as_slice()
+        self.list.iter()
     }
 
     /// The message of that origin.
@@ -103,7 +113,7 @@ impl HeldMessages {
         ensures items { self.new.items ≡ self.old.items ++ held ∷ [] }
         ensures spare { self.old.spare ≤ self.new.spare + 1 }
     {
-        self.list.push_reserved(held);
+        self.list.push_back_reserved(held);
     }
 
     /// The packet of the message of that origin was visited. It is another or none from now on, and the
@@ -111,7 +121,7 @@ impl HeldMessages {
     pub fn visit(&mut self, origin: PacketNo, visited: Visited)
         ensures { self.new.items ≡ with_changed origin (visited_by visited) self.old.items }
     {
-        match place_of(self.list.as_slice(), origin) {
+        match place_of(&self.list, origin) {
             Some(place) => change(&mut self.list[place], visited),
             None => {}
         }
@@ -122,8 +132,8 @@ impl HeldMessages {
         ensures taken { result ≡ found origin self.old.items }
         ensures others { self.new.items ≡ without origin self.old.items }
     {
-        let place = place_of(self.list.as_slice(), origin)?;
-        Some(self.list.remove(place))
+        let place = place_of(&self.list, origin)?;
+        self.list.remove(place)
     }
 
     /// Drops the messages whose logs these replicas haven't all. The others stay in their order.

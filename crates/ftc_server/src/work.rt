@@ -98,11 +98,7 @@ impl Server {
         ensures { result ≡ first_work_in self.now }
     {
         let replicas = self.others.as_slice();
-        let held = self
-            .held
-            .as_slice()
-            .iter()
-            .find(|held| has_work(replicas, held))?;
+        let held = self.held.iter().find(|held| has_work(replicas, held))?;
         Some(held.message.origin)
     }
 }

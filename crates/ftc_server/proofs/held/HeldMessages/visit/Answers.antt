@@ -1,6 +1,5 @@
-use Rattle.std.proofs.Common.{◌∙◌, List, sym, ap}
+use Rattle.std.proofs.Common.{◌∙◌, sym, ap}
 use Rattle.std.specs.Prelude.{slice_set}
-use Rattle.std.specs.List.{position}
 use Rattle.ftc_server.specs.declared.held.HeldMessage.{HeldMessage}
 use Rattle.ftc_server.specs.Holding.{Holding, is_of, found, with_changed}
 use Rattle.ftc_server.specs.Visited.{visited_by}
@@ -11,16 +10,16 @@ pub returns-in-Some : goal.returns-in-Some
 returns-in-Some c =
     let is = is_of c.args.origin in
     let change = visited_by c.args.visited in
-    let seen = ap (λ (items : List HeldMessage). position is items) c.as_slice.ensures.value in
-    let first = first_at is c.self.inside.list.items c.in-Some.place c.index_mut.result.now (sym seen ∙ sym c.place_of.ensures ∙ c.in-Some.is) in
-    ap (λ (held : HeldMessage). slice_set c.self.inside.list.items c.in-Some.place held) (c.change.ensures ∙ ap change c.index_mut.ensures.value)
+    let first = first_at is c.self.inside.list.items c.in-Some.place c.index_mut.result.now
+    (sym c.place_of.ensures ∙ c.in-Some.is) in
+    ap (λ (held : HeldMessage). slice_set c.self.inside.list.items c.in-Some.place held)
+    (c.change.ensures ∙ ap change c.index_mut.ensures.value)
     ∙ changed_first c.args.origin change c.self.inside.list.items c.in-Some.place c.index_mut.result.now first
     ∙ ap (λ (held : Holding). with_changed c.args.origin change held.items) c.self.view_is
 
 pub returns-in-None : goal.returns-in-None
 returns-in-None c =
     let is = is_of c.args.origin in
-    let seen = ap (λ (items : List HeldMessage). position is items) c.as_slice.ensures.value in
-    let none = none_found is c.self.inside.list.items (sym seen ∙ sym c.place_of.ensures ∙ c.in-None.is) in
+    let none = none_found is c.self.inside.list.items (sym c.place_of.ensures ∙ c.in-None.is) in
     sym (none_changed c.args.origin (visited_by c.args.visited) c.args.self.now.items
     (ap (λ (held : Holding). found c.args.origin held.items) (sym c.self.view_is) ∙ none))
