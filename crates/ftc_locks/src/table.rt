@@ -192,10 +192,15 @@ impl LockTable {
         ensures partitions { self.new.partitions ≡ self.old.partitions }
     {
         let _ = &self.partitions;
+        let wounded = self.in_the_way(worker, partition, change);
+        if wounded == WorkerSet::new() {
+            // Mostly nobody is, and nothing else has to be looked for.
+            self.grant(worker, age, partition, change);
+            return Acquired::Granted { wounded };
+        }
         match self.blocker(worker, age, partition, change) {
             Some(holder) => Acquired::Blocked { holder },
             None => {
-                let wounded = self.in_the_way(worker, partition, change);
                 self.free_each(wounded);
                 self.grant(worker, age, partition, change);
                 Acquired::Granted { wounded }

@@ -1,9 +1,9 @@
 -- Commits, which are written as needs: what is read is spelled so, and what is spelled so is read.
-use Rattle.std.proofs.Common.{◌≡◌, ◌≢◌, ℕ, zero, suc, ◌+◌, ◌-◌, ◌^◌, ◌<◌, ◌≤◌, ◌==◌, leb, max, Bool, true, false, List, [], ◌∷◌, ◌++◌, length, get_or, drop, Option, Some, None, Ok, refl, sym, ap, subst, ◌∙◌, inl, inr, append_assoc, arith, if◌then◌else◌}
+use Rattle.std.proofs.Common.{◌≡◌, ◌≢◌, ℕ, zero, suc, ◌+◌, ◌-◌, ◌^◌, ◌<◌, ◌≤◌, ◌==◌, leb, max, Bool, true, false, List, [], ◌∷◌, ◌++◌, length, get_or, drop, Option, Some, None, Result, Ok, Err, refl, sym, ap, subst, ◌∙◌, inl, inr, append_assoc, arith, if◌then◌else◌}
 use Rattle.std.specs.Prelude.{not, is_some, slice_set, replicate, unwrap_or}
 use Rattle.std.specs.List.{AllByRecursion, list_all, list_any}
 use Rattle.std.proofs.lemmas.Bool.{cases_lt, leb-true, le-leb, and_parts, and_from, eq-eqb, ne_eqb}
-use Rattle.std.proofs.lemmas.List.{ext_get_or, drop_more, set_at, get_or_at, get_or_past, length-append, length-replicate, length-map}
+use Rattle.std.proofs.lemmas.List.{append-nil, drop_all, ext_get_or, drop_more, set_at, get_or_at, get_or_past, length-append, length-replicate, length-map}
 use Rattle.ftc_base.specs.declared.limits.TheConstants.{MOST_SERVERS, MOST_PARTITIONS}
 use Rattle.ftc_vector.specs.Vector.{by_partition, number_at, merged, IsVector}
 use Rattle.ftc_vector.specs.Commits.{by_group, vector_of, group_raised}
@@ -14,7 +14,9 @@ use Rattle.ftc_message.specs.Bounds.{AreCommits}
 use Rattle.ftc_message.specs.Spelling.{marked, marks_from, needs_bytes, not_zero, known_from, commits_bytes}
 use Rattle.ftc_message.specs.Numbers.{number_bytes}
 use Rattle.ftc_message.proofs.Partitions.{count_small}
-use Rattle.ftc_message.specs.Reading.{needs_at, no_commits, numbers_in, with_known, commits_at}
+use Rattle.ftc_base.specs.Reading.{◌>>=◌}
+use Rattle.ftc_message.specs.declared.fault.FieldFault.{FieldFault}
+use Rattle.ftc_message.specs.Reading.{times, need_at, with_need, needs_at, no_commits, numbers_in, with_known, commits_at}
 use Rattle.ftc_message.proofs.Fields.{IsBytes, Takes, bind_ok, ok_is}
 use Rattle.ftc_message.proofs.Blanks.{split_at, length_before, replace}
 use Rattle.ftc_message.proofs.MarkLaws.{IsMark, AreSpelled}
@@ -290,9 +292,37 @@ zero_number k =
       | inr past ↦ get_or_past {X = ℕ} (by_partition (λ _. 0)) k 0 (omega (arith, length-by_partition {A = ℕ} (λ _. 0)))
     ]
 
-pub commits_read : (bytes rest : List ℕ) (ns : List Need) → IsBytes bytes → needs_at MOST_SERVERS 1 bytes ≡ Ok (ns, rest) → bytes ≡ commits_bytes (with_known ns no_commits) ++ rest
-unfolding commits_at
-commits_read bytes rest ns fits is = (commits_at_takes bytes (with_known ns no_commits, rest) fits (rw is refl)).0.parts
+-- what was read before stands in front of what is read
+abbrev AreBehind : {T : Type 0} → ℕ → ℕ → List Need → ((ℕ × List Need) × List ℕ → Result T FieldFault) → ℕ → List Need → List ℕ → Type 0
+AreBehind least n earlier behind from needs bytes =
+    (times (with_need least) n (from, earlier ++ needs) bytes >>= behind)
+    ≡ (times (with_need least) n (from, needs) bytes >>= λ read. behind ((read.0.0, earlier ++ read.0.1), read.1))
+
+first_read : {T : Type 0} (least n : ℕ) (earlier : List Need) (behind : (ℕ × List Need) × List ℕ → Result T FieldFault)
+    (from : ℕ) (needs : List Need) (bytes : List ℕ) (read : Result (Need × List ℕ) FieldFault)
+    → ((from : ℕ) (needs : List Need) (bytes : List ℕ) → AreBehind least n earlier behind from needs bytes)
+    → need_at least from bytes ≡ read → AreBehind least (suc n) earlier behind from needs bytes
+unfolding times
+first_read least n earlier behind from needs bytes (Err fault) rest_read is = rw is refl
+first_read least n earlier behind from needs bytes (Ok (need, rest)) rest_read is =
+    rw (is, append_assoc earlier needs (need ∷ [])) (rest_read (need.group + 1) (needs ++ need ∷ []) rest)
+
+read_behind : {T : Type 0} (least n : ℕ) (earlier : List Need) (behind : (ℕ × List Need) × List ℕ → Result T FieldFault)
+    (from : ℕ) (needs : List Need) (bytes : List ℕ) → AreBehind least n earlier behind from needs bytes
+unfolding times
+read_behind least zero earlier behind from needs bytes = refl
+read_behind least (suc n) earlier behind from needs bytes =
+    first_read least n earlier behind from needs bytes (need_at least from bytes) (read_behind least n earlier behind) refl
+
+-- the commits that the needs which are read say beside these
+abbrev pub known_beside : List (List ℕ) → (ℕ × List Need) × List ℕ → Result (List (List ℕ) × List ℕ) FieldFault
+known_beside commits read = Ok (with_known read.0.1 commits, read.1)
+
+-- what one more entry says is known before what the others say
+pub one_more_known : (n from : ℕ) (need : Need) (bytes : List ℕ) (commits : List (List ℕ))
+    → (times (with_need 1) n (from, need ∷ []) bytes >>= known_beside commits)
+    ≡ (times (with_need 1) n (from, []) bytes >>= known_beside (group_raised commits need.group (numbers_in need.marks)))
+one_more_known n from need bytes commits = read_behind 1 n (need ∷ []) (known_beside commits) from [] bytes
 
 known_place : (commits : List (List ℕ)) (group : ℕ) → group < length commits → drop group commits ≡ get_or commits group [] ∷ drop (group + 1) commits
 known_place commits group within = drop_more commits group [] within
@@ -345,15 +375,14 @@ pub zero_passed : (vector : List ℕ) (p : ℕ) (out whole : List ℕ) → p < l
 zero_passed vector p out whole within is left =
     ap (λ (marks : List (Option ℕ)). out ++ marks_from p marks) (sym (zero_there vector p within is)) ∙ left
 
-pub number_added : (vector : List ℕ) (p : ℕ) (out after last whole : List ℕ) → p < length vector → get_or vector p 0 ≢ 0
-    → after ≡ out ++ p ∷ [] → last ≡ after ++ number_bytes 8 (get_or vector p 0)
+pub number_added : (vector : List ℕ) (p : ℕ) (out last whole : List ℕ) → p < length vector → get_or vector p 0 ≢ 0
+    → last ≡ out ++ p ∷ number_bytes 8 (get_or vector p 0)
     → out ++ marks_from p (drop p (not_zero vector)) ≡ whole
     → last ++ marks_from (p + 1) (drop (p + 1) (not_zero vector)) ≡ whole
-number_added vector p out after last whole within isnt first second left =
+number_added vector p out last whole within isnt added left =
     let rest = marks_from (p + 1) (drop (p + 1) (not_zero vector)) in
-    let bytes = number_bytes 8 (get_or vector p 0) in
-    ap (λ (xs : List ℕ). xs ++ rest) (second ∙ ap (λ (xs : List ℕ). xs ++ bytes) first)
-    ∙ append_assoc (out ++ p ∷ []) bytes rest ∙ append_assoc out (p ∷ []) (bytes ++ rest)
+    ap (λ (xs : List ℕ). xs ++ rest) added
+    ∙ append_assoc out (p ∷ number_bytes 8 (get_or vector p 0)) rest
     ∙ ap (λ (marks : List (Option ℕ)). out ++ marks_from p marks) (sym (number_there vector p within isnt)) ∙ left
 
 pub zero_counted : (vector : List ℕ) (p count whole : ℕ) → p < length vector → get_or vector p 0 ≡ 0
@@ -369,3 +398,31 @@ number_counted vector p count whole within isnt left =
 pub few_counted : (vector : List ℕ) (p count : ℕ) → count + marked (drop p (not_zero vector)) ≡ marked (not_zero vector)
     → count ≤ length vector
 few_counted vector p count left = omega (arith, count_small (not_zero vector) p count left, length-not_zero vector)
+
+pub numbers_all : (vector : List ℕ) (p : ℕ) (out whole : List ℕ) → length vector ≤ p
+    → out ++ marks_from p (drop p (not_zero vector)) ≡ whole → out ≡ whole
+numbers_all vector p out whole past so_far =
+    sym (append-nil out)
+    ∙ ap (λ (marks : List (Option ℕ)). out ++ marks_from p marks)
+    (sym (drop_all p (not_zero vector) (omega (arith, past, length-not_zero vector)))) ∙ so_far
+
+-- the count of the numbers that are left
+pub zero_left : (vector : List ℕ) (p left : ℕ) → p < length vector → get_or vector p 0 ≡ 0
+    → left ≡ marked (drop p (not_zero vector)) → left ≡ marked (drop (p + 1) (not_zero vector))
+zero_left vector p left within is so_far = omega (arith, ap marked (zero_there vector p within is), so_far)
+
+pub number_left : (vector : List ℕ) (p left : ℕ) → p < length vector → get_or vector p 0 ≢ 0
+    → left ≡ marked (drop p (not_zero vector)) → left - 1 ≡ marked (drop (p + 1) (not_zero vector))
+number_left vector p left within isnt so_far = omega (arith, ap marked (number_there vector p within isnt), so_far)
+
+none_from : (marks : List (Option ℕ)) (p : ℕ) → marked marks ≡ 0 → marks_from p marks ≡ []
+none_from [] p none = refl
+none_from (None ∷ marks) p none = none_from marks (p + 1) none
+none_from (Some number ∷ marks) p none = let some : marked marks + 1 ≡ 0 = none in absurd (omega (arith, some))
+
+-- where none is left, all were added
+pub numbers_done : (vector : List ℕ) (p left : ℕ) (out whole : List ℕ) → left ≡ 0
+    → left ≡ marked (drop p (not_zero vector)) → out ++ marks_from p (drop p (not_zero vector)) ≡ whole → out ≡ whole
+numbers_done vector p left out whole none so_far told =
+    sym (append-nil out)
+    ∙ ap (λ (rest : List ℕ). out ++ rest) (sym (none_from (drop p (not_zero vector)) p (omega (arith, none, so_far)))) ∙ told

@@ -1,6 +1,6 @@
 //! Numbers of several bytes, the highest byte first.
 
-ghost use Rattle.std.specs.Prelude.{◌≡◌, ◌++◌, length, OnOk};
+ghost use Rattle.std.specs.Prelude.{◌≡◌, ◌++◌, ◌∷◌, length, OnOk};
 ghost use Rattle.ftc_message.specs.Numbers.{number_bytes, number_of};
 
 use byteorder::{BigEndian, ByteOrder};
@@ -34,12 +34,20 @@ pub fn append_word(number: u32, out: &mut Bytes) -> Result<(), NoMemory>
     out.append(&four)
 }
 
-/// Adds the number's eight bytes at the end.
+/// Adds a partition and its number at the end, in one piece: 1 byte and 8.
 #[tactic(auto, unfolding(crate::specs::Numbers::number_bytes))]
-pub fn append_number(number: u64, out: &mut Bytes) -> Result<(), NoMemory>
-    ensures { OnOk result (out.new ≡ out.old ++ number_bytes 8 number) }
+pub fn append_entry(partition: u8, number: u64, out: &mut Bytes) -> Result<(), NoMemory>
+    ensures { OnOk result (out.new ≡ out.old ++ partition ∷ number_bytes 8 number) }
 {
-    let mut eight = [0; 8];
-    BigEndian::write_u64(&mut eight, number);
-    out.append(&eight)
+    let [a, b, c, d, e, f, g, h] = number.to_be_bytes();
+    out.append(&[partition, a, b, c, d, e, f, g, h])
+}
+
+/// Adds a partition, its flag and its number at the end, in one piece: 1 byte, 1 and 8.
+#[tactic(auto, unfolding(crate::specs::Numbers::number_bytes))]
+pub fn append_part(partition: u8, flag: u8, number: u64, out: &mut Bytes) -> Result<(), NoMemory>
+    ensures { OnOk result (out.new ≡ out.old ++ partition ∷ flag ∷ number_bytes 8 number) }
+{
+    let [a, b, c, d, e, f, g, h] = number.to_be_bytes();
+    out.append(&[partition, flag, a, b, c, d, e, f, g, h])
 }

@@ -6,13 +6,13 @@ ghost use Rattle.ftc_vector.specs.Vector.{IsVector};
 ghost use Rattle.ftc_vector.specs.Commits.{vector_of};
 ghost use Rattle.ftc_message.specs.Bounds.{AreCommits};
 ghost use Rattle.ftc_message.specs.Spelling.{not_zero, marked, marks_from, need_bytes, known_from, commits_bytes};
-ghost use Rattle.ftc_message.specs.Reading.{numbers_in, no_commits, with_known, commits_at};
+ghost use Rattle.ftc_message.specs.Reading.{numbers_in, commits_at};
 ghost use Rattle.ftc_message.specs.Front.{IsFront};
 
-use crate::bytes::append_number;
+use crate::bytes::append_entry;
 use crate::fault::FieldFault;
-use crate::need::Needs;
-use crate::need_bytes::needs_at;
+use crate::field::within_at;
+use crate::need_bytes::need_at;
 use ftc_base::limits::{MOST_PARTITIONS, MOST_SERVERS};
 use ftc_base::{Bytes, NoMemory, Refuse, ServerId};
 use ftc_vector::{Commits, Marks, Vector};
@@ -23,7 +23,7 @@ fn numbers_in(marks: &Marks) -> Vector
     ensures { result ≡ numbers_in marks.now }
 {
     let mut vector = Vector::zero();
-    for partition in 0..MOST_PARTITIONS {
+    for partition in 0..marks.end() {
         if let Some(number) = marks.at(partition) {
             vector.set(partition, number);
         }
@@ -31,30 +31,27 @@ fn numbers_in(marks: &Marks) -> Vector
     vector
 }
 
-/// The commits that these entries say.
-fn commits_of(alloc: Global, known: &Needs) -> Result<Commits, NoMemory>
-    ensures { IfOk result (λ commits. commits ≡ with_known known.now no_commits) }
-{
-    let mut commits = Commits::new(alloc)?;
-    for need in known.as_slice() {
-        commits.raise(need.group, &numbers_in(&need.marks));
-    }
-    Ok(commits)
-}
-
 /// The commits at the front, and the bytes behind them.
-#[tactic(auto, unfolding(crate::specs::Reading::commits_at))]
+#[tactic(auto, unfolding(crate::specs::Reading::commits_at, crate::specs::Reading::needs_at))]
 pub fn commits_at(alloc: Global, bytes: &[u8]) -> Result<(Commits, &[u8]), Refuse<FieldFault>>
     ensures value { IsFront result (commits_at bytes.now) }
     ensures spelled { IfOk result (λ found. bytes.now ≡ commits_bytes found.0 ++ found.1.now) }
 {
-    match needs_at(alloc, MOST_SERVERS, 1, bytes) {
-        Ok((known, rest)) => {
-            let commits = commits_of(alloc, &known)?;
-            Ok((commits, rest))
+    let (count, after) = within_at(0, MOST_SERVERS, bytes)?;
+    let mut rest = after;
+    let mut from = 0;
+    let mut commits = Commits::new(alloc)?;
+    for _ in 0..count {
+        match need_at(1, from, rest) {
+            Ok((known, behind)) => {
+                from = known.group.number() + 1;
+                commits.raise(known.group, &numbers_in(&known.marks));
+                rest = behind;
+            }
+            Err(fault) => return Err(Refuse::Bad(fault)),
         }
-        Err(refused) => Err(refused),
     }
+    Ok((commits, rest))
 }
 
 /// Whether what is known of the group of that number has a number that isn't 0.
@@ -82,17 +79,22 @@ fn count_not_zero(vector: &Vector) -> u8
     count
 }
 
-/// Adds the numbers of a vector that aren't 0, each behind its partition.
-fn append_numbers(vector: &Vector, out: &mut Bytes) -> Result<(), NoMemory>
+/// Adds the numbers of a vector that aren't 0, each behind its partition. There are so many.
+fn append_numbers(vector: &Vector, count: u8, out: &mut Bytes) -> Result<(), NoMemory>
+    requires { count ≡ marked (not_zero vector.now) }
     ensures { OnOk result (out.new ≡ out.old ++ marks_from 0 (not_zero vector.now)) }
 {
     // The contract of this call tells how many partitions there are.
     let _ = vector.at(0);
+    let mut left = count;
     for partition in 0..MOST_PARTITIONS {
+        if left == 0 {
+            return Ok(());
+        }
         let number = vector.at(partition);
         if number != 0 {
-            out.append(&[partition])?;
-            append_number(number, out)?;
+            append_entry(partition, number, out)?;
+            left -= 1;
         }
     }
     Ok(())
@@ -129,8 +131,9 @@ fn append_known(commits: &Commits, place: u8, out: &mut Bytes) -> Result<(), NoM
         ++ need_bytes (record { group = place; marks = not_zero (vector_of commits.now place) })) }
 {
     let vector = commits.of(ServerId::new(place).unwrap());
-    out.append(&[place, count_not_zero(vector)])?;
-    append_numbers(vector, out)
+    let count = count_not_zero(vector);
+    out.append(&[place, count])?;
+    append_numbers(vector, count, out)
 }
 
 /// Adds the commits' bytes at the end. Where memory is refused, some of them may have been added.

@@ -141,6 +141,14 @@ impl Logs {
         Ok(())
     }
 
+    /// Makes room for so many more logs, so that adding them moves none.
+    pub(crate) fn make_room(&mut self, count: usize) -> Result<(), NoMemory>
+        ensures { self.new ≡ self.old }
+    {
+        self.list.reserve(count)?;
+        Ok(())
+    }
+
     /// Puts a log at its place among the others, of which none is of its packet and group.
     pub fn insert(&mut self, log: Log) -> Result<(), NoMemory>
         requires { HasNone log self.old }
@@ -193,7 +201,8 @@ impl Logs {
     pub fn copy(&self, alloc: Global) -> Result<Logs, NoMemory>
         ensures { IfOk result (λ copy. copy ≡ self.now) }
     {
-        let mut list = Vec::new(alloc);
+        // A visit adds one to the copy.
+        let mut list = Vec::with_capacity(alloc, self.list.len().saturating_add(1))?;
         for log in self.list.as_slice() {
             list.push(log.copy())?;
         }

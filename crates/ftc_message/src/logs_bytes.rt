@@ -14,6 +14,9 @@ use crate::logs::Logs;
 use ftc_base::{Bytes, NoMemory, Refuse};
 use std::alloc::Global;
 
+/// Room for at most so many logs is taken before they are read, since the count may be a stranger's.
+const FEW_LOGS: usize = 4;
+
 /// The logs at the front, and the bytes behind them.
 #[tactic(auto, unfolding(crate::specs::Reading::logs_at))]
 pub fn logs_at(alloc: Global, bytes: &[u8]) -> Result<(Logs, &[u8]), Refuse<FieldFault>>
@@ -23,6 +26,7 @@ pub fn logs_at(alloc: Global, bytes: &[u8]) -> Result<(Logs, &[u8]), Refuse<Fiel
     let mut rest = after;
     let mut last = None;
     let mut logs = Logs::new(alloc);
+    logs.make_room(FEW_LOGS.min(count as usize))?;
     for _ in 0..count {
         match log_at(&last, rest) {
             Ok((log, behind)) => {

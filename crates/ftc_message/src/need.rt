@@ -198,7 +198,8 @@ impl Needs {
     pub fn copy(&self, alloc: Global) -> Result<Needs, NoMemory>
         ensures { IfOk result (λ copy. copy ≡ self.now) }
     {
-        let mut list = Vec::new(alloc);
+        // A visit adds one to the copy.
+        let mut list = Vec::with_capacity(alloc, self.list.len().saturating_add(1))?;
         for need in self.list.as_slice() {
             list.push(*need)?;
         }

@@ -16,7 +16,7 @@ use std::alloc::Global;
 
 /// A need of a group that is at least `from`, with numbers that are at least `least`.
 #[tactic(auto, unfolding(crate::specs::Reading::need_at))]
-fn need_at(least: u64, from: u8, bytes: &[u8]) -> Result<(Need, &[u8]), FieldFault>
+pub(crate) fn need_at(least: u64, from: u8, bytes: &[u8]) -> Result<(Need, &[u8]), FieldFault>
     ensures value { IsField result (need_at least from bytes.now) }
     ensures follows { IfOk result (λ found. nat_le from found.0.group ≡ true) }
 {

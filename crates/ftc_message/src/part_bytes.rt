@@ -4,8 +4,7 @@ ghost use Rattle.std.specs.Prelude.{◌≡◌, ◌++◌, ◌∷◌, length, OnOk
 ghost use Rattle.ftc_vector.specs.Vector.{AreMarks};
 ghost use Rattle.ftc_message.specs.Spelling.{marked, marks_bytes, parts_bytes};
 
-use crate::bytes::append_number;
-use ftc_base::limits::MOST_PARTITIONS;
+use crate::bytes::{append_entry, append_part};
 use ftc_base::{Bytes, NoMemory, PartSet};
 use ftc_vector::Marks;
 
@@ -14,10 +13,8 @@ pub fn marked(marks: &Marks) -> u8
     ensures count { result ≡ marked marks.now }
     ensures bounds { AreMarks marks.now }
 {
-    // The contract of this call tells how many partitions there are.
-    let _ = marks.at(0);
     let mut count = 0;
-    for partition in 0..MOST_PARTITIONS {
+    for partition in 0..marks.end() {
         if let Some(_) = marks.at(partition) {
             count += 1;
         }
@@ -30,10 +27,9 @@ pub fn append_marks(marks: &Marks, out: &mut Bytes) -> Result<(), NoMemory>
     ensures { OnOk result (out.new ≡ out.old ++ marks_bytes marks.now) }
 {
     out.append(&[marked(marks)])?;
-    for partition in 0..MOST_PARTITIONS {
+    for partition in 0..marks.end() {
         if let Some(number) = marks.at(partition) {
-            out.append(&[partition])?;
-            append_number(number, out)?;
+            append_entry(partition, number, out)?;
         }
     }
     Ok(())
@@ -44,10 +40,9 @@ pub fn append_parts(before: &Marks, changed: PartSet, out: &mut Bytes) -> Result
     ensures { OnOk result (out.new ≡ out.old ++ parts_bytes before.now changed) }
 {
     out.append(&[marked(before)])?;
-    for partition in 0..MOST_PARTITIONS {
+    for partition in 0..before.end() {
         if let Some(number) = before.at(partition) {
-            out.append(&[partition, u8::from(changed.has(partition))])?;
-            append_number(number, out)?;
+            append_part(partition, u8::from(changed.has(partition)), number, out)?;
         }
     }
     Ok(())

@@ -4,7 +4,6 @@ ghost use Rattle.std.specs.Prelude.{◌≡◌};
 ghost use Rattle.ftc_vector.specs.Vector.{need_at};
 ghost use Rattle.ftc_replica.specs.Kept.{reaches, covers_log};
 
-use ftc_base::limits::MOST_PARTITIONS;
 use ftc_message::Log;
 use ftc_vector::Vector;
 
@@ -24,7 +23,7 @@ fn reaches(number: u64, carried: Option<u64>, is_changed: bool) -> bool
 pub fn covers_log(vector: &Vector, log: &Log) -> bool
     ensures { result ≡ covers_log vector.now log.now }
 {
-    for partition in 0..MOST_PARTITIONS {
+    for partition in 0..log.before().end() {
         let carried = log.before().at(partition);
         if !reaches(vector.at(partition), carried, log.changed().has(partition)) {
             return false;

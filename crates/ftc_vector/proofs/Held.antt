@@ -1,11 +1,12 @@
 -- The vectors of the first groups, and the one of zeros behind them that stands for all others.
-use Rattle.std.proofs.Common.{◌≡◌, ◌≢◌, ◌<◌, ◌≤◌, ◌+◌, ◌-◌, ◌==◌, ℕ, true, List, [], length, get_or, min, refl, sym, ◌∙◌, inl, inr, zero-add, arith}
+use Rattle.std.proofs.Common.{◌≡◌, ◌≢◌, ◌<◌, ◌≤◌, ◌+◌, ◌-◌, ◌==◌, ℕ, true, List, [], length, get_or, min, max, refl, sym, ap, ◌∙◌, inl, inr, zero-add, arith}
+use Rattle.std.specs.Prelude.{slice_set}
 use Rattle.std.specs.List.{list_all}
 use Rattle.std.proofs.lemmas.Bool.{cases_lt, cases_eq}
-use Rattle.std.proofs.lemmas.List.{get_or_default, get_or_past, length-set}
+use Rattle.std.proofs.lemmas.List.{get_or_default, get_or_past, length-set, get_or-set_same}
 use Rattle.std.proofs.lemmas.List.FromFn.{length-map-range_with_len, get_or-map-range_with_len}
 use Rattle.ftc_base.specs.declared.limits.TheConstants.{MOST_SERVERS, MOST_PARTITIONS}
-use Rattle.ftc_vector.specs.Vector.{by_partition, merged, IsVector}
+use Rattle.ftc_vector.specs.Vector.{by_partition, number_at, merged, IsVector}
 use Rattle.ftc_vector.specs.Commits.{by_group, vector_of, all_merged, group_raised, held_of, AreHeld}
 use Rattle.ftc_vector.proofs.Partitions.{length-by_partition, get_or-by_partition, by_partition-from}
 use Rattle.ftc_vector.proofs.GroupLists.{same_groups, vector_of-all_merged, vector_of-raised, vector_of-other}
@@ -101,3 +102,19 @@ raised_is old new group vector within own others =
 pub none_of_zeros : true ≡ list_all (λ number. number == 0) (by_partition (λ _. 0))
 unfolding by_partition
 none_of_zeros = refl
+
+-- beside zeros a vector is the greater one
+merged_with_zeros : (vector : List ℕ) → IsVector vector → merged zeros vector ≡ vector
+merged_with_zeros vector is =
+    sym (by_partition-from (λ partition. max (number_at zeros partition) (number_at vector partition)) vector 0 is.size (λ p within.
+    let none : number_at zeros p ≡ 0 = get_or-by_partition {A = ℕ} (λ _. 0) p 0 within in
+    omega (arith, none)))
+
+-- the vector of a group that had none of its own
+pub newly_held : (old new : List (List ℕ)) (group : ℕ) (vector : List ℕ) → AreHeld old → length old < group + 2
+    → group + 1 < length new → IsVector vector
+    → held_of (slice_set new group vector) group ≡ merged (held_of old group) vector
+newly_held old new group vector held few own is =
+    get_or-set_same new group vector zeros (omega (arith, own))
+    ∙ sym (ap (λ (numbers : List ℕ). merged numbers vector) (held_behind old group held (omega (arith, few)))
+    ∙ merged_with_zeros vector is)

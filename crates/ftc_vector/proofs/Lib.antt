@@ -6,3 +6,4 @@ pub mod OrderTests
 pub mod Zeros
 pub mod Held
 pub mod Alike
+pub mod MarkFields

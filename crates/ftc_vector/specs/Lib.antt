@@ -1,3 +1,4 @@
 pub mod Vector
 pub mod Order
 pub mod Commits
+pub mod Marked

@@ -1,5 +1,5 @@
 -- What each partition has: a number in a vector, a number or none in marks.
-use Rattle.std.specs.Prelude.{◌≡◌, ◌<◌, ◌^◌, length, ℕ, ◌+◌, max, Bool, List, map, Option, Some, None, slice_index, slice_index_or, if◌then◌else◌}
+use Rattle.std.specs.Prelude.{◌≡◌, ◌<◌, ◌^◌, ◌≤◌, length, ℕ, ◌+◌, max, Bool, true, false, List, map, Option, Some, None, is_some, slice_index, slice_index_or, if◌then◌else◌}
 use Rattle.std.specs.List.{range_with_len}
 use Rattle.ftc_base.specs.Sets.{has}
 use Rattle.ftc_base.specs.declared.limits.TheConstants.{MOST_PARTITIONS}
@@ -25,6 +25,12 @@ pub record IsVector (vector : List ℕ) : Type 0 where
 pub record AreMarks (marks : List (Option ℕ)) : Type 0 where
   pub size : length marks ≡ MOST_PARTITIONS
   pub bounds : (partition number : ℕ) → mark_at marks partition ≡ Some number → number < 2 ^ 64
+
+-- the number behind the last partition that has a mark, 0 where none has
+pub record IsEnd (marks : List (Option ℕ)) (end : ℕ) : Type 0 where
+  pub within : end ≤ MOST_PARTITIONS
+  pub beyond : (partition : ℕ) → end ≤ partition → mark_at marks partition ≡ None
+  pub last : (partition : ℕ) → end ≡ partition + 1 → is_some (mark_at marks partition) ≡ true
 
 -- the greater number in each partition
 abbrev pub merged : List ℕ → List ℕ → List ℕ

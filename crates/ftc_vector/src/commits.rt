@@ -72,8 +72,15 @@ fn raise(vectors: &mut Vec<Vector>, group: usize, vector: &Vector)
     ensures held { AreHeld vectors.new.items }
     ensures room { MOST_SERVERS < vec_capacity vectors.new }
 {
+    let is_new = vectors.len() < group + 2;
     reach(vectors, group);
-    merge(&mut vectors[group], vector);
+    if is_new {
+        // The contract of this call tells how many partitions there are.
+        let _ = vector.at(0);
+        vectors[group] = *vector;
+    } else {
+        merge(&mut vectors[group], vector);
+    }
 }
 
 impl Commits {

@@ -6,7 +6,6 @@ ghost use Rattle.ftc_vector.specs.Order.{IsReady, IsCovered};
 use crate::marks::Marks;
 use crate::vector::Vector;
 use ftc_base::PartSet;
-use ftc_base::limits::MOST_PARTITIONS;
 
 /// Whether a log that carries these numbers and changes these partitions may be applied where the
 /// vector is: the vector's number is the carried one in each changed partition, and at least the
@@ -14,7 +13,7 @@ use ftc_base::limits::MOST_PARTITIONS;
 pub fn ready(vector: &Vector, before: &Marks, changed: PartSet) -> bool
     ensures { IsTrue result ↔ IsReady vector.now before.now changed }
 {
-    for partition in 0..MOST_PARTITIONS {
+    for partition in 0..before.end() {
         if let Some(carried) = before.at(partition) {
             let number = vector.at(partition);
             if number < carried || (number > carried && changed.has(partition)) {
@@ -29,7 +28,7 @@ pub fn ready(vector: &Vector, before: &Marks, changed: PartSet) -> bool
 pub fn covers(vector: &Vector, need: &Marks) -> bool
     ensures { IsTrue result ↔ IsCovered vector.now need.now }
 {
-    for partition in 0..MOST_PARTITIONS {
+    for partition in 0..need.end() {
         if let Some(least) = need.at(partition) {
             if vector.at(partition) < least {
                 return false;

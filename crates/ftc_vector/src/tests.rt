@@ -74,6 +74,26 @@ fn a_log_that_only_reads(rt: HostRuntime) {
     assert!(rt; !covers(&vector, &carried(5, 4)));
 }
 
+/// Partition 5 has 7, and partition 63 this number.
+fn two_marks(last: u64) -> Marks {
+    let mut marks = carried(5, 7);
+    marks.set(63, last);
+    marks
+}
+
+#[test]
+fn marks_end_behind_the_last(rt: HostRuntime) {
+    assert_eq!(rt; (Marks::new().end(), carried(5, 7).end()), (0, 6));
+    let mut marks = two_marks(7);
+    assert_eq!(rt;
+        (marks.end(), marks.at(62), marks.at(63)),
+        (64, None, Some(7))
+    );
+    assert!(rt; marks == two_marks(7) && marks != two_marks(8) && marks != carried(5, 7));
+    marks.set(2, 0);
+    assert!(rt; marks.end() == 64 && marks != two_marks(7));
+}
+
 #[test]
 fn the_greater_number_of_each_partition(rt: HostRuntime) {
     let (mut first, mut second) = (Vector::zero(), Vector::zero());

@@ -88,7 +88,7 @@ impl Vector {
 pub fn merge(vector: &mut Vector, other: &Vector)
     ensures { vector.new ≡ merged vector.old other.now }
 {
-    for (partition, number) in vector.numbers.iter_mut().enumerate() {
-        *number = (*number).max(other.numbers[partition]);
+    for partition in 0..PARTITIONS {
+        vector.numbers[partition] = vector.numbers[partition].max(other.numbers[partition]);
     }
 }

@@ -1,4 +1,5 @@
-use Rattle.std.proofs.Common.{arith}
+use Rattle.std.proofs.Common.{◌∙◌, inl, inr, refl, arith}
+use Rattle.std.proofs.lemmas.Bool.{cases_lt}
 use Rattle.ftc_vector.proofs.Partitions.{by_partition-from, length-by_partition}
 use Rattle.ftc_message.proofs.CommitLaws.{zero_number}
 use Rattle.ftc_message.proofs.commits_bytes.numbers_in.Goals as goal
@@ -11,4 +12,11 @@ loop-partition-init c = record {
 }
 
 pub returns : goal.returns
-returns c = by_partition-from _ c.loop-partition.vector 0 c.loop-partition.invariant.size (λ k within. c.loop-partition.invariant.below k (omega (arith, within)))
+returns c =
+    by_partition-from _ c.loop-partition.vector 0 c.loop-partition.invariant.size (λ k within.
+    elim (cases_lt k c.end-partition-end.result) [
+      | inl before ↦ c.loop-partition.invariant.below k (omega (arith, before))
+      | inr behind ↦
+          c.loop-partition.invariant.rest k (omega (arith, behind))
+          ∙ rw (c.end-partition-end.ensures.same.beyond k behind) refl
+    ])

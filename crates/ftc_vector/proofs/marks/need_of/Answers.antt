@@ -1,4 +1,5 @@
-use Rattle.std.proofs.Common.{None, arith}
+use Rattle.std.proofs.Common.{◌∙◌, None, inl, inr, refl, arith}
+use Rattle.std.proofs.lemmas.Bool.{cases_lt}
 use Rattle.ftc_vector.proofs.Partitions.{length-by_partition, get_or-by_partition, by_partition-from}
 use Rattle.ftc_vector.proofs.marks.need_of.Goals as goal
 
@@ -12,4 +13,10 @@ loop-partition-init c = record {
 pub returns : goal.returns
 returns c =
     by_partition-from _ c.loop-partition.marks None c.loop-partition.invariant.size
-    (λ k within. c.loop-partition.invariant.below k (omega (arith, within)))
+    (λ k within.
+    elim (cases_lt k c.end-partition-end.result) [
+      | inl before ↦ c.loop-partition.invariant.below k (omega (arith, before))
+      | inr behind ↦
+          c.loop-partition.invariant.rest k (omega (arith, behind)) within
+          ∙ rw (c.end-partition-end.ensures.same.beyond k behind) refl
+    ])

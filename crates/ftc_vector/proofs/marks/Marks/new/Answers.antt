@@ -1,11 +1,10 @@
 use Rattle.std.proofs.Common.{refl}
 use Rattle.ftc_vector.specs.Vector.{by_partition}
-use Rattle.ftc_vector.proofs.Partitions.{no_marks_are}
+use Rattle.ftc_vector.proofs.MarkFields.{none_marked}
 use Rattle.ftc_vector.proofs.marks.Marks.new.Goals as goal
 
 pub invariant_of-result : goal.invariant_of-result
-unfolding by_partition
-invariant_of-result c = no_marks_are
+invariant_of-result c = none_marked
 
 pub returns : goal.returns
 unfolding by_partition
