@@ -28,8 +28,11 @@ bin/ftc: $(SOURCES)
 demo: bin/ftc
 	./examples/demo bin/ftc out/demo
 
+# `rt ci` leaves the program that it proved, built and ran in its crate's folder: what follows tries that very program.
 test:
 	rt ci
+	mkdir -p bin
+	cp crates/ftc/out/ftc bin/ftc
 	edits/try --match
 	@if [ -x "$(CASES)/compare" ]; then \
 		$(MAKE) lines && FTC="$$PWD/bin/ftc" "$(CASES)/compare" examples/alone $(addprefix $(CASES)/,$(CASE_SETS)) && \
