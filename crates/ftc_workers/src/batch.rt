@@ -1,7 +1,8 @@
 //! When the writer is told to write.
 
-/// So many packets are sent before the writer is told to write while workers have something to do.
-const BATCH: u32 = 64;
+/// So many packets are sent before the writer is told to write while workers have something to do. To wake a thread costs
+/// as much as several packets do.
+const BATCH: u32 = 1024;
 
 /// What was sent and isn't written.
 #[derive(Debug, Drop)]

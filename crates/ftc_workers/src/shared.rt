@@ -7,16 +7,19 @@
 
 ghost use Rattle.std.specs.Prelude.{◌≡◌, ◌<◌, ◌+◌};
 
-use crate::latch::{Copied, Found, Latch};
+use crate::latch::{Found, Latch};
 use crate::tally::{Run, Tally};
-use ftc_base::{Answers, Key, NoMemory, WorkerId};
+use ftc_base::{Answer, Answers, Key, NoMemory, PacketNo, ServerId, WorkerId};
 use ftc_mbox::{Plan, Rules};
 use ftc_message::Seen;
 use ftc_server::CommitAnswer;
 use ftc_txn::ReadAnswer;
 use std::alloc::Global;
-use std::sync::{Condvar, Mutex, Wait};
+use std::sync::{Condvar, Mutex, MutexGuard, Wait};
 use std::thread::yield_now;
+
+/// How often a worker looks for the latch before it sleeps.
+const LOOKS: u32 = 100;
 
 /// The latch, and what tells of a change under it.
 #[derive(Drop)]
@@ -41,6 +44,17 @@ impl<'a, L: Run> Shared<'a, L> {
         }
     }
 
+    /// Waits for the latch, first awake: who has it does one call, which takes less time than to sleep and to be woken.
+    fn lock<R: Wait>(&self, rt: &R) -> MutexGuard<'_, Latch<'a, L>> {
+        for _ in 0..LOOKS {
+            if let Some(latch) = self.latch.try_lock() {
+                return latch;
+            }
+            yield_now();
+        }
+        self.latch.lock(rt)
+    }
+
     /// What lay under the latch.
     pub fn into_inner(self) -> Latch<'a, L> {
         let Shared {
@@ -54,22 +68,23 @@ impl<'a, L: Run> Shared<'a, L> {
 }
 
 /// How a visit goes on.
-#[derive(Debug, Drop)]
+#[derive(Clone, Copy, Debug, PartialEq, Eq)]
 pub enum Turn {
-    /// The rule is asked after these answers.
-    Asks(Answers),
-    /// An older transaction was in the way, and the same is asked again.
-    Again,
+    /// The rule is asked.
+    Asks,
     /// The slot runs nothing any more.
     Over,
     /// There was no memory.
     NoMemory,
 }
 
-/// What is asked next in a slot with these answers, which runs nothing where there are none.
-fn turn_of(answers: Option<Answers>) -> Turn {
-    match answers {
-        Some(answers) => Turn::Asks(answers),
+/// The rule is asked after the answers of what a slot runs, where it runs something.
+fn turn_of<L: Run>(latch: &Latch<'_, L>, worker: WorkerId, answers: &mut Answers) -> Turn {
+    match latch.answers(worker) {
+        Some(others) => {
+            *answers = others;
+            Turn::Asks
+        }
         None => Turn::Over,
     }
 }
@@ -80,12 +95,12 @@ pub fn rules<L: Run, R: Wait>(
     alloc: Global,
     shared: &Shared<'_, L>,
 ) -> Result<Rules, NoMemory> {
-    shared.latch.lock(rt).rules(alloc)
+    shared.lock(rt).rules(alloc)
 }
 
 /// Finds something to do. Where another worker looks for jobs, or where there is nothing, it waits.
 pub fn find<L: Run, R: Wait>(rt: &R, shared: &Shared<'_, L>, worker: WorkerId) -> Found {
-    let mut latch = shared.latch.lock(rt);
+    let mut latch = shared.lock(rt);
     if !latch.lead.take(worker) {
         drop(shared.work.wait(rt, latch));
         // Whoever woke this worker may be back before it takes its place.
@@ -114,7 +129,7 @@ pub fn find<L: Run, R: Wait>(rt: &R, shared: &Shared<'_, L>, worker: WorkerId) -
 
 /// This worker may be held for long: another may take its place.
 pub fn hold<L: Run, R: Wait>(rt: &R, shared: &Shared<'_, L>, worker: WorkerId) {
-    let wakes = shared.latch.lock(rt).lead.hold(worker);
+    let wakes = shared.lock(rt).lead.hold(worker);
     if wakes {
         shared.work.notify_one();
     }
@@ -125,38 +140,45 @@ pub fn free<L: Run>(shared: &Shared<'_, L>) {
     shared.freed.notify_all();
 }
 
-/// Reads a frame, takes its message where it may still be taken, and sends what was released. False where there was no
-/// memory.
+/// Takes the message of a frame that was read, where it may still be taken, and sends what was released. False where there
+/// was no memory.
 pub fn take<L: Run, R: Wait>(
     rt: &R,
-    alloc: Global,
     shared: &Shared<'_, L>,
-    copied: &Copied,
+    link: ServerId,
+    origin: PacketNo,
+    seen: Seen,
 ) -> bool {
-    let seen = Seen::make(alloc, copied.frame.as_slice()).ok();
-    let Some(seen) = seen else {
-        return false;
-    };
-    let mut latch = shared.latch.lock(rt);
-    let taken = latch.take_seen(copied.link, copied.origin, seen);
+    let mut latch = shared.lock(rt);
+    let taken = latch.take_seen(link, origin, seen);
     if latch.flush() {
         shared.output.notify_one();
     }
     taken
 }
 
-/// Reads a key, and waits where an older transaction has its partition.
-pub fn read<L: Run, R: Wait>(rt: &R, shared: &Shared<'_, L>, worker: WorkerId, key: &Key) -> Turn {
-    let mut latch = shared.latch.lock(rt);
+/// Reads a key, and adds the answer. It waits where an older transaction has the key's partition.
+pub fn read<L: Run, R: Wait>(
+    rt: &R,
+    shared: &Shared<'_, L>,
+    worker: WorkerId,
+    key: &Key,
+    answers: &mut Answers,
+) -> Turn {
+    let mut latch = shared.lock(rt);
     match latch.read(worker, key) {
+        ReadAnswer::Value(value) => match answers.try_push(Answer { key: *key, value }) {
+            Ok(()) => Turn::Asks,
+            Err(_) => turn_of(&latch, worker, answers),
+        },
         ReadAnswer::Blocked { .. } => {
             if latch.lead.hold(worker) {
                 shared.work.notify_one();
             }
             let _latch = shared.freed.wait(rt, latch);
-            Turn::Again
+            Turn::Asks
         }
-        _ => turn_of(latch.answers(worker)),
+        _ => turn_of(&latch, worker, answers),
     }
 }
 
@@ -166,19 +188,21 @@ fn try_commit<L: Run, R: Wait>(
     shared: &Shared<'_, L>,
     worker: WorkerId,
     plan: &Plan,
+    answers: &mut Answers,
     mine: &mut Tally<L>,
 ) -> Turn
     requires { 0 < mine.old.share.parts }
     ensures { mine.new.share.parts ≡ mine.old.share.parts }
 {
-    let mut latch = shared.latch.lock(rt);
+    let mut latch = shared.lock(rt);
     let answer = latch.commit(worker, plan, mine);
     if latch.flush() {
         shared.output.notify_one();
     }
     match answer {
+        CommitAnswer::Done => Turn::Over,
         CommitAnswer::NoMemory => Turn::NoMemory,
-        _ => turn_of(latch.answers(worker)),
+        _ => turn_of(&latch, worker, answers),
     }
 }
 
@@ -188,44 +212,45 @@ pub fn commit<L: Run, R: Wait>(
     shared: &Shared<'_, L>,
     worker: WorkerId,
     plan: &Plan,
+    answers: &mut Answers,
     mine: &mut Tally<L>,
 ) -> Turn
     requires { 0 < mine.old.share.parts }
     ensures { mine.new.share.parts ≡ mine.old.share.parts }
 {
-    let turn = try_commit(rt, shared, worker, plan, mine);
+    let turn = try_commit(rt, shared, worker, plan, answers, mine);
     free(shared);
     turn
 }
 
 /// The worker ends: its slot gives up what it runs, and all others look again.
 pub fn leave<L: Run, R: Wait>(rt: &R, shared: &Shared<'_, L>, worker: WorkerId) {
-    shared.latch.lock(rt).leave(worker);
+    shared.lock(rt).leave(worker);
     shared.work.notify_all();
     shared.freed.notify_all();
 }
 
 /// Tells the writer that all workers ended.
 pub fn end<L: Run, R: Wait>(rt: &R, shared: &Shared<'_, L>) {
-    shared.latch.lock(rt).end();
+    shared.lock(rt).end();
     shared.output.notify_all();
 }
 
 /// Tells the workers to end.
 pub fn stop<L: Run, R: Wait>(rt: &R, shared: &Shared<'_, L>) {
-    shared.latch.lock(rt).stop();
+    shared.lock(rt).stop();
     shared.work.notify_all();
     shared.freed.notify_all();
 }
 
 /// The writer begins to write. True where all workers ended.
 pub fn write<L: Run, R: Wait>(rt: &R, shared: &Shared<'_, L>) -> bool {
-    shared.latch.lock(rt).write()
+    shared.lock(rt).write()
 }
 
 /// The writer wrote all that it saw, and waits until it is told to write.
 pub fn wait_to_write<L: Run, R: Wait>(rt: &R, shared: &Shared<'_, L>) {
-    let latch = shared.latch.lock(rt);
+    let latch = shared.lock(rt);
     if !latch.writes_on() {
         let _latch = shared.output.wait(rt, latch);
     }
@@ -235,5 +260,5 @@ pub fn wait_to_write<L: Run, R: Wait>(rt: &R, shared: &Shared<'_, L>) {
 pub fn merge<L: Run, R: Wait>(rt: &R, shared: &Shared<'_, L>, mine: &mut Tally<L>, other: Tally<L>)
     ensures { mine.new.share.parts ≡ mine.old.share.parts + other.share.parts }
 {
-    shared.latch.lock(rt).merge(mine, other);
+    shared.lock(rt).merge(mine, other);
 }

@@ -6,7 +6,7 @@ ghost use denote.Param.Send.{IsSync, IsSend};
 
 use crate::shared::{Shared, merge};
 use crate::tally::{Run, Tally};
-use crate::visiting::work;
+use crate::visiting::Worker;
 use ftc_base::WorkerId;
 use ftc_outside::Gate;
 use std::alloc::Global;
@@ -26,8 +26,15 @@ fn work_in<L: Run, R: Wait, G: Gate>(
     requires part { mine.share.parts ≡ 1 }
     ensures { result.share.parts ≡ 1 }
 {
-    let worker = WorkerId::new(slot).unwrap();
-    work(rt, alloc, shared, worker, gate, mine)
+    let slot = WorkerId::new(slot).unwrap();
+    let worker = Worker {
+        rt,
+        alloc,
+        shared,
+        slot,
+        gate,
+    };
+    worker.work(mine)
 }
 
 /// Starts so many workers in the slots from this one on, and joins them. The caller runs one that can't be started.
