@@ -2,14 +2,14 @@
 
 # A folder with further cases and their comparer, where one lies beside the checkout.
 CASES ?= ../shared/cases
-CASE_SETS = first-path first-path-refused middleboxes middleboxes-refused ring loss crash check check-refused ports watch \
-	watch-refused make
+CASE_SETS = first-path first-path-refused middleboxes middleboxes-refused ring loss crash check check-refused ports \
+	watch watch-refused make
 # Runs by workers make one journal or another, so they are judged by a check.
 JUDGED_SETS = middleboxes ring loss crash
 
 SOURCES := $(shell find crates crates.txt -name out -prune -o -type f -print)
 
-.PHONY: build demo test edits lines bench install uninstall clean
+.PHONY: build libraries demo test edits lines bench install uninstall clean
 
 # Where `make install` puts the program and its manual page.
 PREFIX ?= /usr/local
@@ -17,9 +17,31 @@ DESTDIR ?=
 
 build: bin/ftc
 
-# `rt run` proves the program and all crates below it, builds it, and runs it once.
+# The libraries below the program are proved and built side by side, each once those below it are: as many at a time as
+# there are processors, and 6 GB of memory for each.
+MOST_JOBS = /^MemAvailable/ { n = int($$2 / 6000000); print n < 1 ? 1 : n < cores ? n : cores }
+JOBS ?= $(shell awk -v cores="$$(nproc)" '$(MOST_JOBS)' /proc/meminfo)
+# Each line of crates.txt as one word: a crate, and what it stands on, with commas between.
+CRATES := $(shell sed -n '/^ftc/ { s/ [a-z_]*=[A-Za-z0-9+]*//g; s/[: ][: ]*/,/g; p }' crates.txt)
+comma := ,
+LIBRARIES := $(filter-out ftc ftc_bench,$(foreach crate,$(CRATES),$(firstword $(subst $(comma), ,$(crate)))))
+stamps = $(patsubst %,crates/%/out/rlib/stamp,$(filter $(LIBRARIES),$(1)))
+
+# LIBRARY NAME BELOW..
+define LIBRARY
+crates/$(firstword $(1))/out/rlib/stamp: $(filter crates/$(firstword $(1))/%,$(SOURCES)) \
+		$(call stamps,$(wordlist 2,99,$(1)))
+	cd crates/$(firstword $(1)) && rt lib --jobs 1
+	touch $$@
+endef
+$(foreach crate,$(CRATES),$(eval $(call LIBRARY,$(subst $(comma), ,$(crate)))))
+
+libraries: $(call stamps,$(LIBRARIES))
+
+# `rt run` proves the program, builds it, and runs it once.
 SAMPLE = ../../examples/monitors
 bin/ftc: $(SOURCES)
+	$(MAKE) --jobs=$(JOBS) libraries
 	mkdir -p bin out
 	cd crates/ftc && rt run -- run $(SAMPLE)/chain $(SAMPLE)/script $(SAMPLE)/capture.pcap \
 		../../out/first.pcap ../../out/first.journal ../../out/first.report
@@ -39,7 +61,8 @@ test:
 		"$(CASES)/judge" bin/ftc $(addprefix $(CASES)/,$(JUDGED_SETS)); \
 	fi
 
-# The edits beyond those that `make test` tries. All of them take as long as the rest of it; `edits/try CRATE` tries one crate's.
+# The edits beyond those that `make test` tries. All of them take as long as the rest of it; `edits/try CRATE` tries one
+# crate's.
 edits:
 	edits/try
 
