@@ -9,7 +9,7 @@ JUDGED_SETS = middleboxes ring loss crash
 
 SOURCES := $(shell find crates crates.txt -name out -prune -o -type f -print)
 
-.PHONY: build libraries demo test edits lines bench install uninstall clean
+.PHONY: build libraries demo test edits lines refusals bench install uninstall clean
 
 # Where `make install` puts the program and its manual page.
 PREFIX ?= /usr/local
@@ -69,6 +69,14 @@ edits:
 # What the program says on standard error, and its exit codes.
 lines: bin/ftc
 	./examples/lines bin/ftc out/lines
+
+# What the program does where memory is refused, at each allocation of small runs and of the other commands: some minutes.
+refusals: bin/ftc out/librefuse.so
+	./examples/refusals bin/ftc out/librefuse.so out/refusals
+
+out/librefuse.so: examples/refuse.rs
+	mkdir -p out
+	rustc --edition 2024 --crate-type cdylib -O -o $@ $<
 
 # The times of the calls on which each hop of a packet stands, and of whole runs and checks.
 bench: bin/ftc bin/ftc_bench
