@@ -20,11 +20,62 @@ use std::time::{Clock, Instant};
 /// More jobs than the run has.
 const MOST_JOBS: u32 = 10_000_000;
 
-/// How often the latch is held, and for how many nanoseconds in all.
+/// How often something is done, and how many nanoseconds that takes in all.
 #[derive(Clone, Copy, Debug)]
-pub struct Holds {
+pub struct Sum {
     pub count: u32,
     pub nanoseconds: u128,
+}
+
+impl Sum {
+    /// Nothing was done.
+    fn new() -> Sum {
+        Sum {
+            count: 0,
+            nanoseconds: 0,
+        }
+    }
+
+    /// It was done once more.
+    fn add(&mut self, nanoseconds: u128) {
+        self.count = self.count.saturating_add(1);
+        self.nanoseconds = self.nanoseconds.saturating_add(nanoseconds);
+    }
+}
+
+/// What is held under the latch in a run: all holds, and what the events of each kind have of them. A frame that is taken and
+/// a rule that is asked have no part in it; the frame that a pass writes does.
+#[derive(Clone, Copy, Debug)]
+pub struct Holds {
+    pub all: Sum,
+    pub take: Sum,
+    pub apply: Sum,
+    pub visit: Sum,
+    pub pass: Sum,
+}
+
+impl Holds {
+    /// Nothing was held.
+    fn new() -> Holds {
+        Holds {
+            all: Sum::new(),
+            take: Sum::new(),
+            apply: Sum::new(),
+            visit: Sum::new(),
+            pass: Sum::new(),
+        }
+    }
+
+    /// The event of this job took so many nanoseconds.
+    fn add(&mut self, job: &Job, nanoseconds: u128) {
+        match job {
+            Job::Take { .. } => self.take.add(nanoseconds),
+            Job::Apply { .. } => self.apply.add(nanoseconds),
+            Job::Visit { .. } => self.visit.add(nanoseconds),
+            Job::Pass { .. } => self.pass.add(nanoseconds),
+            _ => {}
+        }
+    }
 }
 
 /// A clock, and the holds so far.
@@ -43,13 +94,14 @@ impl<R: Clock> Meter<'_, R> {
     /// What stood since then is a part of a hold.
     fn part(&mut self, start: &Instant) -> Option<()> {
         let taken = start.elapsed(self.clock).ok()?;
-        self.holds.nanoseconds = self.holds.nanoseconds.saturating_add(taken.as_nanos());
+        let all = &mut self.holds.all;
+        all.nanoseconds = all.nanoseconds.saturating_add(taken.as_nanos());
         Some(())
     }
 
     /// What stood since then is a hold, or the last part of one.
     fn hold(&mut self, start: &Instant) -> Option<()> {
-        self.holds.count = self.holds.count.saturating_add(1);
+        self.holds.all.count = self.holds.all.count.saturating_add(1);
         self.part(start)
     }
 }
@@ -172,6 +224,23 @@ fn step<R: Clock>(meter: &mut Meter<'_, R>, chain: &mut Chain<'_>, job: &Job) ->
     meter.hold(&start)
 }
 
+/// A legal job, by its kind.
+fn make<R: Clock>(
+    meter: &mut Meter<'_, R>,
+    alloc: Global,
+    chain: &mut Chain<'_>,
+    load: &Load,
+    job: &Job,
+) -> Option<()>
+    requires { ∥ IsLegalJob (setting_in chain.old) (state_of chain.old) job.now ∥₁ }
+{
+    match *job {
+        Job::Visit { server, packet } => visit(meter, alloc, chain, load, server, packet),
+        Job::Take { link, origin } => take(meter, alloc, chain, link, origin),
+        _ => step(meter, chain, job),
+    }
+}
+
 /// The next job. None where the run is finished, and where there was no memory or no clock.
 fn next<R: Clock>(
     meter: &mut Meter<'_, R>,
@@ -185,11 +254,11 @@ fn next<R: Clock>(
     if !chain.legal(&job) {
         return None;
     }
-    match job {
-        Job::Visit { server, packet } => visit(meter, alloc, chain, load, server, packet),
-        Job::Take { link, origin } => take(meter, alloc, chain, link, origin),
-        _ => step(meter, chain, &job),
-    }
+    let before = meter.holds.all.nanoseconds;
+    make(meter, alloc, chain, load, &job)?;
+    let taken = meter.holds.all.nanoseconds.saturating_sub(before);
+    meter.holds.add(&job, taken);
+    Some(())
 }
 
 /// The holds of a whole run, and how many packets it has. None where it came to no end.
@@ -197,11 +266,10 @@ pub fn holds_of_a_run<R: AllocGlobal + Clock>(rt: &R) -> Option<(Holds, usize)> 
     let alloc = rt.alloc();
     let load = Load::new(alloc)?;
     let mut chain = Chain::new(alloc, &load.spec, &load.capture.packets, &load.script).ok()?;
-    let holds = Holds {
-        count: 0,
-        nanoseconds: 0,
+    let mut meter = Meter {
+        clock: rt,
+        holds: Holds::new(),
     };
-    let mut meter = Meter { clock: rt, holds };
     for _ in 0..MOST_JOBS {
         if next(&mut meter, alloc, &mut chain, &load).is_none() {
             break;

@@ -15,7 +15,7 @@ use ftc_message::{Log, Message, decode, encode};
 use ftc_store::Store;
 use ftc_txn::{Head, ReadAnswer};
 use ftc_vector::Vector;
-use holds::holds_of_a_run;
+use holds::{Sum, holds_of_a_run};
 use samples::{kept_logs, message, one_log};
 use slow::slow_run;
 use std::env;
@@ -137,20 +137,27 @@ fn both_ways(rt: &HostRuntime, groups: u8, partitions: u8) -> Option<()>
     Some(())
 }
 
-/// Prints how often a worker holds the latch for a packet, and for how long.
+/// Prints the mean time of what was done.
+fn say_mean(rt: &HostRuntime, name: &str, sum: &Sum) {
+    say(rt, name, sum.nanoseconds.checked_div(u128::from(sum.count)));
+}
+
+/// Prints how often a worker holds the latch for a packet, and for how long in each event.
 fn say_holds(rt: &HostRuntime) {
     let Some((holds, packets)) = holds_of_a_run(rt) else {
         return;
     };
-    let (count, packets) = (u128::from(holds.count), packets as u128);
-    if packets == 0 || count == 0 {
+    let tenths = 10 * u128::from(holds.all.count);
+    let Some(tenths) = tenths.checked_div(packets as u128) else {
         return;
-    }
-    let tenths = 10 * count / packets;
-    let (each, whole, part) = (holds.nanoseconds / count, tenths / 10, tenths % 10);
-    let _ = println!(rt;
-        "holds of the latch for a packet of that chain: {whole}.{part}, of {each} ns each"
-    );
+    };
+    let (whole, part) = (tenths / 10, tenths % 10);
+    let _ = println!(rt; "holds of the latch for a packet of that chain: {whole}.{part}");
+    say_mean(rt, "  a hold", &holds.all);
+    say_mean(rt, "  the holds of a take", &holds.take);
+    say_mean(rt, "  of an apply", &holds.apply);
+    say_mean(rt, "  of a visit", &holds.visit);
+    say_mean(rt, "  of a pass, with its frame", &holds.pass);
 }
 
 fn main(rt: HostRuntime) {
@@ -176,8 +183,12 @@ fn main(rt: HostRuntime) {
         generating(&rt),
     );
     let _ = println!(rt; "5000 packets through four middleboxes, each visit 20 us long");
-    say(&rt, "  by 1 worker", slow_run(&rt, 1));
-    say(&rt, "  by 2 workers", slow_run(&rt, 2));
-    say(&rt, "  by 4 workers", slow_run(&rt, 4));
+    say(&rt, "  by 1 worker", slow_run(&rt, 1, 20_000));
+    say(&rt, "  by 2 workers", slow_run(&rt, 2, 20_000));
+    say(&rt, "  by 4 workers", slow_run(&rt, 4, 20_000));
+    let _ = println!(rt; "each visit 200 us long");
+    say(&rt, "  by 1 worker", slow_run(&rt, 1, 200_000));
+    say(&rt, "  by 2 workers", slow_run(&rt, 2, 200_000));
+    say(&rt, "  by 4 workers", slow_run(&rt, 4, 200_000));
     say_holds(&rt);
 }

@@ -18,9 +18,6 @@ use std::sync::Wait;
 use std::thread::Threads;
 use std::time::{Clock, Instant};
 
-/// How many nanoseconds a visit stays in a middlebox.
-const PAUSE: u128 = 20_000;
-
 /// How often a gate looks at the clock before it lets a visit go on all the same.
 const MOST_TURNS: u32 = 10_000_000;
 
@@ -31,10 +28,11 @@ const PACKETS: u32 = 5_000;
 const CHAIN: &[u8] =
     b"f 1\npartitions 16\nnat inside 10.0.0.0/8 outside 203.0.113.5 ports 20000-59999\nfirewall\nallow udp any 198.51.100.10/32 80\nbalance 198.51.100.10:80 to 192.0.2.1,192.0.2.2\nmonitor 16\n";
 
-/// A gate that holds each visit so long, at work.
+/// A gate that holds each visit for so many nanoseconds, at work.
 #[derive(Clone, Copy)]
 struct SlowGate<'a, R: Clock + Sync> {
     clock: &'a R,
+    pause: u128,
 }
 
 impl<R: Clock + Sync> Gate for SlowGate<'_, R> {
@@ -44,7 +42,7 @@ impl<R: Clock + Sync> Gate for SlowGate<'_, R> {
         };
         for _ in 0..MOST_TURNS {
             match start.elapsed(self.clock) {
-                Ok(taken) if taken.as_nanos() < PAUSE => {}
+                Ok(taken) if taken.as_nanos() < self.pause => {}
                 _ => return,
             }
         }
@@ -87,14 +85,25 @@ impl Load {
     }
 }
 
-/// The nanoseconds that so many workers need. None where there was no memory, or no clock.
-pub fn slow_run<R: AllocGlobal + Clock + Threads + Wait + Sync>(rt: &R, workers: u8) -> Option<u128>
+/// The nanoseconds that so many workers need where each visit stays so many in its middlebox. None where there was no memory,
+/// or no clock.
+pub fn slow_run<R: AllocGlobal + Clock + Threads + Wait + Sync>(
+    rt: &R,
+    workers: u8,
+    pause: u128,
+) -> Option<u128>
     requires { (1 ≤ workers) × (workers ≤ MOST_THREADS) }
 {
     let load = Load::new(rt.alloc())?;
     let chain = Chain::new(rt.alloc(), &load.spec, &load.capture.packets, &load.script).ok()?;
     let start = Instant::now(rt).ok()?;
-    let worked = run(rt, rt.alloc(), chain, workers, &SlowGate { clock: rt });
+    let worked = run(
+        rt,
+        rt.alloc(),
+        chain,
+        workers,
+        &SlowGate { clock: rt, pause },
+    );
     let taken = start.elapsed(rt).ok()?;
     if worked.chain.finished() {
         Some(taken.as_nanos())

@@ -2,13 +2,13 @@ use Rattle.std.proofs.Common.{subst}
 use Rattle.ftc_journal.specs.declared.job.Job.{Job}
 use Rattle.ftc_protocol.specs.Jobs.{IsLegalJob}
 use Rattle.ftc_chain.specs.ChainRun.{ChainRun, setting_in, state_of}
-use Rattle.ftc_bench.proofs.holds.next.Goals as goal
+use Rattle.ftc_bench.proofs.holds.make.Goals as goal
 
 abbrev MayBeDone : ChainRun → Job → Type 0
 MayBeDone run job = ∥ IsLegalJob (setting_in run) (state_of run) job ∥₁
 
 pub visit-requires : goal.visit-requires
-visit-requires g c = subst (MayBeDone c.args.chain.now) c.in-Visit.is (c.legal.ensures.yes c.if-not-legal.false)
+visit-requires g c = subst (MayBeDone c.args.chain.now) c.in-Visit.is c.requires
 
 pub take-requires : goal.take-requires
-take-requires g c = subst (MayBeDone c.args.chain.now) c.in-Take.is (c.legal.ensures.yes c.if-not-legal.false)
+take-requires g c = subst (MayBeDone c.args.chain.now) c.in-Take.is c.requires
