@@ -9,7 +9,7 @@ JUDGED_SETS = middleboxes ring loss crash
 
 SOURCES := $(shell find crates crates.txt -name out -prune -o -type f -print)
 
-.PHONY: build libraries demo test edits lines refusals bench install uninstall clean
+.PHONY: build demo test edits lines refusals bench install uninstall clean
 
 # Where `make install` puts the program and its manual page.
 PREFIX ?= /usr/local
@@ -17,31 +17,13 @@ DESTDIR ?=
 
 build: bin/ftc
 
-# The libraries below the program are proved and built side by side, each once those below it are: as many at a time as
-# there are processors, and 6 GB of memory for each.
+# `rt all check` proves the crates and builds the libraries, as many at a time as there are processors, each with 6 GB of
+# memory. `rt run` builds the program then, and runs it once.
 MOST_JOBS = /^MemAvailable/ { n = int($$2 / 6000000); print n < 1 ? 1 : n < cores ? n : cores }
 JOBS ?= $(shell awk -v cores="$$(nproc)" '$(MOST_JOBS)' /proc/meminfo)
-# Each line of crates.txt as one word: a crate, and what it stands on, with commas between.
-CRATES := $(shell sed -n '/^ftc/ { s/ [a-z_]*=[A-Za-z0-9+]*//g; s/[: ][: ]*/,/g; p }' crates.txt)
-comma := ,
-LIBRARIES := $(filter-out ftc ftc_bench,$(foreach crate,$(CRATES),$(firstword $(subst $(comma), ,$(crate)))))
-stamps = $(patsubst %,crates/%/out/rlib/stamp,$(filter $(LIBRARIES),$(1)))
-
-# LIBRARY NAME BELOW..
-define LIBRARY
-crates/$(firstword $(1))/out/rlib/stamp: $(filter crates/$(firstword $(1))/%,$(SOURCES)) \
-		$(call stamps,$(wordlist 2,99,$(1)))
-	cd crates/$(firstword $(1)) && rt lib --jobs 1
-	touch $$@
-endef
-$(foreach crate,$(CRATES),$(eval $(call LIBRARY,$(subst $(comma), ,$(crate)))))
-
-libraries: $(call stamps,$(LIBRARIES))
-
-# `rt run` proves the program, builds it, and runs it once.
 SAMPLE = ../../examples/monitors
 bin/ftc: $(SOURCES)
-	$(MAKE) --jobs=$(JOBS) libraries
+	rt all check --jobs $(JOBS)
 	mkdir -p bin out
 	cd crates/ftc && rt run -- run $(SAMPLE)/chain $(SAMPLE)/script $(SAMPLE)/capture.pcap \
 		../../out/first.pcap ../../out/first.journal ../../out/first.report
@@ -70,7 +52,8 @@ edits:
 lines: bin/ftc
 	./examples/lines bin/ftc out/lines
 
-# What the program does where memory is refused, at each allocation of small runs and of the other commands: some minutes.
+# What the program does where memory is refused, at each allocation of small runs and of the other commands: it takes some
+# minutes.
 refusals: bin/ftc out/librefuse.so
 	./examples/refusals bin/ftc out/librefuse.so out/refusals
 
