@@ -17,8 +17,8 @@ DESTDIR ?=
 
 build: bin/ftc
 
-# `rt all check` proves the crates and builds the libraries, as many at a time as there are processors, each with 6 GB of
-# memory. `rt run` builds the program then, and runs it once.
+# `rt all check` proves the crates and builds the libraries, as many at a time as there are processors, each with 6 GB.
+# `rt run` builds the program then, and runs it once.
 MOST_JOBS = /^MemAvailable/ { n = int($$2 / 6000000); print n < 1 ? 1 : n < cores ? n : cores }
 JOBS ?= $(shell awk -v cores="$$(nproc)" '$(MOST_JOBS)' /proc/meminfo)
 SAMPLE = ../../examples/monitors
@@ -52,8 +52,8 @@ edits:
 lines: bin/ftc
 	./examples/lines bin/ftc out/lines
 
-# What the program does where memory is refused, at each allocation of small runs and of the other commands: it takes some
-# minutes.
+# What the program does where memory is refused, at each allocation of small runs and of the other commands: it takes
+# some minutes.
 refusals: bin/ftc out/librefuse.so
 	./examples/refusals bin/ftc out/librefuse.so out/refusals
 
