@@ -8,12 +8,13 @@ ghost use Rattle.ftc_chain.specs.Doing.{is_visit};
 
 use crate::slow::Load;
 use ftc_base::limits::MOST_READS;
-use ftc_base::{Answers, Ask, Key, PacketNo, ServerId, WorkerId};
+use ftc_base::{Answer, Answers, Ask, Key, PacketNo, ServerId, WorkerId};
 use ftc_chain::Chain;
 use ftc_journal::Job;
 use ftc_mbox::{Plan, Rule, ask};
 use ftc_message::Seen;
 use ftc_server::CommitAnswer;
+use ftc_txn::ReadAnswer;
 use std::alloc::Global;
 use std::time::{Clock, Instant};
 
@@ -106,18 +107,21 @@ impl<R: Clock> Meter<'_, R> {
     }
 }
 
-/// A read of a slot, and the answers that it has then.
+/// A read of a slot. What it answers is added to the answers.
 fn read<R: Clock>(
     meter: &mut Meter<'_, R>,
     chain: &mut Chain<'_>,
     worker: WorkerId,
     key: &Key,
-) -> Option<Answers> {
+    answers: &mut Answers,
+) -> Option<()> {
     let start = meter.start()?;
-    chain.read(worker, key);
-    let answers = Answers::try_from(chain.answers(worker)?.as_slice()).ok()?;
+    let answer = chain.read(worker, key);
     meter.hold(&start)?;
-    Some(answers)
+    match answer {
+        ReadAnswer::Value(value) => answers.try_push(Answer { key: *key, value }).ok(),
+        _ => None,
+    }
 }
 
 /// A commit of a slot, with what it releases.
@@ -149,7 +153,7 @@ fn finish<R: Clock>(
     let mut answers = Answers::new();
     for _ in 0..=MOST_READS {
         match ask(rule, bytes, &answers) {
-            Ask::Read { key, .. } => answers = read(meter, chain, worker, &key)?,
+            Ask::Read { key, .. } => read(meter, chain, worker, &key, &mut answers)?,
             Ask::Finish(_) => {
                 let plan = Plan::make(alloc, rule, bytes, &answers).ok()??;
                 return commit(meter, chain, worker, &plan);
