@@ -2,7 +2,7 @@
 
 ghost use Rattle.std.specs.Prelude.{◌≡◌, ◌↔◌, ◌≤◌, ◌++◌, ℕ, true, false, List, length, drop, Some, None, OnOk, IsErrOf};
 ghost use Rattle.ftc_base.specs.declared.released.Released.{Released as AReleased};
-ghost use Rattle.ftc_outside.specs.Desk.{SameButAt, Rose};
+ghost use Rattle.ftc_outside.specs.Desk.{SameButAt, HasServed};
 ghost use Rattle.ftc_outside.specs.Tap.{Face};
 ghost use Rattle.ftc_report.specs.Output.{out_bytes, AreWritable};
 ghost use Rattle.ftc_stream.specs.Records.{writable, records};
@@ -57,11 +57,7 @@ pub fn complete<D: Desk>(
     ensures told { OnOk result (AreToldBehind (writable capture.now put.now) released.now
         (⟦<Taps as Seen>⟧.faces taps.old) (⟦<Taps as Seen>⟧.faces taps.new)) }
     ensures others { D.tells desk.old → SameButAt name.now (D.file desk.old) (D.file desk.new) }
-    ensures tells { D.tells desk.old → D.tells desk.new }
-    ensures sound { D.sound desk.old → D.sound desk.new }
-    ensures count { D.faults desk.old ≤ D.faults desk.new }
-    ensures cause { IsErrOf result DeskError.Failed → Rose (D.faults desk.old) (D.faults desk.new) }
-    ensures still { (IsErrOf result DeskError.Failed → ⊥) → D.faults desk.new ≡ D.faults desk.old }
+    ensures served { HasServed D.tells D.sound D.faults (IsErrOf result DeskError.Failed) desk.old desk.new }
     ensures absent { D.tells desk.old → D.sound desk.old → IsErrOf result DeskError.Failed →
         D.file desk.old name.now ≡ None }
 {

@@ -1,7 +1,7 @@
 //! The check of the files of a run.
 
 ghost use Rattle.std.specs.Prelude.{◌≡◌, ◌≢◌, ◌≤◌};
-ghost use Rattle.ftc_outside.specs.Desk.{SameFiles, Rose};
+ghost use Rattle.ftc_outside.specs.Desk.{SameFiles, HasServed};
 ghost use Rattle.ftc.specs.Answers.{IsCheckAnswer};
 ghost use Rattle.ftc_words.specs.Shown.{named_of};
 ghost use Rattle.ftc.specs.Checking.{Judges};
@@ -21,11 +21,7 @@ pub fn judge<D: Desk>(alloc: Global, names: Names<'_>, desk: &mut D) -> Status
     ensures files { D.tells desk.old → SameFiles (D.file desk.old) (D.file desk.new) }
     ensures known { result ≢ Status.Usage }
     ensures answer { IsCheckAnswer result }
-    ensures tells { D.tells desk.old → D.tells desk.new }
-    ensures sound { D.sound desk.old → D.sound desk.new }
-    ensures count { D.faults desk.old ≤ D.faults desk.new }
-    ensures cause { result ≡ Status.DeskFault → Rose (D.faults desk.old) (D.faults desk.new) }
-    ensures still { result ≢ Status.DeskFault → D.faults desk.new ≡ D.faults desk.old }
+    ensures served { HasServed D.tells D.sound D.faults (result ≡ Status.DeskFault) desk.old desk.new }
 {
     let files = match read_files(alloc, names, desk) {
         Ok(files) => files,

@@ -5,7 +5,7 @@ ghost use Rattle.ftc_base.specs.declared.limits.TheConstants.{MOST_RECORDS};
 ghost use Rattle.ftc_conf.specs.Grammar.{chain_of};
 ghost use Rattle.ftc_gen.specs.Capture.{generated};
 ghost use Rattle.ftc_gen.specs.Packets.{generated_capture};
-ghost use Rattle.ftc_outside.specs.Desk.{Rose};
+ghost use Rattle.ftc_outside.specs.Desk.{HasServed};
 ghost use Rattle.ftc_protocol.specs.Setting.{setting_of};
 ghost use Rattle.ftc_serial.specs.Packets.{bytes_of};
 ghost use Rattle.ftc.specs.Answers.{IsMakeAnswer};
@@ -136,11 +136,7 @@ fn write_made<D: Desk>(
         (D.file desk.old) (D.file desk.new)) }
     ensures refused { D.tells desk.old → OnErr result (AreMadeShort name.now making.now.bytes making.now.told
         (D.file desk.old) (D.file desk.new)) }
-    ensures tells { D.tells desk.old → D.tells desk.new }
-    ensures sound { D.sound desk.old → D.sound desk.new }
-    ensures count { D.faults desk.old ≤ D.faults desk.new }
-    ensures cause { IsErrOf result DeskError.Failed → Rose (D.faults desk.old) (D.faults desk.new) }
-    ensures still { (IsErrOf result DeskError.Failed → ⊥) → D.faults desk.new ≡ D.faults desk.old }
+    ensures served { HasServed D.tells D.sound D.faults (IsErrOf result DeskError.Failed) desk.old desk.new }
     ensures safe { D.tells desk.old → D.sound desk.old → IsErrOf result DeskError.Failed → ⊥ }
 {
     write_text(alloc, desk, name, &making.bytes)?;
@@ -161,11 +157,7 @@ pub fn make_capture<D: Desk>(
         (D.file desk.new) result }
     ensures known { result ≢ Status.Usage }
     ensures answer { IsMakeAnswer result }
-    ensures tells { D.tells desk.old → D.tells desk.new }
-    ensures sound { D.sound desk.old → D.sound desk.new }
-    ensures count { D.faults desk.old ≤ D.faults desk.new }
-    ensures cause { result ≡ Status.DeskFault → Rose (D.faults desk.old) (D.faults desk.new) }
-    ensures still { result ≢ Status.DeskFault → D.faults desk.new ≡ D.faults desk.old }
+    ensures served { HasServed D.tells D.sound D.faults (result ≡ Status.DeskFault) desk.old desk.new }
 {
     let Ok(making) = make_all(alloc, packets, seed) else {
         return Status::NoMemory;

@@ -2,7 +2,7 @@
 
 ghost use Rattle.std.specs.Prelude.{◌≡◌, ◌≤◌, ◌++◌, ℕ, List, OnOk, OnErr, IsErrOf, Some, None};
 ghost use Rattle.std.specs.List.{flat_map};
-ghost use Rattle.ftc_outside.specs.Desk.{SameButAt, GrewAt, MayHaveGrownAt, Rose};
+ghost use Rattle.ftc_outside.specs.Desk.{SameButAt, MayHaveGrownAt, HasServed};
 ghost use Rattle.ftc_journal.specs.Text.{spelling};
 ghost use Rattle.ftc_report.specs.Output.{released_record, out_bytes, IsWritable, AreWritable};
 ghost use Rattle.ftc.specs.Output.{MayHold, IsMovedOn};
@@ -45,11 +45,7 @@ fn flush_long<D: Desk>(
     ensures refused { D.tells desk.old → OnErr result (MayHaveGrownAt name.now piece.old (D.file desk.old)
         (D.file desk.new)) }
     ensures others { D.tells desk.old → SameButAt name.now (D.file desk.old) (D.file desk.new) }
-    ensures tells { D.tells desk.old → D.tells desk.new }
-    ensures sound { D.sound desk.old → D.sound desk.new }
-    ensures count { D.faults desk.old ≤ D.faults desk.new }
-    ensures cause { IsErrOf result DeskError.Failed → Rose (D.faults desk.old) (D.faults desk.new) }
-    ensures still { (IsErrOf result DeskError.Failed → ⊥) → D.faults desk.new ≡ D.faults desk.old }
+    ensures served { HasServed D.tells D.sound D.faults (IsErrOf result DeskError.Failed) desk.old desk.new }
     ensures absent { D.sound desk.old → IsErrOf result DeskError.Failed → D.file desk.old name.now ≡ None }
 {
     if piece.len() < PIECE {
@@ -77,11 +73,7 @@ pub fn append_records<D: Desk>(
         OnErr result (MayHold (D.file desk.old name.now) (D.file desk.new name.now)
         ((held ++ first) ++ flat_map (released_record capture.now) released.now)) }
     ensures others { D.tells desk.old → SameButAt name.now (D.file desk.old) (D.file desk.new) }
-    ensures tells { D.tells desk.old → D.tells desk.new }
-    ensures sound { D.sound desk.old → D.sound desk.new }
-    ensures count { D.faults desk.old ≤ D.faults desk.new }
-    ensures cause { IsErrOf result DeskError.Failed → Rose (D.faults desk.old) (D.faults desk.new) }
-    ensures still { (IsErrOf result DeskError.Failed → ⊥) → D.faults desk.new ≡ D.faults desk.old }
+    ensures served { HasServed D.tells D.sound D.faults (IsErrOf result DeskError.Failed) desk.old desk.new }
     ensures absent { D.tells desk.old → D.sound desk.old → IsErrOf result DeskError.Failed →
         D.file desk.old name.now ≡ None }
 {
@@ -102,11 +94,7 @@ pub fn write_front<D: Desk>(
 ) -> Result<(), DeskError>
     ensures written { D.tells desk.old → OnOk result (D.file desk.new name.now ≡ Some capture.now.header) }
     ensures others { D.tells desk.old → SameButAt name.now (D.file desk.old) (D.file desk.new) }
-    ensures tells { D.tells desk.old → D.tells desk.new }
-    ensures sound { D.sound desk.old → D.sound desk.new }
-    ensures count { D.faults desk.old ≤ D.faults desk.new }
-    ensures cause { IsErrOf result DeskError.Failed → Rose (D.faults desk.old) (D.faults desk.new) }
-    ensures still { (IsErrOf result DeskError.Failed → ⊥) → D.faults desk.new ≡ D.faults desk.old }
+    ensures served { HasServed D.tells D.sound D.faults (IsErrOf result DeskError.Failed) desk.old desk.new }
     ensures safe { D.tells desk.old → D.sound desk.old → IsErrOf result DeskError.Failed → ⊥ }
 {
     let mut header = Bytes::new(alloc);
@@ -128,11 +116,7 @@ pub fn write_out<D: Desk>(
     ensures refused { D.tells desk.old → OnErr result (MayHold (D.file desk.old name.now) (D.file desk.new name.now)
         (out_bytes capture.now released.now)) }
     ensures others { D.tells desk.old → SameButAt name.now (D.file desk.old) (D.file desk.new) }
-    ensures tells { D.tells desk.old → D.tells desk.new }
-    ensures sound { D.sound desk.old → D.sound desk.new }
-    ensures count { D.faults desk.old ≤ D.faults desk.new }
-    ensures cause { IsErrOf result DeskError.Failed → Rose (D.faults desk.old) (D.faults desk.new) }
-    ensures still { (IsErrOf result DeskError.Failed → ⊥) → D.faults desk.new ≡ D.faults desk.old }
+    ensures served { HasServed D.tells D.sound D.faults (IsErrOf result DeskError.Failed) desk.old desk.new }
     ensures safe { D.tells desk.old → D.sound desk.old → IsErrOf result DeskError.Failed → ⊥ }
 {
     desk.make(alloc, name)?;
@@ -152,11 +136,7 @@ pub fn write_text<D: Desk>(
     ensures refused { D.tells desk.old → OnErr result (MayHold (D.file desk.old name.now)
         (D.file desk.new name.now) text.now) }
     ensures others { D.tells desk.old → SameButAt name.now (D.file desk.old) (D.file desk.new) }
-    ensures tells { D.tells desk.old → D.tells desk.new }
-    ensures sound { D.sound desk.old → D.sound desk.new }
-    ensures count { D.faults desk.old ≤ D.faults desk.new }
-    ensures cause { IsErrOf result DeskError.Failed → Rose (D.faults desk.old) (D.faults desk.new) }
-    ensures still { (IsErrOf result DeskError.Failed → ⊥) → D.faults desk.new ≡ D.faults desk.old }
+    ensures served { HasServed D.tells D.sound D.faults (IsErrOf result DeskError.Failed) desk.old desk.new }
     ensures safe { D.tells desk.old → D.sound desk.old → IsErrOf result DeskError.Failed → ⊥ }
 {
     desk.make(alloc, name)?;
@@ -174,11 +154,7 @@ pub fn write_journal<D: Desk>(
     ensures refused { D.tells desk.old → OnErr result (MayHold (D.file desk.old name.now) (D.file desk.new name.now)
         (spelling journal.now.items)) }
     ensures others { D.tells desk.old → SameButAt name.now (D.file desk.old) (D.file desk.new) }
-    ensures tells { D.tells desk.old → D.tells desk.new }
-    ensures sound { D.sound desk.old → D.sound desk.new }
-    ensures count { D.faults desk.old ≤ D.faults desk.new }
-    ensures cause { IsErrOf result DeskError.Failed → Rose (D.faults desk.old) (D.faults desk.new) }
-    ensures still { (IsErrOf result DeskError.Failed → ⊥) → D.faults desk.new ≡ D.faults desk.old }
+    ensures served { HasServed D.tells D.sound D.faults (IsErrOf result DeskError.Failed) desk.old desk.new }
     ensures safe { D.tells desk.old → D.sound desk.old → IsErrOf result DeskError.Failed → ⊥ }
 {
     let text = print(alloc, journal)?;

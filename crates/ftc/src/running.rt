@@ -2,7 +2,7 @@
 
 ghost use Rattle.std.specs.Prelude.{◌≡◌, ◌≤◌, ◌⊎◌, ◌∷◌, [], length, OnOk, OnErr, IsErrOf};
 ghost use Rattle.ftc_base.specs.declared.limits.TheConstants.{MOST_THREADS};
-ghost use Rattle.ftc_outside.specs.Desk.{SameFiles, Rose};
+ghost use Rattle.ftc_outside.specs.Desk.{SameFiles, HasServed};
 ghost use Rattle.ftc_words.specs.Command.{AreWorkers};
 ghost use Rattle.ftc_words.specs.Shown.{named_of, shown_mode};
 ghost use Rattle.ftc.specs.Done.{IsDriven, IsAny, IsChosen, AreToldAll, AreToldAtLast, WereTold, IsOutOpen};
@@ -51,11 +51,7 @@ fn run_alone<D: Desk>(
         ⊎ HasBegun (named_of names.entry) texts.now.spec texts.now.capture texts.now.script
         (IsDriven texts.now.spec texts.now.capture texts.now.script texts.now.schedule.items)
         (⟦<Taps as Seen>⟧.faces taps.new) (D.file desk.old) (D.file desk.new)) }
-    ensures tells { D.tells desk.old → D.tells desk.new }
-    ensures sound { D.sound desk.old → D.sound desk.new }
-    ensures count { D.faults desk.old ≤ D.faults desk.new }
-    ensures cause { IsErrOf result DeskError.Failed → Rose (D.faults desk.old) (D.faults desk.new) }
-    ensures still { (IsErrOf result DeskError.Failed → ⊥) → D.faults desk.new ≡ D.faults desk.old }
+    ensures served { HasServed D.tells D.sound D.faults (IsErrOf result DeskError.Failed) desk.old desk.new }
     ensures safe { D.tells desk.old → D.sound desk.old → IsErrOf result DeskError.Failed → ⊥ }
 {
     let driven = drive(alloc, texts)?;
@@ -87,11 +83,7 @@ fn run_by_workers<R: Threads + Wait + Sync, D: Desk, G: Gate>(
         SameElsewhere ((named_of names.entry).out ∷ []) (D.file desk.old) (D.file desk.new)
         ⊎ HasBegun (named_of names.entry) texts.now.spec texts.now.capture texts.now.script IsAny
         (⟦<Taps as Seen>⟧.faces taps.new) (D.file desk.old) (D.file desk.new)) }
-    ensures tells { D.tells desk.old → D.tells desk.new }
-    ensures sound { D.sound desk.old → D.sound desk.new }
-    ensures count { D.faults desk.old ≤ D.faults desk.new }
-    ensures cause { IsErrOf result DeskError.Failed → Rose (D.faults desk.old) (D.faults desk.new) }
-    ensures still { (IsErrOf result DeskError.Failed → ⊥) → D.faults desk.new ≡ D.faults desk.old }
+    ensures served { HasServed D.tells D.sound D.faults (IsErrOf result DeskError.Failed) desk.old desk.new }
     ensures safe { D.tells desk.old → D.sound desk.old → IsErrOf result DeskError.Failed → ⊥ }
 {
     let (out, capture) = (names.out, &texts.capture);
@@ -132,11 +124,7 @@ pub fn run_texts<R: Threads + Wait + Sync, D: Desk, G: Gate>(
         ⊎ HasBegun (named_of names.entry) texts.now.spec texts.now.capture texts.now.script
         (IsChosen (shown_mode mode.entry) texts.now.spec texts.now.capture texts.now.script texts.now.schedule.items)
         (⟦<Taps as Seen>⟧.faces taps.new) (D.file desk.old) (D.file desk.new))) }
-    ensures tells { D.tells desk.old → D.tells desk.new }
-    ensures sound { D.sound desk.old → D.sound desk.new }
-    ensures count { D.faults desk.old ≤ D.faults desk.new }
-    ensures cause { IsErrOf result DeskError.Failed → Rose (D.faults desk.old) (D.faults desk.new) }
-    ensures still { (IsErrOf result DeskError.Failed → ⊥) → D.faults desk.new ≡ D.faults desk.old }
+    ensures served { HasServed D.tells D.sound D.faults (IsErrOf result DeskError.Failed) desk.old desk.new }
     ensures safe { D.tells desk.old → D.sound desk.old → IsErrOf result DeskError.Failed → ⊥ }
 {
     match mode {

@@ -1,7 +1,7 @@
 //! Fetching and reading the texts of a run.
 
 ghost use Rattle.std.specs.Prelude.{◌≡◌, ◌≢◌, ◌≤◌, length, Err, IfOk, IfErr};
-ghost use Rattle.ftc_outside.specs.Desk.{SameFiles, Rose};
+ghost use Rattle.ftc_outside.specs.Desk.{SameFiles, HasServed};
 ghost use Rattle.ftc_ring.specs.Ring.{IsRing};
 ghost use Rattle.ftc_script.specs.Script.{IsScript};
 ghost use Rattle.ftc.specs.Answers.{IsInputAnswer, IsScriptAnswer, IsRunAnswer};
@@ -48,11 +48,7 @@ pub fn fetch_chain<D: Desk>(alloc: Global, name: &str, desk: &mut D) -> Result<C
     ensures known { IfErr result (λ ending. ending ≢ Status.Usage) }
     ensures answer { IfErr result IsInputAnswer }
     ensures files { D.tells desk.old → SameFiles (D.file desk.old) (D.file desk.new) }
-    ensures tells { D.tells desk.old → D.tells desk.new }
-    ensures sound { D.sound desk.old → D.sound desk.new }
-    ensures count { D.faults desk.old ≤ D.faults desk.new }
-    ensures cause { result ≡ Err Status.DeskFault → Rose (D.faults desk.old) (D.faults desk.new) }
-    ensures still { result ≢ Err Status.DeskFault → D.faults desk.new ≡ D.faults desk.old }
+    ensures served { HasServed D.tells D.sound D.faults (result ≡ Err Status.DeskFault) desk.old desk.new }
 {
     let text = desk.fetch(alloc, name)?;
     let spec = read_chain(alloc, text.as_slice())?;
@@ -67,11 +63,7 @@ pub fn fetch_capture<D: Desk>(alloc: Global, name: &str, desk: &mut D) -> Result
     ensures known { IfErr result (λ ending. ending ≢ Status.Usage) }
     ensures answer { IfErr result IsInputAnswer }
     ensures files { D.tells desk.old → SameFiles (D.file desk.old) (D.file desk.new) }
-    ensures tells { D.tells desk.old → D.tells desk.new }
-    ensures sound { D.sound desk.old → D.sound desk.new }
-    ensures count { D.faults desk.old ≤ D.faults desk.new }
-    ensures cause { result ≡ Err Status.DeskFault → Rose (D.faults desk.old) (D.faults desk.new) }
-    ensures still { result ≢ Err Status.DeskFault → D.faults desk.new ≡ D.faults desk.old }
+    ensures served { HasServed D.tells D.sound D.faults (result ≡ Err Status.DeskFault) desk.old desk.new }
 {
     let text = desk.fetch(alloc, name)?;
     let capture = read_capture(alloc, text.as_slice())?;
@@ -95,11 +87,7 @@ pub fn fetch_script<D: Desk>(
     ensures known { IfErr result (λ ending. ending ≢ Status.Usage) }
     ensures answer { IfErr result IsScriptAnswer }
     ensures files { D.tells desk.old → SameFiles (D.file desk.old) (D.file desk.new) }
-    ensures tells { D.tells desk.old → D.tells desk.new }
-    ensures sound { D.sound desk.old → D.sound desk.new }
-    ensures count { D.faults desk.old ≤ D.faults desk.new }
-    ensures cause { result ≡ Err Status.DeskFault → Rose (D.faults desk.old) (D.faults desk.new) }
-    ensures still { result ≢ Err Status.DeskFault → D.faults desk.new ≡ D.faults desk.old }
+    ensures served { HasServed D.tells D.sound D.faults (result ≡ Err Status.DeskFault) desk.old desk.new }
 {
     accepted();
     let text = desk.fetch(alloc, name)?;
@@ -116,11 +104,7 @@ fn fetch_schedule<D: Desk>(alloc: Global, mode: Mode<'_>, desk: &mut D) -> Resul
     ensures known { IfErr result (λ ending. ending ≢ Status.Usage) }
     ensures answer { IfErr result IsRunAnswer }
     ensures files { D.tells desk.old → SameFiles (D.file desk.old) (D.file desk.new) }
-    ensures tells { D.tells desk.old → D.tells desk.new }
-    ensures sound { D.sound desk.old → D.sound desk.new }
-    ensures count { D.faults desk.old ≤ D.faults desk.new }
-    ensures cause { result ≡ Err Status.DeskFault → Rose (D.faults desk.old) (D.faults desk.new) }
-    ensures still { result ≢ Err Status.DeskFault → D.faults desk.new ≡ D.faults desk.old }
+    ensures served { HasServed D.tells D.sound D.faults (result ≡ Err Status.DeskFault) desk.old desk.new }
 {
     let Mode::Alone { schedule, .. } = mode else {
         return Ok(Journal::new(alloc));
@@ -148,11 +132,7 @@ pub fn read_texts<D: Desk>(
     ensures known { IfErr result (λ ending. ending ≢ Status.Usage) }
     ensures answer { IfErr result IsRunAnswer }
     ensures files { D.tells desk.old → SameFiles (D.file desk.old) (D.file desk.new) }
-    ensures tells { D.tells desk.old → D.tells desk.new }
-    ensures sound { D.sound desk.old → D.sound desk.new }
-    ensures count { D.faults desk.old ≤ D.faults desk.new }
-    ensures cause { result ≡ Err Status.DeskFault → Rose (D.faults desk.old) (D.faults desk.new) }
-    ensures still { result ≢ Err Status.DeskFault → D.faults desk.new ≡ D.faults desk.old }
+    ensures served { HasServed D.tells D.sound D.faults (result ≡ Err Status.DeskFault) desk.old desk.new }
 {
     let spec = fetch_chain(alloc, names.chain, desk)?;
     let capture = fetch_capture(alloc, names.capture, desk)?;

@@ -1,7 +1,7 @@
 //! A command, from its words to the files that it leaves.
 
 ghost use Rattle.std.specs.Prelude.{◌≡◌, ◌≢◌, ◌≤◌, ◌↔◌, ◌⊎◌, ⊤, true, Some, None};
-ghost use Rattle.ftc_outside.specs.Desk.{SameFiles, Rose};
+ghost use Rattle.ftc_outside.specs.Desk.{Rose, HasServed};
 ghost use Rattle.ftc_words.specs.Shown.{named_of, shown_mode, shown};
 ghost use Rattle.std.specs.List.{list_all};
 ghost use Rattle.ftc_words.specs.Given.{is_name};
@@ -47,11 +47,7 @@ fn run_names<R: AllocGlobal + Threads + Wait + Sync, D: Desk, G: Gate>(
         result }
     ensures known { result ≢ Status.Usage }
     ensures answer { IsRunAnswer result }
-    ensures tells { D.tells desk.old → D.tells desk.new }
-    ensures sound { D.sound desk.old → D.sound desk.new }
-    ensures count { D.faults desk.old ≤ D.faults desk.new }
-    ensures cause { result ≡ Status.DeskFault → Rose (D.faults desk.old) (D.faults desk.new) }
-    ensures still { result ≢ Status.DeskFault → D.faults desk.new ≡ D.faults desk.old }
+    ensures served { HasServed D.tells D.sound D.faults (result ≡ Status.DeskFault) desk.old desk.new }
 {
     spellings();
     right_files();
@@ -95,11 +91,7 @@ fn run_command<R: AllocGlobal + Threads + Wait + Sync, D: Desk, G: Gate>(
     ensures exact { D.tells desk.old → HasRightRun (Some (shown command.now)) (D.file desk.old) →
         IsYesOrRefused result }
     ensures agrees { D.tells desk.old → WasLeft (Some (shown command.now)) (D.file desk.old) → IsYesOrRefused result }
-    ensures tells { D.tells desk.old → D.tells desk.new }
-    ensures sound { D.sound desk.old → D.sound desk.new }
-    ensures count { D.faults desk.old ≤ D.faults desk.new }
-    ensures cause { result ≡ Status.DeskFault → Rose (D.faults desk.old) (D.faults desk.new) }
-    ensures still { result ≢ Status.DeskFault → D.faults desk.new ≡ D.faults desk.old }
+    ensures served { HasServed D.tells D.sound D.faults (result ≡ Status.DeskFault) desk.old desk.new }
 {
     one_reading();
     one_fault();
@@ -184,11 +176,7 @@ pub fn run<R: AllocGlobal + Threads + Wait + Sync, D: Desk, G: Gate>(
     ensures agrees { D.tells desk.old → WasLeft (asked words.now) (D.file desk.old) → IsYesOrRefused result }
 
     // A fault is the desk's.
-    ensures tells { D.tells desk.old → D.tells desk.new }
-    ensures sound { D.sound desk.old → D.sound desk.new }
-    ensures count { D.faults desk.old ≤ D.faults desk.new }
-    ensures cause { result ≡ Status.DeskFault → Rose (D.faults desk.old) (D.faults desk.new) }
-    ensures still { result ≢ Status.DeskFault → D.faults desk.new ≡ D.faults desk.old }
+    ensures served { HasServed D.tells D.sound D.faults (result ≡ Status.DeskFault) desk.old desk.new }
 {
     let read = match read_command(rt.alloc(), words) {
         Ok(read) => read,

@@ -1,7 +1,7 @@
 //! The watch over heartbeats, from its texts to the script that it makes.
 
 ghost use Rattle.std.specs.Prelude.{◌≡◌, ◌≢◌, ◌≤◌, Err, IfOk, IfErr, OnOk, OnErr, IsErrOf, codes};
-ghost use Rattle.ftc_outside.specs.Desk.{SameFiles, Rose};
+ghost use Rattle.ftc_outside.specs.Desk.{SameFiles, HasServed};
 ghost use Rattle.ftc_watch.specs.Lines.{summary};
 ghost use Rattle.ftc.specs.Answers.{IsWatchAnswer};
 ghost use Rattle.ftc.specs.Refused.{IsTextRefused};
@@ -40,11 +40,7 @@ fn fetch_beats<D: Desk>(
     ensures known { IfErr result (λ ending. ending ≢ Status.Usage) }
     ensures answer { IfErr result IsWatchAnswer }
     ensures files { D.tells desk.old → SameFiles (D.file desk.old) (D.file desk.new) }
-    ensures tells { D.tells desk.old → D.tells desk.new }
-    ensures sound { D.sound desk.old → D.sound desk.new }
-    ensures count { D.faults desk.old ≤ D.faults desk.new }
-    ensures cause { result ≡ Err Status.DeskFault → Rose (D.faults desk.old) (D.faults desk.new) }
-    ensures still { result ≢ Err Status.DeskFault → D.faults desk.new ≡ D.faults desk.old }
+    ensures served { HasServed D.tells D.sound D.faults (result ≡ Err Status.DeskFault) desk.old desk.new }
 {
     let text = desk.fetch(alloc, name)?;
     let beats = read_beats(alloc, text.as_slice(), ring, packets)?;
@@ -63,11 +59,7 @@ fn read_watched<D: Desk>(
     ensures known { IfErr result (λ ending. ending ≢ Status.Usage) }
     ensures answer { IfErr result IsWatchAnswer }
     ensures files { D.tells desk.old → SameFiles (D.file desk.old) (D.file desk.new) }
-    ensures tells { D.tells desk.old → D.tells desk.new }
-    ensures sound { D.sound desk.old → D.sound desk.new }
-    ensures count { D.faults desk.old ≤ D.faults desk.new }
-    ensures cause { result ≡ Err Status.DeskFault → Rose (D.faults desk.old) (D.faults desk.new) }
-    ensures still { result ≢ Err Status.DeskFault → D.faults desk.new ≡ D.faults desk.old }
+    ensures served { HasServed D.tells D.sound D.faults (result ≡ Err Status.DeskFault) desk.old desk.new }
 {
     let spec = fetch_chain(alloc, names.chain, desk)?;
     let capture = fetch_capture(alloc, names.capture, desk)?;
@@ -88,11 +80,7 @@ fn write_watched<D: Desk>(
         (summary watched.now.fenced watched.now.refused watched.now.held) (D.file desk.old) (D.file desk.new)) }
     ensures refused { D.tells desk.old → OnErr result (AreMadeShort name.now watched.now.script
         (summary watched.now.fenced watched.now.refused watched.now.held) (D.file desk.old) (D.file desk.new)) }
-    ensures tells { D.tells desk.old → D.tells desk.new }
-    ensures sound { D.sound desk.old → D.sound desk.new }
-    ensures count { D.faults desk.old ≤ D.faults desk.new }
-    ensures cause { IsErrOf result DeskError.Failed → Rose (D.faults desk.old) (D.faults desk.new) }
-    ensures still { (IsErrOf result DeskError.Failed → ⊥) → D.faults desk.new ≡ D.faults desk.old }
+    ensures served { HasServed D.tells D.sound D.faults (IsErrOf result DeskError.Failed) desk.old desk.new }
     ensures safe { D.tells desk.old → D.sound desk.old → IsErrOf result DeskError.Failed → ⊥ }
 {
     let told = summary(alloc, watched)?;
@@ -109,11 +97,7 @@ pub fn watch_beats<D: Desk>(alloc: Global, names: WatchNames<'_>, limit: u8, des
         (D.file desk.new) result }
     ensures known { result ≢ Status.Usage }
     ensures answer { IsWatchAnswer result }
-    ensures tells { D.tells desk.old → D.tells desk.new }
-    ensures sound { D.sound desk.old → D.sound desk.new }
-    ensures count { D.faults desk.old ≤ D.faults desk.new }
-    ensures cause { result ≡ Status.DeskFault → Rose (D.faults desk.old) (D.faults desk.new) }
-    ensures still { result ≢ Status.DeskFault → D.faults desk.new ≡ D.faults desk.old }
+    ensures served { HasServed D.tells D.sound D.faults (result ≡ Status.DeskFault) desk.old desk.new }
 {
     makes_a_script();
     let beats = match read_watched(alloc, names, desk) {

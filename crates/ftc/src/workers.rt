@@ -2,7 +2,7 @@
 
 ghost use Rattle.std.specs.Prelude.{◌≡◌, ◌↔◌, ◌≤◌, length, None, IfOk, IsErrOf};
 ghost use Rattle.ftc_base.specs.declared.limits.TheConstants.{MOST_THREADS};
-ghost use Rattle.ftc_outside.specs.Desk.{SameButAt, Rose};
+ghost use Rattle.ftc_outside.specs.Desk.{SameButAt, HasServed};
 ghost use Rattle.ftc_report.specs.Output.{AreWritable};
 ghost use Rattle.ftc_serial.specs.Held.{rules_of, state_of};
 ghost use Rattle.ftc_serial.specs.Packets.{bytes_of};
@@ -86,11 +86,7 @@ pub fn work<'a, R: Threads + Wait + Sync, D: Desk, G: Gate>(
     ensures told { IfOk result (λ worked. AreLeft (writable texts.now.capture worked.put)
         (⟦<Taps as Seen>⟧.faces taps.old) (⟦<Taps as Seen>⟧.faces taps.new)) }
     ensures others { D.tells desk.old → SameButAt out.now (D.file desk.old) (D.file desk.new) }
-    ensures tells { D.tells desk.old → D.tells desk.new }
-    ensures sound { D.sound desk.old → D.sound desk.new }
-    ensures count { D.faults desk.old ≤ D.faults desk.new }
-    ensures cause { IsErrOf result DeskError.Failed → Rose (D.faults desk.old) (D.faults desk.new) }
-    ensures still { (IsErrOf result DeskError.Failed → ⊥) → D.faults desk.new ≡ D.faults desk.old }
+    ensures served { HasServed D.tells D.sound D.faults (IsErrOf result DeskError.Failed) desk.old desk.new }
     ensures absent { D.tells desk.old → D.sound desk.old → IsErrOf result DeskError.Failed →
         D.file desk.old out.now ≡ None }
 {

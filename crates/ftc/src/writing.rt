@@ -3,7 +3,7 @@
 ghost use Rattle.std.specs.Prelude.{◌≡◌, ◌≤◌, Some, OnOk, OnErr, IsErrOf, length};
 ghost use Rattle.std.specs.List.{AllByRecursion};
 ghost use Rattle.ftc_journal.specs.Text.{spelling};
-ghost use Rattle.ftc_outside.specs.Desk.{SameButAt, Rose};
+ghost use Rattle.ftc_outside.specs.Desk.{SameButAt, HasServed};
 ghost use Rattle.ftc_outside.specs.Tap.{HasNoFeed};
 ghost use Rattle.ftc_protocol.specs.Setting.{setting_of};
 ghost use Rattle.ftc_report.specs.Output.{out_bytes, AreWritable};
@@ -45,11 +45,7 @@ pub fn write_released<D: Desk>(
     ensures refused { D.tells desk.old → OnErr result (MayHold (D.file desk.old name.now) (D.file desk.new name.now)
         (out_bytes capture.now released.now)) }
     ensures others { D.tells desk.old → SameButAt name.now (D.file desk.old) (D.file desk.new) }
-    ensures tells { D.tells desk.old → D.tells desk.new }
-    ensures sound { D.sound desk.old → D.sound desk.new }
-    ensures count { D.faults desk.old ≤ D.faults desk.new }
-    ensures cause { IsErrOf result DeskError.Failed → Rose (D.faults desk.old) (D.faults desk.new) }
-    ensures still { (IsErrOf result DeskError.Failed → ⊥) → D.faults desk.new ≡ D.faults desk.old }
+    ensures served { HasServed D.tells D.sound D.faults (IsErrOf result DeskError.Failed) desk.old desk.new }
     ensures safe { D.tells desk.old → D.sound desk.old → IsErrOf result DeskError.Failed → ⊥ }
 {
     write_out(alloc, desk, name, capture, released)?;
@@ -84,11 +80,7 @@ pub fn write_texts<D: Desk>(
         (report_of (setting_of texts.now.spec (bytes_of texts.now.capture.packets) texts.now.script)
         driven.now.chain.journal) (lines_of (⟦<Taps as Seen>⟧.faces taps.now))
         (D.file desk.old) (D.file desk.new)) }
-    ensures tells { D.tells desk.old → D.tells desk.new }
-    ensures sound { D.sound desk.old → D.sound desk.new }
-    ensures count { D.faults desk.old ≤ D.faults desk.new }
-    ensures cause { IsErrOf result DeskError.Failed → Rose (D.faults desk.old) (D.faults desk.new) }
-    ensures still { (IsErrOf result DeskError.Failed → ⊥) → D.faults desk.new ≡ D.faults desk.old }
+    ensures served { HasServed D.tells D.sound D.faults (IsErrOf result DeskError.Failed) desk.old desk.new }
     ensures safe { D.tells desk.old → D.sound desk.old → IsErrOf result DeskError.Failed → ⊥ }
 {
     write_journal(alloc, desk, names.journal, driven.chain.journal())?;

@@ -36,3 +36,12 @@ counted count = min (count + 1) 18446744073709551615
 -- the count rose, or stands at its type's end
 abbrev pub Rose : ℕ → ℕ → Type 0
 Rose before now = (before < now) ⊎ (18446744073709551615 ≤ now)
+
+-- What a call leaves of a desk: it tells its files and is sound as before, and the count of its faults doesn't fall, rose
+-- where the call failed, and is as it was where it didn't.
+pub record HasServed {D : Type 0} (tells sound : D → Type 0) (faults : D → ℕ) (failed : Type 0) (old new : D) : Type 0 where
+  pub tells_on : tells old → tells new
+  pub sound_on : sound old → sound new
+  pub count : faults old ≤ faults new
+  pub rose : failed → Rose (faults old) (faults new)
+  pub still : (failed → ⊥) → faults new ≡ faults old

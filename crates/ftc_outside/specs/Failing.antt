@@ -13,8 +13,8 @@ listed_of desk = desk.listed.items
 abbrev pub calls_of : FailingDesk → ℕ
 calls_of desk = desk.calls
 
-abbrev pub faults_of : FailingDesk → ℕ
-faults_of desk = desk.faults
+abbrev pub failing_faults : FailingDesk → ℕ
+failing_faults desk = desk.faults
 
 abbrev pub shown_of : FailingDesk → List ℕ → Option (List ℕ)
 shown_of desk name = file_of desk.inner name

@@ -2,5 +2,5 @@
 use Rattle.std.specs.Prelude.{ℕ}
 use Rattle.ftc_outside.specs.declared.files.FileDesk.{FileDesk}
 
-abbrev pub faults_of : {R File Dir : Type 0} → FileDesk R File Dir → ℕ
-faults_of desk = desk.faults
+abbrev pub file_faults : {R File Dir : Type 0} → FileDesk R File Dir → ℕ
+file_faults desk = desk.faults

@@ -2,7 +2,7 @@
 
 ghost use Rattle.std.specs.Prelude.{◌≡◌, ◌≢◌, ◌≤◌, ◌++◌, [], List, ℕ, Option, Some, None, IfOk, OnOk, OnErr, IsErrOf, codes};
 ghost use Rattle.ftc_outside.specs.declared.desk.DeskError.TheVariants as error;
-ghost use Rattle.ftc_outside.specs.Desk.{SameFiles, SameButAt, EmptiedAt, GrewAt, MayHaveEmptiedAt, MayHaveGrownAt, Rose};
+ghost use Rattle.ftc_outside.specs.Desk.{SameFiles, SameButAt, EmptiedAt, GrewAt, MayHaveEmptiedAt, MayHaveGrownAt, HasServed};
 
 use ftc_base::{Bytes, NoMemory};
 use std::alloc::{AllocError, AllocFailed, Global};
@@ -63,11 +63,7 @@ pub trait Desk {
     fn fetch(&mut self, alloc: Global, name: &str) -> Result<Bytes, DeskError>
         ensures bytes { tells self.old → IfOk result (λ bytes. file self.old name.now ≡ Some bytes) }
         ensures files { tells self.old → SameFiles (file self.old) (file self.new) }
-        ensures tells { tells self.old → tells self.new }
-        ensures count { faults self.old ≤ faults self.new }
-        ensures cause { IsErrOf result DeskError.Failed → Rose (faults self.old) (faults self.new) }
-        ensures still { (IsErrOf result DeskError.Failed → ⊥) → faults self.new ≡ faults self.old }
-        ensures sound { sound self.old → sound self.new }
+        ensures served { HasServed tells sound faults (IsErrOf result DeskError.Failed) self.old self.new }
         ensures absent { sound self.old → IsErrOf result DeskError.Failed → file self.old name.now ≡ None };
 
     /// Leaves an empty file of that name.
@@ -75,11 +71,7 @@ pub trait Desk {
         ensures made { tells self.old → OnOk result (EmptiedAt name.now (file self.new)) }
         ensures refused { tells self.old → OnErr result (MayHaveEmptiedAt name.now (file self.old) (file self.new)) }
         ensures others { tells self.old → SameButAt name.now (file self.old) (file self.new) }
-        ensures tells { tells self.old → tells self.new }
-        ensures count { faults self.old ≤ faults self.new }
-        ensures cause { IsErrOf result DeskError.Failed → Rose (faults self.old) (faults self.new) }
-        ensures still { (IsErrOf result DeskError.Failed → ⊥) → faults self.new ≡ faults self.old }
-        ensures sound { sound self.old → sound self.new }
+        ensures served { HasServed tells sound faults (IsErrOf result DeskError.Failed) self.old self.new }
         ensures absent { sound self.old → IsErrOf result DeskError.Failed → ⊥ };
 
     /// Adds the bytes at the file's end.
@@ -87,10 +79,6 @@ pub trait Desk {
         ensures grown { tells self.old → OnOk result (GrewAt name.now bytes.now (file self.old) (file self.new)) }
         ensures refused { tells self.old → OnErr result (MayHaveGrownAt name.now bytes.now (file self.old) (file self.new)) }
         ensures others { tells self.old → SameButAt name.now (file self.old) (file self.new) }
-        ensures tells { tells self.old → tells self.new }
-        ensures count { faults self.old ≤ faults self.new }
-        ensures cause { IsErrOf result DeskError.Failed → Rose (faults self.old) (faults self.new) }
-        ensures still { (IsErrOf result DeskError.Failed → ⊥) → faults self.new ≡ faults self.old }
-        ensures sound { sound self.old → sound self.new }
+        ensures served { HasServed tells sound faults (IsErrOf result DeskError.Failed) self.old self.new }
         ensures absent { sound self.old → IsErrOf result DeskError.Failed → (file self.old name.now ≡ None) × (name.now ≢ codes "-") };
 }

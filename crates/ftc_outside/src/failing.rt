@@ -1,7 +1,7 @@
 //! A desk in memory whose listed calls fail.
 
 ghost use Rattle.std.specs.Prelude.{◌≡◌, ◌≤◌, ◌≢◌, ◌↔◌, ⊤, ◌⊎◌, List, ℕ, Option, Some, None, IfOk, OnOk, OnErr, IsErrOf, IsTrue, Contains, codes};
-ghost use Rattle.ftc_outside.specs.Desk.{SameFiles, SameButAt, EmptiedAt, GrewAt, MayHaveEmptiedAt, MayHaveGrownAt, Rose, counted};
+ghost use Rattle.ftc_outside.specs.Desk.{SameFiles, SameButAt, EmptiedAt, GrewAt, MayHaveEmptiedAt, MayHaveGrownAt, Rose, counted, HasServed};
 
 use crate::desk::{Desk, DeskError};
 use crate::memory::MemoryDesk;
@@ -18,14 +18,14 @@ pub struct FailingDesk {
 }
 
 impl FailingDesk {
-    ghost use Rattle.ftc_outside.specs.Failing.{inner_of, listed_of, calls_of, faults_of};
+    ghost use Rattle.ftc_outside.specs.Failing.{inner_of, listed_of, calls_of, failing_faults};
 
     /// A desk over these files, whose calls of these numbers will fail.
     pub fn new(alloc: Global, inner: MemoryDesk, calls: &[u64]) -> Result<FailingDesk, NoMemory>
         ensures inner { IfOk result (λ desk. inner_of desk ≡ inner) }
         ensures listed { IfOk result (λ desk. listed_of desk ≡ calls.now) }
         ensures calls { IfOk result (λ desk. calls_of desk ≡ 0) }
-        ensures faults { IfOk result (λ desk. faults_of desk ≡ 0) }
+        ensures faults { IfOk result (λ desk. failing_faults desk ≡ 0) }
     {
         let listed = Vec::from_slice(alloc, calls)?;
         Ok(FailingDesk {
@@ -50,9 +50,9 @@ impl FailingDesk {
         ensures list { listed_of self.new ≡ listed_of self.old }
         ensures calls { calls_of self.new ≡ counted (calls_of self.old) }
         ensures rises { calls_of self.old ≤ calls_of self.new }
-        ensures count { faults_of self.old ≤ faults_of self.new }
-        ensures rose { IsTrue result → Rose (faults_of self.old) (faults_of self.new) }
-        ensures still { (IsTrue result → ⊥) → faults_of self.new ≡ faults_of self.old }
+        ensures count { failing_faults self.old ≤ failing_faults self.new }
+        ensures rose { IsTrue result → Rose (failing_faults self.old) (failing_faults self.new) }
+        ensures still { (IsTrue result → ⊥) → failing_faults self.new ≡ failing_faults self.old }
     {
         let fails = self.listed.contains(&self.calls);
         self.calls = self.calls.saturating_add(1);
@@ -68,9 +68,9 @@ impl FailingDesk {
         ensures inner { inner_of self.new ≡ inner_of self.old }
         ensures list { listed_of self.new ≡ listed_of self.old }
         ensures calls { calls_of self.new ≡ calls_of self.old }
-        ensures count { faults_of self.old ≤ faults_of self.new }
-        ensures rose { IsErrOf result DeskError.Failed → Rose (faults_of self.old) (faults_of self.new) }
-        ensures still { (IsErrOf result DeskError.Failed → ⊥) → faults_of self.new ≡ faults_of self.old }
+        ensures count { failing_faults self.old ≤ failing_faults self.new }
+        ensures rose { IsErrOf result DeskError.Failed → Rose (failing_faults self.old) (failing_faults self.new) }
+        ensures still { (IsErrOf result DeskError.Failed → ⊥) → failing_faults self.new ≡ failing_faults self.old }
     {
         if let Err(DeskError::Failed) = answer {
             self.faults = self.faults.saturating_add(1);
@@ -81,24 +81,20 @@ impl FailingDesk {
 
 impl Desk for FailingDesk {
     ghost use Rattle.ftc_outside.specs.Memory.{file_of};
-    ghost use Rattle.ftc_outside.specs.Failing.{inner_of, listed_of, calls_of, faults_of, shown_of, IsSound};
+    ghost use Rattle.ftc_outside.specs.Failing.{inner_of, listed_of, calls_of, failing_faults, shown_of, IsSound};
 
     ghost tells = { λ _. ⊤ };
 
     ghost file = { shown_of };
 
-    ghost faults = { faults_of };
+    ghost faults = { failing_faults };
 
     ghost sound = { IsSound };
 
     fn fetch(&mut self, alloc: Global, name: &str) -> Result<Bytes, DeskError>
         ensures bytes { ⊤ → IfOk result (λ bytes. shown_of self.old name.now ≡ Some bytes) }
         ensures files { ⊤ → SameFiles (shown_of self.old) (shown_of self.new) }
-        ensures tells { ⊤ → ⊤ }
-        ensures count { faults_of self.old ≤ faults_of self.new }
-        ensures cause { IsErrOf result DeskError.Failed → Rose (faults_of self.old) (faults_of self.new) }
-        ensures still { (IsErrOf result DeskError.Failed → ⊥) → faults_of self.new ≡ faults_of self.old }
-        ensures sound { IsSound self.old → IsSound self.new }
+        ensures served { HasServed (λ _. ⊤) IsSound failing_faults (IsErrOf result DeskError.Failed) self.old self.new }
         ensures absent { IsSound self.old → IsErrOf result DeskError.Failed → shown_of self.old name.now ≡ None }
 
         // It fails exactly in a listed call and where there is no such file.
@@ -118,11 +114,7 @@ impl Desk for FailingDesk {
         ensures made { ⊤ → OnOk result (EmptiedAt name.now (shown_of self.new)) }
         ensures refused { ⊤ → OnErr result (MayHaveEmptiedAt name.now (shown_of self.old) (shown_of self.new)) }
         ensures others { ⊤ → SameButAt name.now (shown_of self.old) (shown_of self.new) }
-        ensures tells { ⊤ → ⊤ }
-        ensures count { faults_of self.old ≤ faults_of self.new }
-        ensures cause { IsErrOf result DeskError.Failed → Rose (faults_of self.old) (faults_of self.new) }
-        ensures still { (IsErrOf result DeskError.Failed → ⊥) → faults_of self.new ≡ faults_of self.old }
-        ensures sound { IsSound self.old → IsSound self.new }
+        ensures served { HasServed (λ _. ⊤) IsSound failing_faults (IsErrOf result DeskError.Failed) self.old self.new }
         ensures absent { IsSound self.old → IsErrOf result DeskError.Failed → ⊥ }
 
         // It fails exactly in a listed call, which changes nothing.
@@ -143,11 +135,7 @@ impl Desk for FailingDesk {
         ensures grown { ⊤ → OnOk result (GrewAt name.now bytes.now (shown_of self.old) (shown_of self.new)) }
         ensures refused { ⊤ → OnErr result (MayHaveGrownAt name.now bytes.now (shown_of self.old) (shown_of self.new)) }
         ensures others { ⊤ → SameButAt name.now (shown_of self.old) (shown_of self.new) }
-        ensures tells { ⊤ → ⊤ }
-        ensures count { faults_of self.old ≤ faults_of self.new }
-        ensures cause { IsErrOf result DeskError.Failed → Rose (faults_of self.old) (faults_of self.new) }
-        ensures still { (IsErrOf result DeskError.Failed → ⊥) → faults_of self.new ≡ faults_of self.old }
-        ensures sound { IsSound self.old → IsSound self.new }
+        ensures served { HasServed (λ _. ⊤) IsSound failing_faults (IsErrOf result DeskError.Failed) self.old self.new }
         ensures absent { IsSound self.old → IsErrOf result DeskError.Failed → (shown_of self.old name.now ≡ None) × (name.now ≢ codes "-") }
 
         // It fails exactly in a listed call and where there is neither such a file nor the name of

@@ -70,10 +70,10 @@ fn print_piece<R: Print>(rt: &R, piece: &[u8]) -> bool {
 }
 
 impl<R: Files + Print + Drop> FileDesk<R> {
-    ghost use Rattle.ftc_outside.specs.Files.{faults_of};
+    ghost use Rattle.ftc_outside.specs.Files.{file_faults};
 
     pub fn new(rt: R) -> FileDesk<R>
-        ensures faults { faults_of result ≡ 0 }
+        ensures faults { file_faults result ≡ 0 }
     {
         FileDesk { rt, faults: 0 }
     }

@@ -1,7 +1,7 @@
 //! A desk in memory.
 
 ghost use Rattle.std.specs.Prelude.{◌≡◌, ◌≤◌, ◌≢◌, ◌↔◌, ◌++◌, [], ⊤, List, ℕ, Option, Some, None, IfOk, OnOk, OnErr, IsErrOf, option_map, IsOkUnless, codes};
-ghost use Rattle.ftc_outside.specs.Desk.{SameFiles, SameButAt, EmptiedAt, GrewAt, MayHaveEmptiedAt, MayHaveGrownAt, Rose};
+ghost use Rattle.ftc_outside.specs.Desk.{SameFiles, SameButAt, EmptiedAt, GrewAt, MayHaveEmptiedAt, MayHaveGrownAt, HasServed};
 
 use crate::desk::{Desk, DeskError};
 use ftc_base::{Bytes, NoMemory};
@@ -17,12 +17,12 @@ pub struct MemoryDesk {
 }
 
 impl MemoryDesk {
-    ghost use Rattle.ftc_outside.specs.Memory.{file_of, faults_of};
+    ghost use Rattle.ftc_outside.specs.Memory.{file_of, memory_faults};
 
     /// A desk without files.
     pub fn new(alloc: Global) -> MemoryDesk
         ensures empty { (name : List ℕ) → file_of result name ≡ None }
-        ensures faults { faults_of result ≡ 0 }
+        ensures faults { memory_faults result ≡ 0 }
     {
         MemoryDesk {
             alloc,
@@ -36,7 +36,7 @@ impl MemoryDesk {
         ensures ok { OnOk result (file_of self.new name.now ≡ Some bytes.now) }
         ensures others { SameButAt name.now (file_of self.old) (file_of self.new) }
         ensures err { OnErr result (SameFiles (file_of self.old) (file_of self.new)) }
-        ensures count { faults_of self.new ≡ faults_of self.old }
+        ensures count { memory_faults self.new ≡ memory_faults self.old }
     {
         let mut content = Bytes::new(self.alloc);
         content.append(bytes)?;
@@ -57,24 +57,20 @@ impl MemoryDesk {
 }
 
 impl Desk for MemoryDesk {
-    ghost use Rattle.ftc_outside.specs.Memory.{file_of, faults_of};
+    ghost use Rattle.ftc_outside.specs.Memory.{file_of, memory_faults};
 
     ghost tells = { λ _. ⊤ };
 
     ghost file = { file_of };
 
-    ghost faults = { faults_of };
+    ghost faults = { memory_faults };
 
     ghost sound = { λ _. ⊤ };
 
     fn fetch(&mut self, _alloc: Global, name: &str) -> Result<Bytes, DeskError>
         ensures bytes { ⊤ → IfOk result (λ bytes. file_of self.old name.now ≡ Some bytes) }
         ensures files { ⊤ → SameFiles (file_of self.old) (file_of self.new) }
-        ensures tells { ⊤ → ⊤ }
-        ensures count { faults_of self.old ≤ faults_of self.new }
-        ensures cause { IsErrOf result DeskError.Failed → Rose (faults_of self.old) (faults_of self.new) }
-        ensures still { (IsErrOf result DeskError.Failed → ⊥) → faults_of self.new ≡ faults_of self.old }
-        ensures sound { ⊤ → ⊤ }
+        ensures served { HasServed (λ _. ⊤) (λ _. ⊤) memory_faults (IsErrOf result DeskError.Failed) self.old self.new }
         ensures absent { ⊤ → IsErrOf result DeskError.Failed → file_of self.old name.now ≡ None }
 
         // It fails exactly where there is no such file.
@@ -93,11 +89,7 @@ impl Desk for MemoryDesk {
         ensures made { ⊤ → OnOk result (EmptiedAt name.now (file_of self.new)) }
         ensures refused { ⊤ → OnErr result (MayHaveEmptiedAt name.now (file_of self.old) (file_of self.new)) }
         ensures others { ⊤ → SameButAt name.now (file_of self.old) (file_of self.new) }
-        ensures tells { ⊤ → ⊤ }
-        ensures count { faults_of self.old ≤ faults_of self.new }
-        ensures cause { IsErrOf result DeskError.Failed → Rose (faults_of self.old) (faults_of self.new) }
-        ensures still { (IsErrOf result DeskError.Failed → ⊥) → faults_of self.new ≡ faults_of self.old }
-        ensures sound { ⊤ → ⊤ }
+        ensures served { HasServed (λ _. ⊤) (λ _. ⊤) memory_faults (IsErrOf result DeskError.Failed) self.old self.new }
         ensures absent { ⊤ → IsErrOf result DeskError.Failed → ⊥ }
 
         // It never fails, and without memory it changes nothing.
@@ -112,11 +104,7 @@ impl Desk for MemoryDesk {
         ensures grown { ⊤ → OnOk result (GrewAt name.now bytes.now (file_of self.old) (file_of self.new)) }
         ensures refused { ⊤ → OnErr result (MayHaveGrownAt name.now bytes.now (file_of self.old) (file_of self.new)) }
         ensures others { ⊤ → SameButAt name.now (file_of self.old) (file_of self.new) }
-        ensures tells { ⊤ → ⊤ }
-        ensures count { faults_of self.old ≤ faults_of self.new }
-        ensures cause { IsErrOf result DeskError.Failed → Rose (faults_of self.old) (faults_of self.new) }
-        ensures still { (IsErrOf result DeskError.Failed → ⊥) → faults_of self.new ≡ faults_of self.old }
-        ensures sound { ⊤ → ⊤ }
+        ensures served { HasServed (λ _. ⊤) (λ _. ⊤) memory_faults (IsErrOf result DeskError.Failed) self.old self.new }
         ensures absent { ⊤ → IsErrOf result DeskError.Failed → (file_of self.old name.now ≡ None) × (name.now ≢ codes "-") }
 
         // It fails exactly where there is neither such a file nor the name of standard output, and then

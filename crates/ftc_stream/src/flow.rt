@@ -1,7 +1,7 @@
 //! A ring from the chain to the writer.
 
 ghost use Rattle.std.specs.Prelude.{◌≡◌, ◌≢◌, ◌<◌, ◌≤◌, ◌++◌, ◌∷◌, [], None, length, vec_len, vec_capacity, IfOk, OnOk, OnErr, IsErrOf, codes};
-ghost use Rattle.ftc_outside.specs.Desk.{SameButAt, Rose};
+ghost use Rattle.ftc_outside.specs.Desk.{SameButAt, HasServed};
 ghost use Rattle.ftc_stream.specs.Records.{writable, records, HasGrownBy, HasGrownInPart};
 ghost use Rattle.ftc_stream.specs.Taps.{AreLeft, AreToldInPart, AreLeftInPart};
 
@@ -89,11 +89,7 @@ fn put_next<D: Desk>(
     ensures untold { IsErrOf result PutFault.Failed →
         AreLeft [] (⟦<Taps as Seen>⟧.faces taps.old) (⟦<Taps as Seen>⟧.faces taps.new) }
     ensures others { D.tells desk.old → SameButAt out.now (D.file desk.old) (D.file desk.new) }
-    ensures tells { D.tells desk.old → D.tells desk.new }
-    ensures sound { D.sound desk.old → D.sound desk.new }
-    ensures count { D.faults desk.old ≤ D.faults desk.new }
-    ensures cause { IsErrOf result PutFault.Failed → Rose (D.faults desk.old) (D.faults desk.new) }
-    ensures still { (IsErrOf result PutFault.Failed → ⊥) → D.faults desk.new ≡ D.faults desk.old }
+    ensures served { HasServed D.tells D.sound D.faults (IsErrOf result PutFault.Failed) desk.old desk.new }
     ensures absent { D.sound desk.old → IsErrOf result PutFault.Failed →
         (D.file desk.old out.now ≡ None) × (out.now ≢ codes "-") }
 {
@@ -131,11 +127,7 @@ impl Writer {
         ensures untold { IsErrOf result PutFault.Failed → AreLeft (writable capture.now (since self.old self.new))
             (⟦<Taps as Seen>⟧.faces taps.old) (⟦<Taps as Seen>⟧.faces taps.new) }
         ensures others { D.tells desk.old → SameButAt out.now (D.file desk.old) (D.file desk.new) }
-        ensures tells { D.tells desk.old → D.tells desk.new }
-        ensures sound { D.sound desk.old → D.sound desk.new }
-        ensures count { D.faults desk.old ≤ D.faults desk.new }
-        ensures cause { IsErrOf result PutFault.Failed → Rose (D.faults desk.old) (D.faults desk.new) }
-        ensures still { (IsErrOf result PutFault.Failed → ⊥) → D.faults desk.new ≡ D.faults desk.old }
+        ensures served { HasServed D.tells D.sound D.faults (IsErrOf result PutFault.Failed) desk.old desk.new }
         ensures absent { D.tells desk.old → D.sound desk.old → IsErrOf result PutFault.Failed →
             (D.file desk.old out.now ≡ None) × (out.now ≢ codes "-") }
     {

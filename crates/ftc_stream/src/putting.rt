@@ -1,7 +1,7 @@
 //! One record is put.
 
 ghost use Rattle.std.specs.Prelude.{◌≡◌, ◌≢◌, ◌≤◌, ◌⊎◌, true, false, None, IsOk, IsErrOf, IfOk, OnOk, OnErr, codes};
-ghost use Rattle.ftc_outside.specs.Desk.{SameButAt, GrewAt, MayHaveGrownAt, Rose};
+ghost use Rattle.ftc_outside.specs.Desk.{SameButAt, GrewAt, MayHaveGrownAt, HasServed};
 ghost use Rattle.ftc_stream.specs.Faults.{fault_of};
 ghost use Rattle.ftc_stream.specs.Records.{is_writable, released_record};
 ghost use Rattle.ftc_stream.specs.Taps.{AreTold, AreToldInPart};
@@ -71,11 +71,7 @@ pub fn put<D: Desk>(
         ⟦<Taps as Seen>⟧.faces taps.new ≡ ⟦<Taps as Seen>⟧.faces taps.old }
 
     ensures others { D.tells desk.old → SameButAt out.now (D.file desk.old) (D.file desk.new) }
-    ensures tells { D.tells desk.old → D.tells desk.new }
-    ensures sound { D.sound desk.old → D.sound desk.new }
-    ensures count { D.faults desk.old ≤ D.faults desk.new }
-    ensures cause { IsErrOf result PutFault.Failed → Rose (D.faults desk.old) (D.faults desk.new) }
-    ensures still { (IsErrOf result PutFault.Failed → ⊥) → D.faults desk.new ≡ D.faults desk.old }
+    ensures served { HasServed D.tells D.sound D.faults (IsErrOf result PutFault.Failed) desk.old desk.new }
     ensures absent { D.sound desk.old → IsErrOf result PutFault.Failed →
         (D.file desk.old out.now ≡ None) × (out.now ≢ codes "-") }
 {

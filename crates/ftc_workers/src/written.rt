@@ -2,7 +2,7 @@
 
 ghost use Rattle.std.specs.Prelude.{◌≡◌, ◌≢◌, ◌+◌, ◌≤◌, ⊤, [], None, codes, OnOk, OnErr, IsErrOf};
 ghost use Rattle.ftc_base.specs.declared.limits.TheConstants.{MOST_THREADS};
-ghost use Rattle.ftc_outside.specs.Desk.{SameButAt, Rose};
+ghost use Rattle.ftc_outside.specs.Desk.{SameButAt, HasServed};
 ghost use Rattle.ftc_stream.specs.Records.{writable, records, HasGrownBy, HasGrownInPart};
 ghost use Rattle.ftc_stream.specs.Taps.{AreLeft, AreLeftInPart};
 ghost use Rattle.ftc_workers.specs.Given.{given_of};
@@ -63,11 +63,7 @@ pub fn run_to<'a, R: Threads + Wait + Sync, D: Desk, G: Gate>(
     ensures untold { IsErrOf result.result PutFault.Failed → AreLeft (writable capture.now result.put)
         (⟦<Taps as Seen>⟧.faces taps.old) (⟦<Taps as Seen>⟧.faces taps.new) }
     ensures others { D.tells desk.old → SameButAt out.now (D.file desk.old) (D.file desk.new) }
-    ensures tells { D.tells desk.old → D.tells desk.new }
-    ensures sound { D.sound desk.old → D.sound desk.new }
-    ensures count { D.faults desk.old ≤ D.faults desk.new }
-    ensures cause { IsErrOf result.result PutFault.Failed → Rose (D.faults desk.old) (D.faults desk.new) }
-    ensures still { (IsErrOf result.result PutFault.Failed → ⊥) → D.faults desk.new ≡ D.faults desk.old }
+    ensures served { HasServed D.tells D.sound D.faults (IsErrOf result.result PutFault.Failed) desk.old desk.new }
     ensures absent { D.tells desk.old → D.sound desk.old → IsErrOf result.result PutFault.Failed →
         (D.file desk.old out.now ≡ None) × (out.now ≢ codes "-") }
 {

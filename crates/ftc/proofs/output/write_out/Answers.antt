@@ -9,4 +9,4 @@ returns-clause-refused g c = λ t.
     (λ held. begun_out (g.D.Desk.file c.args.desk.now c.args.name.now) (g.D.Desk.file c.make.new.self c.args.name.now)
     (g.D.Desk.file c.append_records.new.desk c.args.name.now) c.args.capture.now c.write_header.new.out
     c.as_slice.result.now c.args.released.now (c.in_ok-make.ensures.made t) (search rules) (search rules) held)
-    (c.append_records.ensures.refused (c.make.ensures.tells t) [] (c.in_ok-make.ensures.made t))
+    (c.append_records.ensures.refused (c.make.ensures.served.tells_on t) [] (c.in_ok-make.ensures.made t))

@@ -20,8 +20,8 @@ returns-in_err-journal-clause-refused g c = λ t.
     let old : Files = g.D.Desk.file c.args.desk.now in
     let first : Files = g.D.Desk.file c.fetch_chain.new.desk in
     let second : Files = g.D.Desk.file c.fetch_capture.new.desk in
-    let t-first = c.fetch_chain.ensures.tells t in
-    let t-second = c.fetch_capture.ensures.tells t-first in
+    let t-first = c.fetch_chain.ensures.served.tells_on t in
+    let t-second = c.fetch_capture.ensures.served.tells_on t-first in
     let to_first : SameFiles old first = c.fetch_chain.ensures.files t in
     let to_second : SameFiles old second = λ name. c.fetch_capture.ensures.files t-first name ∙ to_first name in
     let chain_right : HasChain c.args.names.chain.now old c.in_ok-spec.spec = c.in_ok-spec.ensures.accepted t in
@@ -32,15 +32,15 @@ returns-in_err-journal-clause-refused g c = λ t.
     IfErr-weaker c.from_residual-in_err-journal.result _ _ (λ ending is. port_journal_refused (g.D.Desk.sound c.args.desk.now)
     (ports_by c.args.names) c.args.server old c.in_ok-spec.spec c.in_ok-capture.capture ending chain_right capture_right
     (refused_before (g.D.Desk.sound c.args.desk.now) (g.D.Desk.sound c.fetch_capture.new.desk) old second c.args.names.journal.now
-    IsWrongJournal ending (λ s. c.fetch_capture.ensures.sound (c.fetch_chain.ensures.sound s)) to_second is)) refused
+    IsWrongJournal ending (λ s. c.fetch_capture.ensures.served.sound_on (c.fetch_chain.ensures.served.sound_on s)) to_second is)) refused
 
 pub returns-clause-refused : goal.returns-clause-refused
 returns-clause-refused g c = λ t.
     let old : Files = g.D.Desk.file c.args.desk.now in
     let first : Files = g.D.Desk.file c.fetch_chain.new.desk in
     let second : Files = g.D.Desk.file c.fetch_capture.new.desk in
-    let t-first = c.fetch_chain.ensures.tells t in
-    let t-second = c.fetch_capture.ensures.tells t-first in
+    let t-first = c.fetch_chain.ensures.served.tells_on t in
+    let t-second = c.fetch_capture.ensures.served.tells_on t-first in
     let to_first : SameFiles old first = c.fetch_chain.ensures.files t in
     let to_second : SameFiles old second = λ name. c.fetch_capture.ensures.files t-first name ∙ to_first name in
     let chain_right : HasChain c.args.names.chain.now old c.in_ok-spec.spec = c.in_ok-spec.ensures.accepted t in
@@ -61,8 +61,8 @@ returns-in-Ok-clause-accepted g c = λ t.
     let old : Files = g.D.Desk.file c.args.desk.now in
     let first : Files = g.D.Desk.file c.fetch_chain.new.desk in
     let second : Files = g.D.Desk.file c.fetch_capture.new.desk in
-    let t-first = c.fetch_chain.ensures.tells t in
-    let t-second = c.fetch_capture.ensures.tells t-first in
+    let t-first = c.fetch_chain.ensures.served.tells_on t in
+    let t-second = c.fetch_capture.ensures.served.tells_on t-first in
     let to_first : SameFiles old first = c.fetch_chain.ensures.files t in
     let to_second : SameFiles old second = λ name. c.fetch_capture.ensures.files t-first name ∙ to_first name in
     let chain_right : HasChain c.args.names.chain.now old c.in_ok-spec.spec = c.in_ok-spec.ensures.accepted t in

@@ -12,8 +12,8 @@ returns-clause-ends g c = λ t.
     let old : Files = g.D.Desk.file c.args.desk.now in
     let between : Files = g.D.Desk.file c.read_table.new.desk in
     let new : Files = g.D.Desk.file c.append.new.self in
-    let tells = c.in-Ok.ensures.tells t in
+    let tells = c.in-Ok.ensures.served.tells_on t in
     rw c.from.ensures (ports_cut (ports_by c.args.names) c.args.server old between new (c.in-Ok.ensures.files t) c.in-Ok.lines
     (c.in-Ok.ensures.accepted t) c.as_slice.result.now (c.as_slice.ensures ∙ c.in-Ok-ports_text.ensures) (g.D.Desk.sound c.args.desk.now)
-    c.in-Err-append.error (λ s same. (c.in-Err-append.ensures.absent (c.in-Ok.ensures.sound s) (ap Err same)).1 refl)
+    c.in-Err-append.error (λ s same. (c.in-Err-append.ensures.absent (c.in-Ok.ensures.served.sound_on s) (ap Err same)).1 refl)
     (c.in-Err-append.ensures.refused tells) (c.append.ensures.others tells))

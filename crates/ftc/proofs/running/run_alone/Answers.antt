@@ -37,7 +37,7 @@ pub returns-clause-done : goal.returns-clause-done
 returns-clause-done g c = λ t.
     let texts = c.args.texts.now in
     let driven = c.in_ok-driven.driven in
-    let told = c.write_released.ensures.tells t in
+    let told = c.write_released.ensures.served.tells_on t in
     let taps = map (λ tap. (goal.Tap-dyn g (tap.vtable, tap.value)).face tap.value) c.args.taps.now.list.items in
     let left = map (λ tap. (goal.Tap-dyn g (tap.vtable, tap.value)).face tap.value) c.write_released.new.taps.list.items in
     on_ok_both c.write_texts.result _ _ _ (λ written plain.
@@ -53,7 +53,7 @@ pub returns-clause-failed : goal.returns-clause-failed
 returns-clause-failed g c = λ t failed.
     let texts = c.args.texts.now in
     let driven = c.in_ok-driven.driven in
-    let told = c.write_released.ensures.tells t in
+    let told = c.write_released.ensures.served.tells_on t in
     let left = map (λ tap. (goal.Tap-dyn g (tap.vtable, tap.value)).face tap.value) c.write_released.new.taps.list.items in
     has_begun (named_of c.args.names) c.requires.apart.written texts.spec texts.capture texts.script
     (IsDriven texts.spec texts.capture texts.script texts.schedule.items) driven.chain.journal (state_of driven.serial)
@@ -66,7 +66,7 @@ pub returns-clause-refused : goal.returns-clause-refused
 returns-clause-refused g c = λ t.
     let texts = c.args.texts.now in
     let driven = c.in_ok-driven.driven in
-    let told = c.write_released.ensures.tells t in
+    let told = c.write_released.ensures.served.tells_on t in
     let left = map (λ tap. (goal.Tap-dyn g (tap.vtable, tap.value)).face tap.value) c.write_released.new.taps.list.items in
     on_err_more c.write_texts.result _ _ (λ cut. inr (
     has_begun (named_of c.args.names) c.requires.apart.written texts.spec texts.capture texts.script

@@ -20,16 +20,16 @@ returns-in_err-worked-clause-refused g c = λ t.
     let old : Files = g.D.Desk.file c.args.desk.now in
     let mid : Files = g.D.Desk.file c.write_front.new.desk in
     let new : Files = g.D.Desk.file c.work.new.desk in
-    let first = c.write_front.ensures.tells t in
+    let first = c.write_front.ensures.served.tells_on t in
     on_err c.from_residual-in_err-worked.result _
     (inl (elsewhere out old new (others_on out old mid new (c.write_front.ensures.others t) (c.work.ensures.others first))))
 
 pub returns-in_err-worked-clause-safe : goal.returns-in_err-worked-clause-safe
 returns-in_err-worked-clause-safe g c = λ t s failed.
-    let first = c.write_front.ensures.tells t in
+    let first = c.write_front.ensures.served.tells_on t in
     not_absent (g.D.Desk.file c.write_front.new.desk c.args.names.out.now) c.args.texts.now.capture.header
     (c.in_ok-write_front.ensures.written t)
-    (c.work.ensures.absent first (c.write_front.ensures.sound s) (search rules))
+    (c.work.ensures.absent first (c.write_front.ensures.served.sound_on s) (search rules))
 
 pub returns-in_err-complete-clause-refused : goal.returns-in_err-complete-clause-refused
 returns-in_err-complete-clause-refused g c = λ t.
@@ -38,8 +38,8 @@ returns-in_err-complete-clause-refused g c = λ t.
     let begun : Files = g.D.Desk.file c.write_front.new.desk in
     let mid : Files = g.D.Desk.file c.work.new.desk in
     let new : Files = g.D.Desk.file c.complete.new.desk in
-    let first = c.write_front.ensures.tells t in
-    let second = c.work.ensures.tells first in
+    let first = c.write_front.ensures.served.tells_on t in
+    let second = c.work.ensures.served.tells_on first in
     on_err c.from_residual-in_err-complete.result _
     (inl (elsewhere out old new (others_on out old mid new (others_on out old begun mid (c.write_front.ensures.others t)
     (c.work.ensures.others first)) (c.complete.ensures.others second))))
@@ -48,13 +48,13 @@ pub returns-in_err-complete-clause-safe : goal.returns-in_err-complete-clause-sa
 returns-in_err-complete-clause-safe g c = λ t s failed.
     let out = c.args.names.out.now in
     let capture = c.args.texts.now.capture in
-    let first = c.write_front.ensures.tells t in
-    let second = c.work.ensures.tells first in
+    let first = c.write_front.ensures.served.tells_on t in
+    let second = c.work.ensures.served.tells_on first in
     let put = records capture c.in_ok-worked.worked.put in
     let there = grown_file out capture.header put (g.D.Desk.file c.write_front.new.desk) (g.D.Desk.file c.work.new.desk)
     (c.in_ok-write_front.ensures.written t) (c.in_ok-worked.ensures.grown first) in
     not_absent (g.D.Desk.file c.work.new.desk out) _ there
-    (c.complete.ensures.absent second (c.work.ensures.sound (c.write_front.ensures.sound s)) (search rules))
+    (c.complete.ensures.absent second (c.work.ensures.served.sound_on (c.write_front.ensures.served.sound_on s)) (search rules))
 
 pub returns-clause-done : goal.returns-clause-done
 returns-clause-done g c = λ t.
@@ -67,9 +67,9 @@ returns-clause-done g c = λ t.
     let whole : Files = g.D.Desk.file c.complete.new.desk in
     let taps = map (λ tap. (goal.Tap-dyn g (tap.vtable, tap.value)).face tap.value) c.args.taps.now.list.items in
     let left = map (λ tap. (goal.Tap-dyn g (tap.vtable, tap.value)).face tap.value) c.complete.new.taps.list.items in
-    let first = c.write_front.ensures.tells t in
-    let second = c.work.ensures.tells first in
-    let third = c.complete.ensures.tells second in
+    let first = c.write_front.ensures.served.tells_on t in
+    let second = c.work.ensures.served.tells_on first in
+    let third = c.complete.ensures.served.tells_on second in
     let put = records texts.capture c.in_ok-worked.worked.put in
     let there = c.in_ok-complete.ensures.written second
     (grown_file out texts.capture.header put begun mid (c.in_ok-write_front.ensures.written t) (c.in_ok-worked.ensures.grown first)) in
@@ -92,9 +92,9 @@ returns-clause-refused g c = λ t.
     let mid : Files = g.D.Desk.file c.work.new.desk in
     let whole : Files = g.D.Desk.file c.complete.new.desk in
     let left = map (λ tap. (goal.Tap-dyn g (tap.vtable, tap.value)).face tap.value) c.complete.new.taps.list.items in
-    let first = c.write_front.ensures.tells t in
-    let second = c.work.ensures.tells first in
-    let third = c.complete.ensures.tells second in
+    let first = c.write_front.ensures.served.tells_on t in
+    let second = c.work.ensures.served.tells_on first in
+    let third = c.complete.ensures.served.tells_on second in
     let put = records texts.capture c.in_ok-worked.worked.put in
     let there = c.in_ok-complete.ensures.written second
     (grown_file out texts.capture.header put begun mid (c.in_ok-write_front.ensures.written t) (c.in_ok-worked.ensures.grown first)) in

@@ -12,14 +12,14 @@ returns-in_err-script-clause-refused g c = λ t.
     let old : Files = g.D.Desk.file c.args.desk.now in
     let first : Files = g.D.Desk.file c.fetch_chain.new.desk in
     let second : Files = g.D.Desk.file c.fetch_capture.new.desk in
-    let t-first = c.fetch_chain.ensures.tells t in
-    let t-second = c.fetch_capture.ensures.tells t-first in
+    let t-first = c.fetch_chain.ensures.served.tells_on t in
+    let t-second = c.fetch_capture.ensures.served.tells_on t-first in
     let to_first : SameFiles old first = c.fetch_chain.ensures.files t in
     let to_second : SameFiles old second = λ name. c.fetch_capture.ensures.files t-first name ∙ to_first name in
     let refused : IfErr c.from_residual-in_err-script.result (IsTextRefused (g.D.Desk.sound c.fetch_capture.new.desk) second c.args.names.script.now (IsWrongScript (ring_of c.in_ok-spec.spec) (length c.in_ok-capture.capture.packets))) = search (rules, c.fetch_script.ensures.refused t-second) in
     IfErr-weaker c.from_residual-in_err-script.result _ _ (λ ending is. script_refused (g.D.Desk.sound c.args.desk.now) (named_of c.args.names) (shown_mode c.args.mode) old c.in_ok-spec.spec c.in_ok-capture.capture ending
     (c.in_ok-spec.ensures.accepted t) (capture_before c.args.names.capture.now old first c.in_ok-capture.capture to_first (c.in_ok-capture.ensures.accepted t-first))
-    (refused_before (g.D.Desk.sound c.args.desk.now) (g.D.Desk.sound c.fetch_capture.new.desk) old second c.args.names.script.now (IsWrongScript (ring_of c.in_ok-spec.spec) (length c.in_ok-capture.capture.packets)) ending (λ s. c.fetch_capture.ensures.sound (c.fetch_chain.ensures.sound s)) to_second is)) refused
+    (refused_before (g.D.Desk.sound c.args.desk.now) (g.D.Desk.sound c.fetch_capture.new.desk) old second c.args.names.script.now (IsWrongScript (ring_of c.in_ok-spec.spec) (length c.in_ok-capture.capture.packets)) ending (λ s. c.fetch_capture.ensures.served.sound_on (c.fetch_chain.ensures.served.sound_on s)) to_second is)) refused
 
 pub returns-in_err-schedule-clause-refused : goal.returns-in_err-schedule-clause-refused
 returns-in_err-schedule-clause-refused g c = λ t.
@@ -27,9 +27,9 @@ returns-in_err-schedule-clause-refused g c = λ t.
     let first : Files = g.D.Desk.file c.fetch_chain.new.desk in
     let second : Files = g.D.Desk.file c.fetch_capture.new.desk in
     let third : Files = g.D.Desk.file c.fetch_script.new.desk in
-    let t-first = c.fetch_chain.ensures.tells t in
-    let t-second = c.fetch_capture.ensures.tells t-first in
-    let t-third = c.fetch_script.ensures.tells t-second in
+    let t-first = c.fetch_chain.ensures.served.tells_on t in
+    let t-second = c.fetch_capture.ensures.served.tells_on t-first in
+    let t-third = c.fetch_script.ensures.served.tells_on t-second in
     let to_first : SameFiles old first = c.fetch_chain.ensures.files t in
     let to_second : SameFiles old second = λ name. c.fetch_capture.ensures.files t-first name ∙ to_first name in
     let to_third : SameFiles old third = λ name. c.fetch_script.ensures.files t-second name ∙ to_second name in
@@ -42,7 +42,7 @@ returns-in_err-schedule-clause-refused g c = λ t.
     let refused : IfErr c.from_residual-in_err-schedule.result (IsScheduleRefused (g.D.Desk.sound c.fetch_script.new.desk) (shown_mode c.args.mode) third) = search (rules, c.fetch_schedule.ensures.refused t-third) in
     IfErr-weaker c.from_residual-in_err-schedule.result _ _ (λ ending is. schedule_refused (g.D.Desk.sound c.args.desk.now) (named_of c.args.names) (shown_mode c.args.mode) old c.in_ok-spec.spec c.in_ok-capture.capture c.in_ok-script.script ending inputs
     (schedule_refused_before (g.D.Desk.sound c.args.desk.now) (g.D.Desk.sound c.fetch_script.new.desk) (shown_mode c.args.mode) old third ending
-    (λ s. c.fetch_script.ensures.sound (c.fetch_capture.ensures.sound (c.fetch_chain.ensures.sound s))) to_third is)) refused
+    (λ s. c.fetch_script.ensures.served.sound_on (c.fetch_capture.ensures.served.sound_on (c.fetch_chain.ensures.served.sound_on s))) to_third is)) refused
 
 pub returns-clause-accepted : goal.returns-clause-accepted
 returns-clause-accepted g c = λ t.
@@ -50,9 +50,9 @@ returns-clause-accepted g c = λ t.
     let first : Files = g.D.Desk.file c.fetch_chain.new.desk in
     let second : Files = g.D.Desk.file c.fetch_capture.new.desk in
     let third : Files = g.D.Desk.file c.fetch_script.new.desk in
-    let t-first = c.fetch_chain.ensures.tells t in
-    let t-second = c.fetch_capture.ensures.tells t-first in
-    let t-third = c.fetch_script.ensures.tells t-second in
+    let t-first = c.fetch_chain.ensures.served.tells_on t in
+    let t-second = c.fetch_capture.ensures.served.tells_on t-first in
+    let t-third = c.fetch_script.ensures.served.tells_on t-second in
     let to_first : SameFiles old first = c.fetch_chain.ensures.files t in
     let to_second : SameFiles old second = λ name. c.fetch_capture.ensures.files t-first name ∙ to_first name in
     let to_third : SameFiles old third = λ name. c.fetch_script.ensures.files t-second name ∙ to_second name in

@@ -33,7 +33,7 @@ returns-in-Run-clause-complete g c = λ tells texts still.
       one_verdict = c.one_verdict.ensures;
     } in
     let (chain, capture, script, schedule, are) = subst (λ (command : Command). HasTexts (Some (shown command)) (g.D.Desk.file c.args.desk.now)) c.in-Run.is texts in
-    completes laws _ _ (g.D.Desk.file c.args.desk.now) chain capture script schedule are _ _ _ _ c.run_names.result (c.run_names.ensures.ends tells) (λ failed. still (c.run_names.ensures.cause failed))
+    completes laws _ _ (g.D.Desk.file c.args.desk.now) chain capture script schedule are _ _ _ _ c.run_names.result (c.run_names.ensures.ends tells) (λ failed. still (c.run_names.ensures.served.rose failed))
 
 pub returns-in-Check-clause-complete_check : goal.returns-in-Check-clause-complete_check
 returns-in-Check-clause-complete_check g c = λ tells files still.
@@ -43,7 +43,7 @@ returns-in-Check-clause-complete_check g c = λ tells files still.
       one_verdict = c.one_verdict.ensures;
     } in
     let are = subst (λ (command : Command). HasFiles (Some (shown command)) (g.D.Desk.file c.args.desk.now)) c.in-Check.is files in
-    judges_all laws _ (g.D.Desk.file c.args.desk.now) are.chain are.capture are.script are.out are.journal are.report are.checked _ c.judge.result (c.judge.ensures.judges tells) (λ failed. still (c.judge.ensures.cause failed))
+    judges_all laws _ (g.D.Desk.file c.args.desk.now) are.chain are.capture are.script are.out are.journal are.report are.checked _ c.judge.result (c.judge.ensures.judges tells) (λ failed. still (c.judge.ensures.served.rose failed))
 
 pub returns-in-Check-clause-exact : goal.returns-in-Check-clause-exact
 returns-in-Check-clause-exact g c = λ tells files.
@@ -79,7 +79,7 @@ returns-in-Watch-clause-complete g c = λ tells texts still.
       one_verdict = c.one_verdict.ensures;
     } in
     let (beats, given) = subst (λ (command : Command). HasTexts (Some (shown command)) (g.D.Desk.file c.args.desk.now)) c.in-Watch.is texts in
-    watch_completes laws _ (g.D.Desk.file c.args.desk.now) beats given _ _ _ c.watch_beats.result (c.watch_beats.ensures.ends tells) (λ failed. still (c.watch_beats.ensures.cause failed))
+    watch_completes laws _ (g.D.Desk.file c.args.desk.now) beats given _ _ _ c.watch_beats.result (c.watch_beats.ensures.ends tells) (λ failed. still (c.watch_beats.ensures.served.rose failed))
 
 pub returns-in-Ports-clause-complete : goal.returns-in-Ports-clause-complete
 returns-in-Ports-clause-complete g c = λ tells texts still.
@@ -94,7 +94,7 @@ returns-in-Ports-clause-complete g c = λ tells texts still.
     let ends = subst (λ (server : ℕ). PortsEnd (g.D.Desk.sound c.args.desk.now) names server (g.D.Desk.file c.args.desk.now)
     (g.D.Desk.file c.tell_ports.new.desk) c.tell_ports.result) same (c.tell_ports.ensures.ends tells) in
     ports_complete laws names c.in-Ports.server (g.D.Desk.file c.args.desk.now) lines given _ _ c.tell_ports.result ends
-    (λ failed. still (c.tell_ports.ensures.cause failed))
+    (λ failed. still (c.tell_ports.ensures.served.rose failed))
 
 pub make_capture-requires : goal.make_capture-requires
 make_capture-requires g c =
@@ -106,7 +106,7 @@ make_capture-requires g c =
 
 pub returns-in-Make-clause-complete : goal.returns-in-Make-clause-complete
 returns-in-Make-clause-complete g c = λ tells texts still.
-    make_completes _ _ _ _ _ _ c.make_capture.result (c.make_capture.ensures.ends tells) (λ failed. still (c.make_capture.ensures.cause failed))
+    make_completes _ _ _ _ _ _ c.make_capture.result (c.make_capture.ensures.ends tells) (λ failed. still (c.make_capture.ensures.served.rose failed))
 
 pub returns-in-Run-clause-ends : goal.returns-in-Run-clause-ends
 returns-in-Run-clause-ends g c = λ t. rw c.in-Run.is (c.run_names.ensures.ends t)

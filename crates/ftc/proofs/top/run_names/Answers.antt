@@ -8,7 +8,7 @@ returns-in-Err-clause-ends g c = λ t. ends_refused _ _ _ _ _ _ _ c.in-Err.statu
 
 pub returns-in-Ok-run_texts-clause-ends : goal.returns-in-Ok-run_texts-clause-ends
 returns-in-Ok-run_texts-clause-ends g c = λ t.
-    let told = c.in-Ok.ensures.tells t in
+    let told = c.in-Ok.ensures.served.tells_on t in
     let laws : EndLaws = record {
       printed = c.spellings.ensures.printed;
       right = c.right_files.ensures.right;
@@ -24,7 +24,7 @@ returns-in-Ok-run_texts-clause-ends g c = λ t.
 
 pub returns-clause-ends : goal.returns-clause-ends
 returns-clause-ends g c = λ t.
-    let told = c.in-Ok.ensures.tells t in
+    let told = c.in-Ok.ensures.served.tells_on t in
     let laws : EndLaws = record {
       printed = c.spellings.ensures.printed;
       right = c.right_files.ensures.right;
@@ -36,6 +36,6 @@ returns-clause-ends g c = λ t.
     let texts = c.in-Ok.texts in
     rw c.from.ensures (ended_cut laws _ _ _ c.requires.apart texts.spec texts.capture texts.script
     texts.schedule.items (c.in-Ok.ensures.accepted t) _ _ _ _ (c.in-Ok.ensures.files t) _
-    c.in-Err-run_texts.error (λ s same. c.in-Err-run_texts.ensures.safe told (c.in-Ok.ensures.sound s) (ap Err same))
+    c.in-Err-run_texts.error (λ s same. c.in-Err-run_texts.ensures.safe told (c.in-Ok.ensures.served.sound_on s) (ap Err same))
     (λ same. c.in-Err-run_texts.ensures.failed told (ap Err same))
     (c.in-Err-run_texts.ensures.refused told))

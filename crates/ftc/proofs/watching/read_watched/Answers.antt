@@ -13,8 +13,8 @@ returns-in_err-beats-clause-refused g c = λ t.
     let old : Files = g.D.Desk.file c.args.desk.now in
     let first : Files = g.D.Desk.file c.fetch_chain.new.desk in
     let second : Files = g.D.Desk.file c.fetch_capture.new.desk in
-    let t-first = c.fetch_chain.ensures.tells t in
-    let t-second = c.fetch_capture.ensures.tells t-first in
+    let t-first = c.fetch_chain.ensures.served.tells_on t in
+    let t-second = c.fetch_capture.ensures.served.tells_on t-first in
     let to_first : SameFiles old first = c.fetch_chain.ensures.files t in
     let to_second : SameFiles old second = λ name. c.fetch_capture.ensures.files t-first name ∙ to_first name in
     let refused : IfErr c.from_residual-in_err-beats.result (IsTextRefused
@@ -29,4 +29,4 @@ returns-in_err-beats-clause-refused g c = λ t.
     (refused_before (g.D.Desk.sound c.args.desk.now)
     (g.D.Desk.sound c.fetch_capture.new.desk) old second c.args.names.beats.now (IsWrongBeats
     (ring_of c.in_ok-spec.spec) (length c.in_ok-capture.capture.packets)) ending
-    (λ s. c.fetch_capture.ensures.sound (c.fetch_chain.ensures.sound s)) to_second is)) refused
+    (λ s. c.fetch_capture.ensures.served.sound_on (c.fetch_chain.ensures.served.sound_on s)) to_second is)) refused

@@ -13,7 +13,7 @@ returns-clause-written g c = λ t.
     let new : Files = g.D.Desk.file c.append.new.self in
     let watched = c.args.watched.now in
     let told : List ℕ = summary watched.fenced watched.refused watched.held in
-    let t-mid = c.write_text.ensures.tells t in
+    let t-mid = c.write_text.ensures.served.tells_on t in
     on_ok_weaker c.append.result
     (λ grown. made_all c.args.name.now watched.script told c.requires.apart old mid new
     (c.in_ok-write_text.ensures.written t) (c.write_text.ensures.others t) (c.append.ensures.others t-mid)

@@ -49,7 +49,7 @@ returns-clause-refused g c = λ t.
     let texts = c.args.texts.now in
     let events = c.args.driven.now.chain.journal in
     let left = lines_of (map (λ tap. (goal.Tap-dyn g (tap.vtable, tap.value)).face tap.value) c.args.taps.now.list.items) in
-    let told = c.write_journal.ensures.tells t in
+    let told = c.write_journal.ensures.served.tells_on t in
     let setting = setting_of texts.spec (bytes_of texts.capture.packets) texts.script in
     on_err_more c.write_text.result _ _
     (report_cut (named_of c.args.names) c.requires.apart (spelling events) (report_of setting events) left

@@ -1,6 +1,12 @@
-use Rattle.std.proofs.Common.{◌∙◌}
+use Rattle.std.proofs.Common.{◌∙◌, rules}
 use Rattle.ftc_outside.proofs.Calls.{stays_sound}
 use Rattle.ftc_outside.proofs.failing.FailingDeskDesk.fetch.Goals as goal
 
-pub returns-clause-sound : goal.returns-clause-sound
-returns-clause-sound c = stays_sound _ _ _ _ (c.noted.ensures.list ∙ c.fails.ensures.list) (rw c.noted.ensures.calls c.fails.ensures.rises)
+pub returns-clause-served : goal.returns-clause-served
+returns-clause-served c = record {
+  tells_on = λ told. told;
+  sound_on = stays_sound _ _ _ _ (c.noted.ensures.list ∙ c.fails.ensures.list) (rw c.noted.ensures.calls c.fails.ensures.rises);
+  count = search rules;
+  rose = search rules;
+  still = search rules;
+}

@@ -69,7 +69,7 @@ loop-self-preserved g c =
       told = left_more c.args.capture.now _ (c.in-Ok.item ∷ []) _ _ _ _ more was.told c.in_ok-put_next.ensures.told;
       others = λ t. others_on c.args.out.now (g.D.Desk.file c.args.desk.now) (g.D.Desk.file c.loop-self.desk)
           (g.D.Desk.file c.put_next.new.desk) (was.others t) (c.put_next.ensures.others (was.tells t));
-      tells = λ t. c.put_next.ensures.tells (was.tells t);
-      sound = λ s. c.put_next.ensures.sound (was.sound s);
+      tells = λ t. c.put_next.ensures.served.tells_on (was.tells t);
+      sound = λ s. c.put_next.ensures.served.sound_on (was.sound s);
       still = search rules;
     }

@@ -1,4 +1,3 @@
-use Rattle.std.proofs.Common.{map}
 use Rattle.ftc_stream.proofs.Leaving.{left_one_more, told_short}
 use Rattle.ftc_stream.proofs.Telling.{on_err}
 use Rattle.ftc_stream.specs.LeavingLaws.{left_none}
