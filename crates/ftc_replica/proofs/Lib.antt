@@ -1,2 +1,3 @@
 pub mod Needed
 pub mod Lacking
+pub mod Left

@@ -1,6 +1,5 @@
 -- Which kept logs a vector covers.
-use Rattle.std.specs.Prelude.{◌≡◌, ℕ, Bool, false, not, List, filter}
-use Rattle.std.specs.List.{AllByRecursion}
+use Rattle.std.specs.Prelude.{ℕ, Bool, false, not, List, Option, Some, None, filter}
 use Rattle.ftc_vector.specs.Vector.{need_of}
 pub use Rattle.ftc_vector.specs.Order.{reaches}
 unfoldable pub use Rattle.ftc_vector.specs.Order.{covers}
@@ -19,6 +18,11 @@ covers_log vector log = covers vector (need_of log.before log.changed)
 abbrev pub missing : List ℕ → List Logged → List Logged
 missing vector logs = filter (λ log. not (covers_log vector log)) logs
 
--- the vector covers none of the logs
-abbrev pub LacksAll : List ℕ → List Logged → Type 0
-LacksAll vector logs = AllByRecursion (λ log. covers_log vector log ≡ false) logs
+-- the log is covered by the vector by which logs were pruned, where they were
+abbrev pub is_dropped : Option (List ℕ) → Logged → Bool
+is_dropped None log = false
+is_dropped (Some vector) log = covers_log vector log
+
+-- the logs that aren't dropped, in their order
+abbrev pub left : Option (List ℕ) → List Logged → List Logged
+left pruned logs = filter (λ log. not (is_dropped pruned log)) logs

@@ -1,11 +1,14 @@
 //! Logs that others may still lack.
 
-ghost use Rattle.std.specs.Prelude.{◌≡◌, ◌≤◌, ◌<◌, ◌+◌, ◌++◌, ◌==◌, [], ◌∷◌, true, false, length, IsOk, IfOk, IfSome, OnOk, OnErr, slice_get, Some};
-ghost use Rattle.std.specs.List.{list_any};
-ghost use Rattle.std.specs.VecDeque.{deque_capacity};
-ghost use Rattle.ftc_replica.specs.Kept.{missing, covers_log, LacksAll};
+ghost use Rattle.std.specs.Prelude.{◌≡◌, ◌≤◌, ◌<◌, ◌+◌, ◌++◌, ◌==◌, [], ◌∷◌, Some, length, slice_get};
+ghost use Rattle.std.specs.Prelude.{IsOk, IfOk, OnOk, OnErr};
+ghost use Rattle.ftc_replica.specs.Kept.{missing};
 
 use crate::coverage::covers_log;
+use crate::dropping::{
+    copy_left, count_left, drop_front, is_dropped, is_pruned_by, keep_dropped, make_way, place_of,
+    sweep,
+};
 use ftc_base::{Items, NoMemory};
 use ftc_message::{Log, LogList};
 use ftc_vector::Vector;
@@ -14,75 +17,29 @@ use std::collections::VecDeque;
 use std::marker::Model;
 
 /// Logs in the order of keeping. A contract sees the list of them and how many more there is room for.
+///
+/// Pruning takes out only what lies in front, which is mostly all. What else it drops stays where it lies, unseen,
+/// until a sweep takes it out: as a log is kept, where many have come since the last sweep, or for room.
 #[derive(Debug, Drop)]
 pub struct Kept {
     logs: VecDeque<Log>,
-    /// The vector by which the logs were pruned last, where it covers none of them.
+    /// The vector that covers the logs that are dropped. None where all that lie there are left.
     pruned: Option<Vector>,
+    /// How many logs the last sweep left, or fewer where fewer lay there since.
+    swept: usize,
 }
 
 impl Model for Kept {
-    ghost use Rattle.std.specs.Prelude.{◌-◌, IfSome};
-    ghost use Rattle.std.specs.VecDeque.{deque_len, deque_capacity};
-    ghost use Rattle.ftc_replica.specs.Kept.{KeptLogs, LacksAll};
+    ghost use Rattle.std.specs.Prelude.{◌-◌, length};
+    ghost use Rattle.std.specs.VecDeque.{deque_capacity};
+    ghost use Rattle.ftc_replica.specs.Kept.{KeptLogs, left};
 
     ghost Value = { KeptLogs };
 
-    ghost view = { λ kept. record { items = kept.logs.items; spare = deque_capacity kept.logs - deque_len kept.logs } };
-
-    ghost invariant = { λ kept. IfSome kept.pruned (λ vector. LacksAll vector kept.logs.items) };
-}
-
-/// The vector, where it doesn't cover the log.
-fn still(pruned: &Option<Vector>, log: &Log) -> Option<Vector>
-    ensures { IfSome result (λ vector. (pruned.now ≡ Some vector) × (covers_log vector log.now ≡ false)) }
-{
-    match pruned {
-        Some(vector) if !covers_log(vector, log) => Some(*vector),
-        _ => None,
-    }
-}
-
-/// Drops the logs in front that the vector covers, up to the first that it doesn't. No other log moves.
-fn drop_front(logs: &mut VecDeque<Log>, commit: &Vector)
-    ensures items { missing commit.now logs.new.items ≡ missing commit.now logs.old.items }
-    ensures capacity { deque_capacity logs.new ≡ deque_capacity logs.old }
-{
-    while let Some(log) = logs.front() {
-        if !covers_log(commit, log) {
-            return;
-        }
-        let _ = logs.pop_front();
-    }
-}
-
-/// Whether the vector covers one of the logs.
-fn covers_some(commit: &Vector, logs: &VecDeque<Log>) -> bool
-    ensures { result ≡ list_any (covers_log commit.now) logs.now.items }
-{
-    logs.iter().any(|log| covers_log(commit, log))
-}
-
-/// Whether the logs were pruned last by that vector.
-fn is_pruned_by(pruned: &Option<Vector>, commit: &Vector) -> bool
-    ensures { result ≡ true → pruned.now ≡ Some commit.now }
-{
-    match pruned {
-        Some(vector) => vector == commit,
-        None => false,
-    }
-}
-
-/// Drops the logs that the vector covers.
-fn drop_covered(logs: &mut VecDeque<Log>, commit: &Vector)
-    ensures items { logs.new.items ≡ missing commit.now logs.old.items }
-    ensures capacity { deque_capacity logs.new ≡ deque_capacity logs.old }
-{
-    drop_front(logs, commit);
-    // A `retain` moves each log that stays.
-    if covers_some(commit, logs) {
-        logs.retain(|log| !covers_log(commit, log));
-    }
+    ghost view = { λ kept. record {
+      items = left kept.pruned kept.logs.items;
+      spare = deque_capacity kept.logs - length (left kept.pruned kept.logs.items);
+    } };
 }
 
 impl Kept {
@@ -93,6 +50,7 @@ impl Kept {
         Kept {
             logs: VecDeque::new(alloc),
             pruned: None,
+            swept: 0,
         }
     }
 
@@ -100,14 +58,14 @@ impl Kept {
     pub fn len(&self) -> usize
         ensures { result ≡ length self.now.items }
     {
-        self.logs.len()
+        count_left(&self.logs, &self.pruned)
     }
 
     /// Whether no log is kept.
     pub fn is_empty(&self) -> bool
         ensures { result ≡ (length self.now.items == 0) }
     {
-        self.logs.is_empty()
+        self.len() == 0
     }
 
     /// The log at a place, in the order of keeping.
@@ -115,18 +73,20 @@ impl Kept {
         requires { place < length self.now.items }
         ensures { slice_get self.now.items place ≡ Some result.now }
     {
-        &self.logs[place]
+        &self.logs[place_of(&self.logs, &self.pruned, place)]
     }
 
     /// The same logs in the same order.
     pub fn copy(&self, alloc: Global) -> Result<Kept, NoMemory>
         ensures { IfOk result (λ copy. copy.items ≡ self.now.items) }
     {
-        let mut logs = VecDeque::new(alloc);
-        for place in 0..self.logs.len() {
-            logs.push_back(self.logs[place].copy())?;
-        }
-        Ok(Kept { logs, pruned: None })
+        let logs = copy_left(alloc, &self.logs, &self.pruned)?;
+        let swept = logs.len();
+        Ok(Kept {
+            logs,
+            pruned: None,
+            swept,
+        })
     }
 
     /// Makes room for so many more logs.
@@ -136,7 +96,10 @@ impl Kept {
         ensures spare { self.old.spare ≤ self.new.spare }
         ensures succeeds { count ≤ self.old.spare → IsOk result }
     {
-        self.logs.reserve(count)?;
+        if self.logs.reserve(count).is_err() {
+            sweep(&mut self.logs, &mut self.pruned);
+            self.logs.reserve(count)?;
+        }
         Ok(())
     }
 
@@ -147,8 +110,11 @@ impl Kept {
         ensures spare { self.old.spare ≤ self.new.spare + 1 }
         ensures succeeds { 1 ≤ self.old.spare → IsOk result }
     {
-        self.pruned = still(&self.pruned, &log);
-        self.logs.push_back(log)?;
+        make_way(&mut self.logs, &mut self.pruned, &mut self.swept, &log);
+        if let Err(refused) = self.logs.push_back(log) {
+            sweep(&mut self.logs, &mut self.pruned);
+            self.logs.push_back(refused.value)?;
+        }
         Ok(())
     }
 
@@ -158,7 +124,8 @@ impl Kept {
         ensures spare { self.new.spare + length self.new.items ≡ self.old.spare + length self.old.items }
     {
         if !is_pruned_by(&self.pruned, commit) {
-            drop_covered(&mut self.logs, commit);
+            keep_dropped(&mut self.logs, &mut self.pruned, commit);
+            drop_front(&mut self.logs, commit);
             self.pruned = Some(*commit);
         }
     }
@@ -170,7 +137,7 @@ impl Kept {
         let mut logs = Items::new(alloc);
         for place in 0..self.logs.len() {
             let log = &self.logs[place];
-            if !covers_log(vector, log) {
+            if !is_dropped(&self.pruned, log) && !covers_log(vector, log) {
                 logs.push(log.copy())?;
             }
         }

@@ -3,6 +3,7 @@
 #![tactic(auto)]
 
 mod coverage;
+mod dropping;
 mod kept;
 mod laws;
 mod replica;

@@ -2,11 +2,14 @@ ghost use Rattle.std.specs.Prelude.{◌≡◌, ◌<◌, ℕ, true, IsSome};
 ghost use Rattle.ftc_base.specs.Sets.{has};
 ghost use Rattle.ftc_vector.specs.Vector.{mark_at};
 
-use crate::{Replica, Wait, Waits};
+use crate::dropping::make_way;
+use crate::{Kept, Replica, Wait, Waits};
 use ftc_base::limits::MOST_PARTITIONS;
 use ftc_base::{Key, NoMemory, PartSet, ServerId, Value, Write, Writes};
 use ftc_message::Log;
 use ftc_vector::{Marks, Vector};
+use std::alloc::Global;
+use std::collections::VecDeque;
 use std::test::Fail;
 
 /// The number of one partition.
@@ -110,6 +113,119 @@ fn what_the_tail_has_is_dropped(rt: HostRuntime) -> Result<(), Fail> {
         1
     );
     assert_eq!(rt; again.vector().at(1), 2);
+    Ok(())
+}
+
+/// The vector that has these numbers of partitions 1 and 2.
+fn vector(first: u64, second: u64) -> Vector {
+    let mut vector = Vector::zero();
+    vector.set(1, first);
+    vector.set(2, second);
+    vector
+}
+
+/// The log of packet 100, which changes partition 2, and behind it so many that change partition 1, from packet 0 on.
+fn many_logs(alloc: Global, count: u8) -> Result<VecDeque<Log>, NoMemory> {
+    let mut logs = VecDeque::new(alloc);
+    logs.push_back(log(100, 2, 0))?;
+    for number in 0..count {
+        logs.push_back(log(number, 1, u64::from(number)))?;
+    }
+    Ok(logs)
+}
+
+/// Such logs, kept.
+fn keep_many(alloc: Global, count: u8) -> Result<Kept, NoMemory> {
+    let mut kept = Kept::new(alloc);
+    kept.add(log(100, 2, 0))?;
+    for number in 0..count {
+        kept.add(log(number, 1, u64::from(number)))?;
+    }
+    Ok(kept)
+}
+
+/// Whether these logs and no others are left, by their packets.
+fn are(kept: &Kept, origins: &[u32]) -> bool {
+    if kept.len() != origins.len() {
+        return false;
+    }
+    for place in 0..kept.len() {
+        if kept.at(place).origin() != origins[place] {
+            return false;
+        }
+    }
+    true
+}
+
+#[test]
+fn logs_leave_in_order(rt: HostRuntime) -> Result<(), Fail> {
+    let mut kept = keep_many(rt.alloc(), 200)?;
+    for number in 0..200u8 {
+        kept.prune(&vector(u64::from(number), 1));
+        assert_eq!(rt; kept.len(), usize::from(200 - number));
+        assert_eq!(rt; kept.at(0).origin(), u32::from(number));
+    }
+    kept.prune(&vector(200, 1));
+    assert!(rt; kept.is_empty());
+    Ok(())
+}
+
+#[test]
+fn a_log_leaves_from_behind_another(rt: HostRuntime) -> Result<(), Fail> {
+    let mut kept = keep_many(rt.alloc(), 3)?;
+    kept.prune(&vector(2, 0));
+    assert!(rt; are(&kept, &[100, 2]) && !kept.is_empty());
+    assert!(rt; are(&kept.copy(rt.alloc())?, &[100, 2]));
+    let missing = kept.missing_after(rt.alloc(), &vector(0, 1))?;
+    assert_eq!(rt; missing.len(), 1);
+    assert_eq!(rt; missing.as_slice()[0].origin(), 2);
+    Ok(())
+}
+
+#[test]
+fn nothing_comes_back_by_a_lower_vector(rt: HostRuntime) -> Result<(), Fail> {
+    let mut kept = keep_many(rt.alloc(), 3)?;
+    kept.prune(&vector(2, 0));
+    kept.prune(&vector(1, 0));
+    assert!(rt; are(&kept, &[100, 2]));
+    kept.prune(&vector(0, 1));
+    assert!(rt; are(&kept, &[2]));
+    Ok(())
+}
+
+#[test]
+fn a_covered_log_is_kept_until_it_is_pruned(rt: HostRuntime) -> Result<(), Fail> {
+    let mut kept = keep_many(rt.alloc(), 3)?;
+    kept.prune(&vector(3, 0));
+    kept.add(log(7, 1, 0))?;
+    assert!(rt; are(&kept, &[100, 7]));
+    kept.prune(&vector(3, 0));
+    assert!(rt; are(&kept, &[100]));
+    Ok(())
+}
+
+#[test]
+fn dropped_logs_are_swept_where_they_are_many(rt: HostRuntime) -> Result<(), Fail> {
+    let mut logs = many_logs(rt.alloc(), 63)?;
+    let mut pruned = Some(vector(100, 0));
+    let mut swept = 0;
+    make_way(&mut logs, &mut pruned, &mut swept, &log(101, 2, 1));
+    assert_eq!(rt; (logs.len(), swept), (64, 0));
+    logs.push_back(log(101, 2, 1))?;
+    make_way(&mut logs, &mut pruned, &mut swept, &log(102, 2, 2));
+    assert_eq!(rt; (logs.len(), swept), (2, 2));
+    assert!(rt; pruned.is_none());
+    Ok(())
+}
+
+#[test]
+fn logs_are_swept_between_prunes(rt: HostRuntime) -> Result<(), Fail> {
+    let mut kept = keep_many(rt.alloc(), 0)?;
+    for number in 0..200u8 {
+        kept.add(log(number, 1, u64::from(number)))?;
+        kept.prune(&vector(u64::from(number), 0));
+        assert!(rt; are(&kept, &[100, u32::from(number)]));
+    }
     Ok(())
 }
 

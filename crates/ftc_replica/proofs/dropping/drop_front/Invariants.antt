@@ -2,7 +2,7 @@
 use Rattle.std.proofs.Common.{◌≡◌}
 use Rattle.std.specs.VecDeque.{deque_len, deque_capacity}
 use Rattle.ftc_replica.specs.Kept.{missing}
-use Rattle.ftc_replica.proofs.kept.drop_front.Given as goal
+use Rattle.ftc_replica.proofs.dropping.drop_front.Given as goal
 
 abbrev pub invariant-loop-log : goal.invariant-loop-log
 invariant-loop-log l = record {
