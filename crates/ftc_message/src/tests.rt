@@ -5,8 +5,8 @@ ghost use Rattle.ftc_message.specs.Bounds.{MarksSome};
 ghost use Rattle.ftc_message.specs.WellFormed.{IsWellFormed};
 
 use crate::{
-    FrameCause, Log, Logs, Message, Need, Needs, Seen, append_commits, append_log, append_needs,
-    commits_at, decode, encode, log_at, needs_at,
+    FieldFault, FrameCause, Log, Logs, Message, Need, Needs, Seen, append_commits, append_log,
+    append_needs, commits_at, decode, encode, log_at, needs_at,
 };
 use ftc_base::{
     Bytes, Key, NoMemory, PacketNo, PartSet, Refuse, ServerId, ServerSet, Value, Write, Writes,
@@ -287,6 +287,73 @@ fn parts_of_a_frame_both_ways(rt: HostRuntime) -> Result<(), Fail> {
         panic!(rt; "commits");
     };
     assert!(rt; read == commits(rt.alloc())? && rest.is_empty());
+    Ok(())
+}
+
+/// A fault that stands so many bytes before the end.
+fn fault(left: usize, cause: FrameCause) -> FieldFault {
+    FieldFault { left, cause }
+}
+
+#[test]
+fn one_log_both_ways(rt: HostRuntime) -> Result<(), Fail> {
+    let mut out = Bytes::new(rt.alloc());
+    append_log(&log(), &mut out)?;
+    let bytes = &FRAME[19..50];
+    assert_eq!(rt; out.as_slice(), bytes);
+    let Ok((read, rest)) = log_at(&None, bytes) else {
+        panic!(rt; "a log");
+    };
+    assert!(rt; read == log() && rest.is_empty());
+    let last = Some((4, log().group()));
+    assert_eq!(rt;
+        log_at(&last, bytes).err(),
+        Some(fault(31, FrameCause::Order))
+    );
+    assert_eq!(rt;
+        log_at(&None, &FRAME[19..49]).err(),
+        Some(fault(7, FrameCause::Cut))
+    );
+    Ok(())
+}
+
+#[test]
+fn one_need_both_ways(rt: HostRuntime) -> Result<(), Fail> {
+    let needs = message(rt.alloc())?.needs;
+    let mut out = Bytes::new(rt.alloc());
+    append_needs(&needs, &mut out)?;
+    let bytes = &FRAME[50..62];
+    assert_eq!(rt; out.as_slice(), bytes);
+    let Ok((read, rest)) = needs_at(rt.alloc(), 1, 8, bytes) else {
+        panic!(rt; "needs");
+    };
+    assert!(rt; read == needs && rest.is_empty());
+    assert_eq!(rt;
+        needs_at(rt.alloc(), 0, 8, bytes).err(),
+        Some(Refuse::Bad(fault(12, FrameCause::Range)))
+    );
+    assert_eq!(rt;
+        needs_at(rt.alloc(), 1, 9, bytes).err(),
+        Some(Refuse::Bad(fault(8, FrameCause::Range)))
+    );
+    Ok(())
+}
+
+#[test]
+fn one_commit_both_ways(rt: HostRuntime) -> Result<(), Fail> {
+    let known = commits(rt.alloc())?;
+    let mut out = Bytes::new(rt.alloc());
+    append_commits(&known, &mut out)?;
+    assert_eq!(rt; out.as_slice(), &FRAME[62..]);
+    let Ok((read, rest)) = commits_at(rt.alloc(), &FRAME[62..]) else {
+        panic!(rt; "commits");
+    };
+    assert!(rt; read == known && rest.is_empty());
+    let zero = [1, 2, 1, 1, 0, 0, 0, 0, 0, 0, 0, 0];
+    assert_eq!(rt;
+        commits_at(rt.alloc(), &zero).err(),
+        Some(Refuse::Bad(fault(8, FrameCause::Range)))
+    );
     Ok(())
 }
 
