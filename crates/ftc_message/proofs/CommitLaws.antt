@@ -1,26 +1,30 @@
 -- Commits, which are written as needs: what is read is spelled so, and what is spelled so is read.
 use Rattle.std.proofs.Common.{◌≡◌, ◌≢◌, ℕ, zero, suc, ◌+◌, ◌-◌, ◌^◌, ◌<◌, ◌≤◌, ◌==◌, leb, max, Bool, true, false, List, [], ◌∷◌, ◌++◌, length, get_or, drop, Option, Some, None, Result, Ok, Err, refl, sym, ap, subst, ◌∙◌, inl, inr, append_assoc, arith, if◌then◌else◌}
 use Rattle.std.specs.Prelude.{not, is_some, slice_set, replicate, unwrap_or}
-use Rattle.std.specs.List.{AllByRecursion, list_all, list_any}
+use Rattle.std.specs.List.{AllByRecursion, list_all, list_any, flat_map}
 use Rattle.std.proofs.lemmas.Bool.{cases_lt, leb-true, le-leb, and_parts, and_from, eq-eqb, ne_eqb}
-use Rattle.std.proofs.lemmas.List.{append-nil, drop_all, ext_get_or, drop_more, set_at, get_or_at, get_or_past, length-append, length-replicate, length-map}
+use Rattle.std.proofs.lemmas.List.{append-nil, drop_all, ext_get_or, drop_more, set_at, get_or_at, get_or_past, get_or-drop}
+use Rattle.std.proofs.lemmas.List.{length-append, length-replicate, length-map, length-drop}
 use Rattle.ftc_base.specs.declared.limits.TheConstants.{MOST_SERVERS, MOST_PARTITIONS}
 use Rattle.ftc_vector.specs.Vector.{by_partition, number_at, merged, IsVector}
-use Rattle.ftc_vector.specs.Commits.{by_group, vector_of, group_raised}
+use Rattle.ftc_vector.specs.Commits.{by_group, vector_of, group_raised, IsGroupEnd}
 use Rattle.ftc_vector.proofs.Partitions.{by_partition-from, length-by_partition, get_or-by_partition}
 use Rattle.ftc_message.specs.declared.need.Need.{Need}
 use Rattle.ftc_message.specs.Logged.{needs_rise}
 use Rattle.ftc_message.specs.Bounds.{AreCommits}
-use Rattle.ftc_message.specs.Spelling.{marked, marks_from, needs_bytes, not_zero, known_from, commits_bytes}
+use Rattle.ftc_message.specs.Spelling.{marked, marks_from, need_bytes, needs_bytes, not_zero, known_from, commits_bytes}
 use Rattle.ftc_message.specs.Numbers.{number_bytes}
 use Rattle.ftc_message.proofs.Partitions.{count_small}
 use Rattle.ftc_base.specs.Reading.{◌>>=◌}
 use Rattle.ftc_message.specs.declared.fault.FieldFault.{FieldFault}
-use Rattle.ftc_message.specs.Reading.{times, need_at, with_need, needs_at, no_commits, numbers_in, with_known, commits_at}
+use Rattle.ftc_message.specs.Reading.{times, no_marks, with_mark, marks_at, later_group_at, need_at, with_need, needs_at}
+use Rattle.ftc_message.specs.Reading.{no_commits, numbers_in, known_at, with_known, commits_at}
+use Rattle.ftc_message.specs.Fields.{within_at}
 use Rattle.ftc_message.proofs.Fields.{IsBytes, Takes, bind_ok, ok_is}
 use Rattle.ftc_message.proofs.Blanks.{split_at, length_before, replace}
 use Rattle.ftc_message.proofs.MarkLaws.{IsMark, AreSpelled}
-use Rattle.ftc_message.proofs.NeedLaws.{IsNeedSpelled, needs_at_takes, needs_at_again}
+use Rattle.ftc_message.proofs.NeedLaws.{IsNeedSpelled, needs_at_takes, needs_at_again, need_read, group_refused, marks_refused}
+use Rattle.ftc_message.proofs.Steps.{goes_on, ends}
 
 -- ---- a vector and its numbers that aren't 0
 
@@ -38,6 +42,22 @@ number_back (suc n) = rw (ne_eqb (suc n) 0 (λ is. omega arith)) refl
 
 pub length-not_zero : (vector : List ℕ) → length (not_zero vector) ≡ length vector
 length-not_zero vector = length-map vector (λ number. if number == 0 then None else Some number)
+
+pub numbers_back : (vector : List ℕ) → length vector ≡ MOST_PARTITIONS → numbers_in (not_zero vector) ≡ vector
+numbers_back vector size =
+    sym (by_partition-from (λ q. unwrap_or (get_or (not_zero vector) q None) 0) vector 0 size
+    (λ p within. sym (rw (get_or-not_zero vector p) (number_back (get_or vector p 0)))))
+
+pub not_zero-set : (vector : List ℕ) (p number : ℕ) → 1 ≤ number
+    → slice_set (not_zero vector) p (Some number) ≡ not_zero (slice_set vector p number)
+not_zero-set [] p number some = refl
+not_zero-set (n ∷ vector) zero number some = rw (ne_eqb number 0 (λ none. omega (arith, none, some))) refl
+not_zero-set (n ∷ vector) (suc p) number some =
+    ap (λ (marks : List (Option ℕ)). (if n == 0 then None else Some n) ∷ marks) (not_zero-set vector p number some)
+
+pub none_not_zero : not_zero zeros ≡ no_marks
+unfolding zeros by_partition
+none_not_zero = refl
 
 -- what was written of a vector gives that vector, where nothing was known before
 vector_back : (vector : List ℕ) → length vector ≡ MOST_PARTITIONS → merged zeros (numbers_in (not_zero vector)) ≡ vector
@@ -323,6 +343,101 @@ pub one_more_known : (n from : ℕ) (need : Need) (bytes : List ℕ) (commits : 
     → (times (with_need 1) n (from, need ∷ []) bytes >>= known_beside commits)
     ≡ (times (with_need 1) n (from, []) bytes >>= known_beside (group_raised commits need.group (numbers_in need.marks)))
 one_more_known n from need bytes commits = read_behind 1 n (need ∷ []) (known_beside commits) from [] bytes
+
+-- ---- what is known of one group, as it is read
+
+bind_refused : {A B : Type 0} (read : Result A FieldFault) (next : A → B) (fault : FieldFault)
+    → (read >>= λ found. Ok (next found)) ≡ Err fault → read ≡ Err fault
+bind_refused (Ok found) next fault is = absurd cc
+bind_refused (Err other) next fault is = cc
+
+-- the marks that the numbers stand for
+known_marks : (bytes vector rest : List ℕ) → known_at bytes ≡ Ok (vector, rest)
+    → (marks : List (Option ℕ)) × (marks_at 1 bytes ≡ Ok (marks, rest)) × (numbers_in marks ≡ vector)
+unfolding known_at
+known_marks bytes vector rest is =
+    let found = bind_ok (marks_at 1 bytes) (λ marks. Ok (numbers_in marks.0, marks.1)) (vector, rest) is in
+    let same : (numbers_in found.0.0, found.0.1) ≡ (vector, rest) = ok_is (numbers_in found.0.0, found.0.1) (vector, rest) found.2 in
+    (found.0.0, found.1 ∙ ap (λ (pair : List ℕ × List ℕ). Ok (found.0.0, pair.1)) same, ap (λ (pair : List ℕ × List ℕ). pair.0) same)
+
+-- the marks before the first number is read
+pub marks_start : (bytes after : List ℕ) (count left : ℕ) → left ≡ count → within_at 1 MOST_PARTITIONS bytes ≡ Ok (count, after)
+    → marks_at 1 bytes ≡ (times (with_mark 1) left (0, not_zero (by_partition (λ _. 0))) after >>= λ marks. Ok (marks.0.1, marks.1))
+unfolding marks_at zeros
+marks_start bytes after count left all is = rw (is, none_not_zero, all) refl
+
+pub known_done : (bytes vector rest : List ℕ) → length vector ≡ MOST_PARTITIONS
+    → marks_at 1 bytes ≡ Ok (not_zero vector, rest) → known_at bytes ≡ Ok (vector, rest)
+unfolding known_at
+known_done bytes vector rest size is =
+    rw is (ap (λ (numbers : List ℕ). Ok (numbers, rest)) (numbers_back vector size))
+
+pub known_refused : (bytes : List ℕ) (fault : FieldFault) → marks_at 1 bytes ≡ Err fault → known_at bytes ≡ Err fault
+unfolding known_at
+known_refused bytes fault is = rw is refl
+
+marks_not_read : (bytes : List ℕ) (fault : FieldFault) → known_at bytes ≡ Err fault → marks_at 1 bytes ≡ Err fault
+unfolding known_at
+marks_not_read bytes fault is = bind_refused (marks_at 1 bytes) (λ marks. (numbers_in marks.0, marks.1)) fault is
+
+-- one more group is read
+pub one_known : (count i from group : ℕ) (bytes behind vector rest : List ℕ) (commits : List (List ℕ))
+    (total : Result (List (List ℕ) × List ℕ) FieldFault)
+    → i < count → later_group_at from bytes ≡ Ok (group, behind) → known_at behind ≡ Ok (vector, rest)
+    → total ≡ (times (with_need 1) (count - i) (from, []) bytes >>= known_beside commits)
+    → total ≡ (times (with_need 1) (count - (i + 1)) (group + 1, []) rest >>= known_beside (group_raised commits group vector))
+one_known count i from group bytes behind vector rest commits total under first second is =
+    let known = known_marks behind vector rest second in
+    let need : Need = record { group = group; marks = known.0 } in
+    goes_on (with_need 1) (known_beside commits) count i (from, []) (group + 1, need ∷ []) bytes rest total under
+    (rw (need_read 1 from bytes behind rest group known.0 first known.1) refl) is
+    ∙ one_more_known (count - (i + 1)) (group + 1) need rest commits
+    ∙ ap (λ (numbers : List ℕ).
+    times (with_need 1) (count - (i + 1)) (group + 1, []) rest >>= known_beside (group_raised commits group numbers)) known.2
+
+-- the fault of a group, and that of its numbers
+pub group_ends : (count i from : ℕ) (bytes : List ℕ) (fault : FieldFault) (commits : List (List ℕ))
+    (total : Result (List (List ℕ) × List ℕ) FieldFault) → i < count → later_group_at from bytes ≡ Err fault
+    → total ≡ (times (with_need 1) (count - i) (from, []) bytes >>= known_beside commits) → total ≡ Err fault
+group_ends count i from bytes fault commits total under first is =
+    ends (with_need 1) (known_beside commits) count i (from, []) bytes fault total under
+    (rw (group_refused 1 from bytes fault first) refl) is
+
+pub known_ends : (count i from group : ℕ) (bytes behind : List ℕ) (fault : FieldFault) (commits : List (List ℕ))
+    (total : Result (List (List ℕ) × List ℕ) FieldFault)
+    → i < count → later_group_at from bytes ≡ Ok (group, behind) → known_at behind ≡ Err fault
+    → total ≡ (times (with_need 1) (count - i) (from, []) bytes >>= known_beside commits) → total ≡ Err fault
+known_ends count i from group bytes behind fault commits total under first second is =
+    ends (with_need 1) (known_beside commits) count i (from, []) bytes fault total under
+    (rw (marks_refused 1 from bytes behind group fault first (marks_not_read behind fault second)) refl) is
+
+-- ---- the groups that are written
+
+none_known : (group : ℕ) (vectors : List (List ℕ)) → ((k : ℕ) → k < length vectors → get_or vectors k [] ≡ zeros)
+    → known_from group vectors ≡ []
+none_known group [] none = refl
+none_known group (vector ∷ vectors) none =
+    rw (none 0 (omega arith), zeros_unknown) (none_known (group + 1) vectors (λ k within. none (suc k) (omega (arith, within))))
+
+-- behind the last group that has a number nothing is written
+none_behind : (commits : List (List ℕ)) (place end : ℕ) → place ≡ end → length commits ≡ MOST_SERVERS
+    → IsGroupEnd commits end → known_from place (drop place commits) ≡ []
+unfolding zeros
+none_behind commits place end same size is =
+    none_known place (drop place commits) (λ k within.
+    rw get_or-drop (is.beyond (place + k) (omega (arith, same)) (omega (arith, size, length-drop place commits, within))))
+
+pub all_counted : (commits : List (List ℕ)) (place end count : ℕ) → place ≡ end → length commits ≡ MOST_SERVERS
+    → IsGroupEnd commits end → count + length (known_from place (drop place commits)) ≡ length (known_from 0 commits)
+    → count ≡ length (known_from 0 commits)
+all_counted commits place end count same size is so_far =
+    omega (arith, ap length (none_behind commits place end same size is), so_far)
+
+pub all_written : (commits : List (List ℕ)) (place end : ℕ) (out whole : List ℕ) → place ≡ end → length commits ≡ MOST_SERVERS
+    → IsGroupEnd commits end → out ++ flat_map need_bytes (known_from place (drop place commits)) ≡ whole → out ≡ whole
+all_written commits place end out whole same size is so_far =
+    sym (append-nil out)
+    ∙ ap (λ (needs : List Need). out ++ flat_map need_bytes needs) (sym (none_behind commits place end same size is)) ∙ so_far
 
 known_place : (commits : List (List ℕ)) (group : ℕ) → group < length commits → drop group commits ≡ get_or commits group [] ∷ drop (group + 1) commits
 known_place commits group within = drop_more commits group [] within

@@ -1,5 +1,5 @@
 -- Needs: what is read is spelled so, and what is spelled so is read.
-use Rattle.std.proofs.Common.{◌≡◌, ℕ, ◌+◌, ◌<◌, ◌≤◌, ◌&&◌, leb, Bool, true, List, [], ◌∷◌, ◌++◌, length, Ok, refl, sym, ap, subst, ◌∙◌, arith}
+use Rattle.std.proofs.Common.{◌≡◌, ℕ, ◌+◌, ◌<◌, ◌≤◌, ◌&&◌, leb, Bool, true, List, [], ◌∷◌, ◌++◌, length, Option, Ok, Err, refl, sym, ap, subst, ◌∙◌, arith}
 use Rattle.std.specs.List.{AllByRecursion, flat_map}
 use Rattle.ftc_base.specs.declared.limits.TheConstants.{MOST_SERVERS}
 use Rattle.ftc_message.specs.declared.fault.FrameCause.TheVariants.{Order}
@@ -8,7 +8,8 @@ use Rattle.ftc_message.specs.Logged.{needs_rise}
 use Rattle.ftc_message.specs.Spelling.{marks_bytes, need_bytes, needs_bytes}
 use Rattle.ftc_base.specs.Reading.{◌>>=◌, ◌>>◌, unless}
 use Rattle.ftc_message.specs.Fields.{fault_of, within_at, group_at}
-use Rattle.ftc_message.specs.Reading.{times, marks_at, need_at, with_need, needs_at}
+use Rattle.ftc_message.specs.declared.fault.FieldFault.{FieldFault}
+use Rattle.ftc_message.specs.Reading.{times, marks_at, later_group_at, need_at, with_need, needs_at}
 use Rattle.ftc_message.proofs.Fields.{IsBytes, Takes, Takes-then, bind_ok, test_ok, ok_is, within_takes, within_again, group_takes, group_again}
 use Rattle.ftc_message.proofs.MarkLaws.{AreSpelled, marks_at_takes, marks_at_again}
 use Rattle.ftc_message.proofs.ItemLaws.{Items, in_order, items_read, items_again}
@@ -18,21 +19,63 @@ pub record IsNeedSpelled (least : ℕ) (need : Need) : Type 0 where
   pub group : need.group < MOST_SERVERS
   pub marks : AreSpelled least need.marks
 
-pub need_at_takes : (least from : ℕ) (bytes : List ℕ) (x : Need × List ℕ) → IsBytes bytes → need_at least from bytes ≡ Ok x → Takes bytes (need_bytes x.0) x.1 × IsNeedSpelled least x.0 × (leb from x.0.group ≡ true)
+later_group_takes : (from : ℕ) (bytes : List ℕ) (x : ℕ × List ℕ) → IsBytes bytes → later_group_at from bytes ≡ Ok x
+    → Takes bytes (x.0 ∷ []) x.1 × (x.0 < MOST_SERVERS) × (leb from x.0 ≡ true)
+unfolding later_group_at
+later_group_takes from bytes x fits is =
+    let group = bind_ok (group_at bytes) (λ group. unless (leb from group.0) (fault_of bytes Order) >> Ok group) x is in
+    let passed = test_ok (leb from group.0.0) bytes Order (Ok group.0) x group.2 in
+    let taken = group_takes bytes group.0 fits group.1 in
+    let P : ℕ × List ℕ → Type 0 = λ y.
+        Takes bytes (y.0 ∷ []) y.1 × (y.0 < MOST_SERVERS) × (leb from y.0 ≡ true) in
+    subst P (ok_is group.0 x passed.1) (taken.0, taken.1, passed.0)
+
+later_group_again : (from group : ℕ) (rest : List ℕ) → group < MOST_SERVERS → leb from group ≡ true
+    → later_group_at from (group ∷ rest) ≡ Ok (group, rest)
+unfolding later_group_at
+later_group_again from group rest within follows = rw (group_again group rest within, follows) refl
+
+pub need_at_takes : (least from : ℕ) (bytes : List ℕ) (x : Need × List ℕ) → IsBytes bytes → need_at least from bytes ≡ Ok x
+    → Takes bytes (need_bytes x.0) x.1 × IsNeedSpelled least x.0 × (leb from x.0.group ≡ true)
 unfolding need_at
 need_at_takes least from bytes x fits is =
-    let group = bind_ok (group_at bytes) (λ group. unless (leb from group.0) (fault_of bytes Order) >> (marks_at least group.1 >>= λ marks. Ok (record { group = group.0; marks = marks.0 }, marks.1))) x is in
-    let passed = test_ok (leb from group.0.0) bytes Order (marks_at least group.0.1 >>= λ marks. Ok (record { group = group.0.0; marks = marks.0 }, marks.1)) x group.2 in
-    let marks = bind_ok (marks_at least group.0.1) (λ marks. Ok (record { group = group.0.0; marks = marks.0 }, marks.1)) x passed.1 in
-    let first = group_takes bytes group.0 fits group.1 in
+    let group = bind_ok (later_group_at from bytes)
+        (λ group. marks_at least group.1 >>= λ marks. Ok (record { group = group.0; marks = marks.0 }, marks.1)) x is in
+    let marks = bind_ok (marks_at least group.0.1)
+        (λ marks. Ok (record { group = group.0.0; marks = marks.0 }, marks.1)) x group.2 in
+    let first = later_group_takes from bytes group.0 fits group.1 in
     let second = marks_at_takes least group.0.1 marks.0 first.0.rest_fits marks.1 in
-    let P : Need × List ℕ → Type 0 = λ y. Takes bytes (need_bytes y.0) y.1 × IsNeedSpelled least y.0 × (leb from y.0.group ≡ true) in
-    subst P (ok_is (record { group = group.0.0; marks = marks.0.0 }, marks.0.1) x marks.2) (Takes-then bytes (group.0.0 ∷ []) group.0.1 (marks_bytes marks.0.0) marks.0.1 first.0 second.0, record { group = first.1; marks = second.1 }, passed.0)
+    let both = Takes-then bytes (group.0.0 ∷ []) group.0.1 (marks_bytes marks.0.0) marks.0.1 first.0 second.0 in
+    let P : Need × List ℕ → Type 0 = λ y.
+        Takes bytes (need_bytes y.0) y.1 × IsNeedSpelled least y.0 × (leb from y.0.group ≡ true) in
+    subst P (ok_is (record { group = group.0.0; marks = marks.0.0 }, marks.0.1) x marks.2)
+    (both, record { group = first.1; marks = second.1 }, first.2)
 
-pub need_at_again : (least from : ℕ) (need : Need) (rest : List ℕ) → IsNeedSpelled least need → leb from need.group ≡ true → need_at least from (need_bytes need ++ rest) ≡ Ok (need, rest)
+pub need_at_again : (least from : ℕ) (need : Need) (rest : List ℕ) → IsNeedSpelled least need → leb from need.group ≡ true
+    → need_at least from (need_bytes need ++ rest) ≡ Ok (need, rest)
 unfolding need_at
 need_at_again least from need rest is follows =
-    rw (group_again need.group (marks_bytes need.marks ++ rest) is.group, follows, marks_at_again least need.marks rest is.marks) refl
+    rw (later_group_again from need.group (marks_bytes need.marks ++ rest) is.group follows,
+    marks_at_again least need.marks rest is.marks) refl
+
+-- ---- a need that is read part by part
+
+pub need_read : (least from : ℕ) (bytes behind rest : List ℕ) (group : ℕ) (marks : List (Option ℕ))
+    → later_group_at from bytes ≡ Ok (group, behind) → marks_at least behind ≡ Ok (marks, rest)
+    → need_at least from bytes ≡ Ok (record { group = group; marks = marks }, rest)
+unfolding need_at
+need_read least from bytes behind rest group marks first second = rw (first, second) refl
+
+pub group_refused : (least from : ℕ) (bytes : List ℕ) (fault : FieldFault)
+    → later_group_at from bytes ≡ Err fault → need_at least from bytes ≡ Err fault
+unfolding need_at
+group_refused least from bytes fault first = rw first refl
+
+pub marks_refused : (least from : ℕ) (bytes behind : List ℕ) (group : ℕ) (fault : FieldFault)
+    → later_group_at from bytes ≡ Ok (group, behind) → marks_at least behind ≡ Err fault
+    → need_at least from bytes ≡ Err fault
+unfolding need_at
+marks_refused least from bytes behind group fault first second = rw (first, second) refl
 
 abbrev needs : ℕ → Items ℕ Need
 needs least = record {

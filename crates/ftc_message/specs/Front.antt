@@ -26,6 +26,11 @@ abbrev pub IsFieldBy : {A B : Type 0} → (A → B) → Result (A × Bor (List �
 IsFieldBy view (Ok found) told = told ≡ Ok (view found.0, found.1.now)
 IsFieldBy view (Err fault) told = told ≡ Err fault
 
+-- the same of a value that is put into a place
+abbrev pub IsPlaced : {A : Type 0} → Result (Bor (List ℕ)) FieldFault → A → Result (A × List ℕ) FieldFault → Type 0
+IsPlaced (Ok rest) value told = told ≡ Ok (value, rest.now)
+IsPlaced (Err fault) value told = told ≡ Err fault
+
 -- the same of the bytes alone that are left
 abbrev pub IsRest : Result (Bor (List ℕ)) FieldFault → Result (List ℕ) FieldFault → Type 0
 IsRest (Ok rest) told = told ≡ Ok rest.now

@@ -164,11 +164,17 @@ logs_at bytes = do
 
 -- ---- needs and commits
 
+-- a group, which is at least `from`
+unfoldable pub later_group_at : ℕ → List ℕ → Result (ℕ × List ℕ) FieldFault
+later_group_at from bytes = do
+  group ← group_at bytes
+  unless (nat_le from group.0) (fault_of bytes Order)
+  Ok group
+
 -- a need of a group that is at least `from`
 unfoldable pub need_at : ℕ → ℕ → List ℕ → Result (Need × List ℕ) FieldFault
 need_at least from bytes = do
-  group ← group_at bytes
-  unless (nat_le from group.0) (fault_of bytes Order)
+  group ← later_group_at from bytes
   marks ← marks_at least group.1
   Ok (record { group = group.0; marks = marks.0 }, marks.1)
 
@@ -192,6 +198,12 @@ no_commits = by_group (λ _. by_partition (λ _. 0))
 -- the marked numbers, and 0 elsewhere
 abbrev pub numbers_in : List (Option ℕ) → List ℕ
 numbers_in marks = by_partition (λ partition. unwrap_or (slice_index_or marks partition None) 0)
+
+-- what is known of a group: numbers that are at least 1, and 0 in each partition that has none
+unfoldable pub known_at : List ℕ → Result (List ℕ × List ℕ) FieldFault
+known_at bytes = do
+  marks ← marks_at 1 bytes
+  Ok (numbers_in marks.0, marks.1)
 
 -- what these entries say is known besides
 abbrev pub with_known : List Need → List (List ℕ) → List (List ℕ)

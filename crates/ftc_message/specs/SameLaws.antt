@@ -1,14 +1,10 @@
 -- The tests of sameness say that two things are equal.
-use Rattle.std.proofs.Common.{◌≡◌, ℕ, Bool, true, false, List, Option, Some, None, refl, sym, ap}
-use Rattle.std.specs.Prelude.{◌&&◌, ◌==◌, nat_eq}
+use Rattle.std.proofs.Common.{◌≡◌, Bool, Some, None, refl, ap}
+use Rattle.std.specs.Prelude.{◌&&◌, nat_eq}
 use Rattle.std.specs.Bool.{Decides}
 use Rattle.std.specs.Cmp.{IsEquivalence, decided, unsigned_Decides, first_so, second_so}
 use Rattle.std.specs.Cmp.Lexicographic.{pointwise, pointwise_decides}
 use Rattle.std.specs.Option.{option_eq}
-use Rattle.ftc_base.specs.declared.ask.Write.{Write}
-use Rattle.ftc_message.specs.declared.need.Need.{Need}
-use Rattle.ftc_message.specs.declared.message.Message.{Message}
-use Rattle.ftc_message.specs.Logged.{Logged}
 use Rattle.ftc_message.specs.Same.{same_marks, same_write, same_log, same_need, same_message}
 
 abbrev Tells : {A : Type 0} → (A → A → Bool) → Type 0

@@ -3,33 +3,21 @@
 ghost use Rattle.std.specs.Prelude.{◌≡◌, ◌<◌, ◌++◌, length, is_some, OnOk, OnErr, IfOk};
 ghost use Rattle.std.specs.List.{list_any};
 ghost use Rattle.ftc_vector.specs.Vector.{IsVector};
-ghost use Rattle.ftc_vector.specs.Commits.{vector_of};
+ghost use Rattle.ftc_vector.specs.Commits.{vector_of, IsGroupEnd};
 ghost use Rattle.ftc_message.specs.Bounds.{AreCommits};
 ghost use Rattle.ftc_message.specs.Spelling.{not_zero, marked, marks_from, need_bytes, known_from, commits_bytes};
-ghost use Rattle.ftc_message.specs.Reading.{numbers_in, commits_at};
+ghost use Rattle.ftc_message.specs.Reading.{commits_at};
 ghost use Rattle.ftc_message.specs.Front.{IsFront};
 
 use crate::bytes::append_entry;
 use crate::fault::FieldFault;
 use crate::field::within_at;
-use crate::need_bytes::need_at;
+use crate::need_bytes::later_group_at;
+use crate::parts::known_at;
 use ftc_base::limits::{MOST_PARTITIONS, MOST_SERVERS};
 use ftc_base::{Bytes, NoMemory, Refuse, ServerId};
-use ftc_vector::{Commits, Marks, Vector};
+use ftc_vector::{Commits, Vector};
 use std::alloc::Global;
-
-/// The marked numbers, and 0 elsewhere.
-fn numbers_in(marks: &Marks) -> Vector
-    ensures { result ≡ numbers_in marks.now }
-{
-    let mut vector = Vector::zero();
-    for partition in 0..marks.end() {
-        if let Some(number) = marks.at(partition) {
-            vector.set(partition, number);
-        }
-    }
-    vector
-}
 
 /// The commits at the front, and the bytes behind them.
 #[tactic(auto, unfolding(crate::specs::Reading::commits_at, crate::specs::Reading::needs_at))]
@@ -42,14 +30,14 @@ pub fn commits_at(alloc: Global, bytes: &[u8]) -> Result<(Commits, &[u8]), Refus
     let mut from = 0;
     let mut commits = Commits::new(alloc)?;
     for _ in 0..count {
-        match need_at(1, from, rest) {
-            Ok((known, behind)) => {
-                from = known.group.number() + 1;
-                commits.raise(known.group, &numbers_in(&known.marks));
-                rest = behind;
-            }
+        let (group, behind) = match later_group_at(from, rest) {
+            Ok(found) => found,
             Err(fault) => return Err(Refuse::Bad(fault)),
-        }
+        };
+        let mut vector = Vector::zero();
+        rest = known_at(behind, &mut vector)?;
+        from = group.number() + 1;
+        commits.raise(group, &vector);
     }
     Ok((commits, rest))
 }
@@ -101,13 +89,14 @@ fn append_numbers(vector: &Vector, count: u8, out: &mut Bytes) -> Result<(), NoM
 }
 
 /// How many groups have a number that is not 0.
-fn count_known(commits: &Commits) -> u8
-    ensures count { result ≡ length (known_from 0 commits.now) }
-    ensures size { length commits.now ≡ MOST_SERVERS }
+fn count_known(commits: &Commits, end: u8) -> u8
+    requires { IsGroupEnd commits.now end }
+    ensures { result ≡ length (known_from 0 commits.now) }
 {
+    // The contract of this call tells how many groups there are.
     let _ = commits.of(ServerId::new(0).unwrap());
     let mut count = 0;
-    for place in 0..MOST_SERVERS {
+    for place in 0..end {
         if is_known(commits, place) {
             count += 1;
         }
@@ -142,8 +131,9 @@ pub(crate) fn add_commits(commits: &Commits, out: &mut Bytes) -> Result<(), NoMe
     ensures bounds { AreCommits commits.now }
 {
     are_commits(commits);
-    out.append(&[count_known(commits)])?;
-    for place in 0..MOST_SERVERS {
+    let end = commits.end();
+    out.append(&[count_known(commits, end)])?;
+    for place in 0..end {
         if is_known(commits, place) {
             append_known(commits, place, out)?;
         }

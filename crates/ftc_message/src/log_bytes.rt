@@ -11,7 +11,7 @@ use crate::fault::{FieldFault, FrameCause};
 use crate::field::{fault_at, group_at, word_at};
 use crate::log::Log;
 use crate::part_bytes::append_parts;
-use crate::parts::parts_at;
+use crate::parts::{Parts, parts_at};
 use crate::writes::{append_writes, writes_at};
 use ftc_base::{Bytes, NoMemory, PacketNo, ServerId};
 
@@ -58,10 +58,8 @@ pub fn log_at<'a>(last: &Option<LogPlace>, bytes: &'a [u8]) -> Result<(Log, &'a 
         Ok(found) => found,
         Err(fault) => return Err(fault),
     };
-    let (parts, rest) = match parts_at(rest) {
-        Ok(found) => found,
-        Err(fault) => return Err(fault),
-    };
+    let mut parts = Parts::new();
+    let rest = parts_at(rest, &mut parts)?;
     match writes_at(rest) {
         Ok((writes, rest)) => Ok((
             Log::new(group, origin, parts.before, parts.changed, writes),

@@ -3,7 +3,7 @@
 ghost use Rattle.std.specs.Prelude.{◌≡◌, ◌≤◌, ◌++◌, true, length, OnOk, OnErr, IfOk, nat_le};
 ghost use Rattle.ftc_message.specs.Bounds.{AreNeeds};
 ghost use Rattle.ftc_message.specs.Spelling.{need_bytes, needs_bytes};
-ghost use Rattle.ftc_message.specs.Reading.{need_at, needs_at};
+ghost use Rattle.ftc_message.specs.Reading.{later_group_at, needs_at};
 ghost use Rattle.ftc_message.specs.Front.{IsField, IsFront};
 
 use crate::fault::{FieldFault, FrameCause};
@@ -11,14 +11,15 @@ use crate::field::{fault_at, group_at, within_at};
 use crate::need::{Need, Needs};
 use crate::part_bytes::append_marks;
 use crate::parts::marks_at;
-use ftc_base::{Bytes, NoMemory, Refuse};
+use ftc_base::{Bytes, NoMemory, Refuse, ServerId};
+use ftc_vector::Marks;
 use std::alloc::Global;
 
-/// A need of a group that is at least `from`, with numbers that are at least `least`.
-#[tactic(auto, unfolding(crate::specs::Reading::need_at))]
-pub(crate) fn need_at(least: u64, from: u8, bytes: &[u8]) -> Result<(Need, &[u8]), FieldFault>
-    ensures value { IsField result (need_at least from bytes.now) }
-    ensures follows { IfOk result (λ found. nat_le from found.0.group ≡ true) }
+/// A group, which is at least `from`.
+#[tactic(auto, unfolding(crate::specs::Reading::later_group_at))]
+pub(crate) fn later_group_at(from: u8, bytes: &[u8]) -> Result<(ServerId, &[u8]), FieldFault>
+    ensures value { IsField result (later_group_at from bytes.now) }
+    ensures follows { IfOk result (λ found. nat_le from found.0 ≡ true) }
 {
     let (group, rest) = match group_at(bytes) {
         Ok(found) => found,
@@ -27,10 +28,7 @@ pub(crate) fn need_at(least: u64, from: u8, bytes: &[u8]) -> Result<(Need, &[u8]
     if group.number() < from {
         return Err(fault_at(bytes, FrameCause::Order));
     }
-    match marks_at(least, rest) {
-        Ok((marks, rest)) => Ok((Need { group, marks }, rest)),
-        Err(fault) => Err(fault),
-    }
+    Ok((group, rest))
 }
 
 /// The needs at the front and the bytes behind them: at most so many, with numbers that are at least
@@ -51,14 +49,17 @@ pub fn needs_at(
     let mut needs = Needs::new(alloc);
     needs.make_room(usize::from(count))?;
     for _ in 0..count {
-        match need_at(least, from, rest) {
-            Ok((need, behind)) => {
-                from = need.group.number() + 1;
-                needs.push(need)?;
-                rest = behind;
-            }
+        let (group, behind) = match later_group_at(from, rest) {
+            Ok(found) => found,
             Err(fault) => return Err(Refuse::Bad(fault)),
-        }
+        };
+        let mut need = Need {
+            group,
+            marks: Marks::new(),
+        };
+        rest = marks_at(least, behind, &mut need.marks)?;
+        from = group.number() + 1;
+        needs.push(need)?;
     }
     Ok((needs, rest))
 }

@@ -1,13 +1,13 @@
 -- The vectors of the first groups, and the one of zeros behind them that stands for all others.
-use Rattle.std.proofs.Common.{◌≡◌, ◌≢◌, ◌<◌, ◌≤◌, ◌+◌, ◌-◌, ◌==◌, ℕ, true, List, [], length, get_or, min, max, refl, sym, ap, ◌∙◌, inl, inr, zero-add, arith}
+use Rattle.std.proofs.Common.{◌≡◌, ◌≢◌, ◌<◌, ◌≤◌, ◌+◌, ◌-◌, ◌==◌, ℕ, zero, suc, true, false, List, [], ◌∷◌, length, get_or, min, max, refl, sym, ap, ◌∙◌, inl, inr, zero-add, arith}
 use Rattle.std.specs.Prelude.{slice_set}
 use Rattle.std.specs.List.{list_all}
-use Rattle.std.proofs.lemmas.Bool.{cases_lt, cases_eq}
+use Rattle.std.proofs.lemmas.Bool.{cases_lt, cases_eq, ne_eqb}
 use Rattle.std.proofs.lemmas.List.{get_or_default, get_or_past, length-set, get_or-set_same}
 use Rattle.std.proofs.lemmas.List.FromFn.{length-map-range_with_len, get_or-map-range_with_len}
 use Rattle.ftc_base.specs.declared.limits.TheConstants.{MOST_SERVERS, MOST_PARTITIONS}
 use Rattle.ftc_vector.specs.Vector.{by_partition, number_at, merged, IsVector}
-use Rattle.ftc_vector.specs.Commits.{by_group, vector_of, all_merged, group_raised, held_of, AreHeld}
+use Rattle.ftc_vector.specs.Commits.{by_group, vector_of, all_merged, group_raised, held_of, AreHeld, IsGroupEnd}
 use Rattle.ftc_vector.proofs.Partitions.{length-by_partition, get_or-by_partition, by_partition-from}
 use Rattle.ftc_vector.proofs.GroupLists.{same_groups, vector_of-all_merged, vector_of-raised, vector_of-other}
 
@@ -118,3 +118,40 @@ newly_held old new group vector held few own is =
     get_or-set_same new group vector zeros (omega (arith, own))
     ∙ sym (ap (λ (numbers : List ℕ). merged numbers vector) (held_behind old group held (omega (arith, few)))
     ∙ merged_with_zeros vector is)
+
+-- ---- the number behind the last group that has a number
+
+each_zero : (vector : List ℕ) → list_all (λ number. number == 0) vector ≡ true → (p : ℕ) → get_or vector p 0 ≡ 0
+each_zero [] all p = refl
+each_zero (zero ∷ vector) all zero = refl
+each_zero (zero ∷ vector) all (suc p) = each_zero vector all p
+each_zero (suc n ∷ vector) all p =
+    let one : list_all (λ number. number == 0) (suc n ∷ vector) ≡ false = rw (ne_eqb (suc n) 0 (λ is. omega arith)) refl in
+    let clash : true ≡ false = sym all ∙ one in
+    absurd cc
+
+-- a vector whose numbers are all 0
+pub zeros_alone : (vector : List ℕ) → IsVector vector → list_all (λ number. number == 0) vector ≡ true → vector ≡ zeros
+zeros_alone vector is all = by_partition-from (λ _. 0) vector 0 is.size (λ p within. each_zero vector all p)
+
+pub end_found : (vectors : List (List ℕ)) (end : ℕ) → end ≤ MOST_SERVERS
+    → ((group : ℕ) → end ≤ group → held_of vectors group ≡ zeros)
+    → ((group : ℕ) → end ≡ group + 1 → list_all (λ number. number == 0) (held_of vectors group) ≡ false)
+    → IsGroupEnd (by_group (held_of vectors)) end
+end_found vectors end within beyond last = record {
+  within = within;
+  beyond = λ group past before. vector_of-by_group (held_of vectors) group before ∙ beyond group past;
+  last = λ group is. rw (vector_of-by_group (held_of vectors) group (omega (arith, is, within))) (last group is);
+}
+
+-- one more group has zeros
+pub one_less : (vectors : List (List ℕ)) (end : ℕ) (vector : List ℕ) → vector ≡ held_of vectors (end - 1) → IsVector vector
+    → list_all (λ number. number == 0) vector ≡ true → ((group : ℕ) → end ≤ group → held_of vectors group ≡ zeros)
+    → (group : ℕ) → end - 1 ≤ group → held_of vectors group ≡ zeros
+one_less vectors end vector here is all beyond group past =
+    elim (cases_lt group end) [
+      | inl before ↦
+          let same : group ≡ end - 1 = omega (arith, past, before) in
+          rw (same, ← here) (zeros_alone vector is all)
+      | inr behind ↦ beyond group behind
+    ]

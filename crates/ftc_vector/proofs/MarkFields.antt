@@ -1,6 +1,6 @@
 -- Marks as numbers and flags: what reading, setting and comparing the fields says of the marks.
-use Rattle.std.proofs.Common.{◌≡◌, ◌≢◌, ◌<◌, ◌∙◌, ◌^◌, ℕ, Bool, true, false, List, Option, Some, None, length, get_or, max, refl, sym, ap, inl, inr, arith, ◌≤◌, ◌+◌, replicate}
-use Rattle.std.specs.Prelude.{slice_set, slice_index_or, nat_eq, ◌==◌, map, is_some, unwrap_or, if◌then◌else◌}
+use Rattle.std.proofs.Common.{◌≡◌, ◌<◌, ◌∙◌, ◌^◌, ℕ, Bool, true, false, List, Option, Some, None, length, max, refl, sym, ap, inl, inr, arith, ◌+◌, replicate}
+use Rattle.std.specs.Prelude.{slice_set, slice_index_or, nat_eq, map, is_some, unwrap_or, if◌then◌else◌}
 use Rattle.std.specs.Bool.{Decides}
 use Rattle.std.specs.Cmp.{unsigned_Decides, booleans_Decides}
 use Rattle.std.proofs.Math.Bool.{beq}
@@ -9,7 +9,7 @@ use Rattle.std.specs.Option.{option_eq}
 use Rattle.std.proofs.lemmas.Bool.{cases_eq, cases_lt, false_from_ne_true}
 use Rattle.std.proofs.lemmas.List.{length-set, get_or-set_same, get_or-set_other, get_or_past, get_or-replicate, length-replicate}
 use Rattle.ftc_base.specs.declared.limits.TheConstants.{MOST_PARTITIONS}
-use Rattle.ftc_vector.specs.Vector.{by_partition, number_at, mark_at, AreMarks, IsEnd}
+use Rattle.ftc_vector.specs.Vector.{number_at, mark_at, AreMarks, IsEnd}
 use Rattle.ftc_vector.specs.Marked.{mark_in, marks_in, AreMarked, numbers_again, flags_again}
 use Rattle.ftc_vector.proofs.Partitions.{length-by_partition, get_or-by_partition, by_partition-from}
 

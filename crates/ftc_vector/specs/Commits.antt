@@ -1,6 +1,6 @@
 -- A vector for each group.
-use Rattle.std.specs.Prelude.{◌≡◌, ◌<◌, ◌≤◌, ◌+◌, ℕ, List, [], length, map, slice_index_or, slice_set}
-use Rattle.std.specs.List.{range_with_len}
+use Rattle.std.specs.Prelude.{◌≡◌, ◌<◌, ◌≤◌, ◌+◌, ◌==◌, ℕ, false, List, [], length, map, slice_index_or, slice_set}
+use Rattle.std.specs.List.{range_with_len, list_all}
 use Rattle.ftc_base.specs.declared.limits.TheConstants.{MOST_SERVERS}
 use Rattle.ftc_vector.specs.Vector.{by_partition, merged}
 
@@ -29,3 +29,9 @@ pub record AreHeld (vectors : List (List ℕ)) : Type 0 where
   pub some : 0 < length vectors
   pub few : length vectors ≤ MOST_SERVERS + 1
   pub last : (place : ℕ) → length vectors ≡ place + 1 → held_of vectors place ≡ by_partition (λ _. 0)
+
+-- the number behind the last group whose vector has a number that isn't 0, 0 where none has
+pub record IsGroupEnd (commits : List (List ℕ)) (end : ℕ) : Type 0 where
+  pub within : end ≤ MOST_SERVERS
+  pub beyond : (group : ℕ) → end ≤ group → group < MOST_SERVERS → vector_of commits group ≡ by_partition (λ _. 0)
+  pub last : (group : ℕ) → end ≡ group + 1 → list_all (λ number. number == 0) (vector_of commits group) ≡ false

@@ -6,7 +6,7 @@ ghost use Rattle.std.specs.Cmp.Lexicographic.{pointwise};
 ghost use Rattle.std.specs.Cmp.Rules.{comparing};
 ghost use Rattle.std.proofs.Common.{rules};
 ghost use Rattle.ftc_vector.specs.Vector.{by_partition, merged, IsVector};
-ghost use Rattle.ftc_vector.specs.Commits.{by_group, vector_of, all_merged, group_raised, held_of, AreHeld};
+ghost use Rattle.ftc_vector.specs.Commits.{by_group, vector_of, all_merged, group_raised, held_of, AreHeld, IsGroupEnd};
 
 use crate::group_vectors::GROUPS;
 use crate::vector::{Vector, merge};
@@ -120,6 +120,21 @@ impl Commits {
             return true;
         }
         self.vectors[place].is_zero()
+    }
+
+    /// The number behind the last group whose vector has a number that isn't 0, and 0 where none has.
+    pub fn end(&self) -> u8
+        ensures { IsGroupEnd self.now result }
+    {
+        bounds(self.vectors.as_slice());
+        let mut end = self.vectors.len() - 1;
+        while end > 0 {
+            if !self.vectors[end - 1].is_zero() {
+                return end as u8;
+            }
+            end -= 1;
+        }
+        0
     }
 
     /// Does nothing. Its contract says which bounds the numbers have.

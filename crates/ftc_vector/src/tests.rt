@@ -117,6 +117,11 @@ fn commits_of_two_groups(rt: HostRuntime) -> Result<(), Fail> {
     first.raise(low, &vector);
     second.raise(high, &vector);
     assert_eq!(rt; *first.of(high), Vector::zero());
+    second.raise(high, &Vector::zero());
+    assert_eq!(rt;
+        (first.end(), second.end(), Commits::new(rt.alloc())?.end()),
+        (4, 16, 0)
+    );
     first.merge(&second);
     assert_eq!(rt; first.of(low).at(9), 4);
     assert_eq!(rt; *first.of(high), vector);

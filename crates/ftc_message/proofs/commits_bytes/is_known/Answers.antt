@@ -1,6 +1,6 @@
-use Rattle.std.proofs.Common.{rules, ◌≡◌, ◌∙◌, ℕ, List, sym, ap}
-use Rattle.std.specs.Prelude.{not, is_some, ◌==◌}
-use Rattle.std.specs.List.{list_all, list_any}
+use Rattle.std.proofs.Common.{rules, ◌≡◌, ◌∙◌, ℕ, ap}
+use Rattle.std.specs.Prelude.{not, is_some}
+use Rattle.std.specs.List.{list_any}
 use Rattle.ftc_vector.specs.Commits.{vector_of}
 use Rattle.ftc_message.specs.Spelling.{not_zero}
 use Rattle.ftc_message.proofs.CommitLaws.{any_known}

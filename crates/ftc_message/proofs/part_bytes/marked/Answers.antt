@@ -1,4 +1,4 @@
-use Rattle.std.proofs.Common.{sym, arith}
+use Rattle.std.proofs.Common.{arith}
 use Rattle.ftc_message.proofs.Partitions.{count_small, all_counted}
 use Rattle.ftc_message.proofs.part_bytes.marked.Goals as goal
 

@@ -1,4 +1,3 @@
-use Rattle.std.proofs.Common.{◌≡◌, arith}
 use Rattle.ftc_vector.proofs.MarkFields.{marks_are, mark_where, mark_nowhere}
 use Rattle.ftc_vector.proofs.marks.Marks.at.Goals as goal
 

@@ -1,4 +1,3 @@
-use Rattle.std.proofs.Common.{◌≡◌, ◌∙◌, arith}
 use Rattle.ftc_vector.proofs.MarkFields.{marks_set, are_set}
 use Rattle.ftc_vector.proofs.marks.Marks.set.Goals as goal
 
