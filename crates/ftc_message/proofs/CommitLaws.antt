@@ -2,8 +2,9 @@
 use Rattle.std.proofs.Common.{◌≡◌, ◌≢◌, ℕ, zero, suc, ◌+◌, ◌-◌, ◌^◌, ◌<◌, ◌≤◌, ◌==◌, leb, max, Bool, true, false, List, [], ◌∷◌, ◌++◌, length, get_or, drop, Option, Some, None, Result, Ok, Err, refl, sym, ap, subst, ◌∙◌, inl, inr, append_assoc, arith, if◌then◌else◌}
 use Rattle.std.specs.Prelude.{not, is_some, slice_set, replicate, unwrap_or}
 use Rattle.std.specs.List.{AllByRecursion, list_all, list_any, flat_map}
-use Rattle.std.proofs.lemmas.Bool.{cases_lt, leb-true, le-leb, and_parts, and_from, eq-eqb, ne_eqb}
-use Rattle.std.proofs.lemmas.List.{append-nil, drop_all, ext_get_or, drop_more, set_at, get_or_at, get_or_past, get_or-drop}
+use Rattle.std.proofs.lemmas.Bool.{cases_lt, leb-true, le-leb, and_parts, and_from, eq-eqb, ne_eqb, false_from_ne_true}
+use Rattle.std.proofs.lemmas.List.{append-nil, drop_all, ext_get_or, drop_more, set_at, get_or_at, get_or_past}
+use Rattle.std.proofs.lemmas.List.{get_or-drop}
 use Rattle.std.proofs.lemmas.List.{length-append, length-replicate, length-map, length-drop}
 use Rattle.ftc_base.specs.declared.limits.TheConstants.{MOST_SERVERS, MOST_PARTITIONS}
 use Rattle.ftc_vector.specs.Vector.{by_partition, number_at, merged, IsVector}
@@ -17,13 +18,15 @@ use Rattle.ftc_message.specs.Numbers.{number_bytes}
 use Rattle.ftc_message.proofs.Partitions.{count_small}
 use Rattle.ftc_base.specs.Reading.{◌>>=◌}
 use Rattle.ftc_message.specs.declared.fault.FieldFault.{FieldFault}
-use Rattle.ftc_message.specs.Reading.{times, no_marks, with_mark, marks_at, later_group_at, need_at, with_need, needs_at}
+use Rattle.ftc_message.specs.Reading.{times, no_marks, with_mark, marks_at, later_group_at, need_at, with_need}
+use Rattle.ftc_message.specs.Reading.{needs_at}
 use Rattle.ftc_message.specs.Reading.{no_commits, numbers_in, known_at, with_known, commits_at}
 use Rattle.ftc_message.specs.Fields.{within_at}
 use Rattle.ftc_message.proofs.Fields.{IsBytes, Takes, bind_ok, ok_is}
 use Rattle.ftc_message.proofs.Blanks.{split_at, length_before, replace}
 use Rattle.ftc_message.proofs.MarkLaws.{IsMark, AreSpelled}
-use Rattle.ftc_message.proofs.NeedLaws.{IsNeedSpelled, needs_at_takes, needs_at_again, need_read, group_refused, marks_refused}
+use Rattle.ftc_message.proofs.NeedLaws.{IsNeedSpelled, needs_at_takes, needs_at_again, need_read, group_refused}
+use Rattle.ftc_message.proofs.NeedLaws.{marks_refused}
 use Rattle.ftc_message.proofs.Steps.{goes_on, ends}
 
 -- ---- a vector and its numbers that aren't 0
@@ -357,12 +360,17 @@ known_marks : (bytes vector rest : List ℕ) → known_at bytes ≡ Ok (vector, 
 unfolding known_at
 known_marks bytes vector rest is =
     let found = bind_ok (marks_at 1 bytes) (λ marks. Ok (numbers_in marks.0, marks.1)) (vector, rest) is in
-    let same : (numbers_in found.0.0, found.0.1) ≡ (vector, rest) = ok_is (numbers_in found.0.0, found.0.1) (vector, rest) found.2 in
-    (found.0.0, found.1 ∙ ap (λ (pair : List ℕ × List ℕ). Ok (found.0.0, pair.1)) same, ap (λ (pair : List ℕ × List ℕ). pair.0) same)
+    let same : (numbers_in found.0.0, found.0.1) ≡ (vector, rest) =
+    ok_is (numbers_in found.0.0, found.0.1) (vector, rest) found.2 in
+    let read : marks_at 1 bytes ≡ Ok (found.0.0, rest) =
+    found.1 ∙ ap (λ (pair : List ℕ × List ℕ). Ok (found.0.0, pair.1)) same in
+    (found.0.0, read, ap (λ (pair : List ℕ × List ℕ). pair.0) same)
 
 -- the marks before the first number is read
-pub marks_start : (bytes after : List ℕ) (count left : ℕ) → left ≡ count → within_at 1 MOST_PARTITIONS bytes ≡ Ok (count, after)
-    → marks_at 1 bytes ≡ (times (with_mark 1) left (0, not_zero (by_partition (λ _. 0))) after >>= λ marks. Ok (marks.0.1, marks.1))
+pub marks_start : (bytes after : List ℕ) (count left : ℕ) → left ≡ count
+    → within_at 1 MOST_PARTITIONS bytes ≡ Ok (count, after)
+    → marks_at 1 bytes
+    ≡ (times (with_mark 1) left (0, not_zero (by_partition (λ _. 0))) after >>= λ marks. Ok (marks.0.1, marks.1))
 unfolding marks_at zeros
 marks_start bytes after count left all is = rw (is, none_not_zero, all) refl
 
@@ -385,7 +393,8 @@ pub one_known : (count i from group : ℕ) (bytes behind vector rest : List ℕ)
     (total : Result (List (List ℕ) × List ℕ) FieldFault)
     → i < count → later_group_at from bytes ≡ Ok (group, behind) → known_at behind ≡ Ok (vector, rest)
     → total ≡ (times (with_need 1) (count - i) (from, []) bytes >>= known_beside commits)
-    → total ≡ (times (with_need 1) (count - (i + 1)) (group + 1, []) rest >>= known_beside (group_raised commits group vector))
+    → total
+    ≡ (times (with_need 1) (count - (i + 1)) (group + 1, []) rest >>= known_beside (group_raised commits group vector))
 one_known count i from group bytes behind vector rest commits total under first second is =
     let known = known_marks behind vector rest second in
     let need : Need = record { group = group; marks = known.0 } in
@@ -393,7 +402,8 @@ one_known count i from group bytes behind vector rest commits total under first 
     (rw (need_read 1 from bytes behind rest group known.0 first known.1) refl) is
     ∙ one_more_known (count - (i + 1)) (group + 1) need rest commits
     ∙ ap (λ (numbers : List ℕ).
-    times (with_need 1) (count - (i + 1)) (group + 1, []) rest >>= known_beside (group_raised commits group numbers)) known.2
+    times (with_need 1) (count - (i + 1)) (group + 1, []) rest >>= known_beside (group_raised commits group numbers))
+    known.2
 
 -- the fault of a group, and that of its numbers
 pub group_ends : (count i from : ℕ) (bytes : List ℕ) (fault : FieldFault) (commits : List (List ℕ))
@@ -417,7 +427,8 @@ none_known : (group : ℕ) (vectors : List (List ℕ)) → ((k : ℕ) → k < le
     → known_from group vectors ≡ []
 none_known group [] none = refl
 none_known group (vector ∷ vectors) none =
-    rw (none 0 (omega arith), zeros_unknown) (none_known (group + 1) vectors (λ k within. none (suc k) (omega (arith, within))))
+    rw (none 0 (omega arith), zeros_unknown)
+    (none_known (group + 1) vectors (λ k within. none (suc k) (omega (arith, within))))
 
 -- behind the last group that has a number nothing is written
 none_behind : (commits : List (List ℕ)) (place end : ℕ) → place ≡ end → length commits ≡ MOST_SERVERS
@@ -425,7 +436,8 @@ none_behind : (commits : List (List ℕ)) (place end : ℕ) → place ≡ end �
 unfolding zeros
 none_behind commits place end same size is =
     none_known place (drop place commits) (λ k within.
-    rw get_or-drop (is.beyond (place + k) (omega (arith, same)) (omega (arith, size, length-drop place commits, within))))
+    rw get_or-drop
+    (is.beyond (place + k) (omega (arith, same)) (omega (arith, size, length-drop place commits, within))))
 
 pub all_counted : (commits : List (List ℕ)) (place end count : ℕ) → place ≡ end → length commits ≡ MOST_SERVERS
     → IsGroupEnd commits end → count + length (known_from place (drop place commits)) ≡ length (known_from 0 commits)
@@ -433,14 +445,42 @@ pub all_counted : (commits : List (List ℕ)) (place end count : ℕ) → place 
 all_counted commits place end count same size is so_far =
     omega (arith, ap length (none_behind commits place end same size is), so_far)
 
-pub all_written : (commits : List (List ℕ)) (place end : ℕ) (out whole : List ℕ) → place ≡ end → length commits ≡ MOST_SERVERS
-    → IsGroupEnd commits end → out ++ flat_map need_bytes (known_from place (drop place commits)) ≡ whole → out ≡ whole
+pub all_written : (commits : List (List ℕ)) (place end : ℕ) (out whole : List ℕ) → place ≡ end
+    → length commits ≡ MOST_SERVERS → IsGroupEnd commits end
+    → out ++ flat_map need_bytes (known_from place (drop place commits)) ≡ whole → out ≡ whole
 all_written commits place end out whole same size is so_far =
     sym (append-nil out)
-    ∙ ap (λ (needs : List Need). out ++ flat_map need_bytes needs) (sym (none_behind commits place end same size is)) ∙ so_far
+    ∙ ap (λ (needs : List Need). out ++ flat_map need_bytes needs) (sym (none_behind commits place end same size is))
+    ∙ so_far
 
 known_place : (commits : List (List ℕ)) (group : ℕ) → group < length commits → drop group commits ≡ get_or commits group [] ∷ drop (group + 1) commits
 known_place commits group within = drop_more commits group [] within
+
+-- ---- the bytes of one group
+
+-- where all its numbers are 0, and where some isn't
+pub none_written : (group : ℕ) (vector : List ℕ) → marked (not_zero vector) ≡ 0
+    → flat_map need_bytes (known_from group (vector ∷ [])) ≡ []
+none_written group vector none =
+    let unknown : list_any is_some (not_zero vector) ≡ false =
+    false_from_ne_true _ (λ any. omega (arith, some_any (not_zero vector) any, none)) in
+    rw unknown refl
+
+pub one_written : (group : ℕ) (vector : List ℕ) → marked (not_zero vector) ≢ 0
+    → flat_map need_bytes (known_from group (vector ∷ []))
+    ≡ group ∷ (marked (not_zero vector) ∷ marks_from 0 (not_zero vector))
+one_written group vector some =
+    rw (any_some (not_zero vector) (omega (arith, some)))
+    (append-nil (group ∷ (marked (not_zero vector) ∷ marks_from 0 (not_zero vector))))
+
+pub one_added : (group count : ℕ) (vector out more : List ℕ) → more ≡ out ++ group ∷ (count ∷ [])
+    → count ≡ marked (not_zero vector) → count ≢ 0
+    → more ++ marks_from 0 (not_zero vector) ≡ out ++ flat_map need_bytes (known_from group (vector ∷ []))
+one_added group count vector out more added is some =
+    let marks = marks_from 0 (not_zero vector) in
+    ap (λ (text : List ℕ). text ++ marks) added ∙ append_assoc out (group ∷ (count ∷ [])) marks
+    ∙ ap (λ (n : ℕ). out ++ group ∷ (n ∷ marks)) is
+    ∙ ap (λ (text : List ℕ). out ++ text) (sym (one_written group vector (λ none. some (is ∙ none))))
 
 -- a group that has a number, and one that has none
 pub known_here : (commits : List (List ℕ)) (group : ℕ) → group < length commits

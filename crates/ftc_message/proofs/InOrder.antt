@@ -1,5 +1,6 @@
 -- Lists in order stay so where items are put at their places and where items are left out.
-use Rattle.std.proofs.Common.{◌≡◌, ◌≤◌, ℕ, ◌+◌, Bool, true, false, List, [], ◌∷◌, ◌++◌, suc, take, drop, Option, Some, None, refl, sym, ap, ◌∙◌, arith, if◌then◌else◌, cond}
+use Rattle.std.proofs.Common.{◌≡◌, ◌≤◌, ℕ, ◌+◌, Bool, true, false, List, [], ◌∷◌, ◌++◌, suc, take, drop, Option, Some}
+use Rattle.std.proofs.Common.{None, refl, sym, ap, ◌∙◌, arith, if◌then◌else◌, cond}
 use Rattle.std.specs.Prelude.{nat_le, filter, count_by, insert, is_some}
 use Rattle.std.specs.Borrow.{Bor}
 use Rattle.std.specs.List.{AllByRecursion, find, prefix_len}
@@ -10,7 +11,8 @@ use Rattle.std.proofs.lemmas.Bool.Decides.{nat_tests}
 use Rattle.ftc_message.specs.declared.need.Need.{Need}
 use Rattle.ftc_message.specs.Logged.{Logged, log_follows, logs_rise, needs_rise}
 use Rattle.ftc_message.specs.Bounds.{IsLog, AreLogs, IsNeed, AreNeeds}
-use Rattle.ftc_message.specs.Ordered.{with_item, with_items, is_earlier, is_log_of, HasNone, AreApart, is_lower, is_need_of, HasNoNeed, AreOfOthers}
+use Rattle.ftc_message.specs.Ordered.{with_item, with_items, is_earlier, is_log_of, HasNone, AreApart, is_lower}
+use Rattle.ftc_message.specs.Ordered.{is_need_of, HasNoNeed, AreOfOthers}
 
 -- ---- any items
 

@@ -1,5 +1,6 @@
 -- Needs: what is read is spelled so, and what is spelled so is read.
-use Rattle.std.proofs.Common.{◌≡◌, ℕ, ◌+◌, ◌<◌, ◌≤◌, ◌&&◌, leb, Bool, true, List, [], ◌∷◌, ◌++◌, length, Option, Ok, Err, refl, sym, ap, subst, ◌∙◌, arith}
+use Rattle.std.proofs.Common.{◌≡◌, ℕ, ◌+◌, ◌<◌, ◌≤◌, ◌&&◌, leb, Bool, true, List, [], ◌∷◌, ◌++◌, length, Option, Ok}
+use Rattle.std.proofs.Common.{Err, refl, sym, ap, subst, ◌∙◌, arith}
 use Rattle.std.specs.List.{AllByRecursion, flat_map}
 use Rattle.ftc_base.specs.declared.limits.TheConstants.{MOST_SERVERS}
 use Rattle.ftc_message.specs.declared.fault.FrameCause.TheVariants.{Order}
@@ -27,7 +28,7 @@ later_group_takes from bytes x fits is =
     let passed = test_ok (leb from group.0.0) bytes Order (Ok group.0) x group.2 in
     let taken = group_takes bytes group.0 fits group.1 in
     let P : ℕ × List ℕ → Type 0 = λ y.
-        Takes bytes (y.0 ∷ []) y.1 × (y.0 < MOST_SERVERS) × (leb from y.0 ≡ true) in
+    Takes bytes (y.0 ∷ []) y.1 × (y.0 < MOST_SERVERS) × (leb from y.0 ≡ true) in
     subst P (ok_is group.0 x passed.1) (taken.0, taken.1, passed.0)
 
 later_group_again : (from group : ℕ) (rest : List ℕ) → group < MOST_SERVERS → leb from group ≡ true
@@ -35,28 +36,31 @@ later_group_again : (from group : ℕ) (rest : List ℕ) → group < MOST_SERVER
 unfolding later_group_at
 later_group_again from group rest within follows = rw (group_again group rest within, follows) refl
 
-pub need_at_takes : (least from : ℕ) (bytes : List ℕ) (x : Need × List ℕ) → IsBytes bytes → need_at least from bytes ≡ Ok x
+pub need_at_takes : (least from : ℕ) (bytes : List ℕ) (x : Need × List ℕ) → IsBytes bytes
+    → need_at least from bytes ≡ Ok x
     → Takes bytes (need_bytes x.0) x.1 × IsNeedSpelled least x.0 × (leb from x.0.group ≡ true)
 unfolding need_at
 need_at_takes least from bytes x fits is =
     let group = bind_ok (later_group_at from bytes)
-        (λ group. marks_at least group.1 >>= λ marks. Ok (record { group = group.0; marks = marks.0 }, marks.1)) x is in
+    (λ group. marks_at least group.1 >>= λ marks. Ok (record { group = group.0; marks = marks.0 }, marks.1)) x is in
     let marks = bind_ok (marks_at least group.0.1)
-        (λ marks. Ok (record { group = group.0.0; marks = marks.0 }, marks.1)) x group.2 in
+    (λ marks. Ok (record { group = group.0.0; marks = marks.0 }, marks.1)) x group.2 in
     let first = later_group_takes from bytes group.0 fits group.1 in
     let second = marks_at_takes least group.0.1 marks.0 first.0.rest_fits marks.1 in
     let both = Takes-then bytes (group.0.0 ∷ []) group.0.1 (marks_bytes marks.0.0) marks.0.1 first.0 second.0 in
     let P : Need × List ℕ → Type 0 = λ y.
-        Takes bytes (need_bytes y.0) y.1 × IsNeedSpelled least y.0 × (leb from y.0.group ≡ true) in
+    Takes bytes (need_bytes y.0) y.1 × IsNeedSpelled least y.0 × (leb from y.0.group ≡ true) in
     subst P (ok_is (record { group = group.0.0; marks = marks.0.0 }, marks.0.1) x marks.2)
     (both, record { group = first.1; marks = second.1 }, first.2)
 
-pub need_at_again : (least from : ℕ) (need : Need) (rest : List ℕ) → IsNeedSpelled least need → leb from need.group ≡ true
-    → need_at least from (need_bytes need ++ rest) ≡ Ok (need, rest)
+pub need_at_again : (least from : ℕ) (need : Need) (rest : List ℕ) → IsNeedSpelled least need
+    → leb from need.group ≡ true → need_at least from (need_bytes need ++ rest) ≡ Ok (need, rest)
 unfolding need_at
 need_at_again least from need rest is follows =
-    rw (later_group_again from need.group (marks_bytes need.marks ++ rest) is.group follows,
-    marks_at_again least need.marks rest is.marks) refl
+    rw (
+      later_group_again from need.group (marks_bytes need.marks ++ rest) is.group follows,
+      marks_at_again least need.marks rest is.marks,
+    ) refl
 
 -- ---- a need that is read part by part
 

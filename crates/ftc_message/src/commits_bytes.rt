@@ -1,8 +1,7 @@
 //! The bytes of what is known of the tails, which is written as needs whose numbers are not 0.
 
-ghost use Rattle.std.specs.Prelude.{◌≡◌, ◌<◌, ◌++◌, length, is_some, OnOk, OnErr, IfOk};
-ghost use Rattle.std.specs.List.{list_any};
-ghost use Rattle.ftc_vector.specs.Vector.{IsVector};
+ghost use Rattle.std.specs.Prelude.{◌≡◌, ◌<◌, ◌≤◌, [], ◌∷◌, ◌++◌, length, is_some, OnOk, OnErr, IfOk};
+ghost use Rattle.std.specs.List.{list_any, flat_map};
 ghost use Rattle.ftc_vector.specs.Commits.{vector_of, IsGroupEnd};
 ghost use Rattle.ftc_message.specs.Bounds.{AreCommits};
 ghost use Rattle.ftc_message.specs.Spelling.{not_zero, marked, marks_from, need_bytes, known_from, commits_bytes};
@@ -52,13 +51,14 @@ fn is_known(commits: &Commits, place: u8) -> bool
 }
 
 /// How many numbers of a vector aren't 0.
-fn count_not_zero(vector: &Vector) -> u8
+fn count_not_zero(vector: &Vector) -> usize
     ensures count { result ≡ marked (not_zero vector.now) }
-    ensures bounds { IsVector vector.now }
+    ensures few { result ≤ MOST_PARTITIONS }
 {
     // The contract of this call tells how many partitions there are.
     let _ = vector.at(0);
-    let mut count = 0;
+    // A count that is as wide as the numbers is the faster one.
+    let mut count: usize = 0;
     for partition in 0..MOST_PARTITIONS {
         if vector.at(partition) != 0 {
             count += 1;
@@ -68,7 +68,7 @@ fn count_not_zero(vector: &Vector) -> u8
 }
 
 /// Adds the numbers of a vector that aren't 0, each behind its partition. There are so many.
-fn append_numbers(vector: &Vector, count: u8, out: &mut Bytes) -> Result<(), NoMemory>
+fn append_numbers(vector: &Vector, count: usize, out: &mut Bytes) -> Result<(), NoMemory>
     requires { count ≡ marked (not_zero vector.now) }
     ensures { OnOk result (out.new ≡ out.old ++ marks_from 0 (not_zero vector.now)) }
 {
@@ -88,7 +88,7 @@ fn append_numbers(vector: &Vector, count: u8, out: &mut Bytes) -> Result<(), NoM
     Ok(())
 }
 
-/// How many groups have a number that is not 0.
+/// How many groups have a number that is not 0, where the last of them stands before `end`.
 fn count_known(commits: &Commits, end: u8) -> u8
     requires { IsGroupEnd commits.now end }
     ensures { result ≡ length (known_from 0 commits.now) }
@@ -113,15 +113,18 @@ fn are_commits(commits: &Commits)
     }
 }
 
-/// Adds what is known of the group of that number.
+/// Adds what is known of the group of that number, where it has a number that isn't 0.
 fn append_known(commits: &Commits, place: u8, out: &mut Bytes) -> Result<(), NoMemory>
     requires { place < MOST_SERVERS }
     ensures { OnOk result (out.new ≡ out.old
-        ++ need_bytes (record { group = place; marks = not_zero (vector_of commits.now place) })) }
+        ++ flat_map need_bytes (known_from place (vector_of commits.now place ∷ []))) }
 {
     let vector = commits.of(ServerId::new(place).unwrap());
     let count = count_not_zero(vector);
-    out.append(&[place, count])?;
+    if count == 0 {
+        return Ok(());
+    }
+    out.append(&[place, count as u8])?;
     append_numbers(vector, count, out)
 }
 
@@ -134,9 +137,7 @@ pub(crate) fn add_commits(commits: &Commits, out: &mut Bytes) -> Result<(), NoMe
     let end = commits.end();
     out.append(&[count_known(commits, end)])?;
     for place in 0..end {
-        if is_known(commits, place) {
-            append_known(commits, place, out)?;
-        }
+        append_known(commits, place, out)?;
     }
     Ok(())
 }

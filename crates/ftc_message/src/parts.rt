@@ -1,4 +1,4 @@
-//! The partitions of a log and of a need.
+//! The partitions of a log, of a need, and of what is known of a group.
 
 ghost use Rattle.std.specs.Prelude.{◌≡◌, ◌<◌, ◌≤◌, IfOk};
 ghost use Rattle.ftc_vector.specs.Vector.{by_partition};

@@ -1,5 +1,6 @@
 -- The vectors of the first groups, and the one of zeros behind them that stands for all others.
-use Rattle.std.proofs.Common.{◌≡◌, ◌≢◌, ◌<◌, ◌≤◌, ◌+◌, ◌-◌, ◌==◌, ℕ, zero, suc, true, false, List, [], ◌∷◌, length, get_or, min, max, refl, sym, ap, ◌∙◌, inl, inr, zero-add, arith}
+use Rattle.std.proofs.Common.{◌≡◌, ◌≢◌, ◌<◌, ◌≤◌, ◌+◌, ◌-◌, ◌==◌, ℕ, zero, suc, true, false, List, [], ◌∷◌, length}
+use Rattle.std.proofs.Common.{get_or, min, max, refl, sym, ap, ◌∙◌, inl, inr, zero-add, arith}
 use Rattle.std.specs.Prelude.{slice_set}
 use Rattle.std.specs.List.{list_all}
 use Rattle.std.proofs.lemmas.Bool.{cases_lt, cases_eq, ne_eqb}
@@ -126,7 +127,8 @@ each_zero [] all p = refl
 each_zero (zero ∷ vector) all zero = refl
 each_zero (zero ∷ vector) all (suc p) = each_zero vector all p
 each_zero (suc n ∷ vector) all p =
-    let one : list_all (λ number. number == 0) (suc n ∷ vector) ≡ false = rw (ne_eqb (suc n) 0 (λ is. omega arith)) refl in
+    let one : list_all (λ number. number == 0) (suc n ∷ vector) ≡ false =
+    rw (ne_eqb (suc n) 0 (λ is. omega arith)) refl in
     let clash : true ≡ false = sym all ∙ one in
     absurd cc
 
@@ -145,8 +147,9 @@ end_found vectors end within beyond last = record {
 }
 
 -- one more group has zeros
-pub one_less : (vectors : List (List ℕ)) (end : ℕ) (vector : List ℕ) → vector ≡ held_of vectors (end - 1) → IsVector vector
-    → list_all (λ number. number == 0) vector ≡ true → ((group : ℕ) → end ≤ group → held_of vectors group ≡ zeros)
+pub one_less : (vectors : List (List ℕ)) (end : ℕ) (vector : List ℕ) → vector ≡ held_of vectors (end - 1)
+    → IsVector vector → list_all (λ number. number == 0) vector ≡ true
+    → ((group : ℕ) → end ≤ group → held_of vectors group ≡ zeros)
     → (group : ℕ) → end - 1 ≤ group → held_of vectors group ≡ zeros
 one_less vectors end vector here is all beyond group past =
     elim (cases_lt group end) [

@@ -1,5 +1,6 @@
 -- Marks as numbers and flags: what reading, setting and comparing the fields says of the marks.
-use Rattle.std.proofs.Common.{◌≡◌, ◌<◌, ◌∙◌, ◌^◌, ℕ, Bool, true, false, List, Option, Some, None, length, max, refl, sym, ap, inl, inr, arith, ◌+◌, replicate}
+use Rattle.std.proofs.Common.{◌≡◌, ◌<◌, ◌∙◌, ◌^◌, ℕ, Bool, true, false, List, Option, Some, None, length, max, refl}
+use Rattle.std.proofs.Common.{sym, ap, inl, inr, arith, ◌+◌, replicate}
 use Rattle.std.specs.Prelude.{slice_set, slice_index_or, nat_eq, map, is_some, unwrap_or, if◌then◌else◌}
 use Rattle.std.specs.Bool.{Decides}
 use Rattle.std.specs.Cmp.{unsigned_Decides, booleans_Decides}

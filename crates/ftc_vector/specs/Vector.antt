@@ -1,5 +1,6 @@
 -- What each partition has: a number in a vector, a number or none in marks.
-use Rattle.std.specs.Prelude.{◌≡◌, ◌<◌, ◌^◌, ◌≤◌, length, ℕ, ◌+◌, max, Bool, true, List, map, Option, Some, None, is_some, slice_index, slice_index_or, if◌then◌else◌}
+use Rattle.std.specs.Prelude.{◌≡◌, ◌<◌, ◌^◌, ◌≤◌, length, ℕ, ◌+◌, max, Bool, true, List, map, Option, Some, None}
+use Rattle.std.specs.Prelude.{is_some, slice_index, slice_index_or, if◌then◌else◌}
 use Rattle.std.specs.List.{range_with_len}
 use Rattle.ftc_base.specs.Sets.{has}
 use Rattle.ftc_base.specs.declared.limits.TheConstants.{MOST_PARTITIONS}

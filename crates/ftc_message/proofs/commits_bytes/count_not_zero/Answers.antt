@@ -19,3 +19,11 @@ loop-partition-preserved c =
           rw w.count-is (zero_counted vector c.loop-partition.partition c.loop-partition.count (marked (not_zero vector)) within
           (omega (arith, w.if-at-ne0.false, c.at-in-loop-partition.ensures.same)) c.loop-partition.invariant)
     ]
+
+pub returns-clause-few : goal.returns-clause-few
+returns-clause-few c =
+    omega (
+      arith,
+      c.at.ensures.bounds.size,
+      few_counted c.args.vector.now c.loop-partition.partition c.loop-partition.count c.loop-partition.invariant,
+    )

@@ -7,27 +7,27 @@ use Rattle.ftc_message.proofs.log_bytes.log_at.Goals as goal
 pub new-requires-clause-marked : goal.new-requires-clause-marked
 new-requires-clause-marked c =
     let read = log_read c.args.last.now c.args.bytes.now c.in-Ok.found.1.now c.in_ok-rest.rest.now
-        c.in-Ok-writes_at.rest.now c.in-Ok.found.0 c.parts_at.new.parts c.in-Ok-writes_at.writes.items
-        (λ i. omega (arith, c.type_inv.bytes i)) c.in-Ok.ensures c.in_ok-rest.ensures c.in-Ok-writes_at.ensures in
+    c.in-Ok-writes_at.rest.now c.in-Ok.found.0 c.parts_at.new.parts c.in-Ok-writes_at.writes.items
+    (λ i. omega (arith, c.type_inv.bytes i)) c.in-Ok.ensures c.in_ok-rest.ensures c.in-Ok-writes_at.ensures in
     read.spelled.typed.changed_marked
 
 pub new-requires-clause-rising : goal.new-requires-clause-rising
 new-requires-clause-rising c =
     let read = log_read c.args.last.now c.args.bytes.now c.in-Ok.found.1.now c.in_ok-rest.rest.now
-        c.in-Ok-writes_at.rest.now c.in-Ok.found.0 c.parts_at.new.parts c.in-Ok-writes_at.writes.items
-        (λ i. omega (arith, c.type_inv.bytes i)) c.in-Ok.ensures c.in_ok-rest.ensures c.in-Ok-writes_at.ensures in
+    c.in-Ok-writes_at.rest.now c.in-Ok.found.0 c.parts_at.new.parts c.in-Ok-writes_at.writes.items
+    (λ i. omega (arith, c.type_inv.bytes i)) c.in-Ok.ensures c.in_ok-rest.ensures c.in-Ok-writes_at.ensures in
     read.spelled.typed.keys
 
 pub returns-in-Ok-writes_at-clause-spelled : goal.returns-in-Ok-writes_at-clause-spelled
 returns-in-Ok-writes_at-clause-spelled c =
     let read = log_read c.args.last.now c.args.bytes.now c.in-Ok.found.1.now c.in_ok-rest.rest.now
-        c.in-Ok-writes_at.rest.now c.in-Ok.found.0 c.parts_at.new.parts c.in-Ok-writes_at.writes.items
-        (λ i. omega (arith, c.type_inv.bytes i)) c.in-Ok.ensures c.in_ok-rest.ensures c.in-Ok-writes_at.ensures in
+    c.in-Ok-writes_at.rest.now c.in-Ok.found.0 c.parts_at.new.parts c.in-Ok-writes_at.writes.items
+    (λ i. omega (arith, c.type_inv.bytes i)) c.in-Ok.ensures c.in_ok-rest.ensures c.in-Ok-writes_at.ensures in
     subst (λ (log : Logged). c.args.bytes.now ≡ log_bytes log ++ c.in-Ok-writes_at.rest.now) (sym c.new.ensures) read.takes.parts
 
 pub returns-in-Ok-writes_at-clause-follows : goal.returns-in-Ok-writes_at-clause-follows
 returns-in-Ok-writes_at-clause-follows c =
     let read = log_read c.args.last.now c.args.bytes.now c.in-Ok.found.1.now c.in_ok-rest.rest.now
-        c.in-Ok-writes_at.rest.now c.in-Ok.found.0 c.parts_at.new.parts c.in-Ok-writes_at.writes.items
-        (λ i. omega (arith, c.type_inv.bytes i)) c.in-Ok.ensures c.in_ok-rest.ensures c.in-Ok-writes_at.ensures in
+    c.in-Ok-writes_at.rest.now c.in-Ok.found.0 c.parts_at.new.parts c.in-Ok-writes_at.writes.items
+    (λ i. omega (arith, c.type_inv.bytes i)) c.in-Ok.ensures c.in_ok-rest.ensures c.in-Ok-writes_at.ensures in
     rw c.new.ensures read.follows

@@ -11,7 +11,8 @@ use Rattle.ftc_message.proofs.parts.known_at.Goals as goal
 pub loop-init : goal.loop-init
 loop-init c =
     let count = c.in_ok-count.count in
-    let read = marks_start c.args.bytes.now c.in_ok-count.after.now count (count - 0) (omega arith) c.in_ok-count.ensures.value in
+    let read = marks_start c.args.bytes.now c.in_ok-count.after.now count (count - 0) (omega arith)
+    c.in_ok-count.ensures.value in
     rw c.requires (record { told = read; size = length-by_partition {A = ℕ} (λ _. 0) })
 
 pub returns-in_err-partition : goal.returns-in_err-partition

@@ -8,6 +8,8 @@ use Rattle.ftc_message.proofs.parts.known_at.Given as goal
 
 abbrev pub invariant-loop : goal.invariant-loop
 invariant-loop l = record {
-  told : marks_at 1 l.bytes ≡ (times (with_mark 1) (l.count - l.counter) (l.from, not_zero l.vector) l.rest >>= λ marks. Ok (marks.0.1, marks.1));
+  told : marks_at 1 l.bytes
+      ≡ (times (with_mark 1) (l.count - l.counter) (l.from, not_zero l.vector) l.rest
+      >>= λ marks. Ok (marks.0.1, marks.1));
   size : length l.vector ≡ MOST_PARTITIONS;
 }

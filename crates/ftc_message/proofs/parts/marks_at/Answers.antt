@@ -16,9 +16,11 @@ pub loop-preserved : goal.loop-preserved
 loop-preserved c =
     rw c.set.ensures (goes_on (with_mark c.args.least) (λ marks. Ok (marks.0.1, marks.1)) c.in_ok-count.count
     c.loop.counter (c.loop.from, c.loop.marks) _ c.loop.rest.now c.in_ok-partition.behind.now
-    (marks_at c.args.least c.args.bytes.now) c.loop-test.true (rw c.in_ok-partition.ensures.value refl) c.loop.invariant)
+    (marks_at c.args.least c.args.bytes.now) c.loop-test.true (rw c.in_ok-partition.ensures.value refl)
+    c.loop.invariant)
 
 pub returns : goal.returns
 returns c =
     is_done (with_mark c.args.least) (λ marks. Ok (marks.0.1, marks.1)) c.in_ok-count.count c.loop.counter
-    (c.loop.from, c.loop.marks) c.loop.rest.now (marks_at c.args.least c.args.bytes.now) c.loop-test.false c.loop.invariant
+    (c.loop.from, c.loop.marks) c.loop.rest.now (marks_at c.args.least c.args.bytes.now) c.loop-test.false
+    c.loop.invariant

@@ -22,7 +22,8 @@ pub loop-end-preserved : goal.loop-end-preserved
 loop-end-preserved c =
     let items = c.self.inside.vectors.items in
     let place = c.loop-end.end - 1 in
-    let each : (group : ℕ) → group < length items → IsVector (vector_of items group) = rw c.as_slice.ensures.value at c.bounds.ensures in
+    let each : (group : ℕ) → group < length items → IsVector (vector_of items group) =
+    rw c.as_slice.ensures.value at c.bounds.ensures in
     let here : c.index.result.now ≡ held_of items place =
     c.index.ensures ∙ get_or_default items place c.index.result.now (by_partition (λ _. 0))
     (omega (arith, c.loop-end.invariant.held, c.loop-end-test.true)) in
