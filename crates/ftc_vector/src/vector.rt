@@ -89,9 +89,6 @@ pub fn merge(vector: &mut Vector, other: &Vector)
     ensures { vector.new ≡ merged vector.old other.now }
 {
     for partition in 0..PARTITIONS {
-        // Most numbers stay, and a comparison is faster than writing the greater one of each two.
-        if vector.numbers[partition] < other.numbers[partition] {
-            vector.numbers[partition] = other.numbers[partition];
-        }
+        vector.numbers[partition] = vector.numbers[partition].max(other.numbers[partition]);
     }
 }
