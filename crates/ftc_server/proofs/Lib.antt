@@ -6,3 +6,4 @@ pub mod Apart
 pub mod Installing
 pub mod Numbers
 pub mod NextLog
+pub mod WouldLog

@@ -1,4 +1,4 @@
--- What the commit of a visit is made of.
+-- What the commit of a visit leaves.
 use Rattle.std.specs.Prelude.{ℕ, ◌≡◌, ◌↔◌, List, [], Option, Some, None, IsNone, IfSome}
 use Rattle.ftc_base.specs.declared.ask.Write.{Write}
 use Rattle.ftc_message.specs.Logged.{Logged}
@@ -6,9 +6,9 @@ use Rattle.ftc_base.specs.declared.ask.Finish.{Finish as End}
 use Rattle.ftc_txn.specs.Slots.{Running, slot_at}
 use Rattle.ftc_txn.specs.Head.{HeadState}
 use Rattle.ftc_txn.specs.Logs.{IsLogOf}
-use Rattle.ftc_server.specs.declared.committing.Prepared.{Prepared}
 use Rattle.ftc_server.specs.declared.held.HeldMessage.{HeldMessage}
 use Rattle.ftc_server.specs.declared.server.Server.{Server}
+use Rattle.ftc_server.specs.declared.visited.Visited.{Visited}
 use Rattle.ftc_server.specs.Holding.{found}
 use Rattle.ftc_server.specs.Visited.{visit_of}
 
@@ -19,14 +19,12 @@ IsLogLeft head (Some running) writes log =
     (IsNone log ↔ (running.answers ≡ []))
     × IfSome log (IsLogOf head.group head.partitions head.vector running.packet running.answers writes)
 
--- the packet of what a slot runs, the log that its visit leaves, and what becomes of its message
-pub record IsPrepared (server : Server) (worker : ℕ) (end : End) (prepared : Prepared) : Type 0 where
+-- what the visit of what a slot runs makes of its message, with this end and this log
+pub record IsPrepared (server : Server) (worker : ℕ) (end : End) (log : Option Logged) (visited : Visited) : Type 0 where
   pub running : Running
   pub runs : slot_at server.head.slots worker ≡ Some running
-  pub packet_is : prepared.packet ≡ running.packet
-  pub log : IsLogLeft server.head (Some running) end.writes.items prepared.log
   pub before : HeldMessage
   pub there : found running.packet server.held.items ≡ Some before
   pub packet : List ℕ
   pub with_packet : before.message.packet ≡ Some packet
-  pub visited : prepared.visited ≡ visit_of server.ring.failures prepared.log packet end.verdict before.message
+  pub visited_is : visited ≡ visit_of server.ring.failures log packet end.verdict before.message

@@ -13,7 +13,7 @@ use crate::answers::CommitAnswer;
 use crate::server::Server;
 use crate::standing::learn;
 use crate::visited::{Visited, visit_of};
-use ftc_base::{Ask, Finish, NoMemory, PacketNo, ServerId, WorkerId, Writes};
+use ftc_base::{Ask, Finish, NoMemory, ServerId, WorkerId, Writes};
 use ftc_mbox::Plan;
 use ftc_message::Log;
 use ftc_packet::law_of_flows;
@@ -21,14 +21,6 @@ use ftc_replica::Kept;
 use ftc_ring::Ring;
 use ftc_txn::HeadCommit;
 use ftc_vector::{Commits, Vector};
-
-/// What the commit of a visit is made of, all memory of it taken.
-#[derive(Debug, Drop)]
-struct Prepared {
-    packet: PacketNo,
-    log: Option<Log>,
-    visited: Visited,
-}
 
 /// The same end of a visit once more.
 fn copy_finish(finish: &Finish) -> Finish
@@ -89,12 +81,18 @@ impl Server {
         self.head.log_of(worker, writes)
     }
 
-    /// Takes all memory that a commit with this end needs, but that of the head.
-    fn prepare(&self, worker: WorkerId, finish: &Finish) -> Result<Prepared, NoMemory>
+    /// What the visit of what a slot runs makes of its message, with this end and the log that it leaves.
+    fn prepare(
+        &self,
+        worker: WorkerId,
+        finish: &Finish,
+        log: &Option<Log>,
+    ) -> Result<Visited, NoMemory>
         requires asked { ask_in self.now worker ≡ Some (Ends finish.now) }
         requires unwounded { wounded_at self.now.head.slots worker ≡ None }
         requires rise { may_rise self.now.head.vector ≡ true }
-        ensures { IfOk result (IsPrepared self.now worker finish.now) }
+        requires log { IsLogLeft self.now.head (slot_at self.now.head.slots worker) finish.now.writes.items log.now }
+        ensures { IfOk result (IsPrepared self.now worker finish.now log.now) }
     {
         law_of_flows();
         let Some(packet) = self.head.packet(worker) else {
@@ -106,20 +104,14 @@ impl Server {
         let Some(bytes) = held.message.packet.as_ref() else {
             unreachable!()
         };
-        let log = self.log_left(worker, &finish.writes);
-        let visited = visit_of(
+        visit_of(
             self.alloc,
             self.ring.failures(),
-            &log,
+            log,
             bytes,
             &finish.verdict,
             &held.message,
-        )?;
-        Ok(Prepared {
-            packet,
-            log,
-            visited,
-        })
+        )
     }
 
     /// What a slot runs begins again, since another took a partition from it.
@@ -133,29 +125,27 @@ impl Server {
         }
     }
 
-    /// Makes the visit of a slot with this end.
-    fn commit(&mut self, worker: WorkerId, finish: &Finish) -> CommitAnswer
+    /// The visit of a slot is made with this end, which is what its rule asks. All memory is taken before anything
+    /// changes.
+    pub fn end_visit(&mut self, worker: WorkerId, finish: &Finish) -> CommitAnswer
         requires asked { ask_in self.old worker ≡ Some (Ends finish.now) }
         requires unwounded { wounded_at self.old.head.slots worker ≡ None }
         requires rise { may_rise self.old.head.vector ≡ true }
         ensures { EndsVisit self.old self.new worker result }
     {
-        let Ok(prepared) = self.prepare(worker, finish) else {
+        let Some(packet) = self.head.packet(worker) else {
+            return CommitAnswer::Idle;
+        };
+        let log = self.log_left(worker, &finish.writes);
+        let Ok(visited) = self.prepare(worker, finish, &log) else {
             return CommitAnswer::NoMemory;
         };
         if self.own.reserve(1).is_err() {
             return CommitAnswer::NoMemory;
         }
-        match self.head.commit(worker, &finish.writes) {
-            HeadCommit::Done(_) => {}
-            HeadCommit::NoMemory => return CommitAnswer::NoMemory,
-            _ => unreachable!(),
+        if self.head.commit_logged(worker, &finish.writes).is_err() {
+            return CommitAnswer::NoMemory;
         }
-        let Prepared {
-            packet,
-            log,
-            visited,
-        } = prepared;
         keep(&mut self.own, &finish.writes, log);
         learn_own(
             &mut self.known,
@@ -169,15 +159,15 @@ impl Server {
     }
 
     /// The visit of a slot ends where the rule asks for nothing more.
-    fn end(&mut self, worker: WorkerId, asked: Ask) -> CommitAnswer
-        requires asked { ask_in self.old worker ≡ Some asked }
+    fn end(&mut self, worker: WorkerId, asked: &Ask) -> CommitAnswer
+        requires asked { ask_in self.old worker ≡ Some asked.now }
         requires unwounded { wounded_at self.old.head.slots worker ≡ None }
         requires rise { may_rise self.old.head.vector ≡ true }
         ensures { EndsVisit self.old self.new worker result }
     {
         match asked {
-            Ask::Read { key, .. } => CommitAnswer::Unfinished { key },
-            Ask::Finish(finish) => self.commit(worker, &finish),
+            Ask::Read { key, .. } => CommitAnswer::Unfinished { key: *key },
+            Ask::Finish(finish) => self.end_visit(worker, finish),
         }
     }
 
@@ -194,7 +184,7 @@ impl Server {
             return self.restart(worker);
         }
         match self.asked_or_planned(worker, plan) {
-            Some(asked) => self.end(worker, asked),
+            Some(asked) => self.end(worker, &asked),
             None => unreachable!(),
         }
     }

@@ -2,6 +2,7 @@
 
 ghost use Rattle.std.specs.Prelude.{◌≡◌, true, false, Some, None};
 ghost use Rattle.std.specs.Option.{option_copied};
+ghost use Rattle.ftc_base.specs.declared.ask.Ask.TheVariants.{Read};
 ghost use Rattle.ftc_txn.specs.Slots.{slot_at, packet_at, wounded_at};
 ghost use Rattle.ftc_txn.specs.Head.{ages_left, next_age};
 ghost use Rattle.ftc_server.specs.declared.work.Work.TheVariants.{Visit};
@@ -42,7 +43,7 @@ impl Server {
     }
 
     /// What the rule asks of what a slot runs. None where it runs nothing.
-    pub(crate) fn asked(&self, worker: WorkerId) -> Option<Ask>
+    pub fn asked(&self, worker: WorkerId) -> Option<Ask>
         ensures { result ≡ ask_in self.now worker }
     {
         let packet = self.head.packet(worker)?;
@@ -60,6 +61,14 @@ impl Server {
         leave_of(&asked, key)
     }
 
+    /// What a slot runs reads the key that the rule asks for, with that leave to write there.
+    pub fn read_asked(&mut self, worker: WorkerId, key: &Key, change: bool) -> ReadAnswer
+        requires { ask_in self.old worker ≡ Some (Read key.now change) }
+        ensures { Reads self.old self.new worker key.now result }
+    {
+        self.head.read(worker, key, change)
+    }
+
     /// What a slot runs reads a key, which has to be the one that the rule asks for.
     pub fn read(&mut self, worker: WorkerId, key: &Key) -> ReadAnswer
         ensures { Reads self.old self.new worker key.now result }
@@ -71,7 +80,7 @@ impl Server {
             return self.head.read(worker, key, false);
         }
         match self.leave(worker, key) {
-            Some(change) => self.head.read(worker, key, change),
+            Some(change) => self.read_asked(worker, key, change),
             None => ReadAnswer::NotAsked,
         }
     }

@@ -1,11 +1,13 @@
 //! The head of a group: one server's own store, vector, locks and slots.
 
-ghost use Rattle.std.specs.Prelude.{◌≡◌, ◌<◌, ◌≤◌, ℕ, true, Some, None, IsNone, IfSome, ◌↔◌, length};
+ghost use Rattle.std.specs.Prelude.{◌≡◌, ◌<◌, ◌≤◌, ℕ, true, Option, Some, None, IsNone, IfSome, OnOk, OnErr, ◌↔◌, length};
 ghost use Rattle.ftc_locks.specs.Locks.{HoldsNothing, IsLockTable};
 ghost use Rattle.ftc_vector.specs.Vector.{number_at};
+ghost use Rattle.ftc_message.specs.Logged.{Logged};
 ghost use Rattle.ftc_txn.specs.Slots.{Running, slot_at, packet_at, wounded_at};
 ghost use Rattle.ftc_txn.specs.Touched.{is_changed};
 ghost use Rattle.ftc_txn.specs.Head.{ages_left, next_age, RunsUnwounded, AreItsWrites, IsHead};
+ghost use Rattle.ftc_txn.specs.declared.answers.HeadCommit.TheVariants.{Done};
 ghost use Rattle.ftc_txn.specs.Steps.{begins, Reads, Commits, HasQuit, WouldLog};
 
 use crate::answers::{HeadCommit, ReadAnswer};
@@ -13,7 +15,7 @@ use crate::logged::{log_of, raise};
 use crate::slots::Slots;
 use crate::turn::Turn;
 use ftc_base::limits::{MOST_PARTITIONS, MOST_READS};
-use ftc_base::{Answers, Key, PacketNo, ServerId, WorkerId, Writes, partition_of};
+use ftc_base::{Answers, Key, NoMemory, PacketNo, ServerId, WorkerId, Writes, partition_of};
 use ftc_locks::{Acquired, LockTable};
 use ftc_message::Log;
 use ftc_store::Store;
@@ -225,21 +227,30 @@ impl Head {
             is_changed self.old.partitions writes.now.items partition ≡ true → number_at self.old.vector partition < u64.MAX }
         ensures { Commits self.old self.new worker writes.now.items result }
     {
-        let _ = self.locks.partitions();
-        if self.store.reserve(writes.len()).is_err() {
-            return HeadCommit::NoMemory;
+        let log = self.log_of(worker, writes);
+        match self.commit_logged(worker, writes) {
+            Ok(()) => HeadCommit::Done(log),
+            Err(NoMemory) => HeadCommit::NoMemory,
         }
-        let transaction = self.slots.finish(worker);
-        let log = log_of(
-            self.group,
-            &transaction,
-            self.partitions,
-            &self.vector,
-            writes,
-        );
+    }
+
+    /// What a slot runs, which isn't wounded, makes its writes, and ends. Its log is what `log_of` answered before, so
+    /// that it isn't made twice. Where there is no memory for the writes, nothing changes.
+    pub fn commit_logged(&mut self, worker: WorkerId, writes: &Writes) -> Result<(), NoMemory>
+        requires writes { (running : Running) × RunsUnwounded self.old worker running
+            × AreItsWrites self.old worker running writes.now.items }
+        requires numbers { (partition : ℕ) → partition < MOST_PARTITIONS →
+            is_changed self.old.partitions writes.now.items partition ≡ true → number_at self.old.vector partition < u64.MAX }
+        ensures ok { OnOk result ((log : Option Logged) → WouldLog self.old worker writes.now.items log →
+            Commits self.old self.new worker writes.now.items (Done log)) }
+        ensures err { OnErr result (self.new ≡ self.old) }
+    {
+        let _ = self.locks.partitions();
+        self.store.reserve(writes.len())?;
         raise(&mut self.vector, self.partitions, writes);
         self.store.apply(writes);
         self.locks.free_all(worker);
-        HeadCommit::Done(log)
+        self.slots.free(worker);
+        Ok(())
     }
 }

@@ -1,6 +1,6 @@
 //! The slots of a server.
 
-ghost use Rattle.std.specs.Prelude.{◌≡◌, ◌<◌, ℕ, true, false, Some, None, IsTrue, length, is_some, slice_set, if◌then◌else◌, IfSome, IsNone, IsSome, ◌↔◌};
+ghost use Rattle.std.specs.Prelude.{◌≡◌, ◌<◌, ℕ, true, false, Some, None, IsTrue, length, is_some, slice_set, if◌then◌else◌, IfSome, IsNone, ◌↔◌};
 ghost use Rattle.std.specs.List.{list_any};
 ghost use Rattle.std.specs.Option.{ForSome};
 ghost use Rattle.ftc_base.specs.Sets.{has};
@@ -182,14 +182,5 @@ impl Slots {
             None => None,
             Some(transaction) => transaction.wounded(),
         }
-    }
-
-    /// Takes what a slot runs, and leaves the slot idle.
-    pub(crate) fn finish(&mut self, worker: WorkerId) -> Transaction
-        requires { IsSome (slot_at self.old worker) }
-        ensures finished { slot_at self.old worker ≡ Some result }
-        ensures idle { self.new ≡ slice_set self.old worker None }
-    {
-        self.running[usize::from(worker.number())].take().unwrap()
     }
 }

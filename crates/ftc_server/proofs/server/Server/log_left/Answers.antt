@@ -1,4 +1,4 @@
-use Rattle.std.proofs.Common.{◌≡◌, ◌∙◌, ℕ, refl, List, Option, Some, None, ap, sym, subst}
+use Rattle.std.proofs.Common.{◌≡◌, ◌∙◌, ℕ, refl, List, Option, Some, None, ap, sym}
 use Rattle.ftc_base.specs.declared.ask.Write.{Write}
 use Rattle.ftc_message.specs.Logged.{Logged}
 use Rattle.ftc_txn.specs.Head.{HeadState, RunsUnwounded}
