@@ -11,9 +11,8 @@ ghost use Rattle.ftc_chain.specs.Doing.{setting_by, is_visit, is_plain, MayDo, H
 
 use crate::events::plain_event;
 use crate::given::Given;
-use ftc_base::{Answers, NoMemory, PacketNo, ServerId, WorkerId};
+use ftc_base::{NoMemory, PacketNo, ServerId, WorkerId};
 use ftc_journal::{Event, Job, VisitNames};
-use ftc_mbox::{Plan, Rule};
 use ftc_message::Seen;
 use ftc_network::Network;
 use ftc_protocol::{accepted, jobs_of_events};
@@ -171,9 +170,6 @@ impl<'a> Given<'a> {
         ensures fewer { RunNoMore (head_at network.old server) (head_at network.new server) }
     {
         jobs_of_events();
-        let Some(plan) = Plan::make(self.alloc, &Rule::Pass, &[], &Answers::new())? else {
-            return Err(NoMemory);
-        };
-        network.visit(worker, server, packet, &plan)
+        network.visit(worker, server, packet)
     }
 }

@@ -2,7 +2,6 @@
 
 ghost use Rattle.std.specs.Prelude.{◌≡◌, ◌≢◌, ◌<◌, ℕ, true, is_some, IfOk, IfErr, OnErr};
 ghost use Rattle.ftc_server.specs.declared.answers.CommitAnswer.TheVariants as commit;
-ghost use Rattle.ftc_server.specs.Looks.{ask_in};
 ghost use Rattle.ftc_server.specs.Replicas.{may_rise};
 ghost use Rattle.ftc_server.specs.Steps.{EndsVisit};
 ghost use Rattle.ftc_txn.specs.Slots.{wounded_at};
@@ -16,7 +15,7 @@ use crate::network::Network;
 use crate::places::place_of;
 use crate::visiting::copy_answers;
 use ftc_base::{Ask, Key, ServerId, WorkerId};
-use ftc_mbox::{Plan, ask};
+use ftc_mbox::Plan;
 use ftc_refinement::{what_a_commit_does, what_a_commit_wants, what_stays};
 use ftc_server::{CommitAnswer, ReadAnswer, Server};
 use ftc_standing::links_stand_still;
@@ -86,17 +85,6 @@ fn restart(live: &mut Server, worker: WorkerId) -> CommitAnswer
     }
 }
 
-/// What the rule asks of what a slot runs. None where it runs nothing.
-fn asked(live: &Server, worker: WorkerId) -> Option<Ask>
-    ensures { result ≡ ask_in live.now worker }
-{
-    let packet = live.packet_of(worker)?;
-    let answers = live.answers(worker)?;
-    let message = live.message(packet)?;
-    let bytes = message.packet.as_ref()?;
-    Some(ask(&live.rule, bytes.as_slice(), answers))
-}
-
 /// The commit of what a slot runs at a server that is up, where there is no memory to make its visit.
 fn refuse_there(live: &mut Server, worker: WorkerId) -> CommitAnswer
     ensures ends { EndsVisit live.old live.new worker result }
@@ -105,7 +93,7 @@ fn refuse_there(live: &mut Server, worker: WorkerId) -> CommitAnswer
     if live.wounded(worker).is_some() {
         return restart(live, worker);
     }
-    let Some(asked) = asked(live, worker) else {
+    let Some(asked) = live.asked(worker) else {
         return CommitAnswer::Idle;
     };
     match asked {

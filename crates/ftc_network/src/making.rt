@@ -12,7 +12,6 @@ use crate::network::Network;
 use crate::places::place_of;
 use crate::visiting::{quit_all, visit_whole};
 use ftc_base::{NoMemory, PacketNo, ServerId, WorkerId};
-use ftc_mbox::Plan;
 use ftc_refinement::{what_a_commit_does, what_a_commit_wants, what_work_says, where_events_are};
 use ftc_server::Server;
 use ftc_standing::links_stand_still;
@@ -25,7 +24,6 @@ fn visit_at(
     worker: WorkerId,
     server: ServerId,
     packet: PacketNo,
-    plan: &Plan,
 ) -> Result<MadeVisit, NoMemory>
     requires { ∥ IsAllowedAt (event.Visit server packet worker) server slot.old ∥₁ }
     ensures ok { IfOk result (SlotFollowsVisit worker server packet slot.old slot.new) }
@@ -41,7 +39,7 @@ fn visit_at(
     match slot {
         Some(live) => {
             quit_all(live);
-            let answers = visit_whole(live, worker, packet, plan)?;
+            let answers = visit_whole(live, worker, packet)?;
             Ok(made(
                 &answers,
                 live.partitions,
@@ -55,14 +53,12 @@ fn visit_at(
 }
 
 impl Network {
-    /// The middlebox of a server takes a packet, in a worker's slot. What the server's slots ran is given up first. The
-    /// plan is used where it is that of the packet and of what it reads; else the rule is asked.
+    /// The middlebox of a server takes a packet, in a worker's slot. What the server's slots ran is given up first.
     pub fn visit(
         &mut self,
         worker: WorkerId,
         server: ServerId,
         packet: PacketNo,
-        plan: &Plan,
     ) -> Result<(), NoMemory>
         requires { ∥ IsAllowed (event.Visit server packet worker) self.old ∥₁ }
         ensures ok { OnOk result (FollowsVisit worker server packet self.old self.new) }
@@ -77,13 +73,7 @@ impl Network {
         servers_beside();
         links_stand_still();
         self.visits.reserve(1)?;
-        let visit = visit_at(
-            &mut self.servers[place_of(server)],
-            worker,
-            server,
-            packet,
-            plan,
-        )?;
+        let visit = visit_at(&mut self.servers[place_of(server)], worker, server, packet)?;
         self.visits.add(visit);
         Ok(())
     }
