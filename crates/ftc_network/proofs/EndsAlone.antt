@@ -13,7 +13,8 @@ use Rattle.ftc_network.specs.Visiting.{IsUnderWay, VisitsWhole}
 use Rattle.ftc_network.proofs.IdleSlots.{all_idle}
 
 -- what holds where there is something holds of what there is
-pub if_there : {A : Type 0} (Fact : A → Type 0) (option : Option A) (item : A) → option ≡ Some item → IfSome option Fact → Fact item
+pub if_there : {A : Type 0} (Fact : A → Type 0) (option : Option A) (item : A) → option ≡ Some item →
+    IfSome option Fact → Fact item
 if_there {A} Fact option item same fact = subst (λ (o : Option A). IfSome o Fact) same fact
 
 module _ (first old new : Server) (worker packet count : ℕ) (is : IsUnderWay first old worker packet count) where

@@ -21,17 +21,20 @@ some_of slot one other this that = cc
 
 -- the log that is left is the one that a commit would log
 pub would_log : (head : HeadState) (worker : ℕ) (running : Running) (writes : List Write) (log : Option Logged) →
-    RunsUnwounded head worker running → IsLogLeft head (slot_at head.slots worker) writes log → WouldLog head worker writes log
+    RunsUnwounded head worker running → IsLogLeft head (slot_at head.slots worker) writes log →
+    WouldLog head worker writes log
 would_log head worker running writes log runs left =
     let leaves = subst (λ (slot : Option Running). IsLogLeft head slot writes log) runs.slot left in
     let same = some_of (slot_at head.slots worker) running in record {
-      no_log = λ other is. subst (λ (r : Running). IsNone log ↔ (r.answers ≡ [])) (same other runs.slot is.slot) leaves.0;
+      no_log = λ other is.
+          subst (λ (r : Running). IsNone log ↔ (r.answers ≡ [])) (same other runs.slot is.slot) leaves.0;
       logged = λ other is.
           subst (λ (r : Running). IfSome log (IsLogOf head.group head.partitions head.vector r.packet r.answers writes))
           (same other runs.slot is.slot) leaves.1;
       idle = λ none. let both = sym none ∙ runs.slot in absurd cc;
       wounded = λ other by is.
-          let both = sym (ap (λ (r : Running). r.wounded) (same other runs.slot is.slot) ∙ is.wounded) ∙ runs.unwounded in
+          let wounded = ap (λ (r : Running). r.wounded) (same other runs.slot is.slot) ∙ is.wounded in
+          let both = sym wounded ∙ runs.unwounded in
           absurd cc;
     }
 
@@ -50,8 +53,8 @@ committed old new worker running writes log result is unwounded left ok commits 
     let runs = runs_unwounded old worker running is unwounded in
     let would = would_log old worker running writes log runs left in
     let made = where_ok result ((log : Option Logged) → WouldLog old worker writes log →
-        Commits old new worker writes (Done log)) ok commits log would in (
+    Commits old new worker writes (Done log)) ok commits log would in (
       runs,
       subst (λ (r : Running). HasCommitted old new worker r writes log)
-      (some_of (slot_at old.slots worker) made.0 running made.1.slot is) made.2,
+          (some_of (slot_at old.slots worker) made.0 running made.1.slot is) made.2,
     )

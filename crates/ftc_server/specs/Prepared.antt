@@ -20,7 +20,8 @@ IsLogLeft head (Some running) writes log =
     × IfSome log (IsLogOf head.group head.partitions head.vector running.packet running.answers writes)
 
 -- what the visit of what a slot runs makes of its message, with this end and this log
-pub record IsPrepared (server : Server) (worker : ℕ) (end : End) (log : Option Logged) (visited : Visited) : Type 0 where
+pub record IsPrepared (server : Server) (worker : ℕ) (end : End) (log : Option Logged) (visited : Visited)
+    : Type 0 where
   pub running : Running
   pub runs : slot_at server.head.slots worker ≡ Some running
   pub before : HeldMessage

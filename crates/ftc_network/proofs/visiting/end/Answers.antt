@@ -9,7 +9,8 @@ returns-in-Done-clause-ok c first packet count is =
     let there = if_there (λ (running : Running). c.in-Some.answers.now.items ≡ running.answers)
     (slot_at c.args.server.now.head.slots c.args.worker) is.running is.runs.slot c.in-Some.ensures.some in
     done_whole first c.args.server.now c.end_visit.new.self c.args.worker packet count is
-    c.copy_answers-answers.result.items (sym there ∙ sym (ap (λ a. a.items) c.copy_answers-answers.ensures)) c.in-Done.ensures
+    c.copy_answers-answers.result.items (sym there ∙ sym (ap (λ a. a.items) c.copy_answers-answers.ensures))
+    c.in-Done.ensures
 
 pub returns-in_default-end_visit : goal.returns-in_default-end_visit
 returns-in_default-end_visit c =

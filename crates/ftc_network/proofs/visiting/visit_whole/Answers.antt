@@ -10,7 +10,7 @@ returns-in-Some-Finish-clause-ok c =
     let old = c.loop.server in
     let new = c.end.new.server in
     if_ok (λ answers. (first : Server) (packet count : ℕ) → IsUnderWay first old c.args.worker packet count →
-        VisitsWhole first new c.args.worker packet answers.items)
+    VisitsWhole first new c.args.worker packet answers.items)
     (λ answers. VisitsWhole c.args.server.now new c.args.worker c.args.packet answers.items) c.end.result
     (λ answers whole. whole c.args.server.now c.args.packet c.loop.counter c.loop.invariant) c.end.ensures.ok
 

@@ -30,8 +30,8 @@ commit_logged-requires-clause-writes c =
     let runs = runs_unwounded server.head c.args.worker prepared.running prepared.runs c.requires.unwounded in (
       prepared.running,
       runs,
-      its_writes server.rule server.head server.held.items c.args.worker prepared.running c.args.finish.now server.slots runs
-      (asked_of server c.args.worker prepared.running (Finish c.args.finish.now) runs c.requires.asked),
+      its_writes server.rule server.head server.held.items c.args.worker prepared.running c.args.finish.now server.slots
+          runs (asked_of server c.args.worker prepared.running (Finish c.args.finish.now) runs c.requires.asked),
     )
 
 -- the head's commit of what the slot ran
@@ -40,8 +40,8 @@ has_committed : (c : goal.After-visit) → RunsUnwounded c.args.self.now.head c.
     c.args.finish.now.writes.items c.log_left-log.result
 has_committed c =
     committed c.args.self.now.head c.commit_logged.new.self c.args.worker c.in-Ok.ensures.running
-    c.args.finish.now.writes.items c.log_left-log.result c.commit_logged.result c.in-Ok.ensures.runs c.requires.unwounded
-    c.log_left-log.ensures (sym c.is_err-2.ensures.value ∙ c.if-is_err-2.false) c.commit_logged.ensures.ok
+    c.args.finish.now.writes.items c.log_left-log.result c.commit_logged.result c.in-Ok.ensures.runs
+    c.requires.unwounded c.log_left-log.ensures (sym c.is_err-2.ensures.value ∙ c.if-is_err-2.false) c.commit_logged.ensures.ok
 
 pub invariant_of-self-2-clause-head_group : goal.invariant_of-self-2-clause-head_group
 invariant_of-self-2-clause-head_group c =
@@ -73,11 +73,11 @@ invariant_of-self-2-clause-open c =
 pub returns : goal.returns
 returns c =
     let server = c.args.self.now in
+    let writes = c.args.finish.now.writes.items in
     let prepared = c.in-Ok.ensures in
     let running = prepared.running in
-    let made = committed c.args.self.now.head c.commit_logged.new.self c.args.worker running
-    c.args.finish.now.writes.items c.log_left-log.result c.commit_logged.result prepared.runs c.requires.unwounded
-    c.log_left-log.ensures (sym c.is_err-2.ensures.value ∙ c.if-is_err-2.false) c.commit_logged.ensures.ok in
+    let made = committed server.head c.commit_logged.new.self c.args.worker running writes c.log_left-log.result
+    c.commit_logged.result prepared.runs c.requires.unwounded c.log_left-log.ensures (sym c.is_err-2.ensures.value ∙ c.if-is_err-2.false) c.commit_logged.ensures.ok in
     let same : c.in-Some.packet ≡ running.packet =
     some_same c.in-Some.packet running.packet (c.in-Some.ensures ∙ ap packet_of prepared.runs) in (
       running,
@@ -87,10 +87,9 @@ returns c =
       record {
         log = c.log_left-log.result;
         head = made.1;
-        own = c.keep.ensures ∙ ap (with_kept c.args.finish.now.writes.items c.log_left-log.result) c.reserve.ensures.items;
+        own = c.keep.ensures ∙ ap (with_kept writes c.log_left-log.result) c.reserve.ensures.items;
         known = c.learn_own.ensures
-            ∙ ap (λ (vector : List ℕ). with_written server.ring server.id c.args.finish.now.writes.items vector server.known)
-            c.vector.ensures;
+            ∙ ap (λ (vector : List ℕ). with_written server.ring server.id writes vector server.known) c.vector.ensures;
         before = prepared.before;
         there = prepared.there;
         packet = prepared.packet;

@@ -11,5 +11,5 @@ invariant_of-self-clause-slots c =
     let wounded : is_some (wounded_at server.head.slots c.args.worker) ≡ true =
     ap (λ (w : Option ℕ). is_some w) (sym c.wounded.ensures) ∙ sym c.is_some.ensures ∙ c.if-is_some.true in
     ∥∥₁_map server.slots (λ slots.
-    slots_read server.rule server.head c.read.new.self server.held.items c.args.worker c.args.key.now false c.read.result
-    c.read.ensures (λ running runs. wounded_apart server.head c.args.worker running wounded runs) slots)
+    slots_read server.rule server.head c.read.new.self server.held.items c.args.worker c.args.key.now false
+    c.read.result c.read.ensures (λ running runs. wounded_apart server.head c.args.worker running wounded runs) slots)
