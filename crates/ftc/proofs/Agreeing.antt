@@ -12,7 +12,7 @@ use Rattle.ftc_conf.specs.Grammar.{chain_of}
 use Rattle.ftc_ring.specs.Ring.{RingShape}
 use Rattle.ftc_script.specs.Script.{ScriptShape}
 use Rattle.ftc_script.specs.Grammar.{script_of}
-use Rattle.ftc_serial.specs.Packets.{bytes_of}
+use Rattle.ftc_serial.specs.Packets.{bytes_of_packets}
 use Rattle.ftc_protocol.specs.Setting.{setting_of}
 use Rattle.ftc_check.specs.Laws.{VerdictsAreOne}
 use Rattle.ftc_check.specs.Verdict.{IsVerdict}
@@ -110,7 +110,7 @@ no_journal text journal right status.NoMemory wrong = wrong
 
 same_verdict : (other chain : Chain) (taken capture : Capture) (told script : ScriptShape) (some out : List ℕ) (events journal : List Event) (text report : List ℕ) (verdict : Checked)
     → other ≡ chain → taken ≡ capture → told ≡ script → some ≡ out → events ≡ journal → text ≡ report
-    → IsVerdict (setting_of other (bytes_of taken.packets) told) taken some events text verdict → IsVerdict (setting_of chain (bytes_of capture.packets) script) capture out journal report verdict
+    → IsVerdict (setting_of other (bytes_of_packets taken.packets) told) taken some events text verdict → IsVerdict (setting_of chain (bytes_of_packets capture.packets) script) capture out journal report verdict
 same_verdict other chain taken capture told script some out events journal text report verdict of_chain of_capture of_script of_out of_journal of_report is =
     rw (← of_chain, ← of_capture, ← of_script, ← of_out, ← of_journal, ← of_report) is
 
@@ -203,7 +203,7 @@ module _ (laws : Laws) (names : Named) (files : Files) (chain : Chain) (capture 
   judges_all sound status.NoMemory judged no-fault = tt
 
   -- where one verdict is Yes, each is
-  pub verdict_is : IsVerdict (setting_of chain (bytes_of capture.packets) script) capture out journal report Yes → (verdict : Checked) → IsJudged names files verdict → verdict ≡ Yes
+  pub verdict_is : IsVerdict (setting_of chain (bytes_of_packets capture.packets) script) capture out journal report Yes → (verdict : Checked) → IsJudged names files verdict → verdict ≡ Yes
   verdict_is fine verdict judged =
       let of_chain = chain_is judged.chain judged.checked.inputs.chain_right in
       let of_capture = capture_is judged.capture judged.checked.inputs.capture_right in
@@ -213,7 +213,7 @@ module _ (laws : Laws) (names : Named) (files : Files) (chain : Chain) (capture 
       let read = judged.checked.journal_right in
       let of_journal : judged.journal ≡ journal = ok_once (journal_of read.text) judged.journal journal read.right (journal_reads read.text read.file) in
       let of_report = some_once judged.report report (sym judged.checked.report_file ∙ checked.report_file) in
-      laws.one_verdict (setting_of chain (bytes_of capture.packets) script) capture out journal report verdict Yes
+      laws.one_verdict (setting_of chain (bytes_of_packets capture.packets) script) capture out journal report verdict Yes
       (same_verdict judged.chain chain judged.capture capture judged.script script judged.out out judged.journal journal judged.report report verdict
       of_chain of_capture of_script of_out of_journal of_report judged.verdict_right) fine
 

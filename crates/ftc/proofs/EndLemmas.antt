@@ -18,10 +18,9 @@ use Rattle.ftc_journal.specs.Reading.{journal_of}
 use Rattle.ftc_journal.specs.Spelling.{IsEvent}
 use Rattle.ftc_mbox.specs.Chain.{Chain}
 use Rattle.ftc_script.specs.Script.{ScriptShape}
-use Rattle.ftc_serial.specs.Serial as serial
-use Rattle.ftc_serial.specs.Serial.{State, serial_run}
+use Rattle.ftc_serial.specs.Serial.{State, serial_run, serial_opening}
 use Rattle.ftc_serial.specs.Trace.{trace_of}
-use Rattle.ftc_serial.specs.Packets.{bytes_of}
+use Rattle.ftc_serial.specs.Packets.{bytes_of_packets}
 use Rattle.ftc_machine.proofs.RunInputs.{bytes_count}
 use Rattle.ftc_protocol.specs.declared.fate.Fate.TheVariants as became
 use Rattle.ftc_protocol.specs.Orderly.{IsLostAt}
@@ -70,10 +69,10 @@ pub record EndLaws : Type 0 where
 module _ (laws : EndLaws) (names : Named) (mode : Mode) (old : Files) (apart : AreDifferent names) (chain : Chain)
     (capture : Capture) (script : ScriptShape) (schedule journal : List Event) (end : State)
     (texts : AreTexts names mode old chain capture script schedule)
-    (run : IsFinishedRun (setting_of chain (bytes_of capture.packets) script) journal end)
+    (run : IsFinishedRun (setting_of chain (bytes_of_packets capture.packets) script) journal end)
     (chosen : IsChosen mode chain capture script schedule journal) (lines : List (List ℕ)) (plain : AllByRecursion HasNoFeed lines) where
   abbrev setting : Setting
-  setting = setting_of chain (bytes_of capture.packets) script
+  setting = setting_of chain (bytes_of_packets capture.packets) script
 
   abbrev out : List ℕ
   out = out_bytes capture end.released
@@ -204,7 +203,7 @@ module _ (laws : EndLaws) (names : Named) (mode : Mode) (old : Files) (apart : A
 abbrev pub ReleasedLaw : Type 0
 ReleasedLaw =
     (setting : Setting) → IsSetting setting → (journal : List Event) → IsRun setting journal →
-    (end : State) → serial_run setting.rules (serial.opening setting.packets) (trace_of journal) ≡ Some end →
+    (end : State) → serial_run setting.rules (serial_opening setting.packets) (trace_of journal) ≡ Some end →
     end.released ≡ released_in (state_after setting (opening setting) journal).trace
 
 -- what was said of the files as they are when the texts were read, of the files as they were
@@ -219,7 +218,7 @@ module _ (laws : EndLaws) (names : Named) (mode : Mode) (old : Files) (apart : A
     (texts : AreTexts names mode old chain capture script schedule) (taps left : List Face) (mid new : Files)
     (same : SameFiles old mid) where
   abbrev of : Setting
-  of = setting_of chain (bytes_of capture.packets) script
+  of = setting_of chain (bytes_of_packets capture.packets) script
 
   abbrev MayBe : List Event → Type 0
   MayBe journal = IsChosen mode chain capture script schedule journal

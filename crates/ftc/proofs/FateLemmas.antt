@@ -14,8 +14,7 @@ use Rattle.ftc_protocol.specs.Fates.{fates_in}
 use Rattle.ftc_protocol.specs.Run.{IsRun, state_after}
 use Rattle.ftc_protocol.specs.Setting.{Setting, IsSetting, count}
 use Rattle.ftc_protocol.specs.State.{opening}
-use Rattle.ftc_serial.specs.Serial as serial
-use Rattle.ftc_serial.specs.Serial.{State, Entry, Visited, Given, entry_of, after, position_after, serial_run}
+use Rattle.ftc_serial.specs.Serial.{State, Entry, Visited, Given, entry_of, after, position_after, serial_run, serial_opening}
 use Rattle.ftc_serial.specs.Place.{place_of}
 use Rattle.ftc_serial.specs.Trace.{trace_of}
 use Rattle.ftc_serial.specs.Words.{with_at}
@@ -69,7 +68,7 @@ some_waits (Some bytes) some = refl
 pub places_there : (setting : Setting) (journal : List Event) (end : State) → IsFinishedRun setting journal end →
     (packet : ℕ) → packet < count setting → IsSome (end.place packet)
 places_there setting journal end finished packet below =
-    run_keeps setting.rules (serial.opening setting.packets) end (trace_of journal) packet
+    run_keeps setting.rules (serial_opening setting.packets) end (trace_of journal) packet
     (some_waits (slice_get setting.packets packet) (has_item setting.packets packet below)) finished.whole.serial
 
 -- ---- what a place says
@@ -105,12 +104,12 @@ FateOf setting journal = (state_after setting (opening setting) journal).fate
 
 abbrev pub Releases : Type 0
 Releases = (setting : Setting) → IsSetting setting → (journal : List Event) → IsRun setting journal →
-    (end : State) → serial_run setting.rules (serial.opening setting.packets) (trace_of journal) ≡ Some end →
+    (end : State) → serial_run setting.rules (serial_opening setting.packets) (trace_of journal) ≡ Some end →
     (packet : ℕ) → (FateOf setting journal packet ≡ became.Released) ↔ (end.place packet ≡ Some position.Released)
 
 abbrev pub Filters : Type 0
 Filters = (setting : Setting) → IsSetting setting → (journal : List Event) → IsRun setting journal →
-    (end : State) → serial_run setting.rules (serial.opening setting.packets) (trace_of journal) ≡ Some end →
+    (end : State) → serial_run setting.rules (serial_opening setting.packets) (trace_of journal) ≡ Some end →
     (server packet : ℕ) → (FateOf setting journal packet ≡ became.Filtered server)
     ↔ (end.place packet ≡ Some (position.Filtered server))
 

@@ -20,8 +20,8 @@ use Rattle.ftc_outside.specs.declared.desk.DeskError.TheVariants as desk
 use Rattle.ftc_pcap.specs.Grammar.{Spells}
 use Rattle.ftc_pcap.specs.declared.capture.Capture.{Capture}
 use Rattle.ftc_serial.specs.Illegal.{IsFirstIllegal}
-use Rattle.ftc_serial.specs.Packets.{bytes_of}
-use Rattle.ftc_serial.specs.Serial.{State, opening, serial_step, serial_run}
+use Rattle.ftc_serial.specs.Packets.{bytes_of_packets}
+use Rattle.ftc_serial.specs.Serial.{State, serial_opening, serial_step, serial_run}
 use Rattle.ftc_serial.specs.declared.step.Step.{Step}
 use Rattle.ftc_serial.specs.Trace.{trace_of}
 use Rattle.ftc.specs.declared.status.Status.{Status}
@@ -54,7 +54,7 @@ cause_told X Why refusal told cause is = subst (λ (r : Refuse PortsCause). IfBa
 pub table_refused : (sound : Type 0) (names : PortNamed) (server : ℕ) (files : Files) (chain : Chain) (capture : Capture)
     (journal : List Event) (refusal : Refuse PortsCause) → HasChain names.chain files chain → HasCapture names.capture files capture
     → HasJournal names.journal files journal
-    → ((why : PortsCause) → refusal ≡ refuse.Bad why → IsCause chain.rules (bytes_of capture.packets) (trace_of journal) server why)
+    → ((why : PortsCause) → refusal ≡ refuse.Bad why → IsCause chain.rules (bytes_of_packets capture.packets) (trace_of journal) server why)
     → ArePortsRefused sound names server files (ports_status refusal)
 table_refused sound names server files chain capture journal (refuse.Bad why) chain_right capture_right journal_right is =
     inr (chain, chain_right, inr (capture, capture_right, inr (journal, journal_right, is why refl)))
@@ -169,11 +169,11 @@ module _ (laws : Laws) (names : PortNamed) (server : ℕ) (files : Files) (lines
   the_journal other has = ok_once (journal_of has.text) other given.journal has.right (text_of_journal has.text has.file)
 
   -- a server with a table has no cause for none
-  no_cause : (why : PortsCause) → IsCause given.chain.rules (bytes_of given.capture.packets) (trace_of given.journal) server why → ⊥
+  no_cause : (why : PortsCause) → IsCause given.chain.rules (bytes_of_packets given.capture.packets) (trace_of given.journal) server why → ⊥
   no_cause cause.NotNat wrong = wrong (given.table.rule, given.table.nat)
   no_cause (cause.BadStep place) wrong =
-      no_run (serial_run given.chain.rules (opening (bytes_of given.capture.packets)) (trace_of given.journal))
-      (first_illegal given.chain.rules (opening (bytes_of given.capture.packets)) (trace_of given.journal) place wrong.1) given.table.run
+      no_run (serial_run given.chain.rules (serial_opening (bytes_of_packets given.capture.packets)) (trace_of given.journal))
+      (first_illegal given.chain.rules (serial_opening (bytes_of_packets given.capture.packets)) (trace_of given.journal) place wrong.1) given.table.run
 
   not_none : (ending : Status) → HasNoTable given.chain given.capture given.journal server ending → ⊥
   not_none status.Done wrong = wrong

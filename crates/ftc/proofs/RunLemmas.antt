@@ -13,7 +13,7 @@ use Rattle.ftc_protocol.specs.Setting.{Setting, setting_of}
 use Rattle.ftc_report.specs.Output.{out_bytes}
 use Rattle.ftc_report.specs.Report.{report_of}
 use Rattle.ftc_script.specs.Script.{ScriptShape}
-use Rattle.ftc_serial.specs.Packets.{bytes_of}
+use Rattle.ftc_serial.specs.Packets.{bytes_of_packets}
 use Rattle.ftc_serial.specs.Serial.{State}
 use Rattle.ftc_stream.specs.Records.{HasGrownBy}
 use Rattle.ftc_words.specs.Command.{Named}
@@ -56,10 +56,10 @@ elsewhere at old new others name not = others name not.0
 -- the records are those that the run released
 module _ (names : Named) (apart : AreApart names) (chain : Chain) (capture : Capture) (script : ScriptShape)
     (MayBe : List Event → Type 0) (journal : List Event) (end : State)
-    (run : IsFinishedRun (setting_of chain (bytes_of capture.packets) script) journal end) (chosen : MayBe journal)
+    (run : IsFinishedRun (setting_of chain (bytes_of_packets capture.packets) script) journal end) (chosen : MayBe journal)
     (records : List Released) (records_are : records ≡ end.released) (left : List Face) (old : Files) where
   abbrev setting : Setting
-  setting = setting_of chain (bytes_of capture.packets) script
+  setting = setting_of chain (bytes_of_packets capture.packets) script
 
   -- only OUT was begun
   pub out_begun : (new : Files) → MayHold (old names.out) (new names.out) (out_bytes capture records) →

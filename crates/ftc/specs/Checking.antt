@@ -5,7 +5,7 @@ use Rattle.ftc_pcap.specs.declared.capture.Capture.{Capture}
 use Rattle.ftc_script.specs.Script.{ScriptShape}
 use Rattle.ftc_journal.specs.declared.event.Event.{Event}
 use Rattle.ftc_mbox.specs.Chain.{Chain}
-use Rattle.ftc_serial.specs.Packets.{bytes_of}
+use Rattle.ftc_serial.specs.Packets.{bytes_of_packets}
 use Rattle.ftc_protocol.specs.declared.fate.Fate.TheVariants as became
 use Rattle.ftc_protocol.specs.Moment.{IsSound}
 use Rattle.ftc_protocol.specs.Setting.{Setting, setting_of}
@@ -31,10 +31,10 @@ pub record AreChecked (names : Named) (files : Files) (chain : Chain) (capture :
   pub report_file : files names.report ≡ Some report
 
 -- the state of the protocol after a journal
-abbrev pub state_of : Chain → Capture → ScriptShape → List Event → ChainState
-state_of chain capture script journal =
-    state_after (setting_of chain (bytes_of capture.packets) script)
-    (opening (setting_of chain (bytes_of capture.packets) script)) journal
+abbrev pub state_after_journal : Chain → Capture → ScriptShape → List Event → ChainState
+state_after_journal chain capture script journal =
+    state_after (setting_of chain (bytes_of_packets capture.packets) script)
+    (opening (setting_of chain (bytes_of_packets capture.packets) script)) journal
 
 -- The files are right in themselves, and this is the first that applies of what can be said of them.
 pub record IsJudged (names : Named) (files : Files) (verdict : Checked) : Type 0 where
@@ -45,7 +45,7 @@ pub record IsJudged (names : Named) (files : Files) (verdict : Checked) : Type 0
   pub journal : List Event
   pub report : List ℕ
   pub checked : AreChecked names files chain capture script out journal report
-  pub verdict_right : IsVerdict (setting_of chain (bytes_of capture.packets) script) capture out journal report verdict
+  pub verdict_right : IsVerdict (setting_of chain (bytes_of_packets capture.packets) script) capture out journal report verdict
 
 -- After each front of the journal the serial run of the visits that stand exists and released what was released, the
 -- first live member of each group has that run's content, and all visits of a released packet stand.
@@ -59,13 +59,13 @@ IsSoundThroughout setting journal =
 -- lost; and one that is lost went away by the event of its fate's number, which could lose something where it stands.
 pub record IsRightRun (names : Named) (files : Files) : Type 0 where
   pub judged : IsJudged names files Yes
-  pub sound : IsSoundThroughout (setting_of judged.chain (bytes_of judged.capture.packets) judged.script) judged.journal
+  pub sound : IsSoundThroughout (setting_of judged.chain (bytes_of_packets judged.capture.packets) judged.script) judged.journal
   pub visited : ∥ ReleasedVisited (length judged.chain.rules) judged.journal ∥₁
   pub settled : (packet : ℕ) → packet < length judged.capture.packets →
-      (state_of judged.chain judged.capture judged.script judged.journal).fate packet ≢ became.Inside
+      (state_after_journal judged.chain judged.capture judged.script judged.journal).fate packet ≢ became.Inside
   pub causes : (packet number : ℕ) → packet < length judged.capture.packets →
-      (state_of judged.chain judged.capture judged.script judged.journal).fate packet ≡ became.Lost number →
-      IsLostAt (setting_of judged.chain (bytes_of judged.capture.packets) judged.script) judged.journal number
+      (state_after_journal judged.chain judged.capture judged.script judged.journal).fate packet ≡ became.Lost number →
+      IsLostAt (setting_of judged.chain (bytes_of_packets judged.capture.packets) judged.script) judged.journal number
 
 -- How a check with these names ends, which changes no file. Where the desk is sound, it fails only where the first
 -- file that isn't right is missing.

@@ -8,7 +8,7 @@ use Rattle.ftc_journal.specs.declared.event.Event.{Event}
 use Rattle.ftc_journal.specs.Text.{spelling}
 use Rattle.ftc_mbox.specs.Chain.{Chain}
 use Rattle.ftc_script.specs.Script.{ScriptShape}
-use Rattle.ftc_serial.specs.Packets.{bytes_of}
+use Rattle.ftc_serial.specs.Packets.{bytes_of_packets}
 use Rattle.ftc_protocol.specs.Setting.{setting_of}
 use Rattle.ftc_protocol.specs.Drive.{IsDrive}
 use Rattle.ftc_protocol.specs.Moment.{released_in}
@@ -20,12 +20,12 @@ use Rattle.ftc_words.specs.Command.{Named, Mode, alone}
 use Rattle.ftc.specs.Output.{MayHold, SameElsewhere, written_by}
 use Rattle.ftc.specs.Refused.{IsRunRefused}
 use Rattle.ftc.specs.Texts.{HasSchedule}
-use Rattle.ftc.specs.Checking.{IsRightRun, state_of}
+use Rattle.ftc.specs.Checking.{IsRightRun, state_after_journal}
 
 -- the journal is that of the run which one thread drives by the schedule
 abbrev pub IsDriven : Chain → Capture → ScriptShape → List Event → List Event → Type 0
 IsDriven chain capture script schedule journal =
-    ∥ IsDrive (setting_of chain (bytes_of capture.packets) script) schedule journal ∥₁
+    ∥ IsDrive (setting_of chain (bytes_of_packets capture.packets) script) schedule journal ∥₁
 
 -- workers make any run, by how they come to their turns
 abbrev pub IsAny : List Event → Type 0
@@ -39,7 +39,7 @@ IsChosen other chain capture script schedule journal = IsAny journal
 -- the report of a journal, with these lines of taps
 abbrev pub report_bytes : Chain → Capture → ScriptShape → List Event → List (List ℕ) → List ℕ
 report_bytes chain capture script journal lines =
-    report_of (setting_of chain (bytes_of capture.packets) script) journal lines
+    report_of (setting_of chain (bytes_of_packets capture.packets) script) journal lines
 
 -- What a run leaves that is done, where its taps have these lines: the files of one run, as a check says of them,
 -- which is the chosen one. The journal's text is the printed one.
@@ -73,7 +73,7 @@ WereTold other taps left records = AreToldAtLast taps left records
 -- It is done, its report has the lines of the taps that are left, and these were told.
 pub record IsDoneBeside (names : Named) (mode : Mode) (taps left : List Face) (old new : Files) : Type 0 where
   pub done : IsDone names mode (lines_of left) old new
-  pub told : ∥ WereTold mode taps left (released_in (state_of done.right.judged.chain done.right.judged.capture
+  pub told : ∥ WereTold mode taps left (released_in (state_after_journal done.right.judged.chain done.right.judged.capture
       done.right.judged.script done.right.judged.journal).trace) ∥₁
 
 -- The file is as it was, or has some front of what it would have.

@@ -12,7 +12,7 @@ use Rattle.ftc_journal.specs.Spelling.{IsEvent}
 use Rattle.ftc_journal.specs.Text.{spelling}
 use Rattle.ftc_mbox.specs.Chain.{Chain}
 use Rattle.ftc_script.specs.Script.{ScriptShape}
-use Rattle.ftc_serial.specs.Packets.{bytes_of}
+use Rattle.ftc_serial.specs.Packets.{bytes_of_packets}
 use Rattle.ftc_serial.specs.Serial.{State}
 use Rattle.ftc_protocol.specs.Setting.{Setting, IsSetting, setting_of}
 use Rattle.ftc_report.specs.Output.{out_bytes}
@@ -30,7 +30,7 @@ pub record IsFinishedRun (setting : Setting) (journal : List Event) (end : State
 -- of one of those runs that may be
 module _ (names : Named) (chain : Chain) (capture : Capture) (script : ScriptShape) (MayBe : List Event → Type 0) where
   abbrev setting : Setting
-  setting = setting_of chain (bytes_of capture.packets) script
+  setting = setting_of chain (bytes_of_packets capture.packets) script
 
   -- The files of a finished run of these texts were written, and taps were told of it.
   pub record HasWritten (Told : List Released → Type 0) (left : List Face) (old new : Files) : Type 0 where

@@ -15,7 +15,7 @@ use Rattle.ftc_protocol.specs.State.{opening}
 use Rattle.ftc_report.specs.Contents.{contents_after}
 use Rattle.ftc_report.specs.Text.{summary_text}
 use Rattle.ftc_script.specs.Script.{ScriptShape}
-use Rattle.ftc_serial.specs.Packets.{bytes_of}
+use Rattle.ftc_serial.specs.Packets.{bytes_of_packets}
 use Rattle.ftc.specs.declared.status.Status.{Status}
 use Rattle.ftc.specs.declared.status.Status.TheVariants as status
 use Rattle.ftc.specs.Texts.{ring_of}
@@ -31,7 +31,7 @@ empty_script chain packets = record { ring = ring_of chain; packets = packets; s
 
 abbrev pub made_setting : Chain → ℕ → ℕ → Setting
 made_setting chain packets seed =
-    setting_of chain (bytes_of (generated_capture packets seed).packets) (empty_script chain packets)
+    setting_of chain (bytes_of_packets (generated_capture packets seed).packets) (empty_script chain packets)
 
 -- what is told of a run of that setting: how many packets have each fate, and how many keys each middlebox has
 abbrev pub summary_of : Setting → List Event → List ℕ

@@ -7,7 +7,7 @@ use Rattle.ftc_journal.specs.declared.event.Event.{Event}
 use Rattle.ftc_mbox.specs.Chain.{Chain}
 use Rattle.ftc_outside.specs.Desk.{Files, SameFiles, SameButAt, GrewAt, MayHaveGrownAt}
 use Rattle.ftc_pcap.specs.declared.capture.Capture.{Capture}
-use Rattle.ftc_serial.specs.Packets.{bytes_of}
+use Rattle.ftc_serial.specs.Packets.{bytes_of_packets}
 use Rattle.ftc_serial.specs.Trace.{trace_of}
 use Rattle.ftc.specs.declared.porting.PortNames.{PortNames}
 use Rattle.ftc.specs.declared.status.Status.{Status}
@@ -37,12 +37,12 @@ pub record IsTableIn (names : PortNamed) (server : ℕ) (files : Files) (lines :
   pub chain_right : HasChain names.chain files chain
   pub capture_right : HasCapture names.capture files capture
   pub journal_right : HasJournal names.journal files journal
-  pub table : IsTableOf chain.rules (bytes_of capture.packets) (trace_of journal) server lines
+  pub table : IsTableOf chain.rules (bytes_of_packets capture.packets) (trace_of journal) server lines
 
 -- why a server has no table: it is no translator, or it is one and a step of the trace isn't legal
 abbrev pub HasNoTable : Chain → Capture → List Event → ℕ → Status → Type 0
 HasNoTable chain capture journal server (status.Ports cause) =
-    IsCause chain.rules (bytes_of capture.packets) (trace_of journal) server cause
+    IsCause chain.rules (bytes_of_packets capture.packets) (trace_of journal) server cause
 HasNoTable chain capture journal server other = ⊥
 
 -- a text is refused, or it is right and one behind it is refused; or all are right and there is no table

@@ -3,9 +3,9 @@
 ghost use Rattle.std.specs.Prelude.{◌≡◌, length, IfOk};
 ghost use Rattle.ftc_report.specs.Output.{AreWritable};
 ghost use Rattle.ftc_report.specs.Report.{report_of};
-ghost use Rattle.ftc_serial.specs.Held.{rules_of, state_of};
-ghost use Rattle.ftc_serial.specs.Packets.{bytes_of};
-ghost use Rattle.ftc_chain.specs.ChainRun.{setting_in, state_of as state_of_run};
+ghost use Rattle.ftc_serial.specs.Held.{rules_of, serial_state};
+ghost use Rattle.ftc_serial.specs.Packets.{bytes_of_packets};
+ghost use Rattle.ftc_chain.specs.ChainRun.{setting_in, chain_state as state_of_run};
 ghost use Rattle.ftc_protocol.specs.Drive.{IsDrive};
 ghost use Rattle.ftc_protocol.specs.Run.{IsFinished};
 ghost use Rattle.ftc_protocol.specs.Setting.{setting_of};
@@ -36,13 +36,13 @@ pub fn close<'a>(alloc: Global, texts: &Texts, chain: Chain<'a>) -> Result<Drive
     requires ring { texts.now.script.ring ≡ ring_of texts.now.spec }
     requires packets { texts.now.script.packets ≡ length texts.now.capture.packets }
     requires setting { setting_in chain
-        ≡ setting_of texts.now.spec (bytes_of texts.now.capture.packets) texts.now.script }
+        ≡ setting_of texts.now.spec (bytes_of_packets texts.now.capture.packets) texts.now.script }
     requires finished { ∥ IsFinished (setting_in chain) (state_of_run chain) ∥₁ }
     ensures journal { IfOk result (λ driven. driven.chain.journal ≡ chain.entry.journal) }
     ensures finished { IfOk result (λ driven. IsFinishedRun
-        (setting_of texts.now.spec (bytes_of texts.now.capture.packets) texts.now.script)
-        driven.chain.journal (state_of driven.serial)) }
-    ensures writable { IfOk result (λ driven. AreWritable texts.now.capture.packets (state_of driven.serial).released) }
+        (setting_of texts.now.spec (bytes_of_packets texts.now.capture.packets) texts.now.script)
+        driven.chain.journal (serial_state driven.serial)) }
+    ensures writable { IfOk result (λ driven. AreWritable texts.now.capture.packets (serial_state driven.serial).released) }
     ensures rules { IfOk result (λ driven. rules_of driven.serial ≡ texts.now.spec.rules) }
 {
     // The chain is in its bounds and the script was accepted, so that the laws speak of the run.
@@ -64,12 +64,12 @@ pub fn drive<'a>(alloc: Global, texts: &'a Texts) -> Result<Driven<'a>, NoMemory
     requires ring { texts.now.script.ring ≡ ring_of texts.now.spec }
     requires packets { texts.now.script.packets ≡ length texts.now.capture.packets }
     ensures finished { IfOk result (λ driven. IsFinishedRun
-        (setting_of texts.now.spec (bytes_of texts.now.capture.packets) texts.now.script)
-        driven.chain.journal (state_of driven.serial)) }
+        (setting_of texts.now.spec (bytes_of_packets texts.now.capture.packets) texts.now.script)
+        driven.chain.journal (serial_state driven.serial)) }
     ensures chosen { IfOk result (λ driven. ∥ IsDrive
-        (setting_of texts.now.spec (bytes_of texts.now.capture.packets) texts.now.script)
+        (setting_of texts.now.spec (bytes_of_packets texts.now.capture.packets) texts.now.script)
         texts.now.schedule.items driven.chain.journal ∥₁) }
-    ensures writable { IfOk result (λ driven. AreWritable texts.now.capture.packets (state_of driven.serial).released) }
+    ensures writable { IfOk result (λ driven. AreWritable texts.now.capture.packets (serial_state driven.serial).released) }
     ensures rules { IfOk result (λ driven. rules_of driven.serial ≡ texts.now.spec.rules) }
 {
     drives();
@@ -88,11 +88,11 @@ pub fn report_of(
     requires ring { texts.now.script.ring ≡ ring_of texts.now.spec }
     requires packets { texts.now.script.packets ≡ length texts.now.capture.packets }
     requires finished { IsFinishedRun
-        (setting_of texts.now.spec (bytes_of texts.now.capture.packets) texts.now.script)
-        driven.now.chain.journal (state_of driven.now.serial) }
+        (setting_of texts.now.spec (bytes_of_packets texts.now.capture.packets) texts.now.script)
+        driven.now.chain.journal (serial_state driven.now.serial) }
     requires rules { rules_of driven.now.serial ≡ texts.now.spec.rules }
     ensures { IfOk result (λ text. text ≡ report_of (setting_of texts.now.spec
-        (bytes_of texts.now.capture.packets) texts.now.script) driven.now.chain.journal lines.now) }
+        (bytes_of_packets texts.now.capture.packets) texts.now.script) driven.now.chain.journal lines.now) }
 {
     let fates = fates_of(alloc, texts, driven.chain.journal(), &driven.serial)?;
     print(alloc, &fates, &driven.serial, lines)

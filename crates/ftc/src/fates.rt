@@ -7,8 +7,8 @@ ghost use Rattle.ftc_protocol.specs.Fates.{fates_in};
 ghost use Rattle.ftc_protocol.specs.Run.{state_after};
 ghost use Rattle.ftc_protocol.specs.Setting.{setting_of};
 ghost use Rattle.ftc_protocol.specs.State.{opening};
-ghost use Rattle.ftc_serial.specs.Held.{state_of};
-ghost use Rattle.ftc_serial.specs.Packets.{bytes_of};
+ghost use Rattle.ftc_serial.specs.Held.{serial_state};
+ghost use Rattle.ftc_serial.specs.Packets.{bytes_of_packets};
 ghost use Rattle.ftc.specs.Driven.{IsFinishedRun};
 ghost use Rattle.ftc.specs.Settled.{fate_at, AreFatesOf};
 ghost use Rattle.ftc.specs.Texts.{ring_of};
@@ -34,9 +34,9 @@ fn fate_at(place: Place) -> Option<Fate>
 
 /// What became of each packet, by its place in the serial chain. None where one was lost.
 fn fates_by_place(alloc: Global, serial: &Serial, packets: u32) -> Result<Option<Fates>, NoMemory>
-    requires { (packet : ℕ) → packet < packets → IsSome ((state_of serial.now).place packet) }
+    requires { (packet : ℕ) → packet < packets → IsSome ((serial_state serial.now).place packet) }
     ensures { IfOk result (λ found. IfSome found (λ fates. (fate : ℕ → AFate) →
-        AreFatesOf (state_of serial.now).place fate → fates ≡ map fate (range_with_len 0 packets))) }
+        AreFatesOf (serial_state serial.now).place fate → fates ≡ map fate (range_with_len 0 packets))) }
 {
     let mut fates = Fates::new(alloc);
     for packet in 0..packets {
@@ -59,12 +59,12 @@ pub fn fates_of(
     requires ring { texts.now.script.ring ≡ ring_of texts.now.spec }
     requires packets { texts.now.script.packets ≡ length texts.now.capture.packets }
     requires finished { IsFinishedRun
-        (setting_of texts.now.spec (bytes_of texts.now.capture.packets) texts.now.script)
-        journal.now.items (state_of serial.now) }
+        (setting_of texts.now.spec (bytes_of_packets texts.now.capture.packets) texts.now.script)
+        journal.now.items (serial_state serial.now) }
     ensures { IfOk result (λ fates. fates ≡ fates_in
-        (setting_of texts.now.spec (bytes_of texts.now.capture.packets) texts.now.script)
-        (state_after (setting_of texts.now.spec (bytes_of texts.now.capture.packets) texts.now.script)
-        (opening (setting_of texts.now.spec (bytes_of texts.now.capture.packets) texts.now.script))
+        (setting_of texts.now.spec (bytes_of_packets texts.now.capture.packets) texts.now.script)
+        (state_after (setting_of texts.now.spec (bytes_of_packets texts.now.capture.packets) texts.now.script)
+        (opening (setting_of texts.now.spec (bytes_of_packets texts.now.capture.packets) texts.now.script))
         journal.now.items)) }
 {
     what_a_run_released();

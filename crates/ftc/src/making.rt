@@ -7,7 +7,7 @@ ghost use Rattle.ftc_gen.specs.Capture.{generated};
 ghost use Rattle.ftc_gen.specs.Packets.{generated_capture};
 ghost use Rattle.ftc_outside.specs.Desk.{HasServed};
 ghost use Rattle.ftc_protocol.specs.Setting.{setting_of};
-ghost use Rattle.ftc_serial.specs.Packets.{bytes_of};
+ghost use Rattle.ftc_serial.specs.Packets.{bytes_of_packets};
 ghost use Rattle.ftc.specs.Answers.{IsMakeAnswer};
 ghost use Rattle.ftc.specs.Making.{made_text, empty_script, IsToldOfDrive, AreMadeTexts, AreMaking, MakeEnds};
 ghost use Rattle.ftc.specs.Texts.{ring_of};
@@ -98,7 +98,7 @@ fn told_of_drive(alloc: Global, texts: &Texts) -> Result<Bytes, NoMemory>
     requires ring { texts.now.script.ring ≡ ring_of texts.now.spec }
     requires packets { texts.now.script.packets ≡ length texts.now.capture.packets }
     ensures { IfOk result (IsToldOfDrive (setting_of texts.now.spec
-        (bytes_of texts.now.capture.packets) texts.now.script) texts.now.schedule.items) }
+        (bytes_of_packets texts.now.capture.packets) texts.now.script) texts.now.schedule.items) }
 {
     let driven = drive(alloc, texts)?;
     let fates = fates_of(alloc, texts, driven.chain.journal(), &driven.serial)?;

@@ -4,8 +4,8 @@ ghost use Rattle.std.specs.Prelude.{◌≡◌, ◌↔◌, ◌≤◌, length, Non
 ghost use Rattle.ftc_base.specs.declared.limits.TheConstants.{MOST_THREADS};
 ghost use Rattle.ftc_outside.specs.Desk.{SameButAt, HasServed};
 ghost use Rattle.ftc_report.specs.Output.{AreWritable};
-ghost use Rattle.ftc_serial.specs.Held.{rules_of, state_of};
-ghost use Rattle.ftc_serial.specs.Packets.{bytes_of};
+ghost use Rattle.ftc_serial.specs.Held.{rules_of, serial_state};
+ghost use Rattle.ftc_serial.specs.Packets.{bytes_of_packets};
 ghost use Rattle.ftc_chain.specs.ChainRun.{setting_in};
 ghost use Rattle.ftc_protocol.specs.Setting.{setting_of};
 ghost use Rattle.ftc_stream.specs.Records.{writable, records, HasGrownBy};
@@ -47,11 +47,11 @@ fn end<'a>(alloc: Global, texts: &Texts, chain: Chain<'a>) -> Result<Driven<'a>,
     requires ring { texts.now.script.ring ≡ ring_of texts.now.spec }
     requires packets { texts.now.script.packets ≡ length texts.now.capture.packets }
     requires setting { setting_in chain
-        ≡ setting_of texts.now.spec (bytes_of texts.now.capture.packets) texts.now.script }
+        ≡ setting_of texts.now.spec (bytes_of_packets texts.now.capture.packets) texts.now.script }
     ensures finished { IfOk result (λ driven. IsFinishedRun
-        (setting_of texts.now.spec (bytes_of texts.now.capture.packets) texts.now.script)
-        driven.chain.journal (state_of driven.serial)) }
-    ensures writable { IfOk result (λ driven. AreWritable texts.now.capture.packets (state_of driven.serial).released) }
+        (setting_of texts.now.spec (bytes_of_packets texts.now.capture.packets) texts.now.script)
+        driven.chain.journal (serial_state driven.serial)) }
+    ensures writable { IfOk result (λ driven. AreWritable texts.now.capture.packets (serial_state driven.serial).released) }
     ensures rules { IfOk result (λ driven. rules_of driven.serial ≡ texts.now.spec.rules) }
 {
     ftc_protocol::finish();
@@ -76,10 +76,10 @@ pub fn work<'a, R: Threads + Wait + Sync, D: Desk, G: Gate>(
     requires ring { texts.now.script.ring ≡ ring_of texts.now.spec }
     requires packets { texts.now.script.packets ≡ length texts.now.capture.packets }
     ensures finished { IfOk result (λ worked. IsFinishedRun
-        (setting_of texts.now.spec (bytes_of texts.now.capture.packets) texts.now.script)
-        worked.driven.chain.journal (state_of worked.driven.serial)) }
+        (setting_of texts.now.spec (bytes_of_packets texts.now.capture.packets) texts.now.script)
+        worked.driven.chain.journal (serial_state worked.driven.serial)) }
     ensures writable { IfOk result (λ worked.
-        AreWritable texts.now.capture.packets (state_of worked.driven.serial).released) }
+        AreWritable texts.now.capture.packets (serial_state worked.driven.serial).released) }
     ensures rules { IfOk result (λ worked. rules_of worked.driven.serial ≡ texts.now.spec.rules) }
     ensures grown { D.tells desk.old → IfOk result (λ worked.
         HasGrownBy out.now (records texts.now.capture worked.put) (D.file desk.old) (D.file desk.new)) }

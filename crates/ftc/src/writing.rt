@@ -8,8 +8,8 @@ ghost use Rattle.ftc_outside.specs.Tap.{HasNoFeed};
 ghost use Rattle.ftc_protocol.specs.Setting.{setting_of};
 ghost use Rattle.ftc_report.specs.Output.{out_bytes, AreWritable};
 ghost use Rattle.ftc_report.specs.Report.{report_of};
-ghost use Rattle.ftc_serial.specs.Held.{rules_of, state_of};
-ghost use Rattle.ftc_serial.specs.Packets.{bytes_of};
+ghost use Rattle.ftc_serial.specs.Held.{rules_of, serial_state};
+ghost use Rattle.ftc_serial.specs.Packets.{bytes_of_packets};
 ghost use Rattle.ftc_stream.specs.Taps.{AreLeft};
 ghost use Rattle.ftc_words.specs.Shown.{named_of};
 ghost use Rattle.ftc.specs.Done.{lines_of};
@@ -66,18 +66,18 @@ pub fn write_texts<D: Desk>(
     requires ring { texts.now.script.ring ≡ ring_of texts.now.spec }
     requires packets { texts.now.script.packets ≡ length texts.now.capture.packets }
     requires finished { IsFinishedRun
-        (setting_of texts.now.spec (bytes_of texts.now.capture.packets) texts.now.script)
-        driven.now.chain.journal (state_of driven.now.serial) }
+        (setting_of texts.now.spec (bytes_of_packets texts.now.capture.packets) texts.now.script)
+        driven.now.chain.journal (serial_state driven.now.serial) }
     requires rules { rules_of driven.now.serial ≡ texts.now.spec.rules }
     ensures written { D.tells desk.old → OnOk result (AreTextsWritten (named_of names.entry)
         (spelling driven.now.chain.journal)
-        (report_of (setting_of texts.now.spec (bytes_of texts.now.capture.packets) texts.now.script)
+        (report_of (setting_of texts.now.spec (bytes_of_packets texts.now.capture.packets) texts.now.script)
         driven.now.chain.journal (lines_of (⟦<Taps as Seen>⟧.faces taps.now)))
         (D.file desk.old) (D.file desk.new)) }
     ensures plain { OnOk result (AllByRecursion HasNoFeed (lines_of (⟦<Taps as Seen>⟧.faces taps.now))) }
     ensures refused { D.tells desk.old → OnErr result (AreTextsCut (named_of names.entry)
         (spelling driven.now.chain.journal)
-        (report_of (setting_of texts.now.spec (bytes_of texts.now.capture.packets) texts.now.script)
+        (report_of (setting_of texts.now.spec (bytes_of_packets texts.now.capture.packets) texts.now.script)
         driven.now.chain.journal) (lines_of (⟦<Taps as Seen>⟧.faces taps.now))
         (D.file desk.old) (D.file desk.new)) }
     ensures served { HasServed D.tells D.sound D.faults (IsErrOf result DeskError.Failed) desk.old desk.new }

@@ -6,7 +6,7 @@ use Rattle.ftc_base.specs.declared.limits.TheConstants.{FINISHING_SLOT}
 use Rattle.ftc_journal.specs.declared.event.Event.{Event}
 use Rattle.ftc_journal.specs.declared.job.Job.{Job}
 use Rattle.ftc_journal.specs.declared.job.Job.TheVariants as job
-use Rattle.ftc_chain.specs.ChainRun.{ChainRun, setting_in, state_of}
+use Rattle.ftc_chain.specs.ChainRun.{ChainRun, setting_in, chain_state}
 use Rattle.ftc_protocol.proofs.RunLists.{state_on}
 use Rattle.ftc_protocol.specs.Drive.{event_after, AreReleases, IsFinish}
 use Rattle.ftc_protocol.specs.Jobs.{event_of, IsFirstJob}
@@ -51,10 +51,10 @@ isnt_visit (job.Propagate origin) not = refl
 
 pub made_in : (slot other : ℕ) (job : Job) (old new : ChainRun) → is_visit job ≡ false → HasMade slot job old new → HasMade other job old new
 made_in slot other job old new not made =
-    let same = any_slot (setting_in old) (state_of old) slot other job not in
+    let same = any_slot (setting_in old) (chain_state old) slot other job not in
     record {
       releases = made.releases;
-      due = subst (λ (e : Event). AreReleases (setting_in old) (next (setting_in old) (state_of old) e) made.releases) same made.due;
+      due = subst (λ (e : Event). AreReleases (setting_in old) (next (setting_in old) (chain_state old) e) made.releases) same made.due;
       grown = made.grown
           ∙ ap (λ (e : Event). record old { journal = old.journal ++ e ∷ made.releases; heads = new.heads }) same;
     }
@@ -92,10 +92,10 @@ module _ (c : Setting) (falls : (before : List Event) (event : Event) → IsRun 
 pub nearer : (slot : ℕ) (job : Job) (old new : ChainRun) → HasMade slot job old new
     → ((c : Setting) → IsSetting c → (before : List Event) (event : Event) → IsRun c (before ++ event ∷ []) → work_left c (state_after c (opening c) (before ++ event ∷ [])) < work_left c (state_after c (opening c) before))
     → ((c : Setting) (before after : List Event) → IsRun c (before ++ after) → IsRun c before)
-    → IsSetting (setting_in old) → IsRun (setting_in new) new.journal → work_left (setting_in new) (state_of new) < work_left (setting_in old) (state_of old)
+    → IsSetting (setting_in old) → IsRun (setting_in new) new.journal → work_left (setting_in new) (chain_state new) < work_left (setting_in old) (chain_state old)
 nearer slot job old new made falls front right =
-    subst (λ (run : ChainRun). IsRun (setting_in run) run.journal → work_left (setting_in run) (state_of run) < work_left (setting_in old) (state_of old)) (sym made.grown)
-    (less (setting_in old) (falls (setting_in old) right) (front (setting_in old)) old.journal (event_of (setting_in old) (state_of old) slot job) made.releases)
+    subst (λ (run : ChainRun). IsRun (setting_in run) run.journal → work_left (setting_in run) (chain_state run) < work_left (setting_in old) (chain_state old)) (sym made.grown)
+    (less (setting_in old) (falls (setting_in old) right) (front (setting_in old)) old.journal (event_of (setting_in old) (chain_state old) slot job) made.releases)
 
 -- ---- back from the end
 
@@ -110,10 +110,10 @@ Begins = (c : Setting) (journal whole : List Event) (job : Job) (releases : List
     → IsFinish c ((journal ++ event_after c journal job ∷ []) ++ releases) whole
     → IsFinish c journal whole
 
-pub back_one : Begins → (job : Job) (now new : ChainRun) → IsFirstJob (setting_in now) (state_of now) job → HasMade FINISHING_SLOT job now new → LeadsBack now new
+pub back_one : Begins → (job : Job) (now new : ChainRun) → IsFirstJob (setting_in now) (chain_state now) job → HasMade FINISHING_SLOT job now new → LeadsBack now new
 back_one begun job now new first made whole finish =
     let c : Setting = setting_in now in let event : Event = event_after c now.journal job in
-    let on : state_by c (now.journal ++ event ∷ []) ≡ next c (state_of now) event = state_on c now.journal (event ∷ []) (opening c) in
+    let on : state_by c (now.journal ++ event ∷ []) ≡ next c (chain_state now) event = state_on c now.journal (event ∷ []) (opening c) in
     let due : AreReleases c (state_by c (now.journal ++ event ∷ [])) made.releases = subst (λ (s : ChainState). AreReleases c s made.releases) (sym on) made.due in
     let grown : new.journal ≡ (now.journal ++ event ∷ []) ++ made.releases = ap (λ (run : ChainRun). run.journal) made.grown ∙ sym (append_assoc now.journal (event ∷ []) made.releases) in
     begun c now.journal whole job made.releases first due (subst (λ (events : List Event). IsFinish c events whole) grown finish)
@@ -126,7 +126,7 @@ back_on first now new same back one whole finish =
 -- at the end the run is the finish
 pub at_end : (first now : ChainRun) → IsSameGiven first now → LeadsBack first now
     → ((c : Setting) (journal : List Event) → IsFinished c (state_after c (opening c) journal) → IsFinish c journal journal)
-    → IsFinished (setting_in now) (state_of now) → IsFinish (setting_in first) first.journal now.journal
+    → IsFinished (setting_in now) (chain_state now) → IsFinish (setting_in first) first.journal now.journal
 at_end first now same back ended finished =
     let settings : setting_in now ≡ setting_in first = ap setting_in same in
     back now.journal (subst (λ (c : Setting). IsFinish c now.journal now.journal) settings (ended (setting_in now) now.journal finished))

@@ -6,11 +6,11 @@ use Rattle.ftc_jobs.specs.All.{AreJobs}
 use Rattle.ftc_journal.specs.declared.job.Job.{Job}
 use Rattle.ftc_journal.specs.declared.job.Job.TheVariants as job
 use Rattle.ftc_serial.specs.Words.{AnyOf}
-use Rattle.ftc_chain.specs.ChainRun.{ChainRun, setting_in, state_of}
+use Rattle.ftc_chain.specs.ChainRun.{ChainRun, setting_in, chain_state}
 use Rattle.ftc_chain.specs.Slots.{is_running_at}
 
 pub untaken_listed : (run : ChainRun) (jobs : List Job) (server packet : ℕ) →
-    ∥ AreJobs (is_running_at run) (setting_in run) (state_of run) jobs ∥₁ →
+    ∥ AreJobs (is_running_at run) (setting_in run) (chain_state run) jobs ∥₁ →
     AnyOf (λ (other : Job). other ≡ job.Visit server packet) jobs → is_running_at run server packet ≡ false
 untaken_listed run jobs server packet are any =
     ∥∥₁_elim are (Coded-set coded_bool _ _) (λ is. ((is.each (job.Visit server packet)).0 any).1)

@@ -4,7 +4,7 @@ use Rattle.std.proofs.lemmas.List.{append_assoc, append-nil, take-append-drop}
 use Rattle.ftc_journal.specs.declared.event.Event.{Event}
 use Rattle.ftc_journal.specs.declared.job.Job.{Job}
 use Rattle.ftc_journal.specs.Job.{job_of}
-use Rattle.ftc_chain.specs.ChainRun.{ChainRun, setting_in, state_of}
+use Rattle.ftc_chain.specs.ChainRun.{ChainRun, setting_in, chain_state}
 use Rattle.ftc_protocol.proofs.RunLists.{state_on}
 use Rattle.ftc_protocol.specs.Drive.{IsPassedOver, IsPlay, IsFinish, IsDrive}
 use Rattle.ftc_protocol.specs.Jobs.{event_of, slot_of, IsLegalJob}
@@ -45,7 +45,7 @@ played_on one other first now new front more =
     let on = state_on c first.journal front.played (opening c) in
     record {
       played = front.played ++ there.played;
-      play = joined c one other (state_of first) front.played there.played front.play (subst (λ (t : ChainState). IsPlay c t other there.played) on there.play);
+      play = joined c one other (chain_state first) front.played there.played front.play (subst (λ (t : ChainState). IsPlay c t other there.played) on there.play);
       grown = there.grown ∙ ap (λ (es : List Event). record first { journal = es; heads = new.heads })
           (append_assoc first.journal front.played there.played);
     }
@@ -55,9 +55,9 @@ played_on one other first now new front more =
 pub played_nothing : (now : ChainRun) → HasPlayed [] now now
 played_nothing now = record { played = []; play = refl; grown = ap (λ (es : List Event). record now { journal = es }) (sym (append-nil now.journal)) }
 
-pub played_one : (event : Event) (job : Job) (old new : ChainRun) → job_of event ≡ Some job → IsLegalJob (setting_in old) (state_of old) job → HasMade (slot_of event) job old new → HasPlayed (event ∷ []) old new
+pub played_one : (event : Event) (job : Job) (old new : ChainRun) → job_of event ≡ Some job → IsLegalJob (setting_in old) (chain_state old) job → HasMade (slot_of event) job old new → HasPlayed (event ∷ []) old new
 played_one event job old new is legal made =
-    let happened : Event = event_of (setting_in old) (state_of old) (slot_of event) job in
+    let happened : Event = event_of (setting_in old) (chain_state old) (slot_of event) job in
     record {
       played = happened ∷ (made.releases ++ []);
       play = inl (job, made.releases, [], is, legal, made.due, refl, refl);
@@ -69,7 +69,7 @@ played_one event job old new is legal made =
 pub one_job : (one other : Job) → Some one ≡ Some other → one ≡ other
 one_job one other same = cc
 
-pub passed_over : (event : Event) (now : ChainRun) → IsPassedOver (setting_in now) (state_of now) event → HasPlayed (event ∷ []) now now
+pub passed_over : (event : Event) (now : ChainRun) → IsPassedOver (setting_in now) (chain_state now) event → HasPlayed (event ∷ []) now now
 passed_over event now over = record {
   played = [];
   play = inr (over, refl);

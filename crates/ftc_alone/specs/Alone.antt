@@ -1,7 +1,7 @@
 -- What one thread makes of a run.
 use Rattle.std.specs.Prelude.{◌≡◌, ◌++◌, List}
 use Rattle.ftc_journal.specs.declared.event.Event.{Event}
-use Rattle.ftc_chain.specs.ChainRun.{ChainRun, setting_in, state_of}
+use Rattle.ftc_chain.specs.ChainRun.{ChainRun, setting_in, chain_state}
 use Rattle.ftc_protocol.specs.Drive.{IsPlay, IsFinish, IsDrive}
 use Rattle.ftc_protocol.specs.Setting.{Setting}
 
@@ -29,7 +29,7 @@ pub record IsInDrive (setting : Setting) (schedule events : List Event) : Type 0
 -- the schedule was played from the old run, and what came of that is behind the events of that run
 pub record HasPlayed (schedule : List Event) (old new : ChainRun) : Type 0 where
   pub played : List Event
-  pub play : IsPlay (setting_in old) (state_of old) schedule played
+  pub play : IsPlay (setting_in old) (chain_state old) schedule played
   pub grown : new ≡ record old { journal = old.journal ++ played; heads = new.heads }
 
 -- that is so of a front of the schedule

@@ -1,7 +1,7 @@
 //! What is left is done in order.
 
 ghost use Rattle.std.specs.Prelude.{◌≡◌, OnOk, OnErr};
-ghost use Rattle.ftc_chain.specs.ChainRun.{setting_in, state_of};
+ghost use Rattle.ftc_chain.specs.ChainRun.{setting_in, chain_state};
 ghost use Rattle.ftc_protocol.specs.Drive.{IsFinish};
 ghost use Rattle.ftc_protocol.specs.Jobs.{IsLegalJob};
 ghost use Rattle.ftc_chain.specs.Course.{HasMade};
@@ -18,7 +18,7 @@ use ftc_protocol::{every_run_ends, runs};
 /// Makes the event of a job, a visit in a worker's slot, and the releases that are due after it. A refused call leaves
 /// the run as it was, but for what slots ran.
 pub fn make(chain: &mut Chain<'_>, worker: WorkerId, job: &Job) -> Result<(), NoMemory>
-    requires { ∥ IsLegalJob (setting_in chain.old) (state_of chain.old) job.now ∥₁ }
+    requires { ∥ IsLegalJob (setting_in chain.old) (chain_state chain.old) job.now ∥₁ }
     ensures ok { OnOk result (∥ HasMade worker job.now chain.old chain.new ∥₁) }
     ensures err { OnErr result (IsButHeads chain.old chain.new) }
     ensures idle { AreIdle chain.old → AreIdle chain.new }

@@ -10,7 +10,7 @@ use Rattle.ftc_mbox.specs.Bounds.{IsRule}
 use Rattle.ftc_mbox.specs.declared.rule.Rule.{Rule}
 use Rattle.ftc_mbox.specs.declared.rule.Rule.TheVariants.{Balance}
 use Rattle.ftc_serial.specs.declared.step.Step.{Step}
-use Rattle.ftc_serial.specs.Serial.{opening}
+use Rattle.ftc_serial.specs.Serial.{serial_opening}
 use Rattle.ftc_audit.specs.declared.line.ClientLine.{ClientLine}
 use Rattle.ftc_audit.specs.Visits.{visits}
 use Rattle.ftc_audit.specs.Backends.{client_line_of, GaveBackend, SameClient}
@@ -29,13 +29,13 @@ some_once one other same = cc
 
 pub one_backend : (rules : List Rule) (packets : List (List ℕ)) (steps : List Step) (server : ℕ) (rule : BalanceRule)
     (one other : ClientLine) → AllByRecursion IsRule rules → slice_get rules server ≡ Some (Balance rule)
-    → GaveBackend rule server (visits rules (opening packets) steps) one
-    → GaveBackend rule server (visits rules (opening packets) steps) other
+    → GaveBackend rule server (visits rules (serial_opening packets) steps) one
+    → GaveBackend rule server (visits rules (serial_opening packets) steps) other
     → SameClient one other → one.backend ≡ other.backend
 one_backend rules packets steps server rule one other all known gave given same =
     let fits : IsBalanceRule rule = rule_at rules server (Balance rule) all known in
     let kept = balancing rule fits in
-    let start = opening packets in
+    let start = serial_opening packets in
     let content : Content = (end_of rules start steps).maps server in
     let has : HasBackend content one = ends_given (Balance rule)
     (client_line_of rule) Holds HasBackend kept rules server known one start steps tt gave in

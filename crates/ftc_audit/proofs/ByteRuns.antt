@@ -25,8 +25,8 @@ use Rattle.ftc_serial.specs.declared.position.Position.TheVariants as position
 use Rattle.ftc_serial.specs.declared.step.Step.{Step}
 use Rattle.ftc_serial.specs.declared.visit.Asked.{Asked}
 use Rattle.ftc_serial.specs.Take.{Outcome, asked_from, asked, answer_at, ended, stopped, packet_after, taken}
-use Rattle.ftc_serial.specs.Serial.{State, Entry, Visited, Given, opening, entry_of, position_after, after}
-use Rattle.ftc_serial.specs.Entries.{IsLegal}
+use Rattle.ftc_serial.specs.Serial.{State, Entry, Visited, Given, serial_opening, entry_of, position_after, after}
+use Rattle.ftc_serial.specs.Entries.{IsRightEntry}
 use Rattle.ftc_serial.proofs.Functions.{with_at_cases}
 use Rattle.ftc_serial.proofs.Legal.{IsVisitLegal, visit_legal, told_legal}
 use Rattle.ftc_audit.specs.Visits.{Seen, AreOfBytes, waiting_bytes, seen_at, visits}
@@ -140,7 +140,7 @@ module _ (rules : List Rule) (all : AllByRecursion IsRule rules) where
       (legal : IsVisitLegal rules state server packet outcome) → IsState state → AreBytes legal.bytes
   waiting_fits state server packet outcome legal is = subst IsPlace legal.waits (is.places packet)
 
-  state_on : (state : State) (entry : Entry) → IsLegal rules state entry → IsState state
+  state_on : (state : State) (entry : Entry) → IsRightEntry rules state entry → IsState state
       → IsState (after (length rules) state entry)
   state_on state (Visited server packet outcome) fair is =
       let legal = visit_legal rules state server packet outcome fair in
@@ -190,7 +190,7 @@ opening_place [] packet all = no_bytes
 opening_place (bytes ∷ packets) zero all = all.0
 opening_place (bytes ∷ packets) (suc packet) all = opening_place packets packet all.1
 
-opening_fits : (packets : List (List ℕ)) → AllByRecursion AreBytes packets → IsState (opening packets)
+opening_fits : (packets : List (List ℕ)) → AllByRecursion AreBytes packets → IsState (serial_opening packets)
 opening_fits packets all = record {
   kept = λ server key. subst IsValue (sym (get-empty (slice_cmp nat_cmp) key)) tt;
   places = λ packet. opening_place packets packet all;
@@ -198,5 +198,5 @@ opening_fits packets all = record {
 
 pub stay_bytes : (rules : List Rule) (packets : List (List ℕ)) (steps : List Step) → AllByRecursion IsRule rules
     → AllByRecursion AreBytes packets
-    → AreOfBytes (visits rules (opening packets) steps)
-stay_bytes rules packets steps are bytes = run_fits rules are (opening packets) steps (opening_fits packets bytes)
+    → AreOfBytes (visits rules (serial_opening packets) steps)
+stay_bytes rules packets steps are bytes = run_fits rules are (serial_opening packets) steps (opening_fits packets bytes)

@@ -12,7 +12,7 @@ use Rattle.ftc_serial.specs.declared.step.Step.{Step}
 use Rattle.ftc_serial.specs.Words.{AnyOf}
 use Rattle.ftc_serial.specs.Take.{Outcome, taken}
 use Rattle.ftc_serial.specs.Serial.{State, Entry, Visited, Given, entry_of, after, serial_run}
-use Rattle.ftc_serial.specs.Entries.{IsLegal}
+use Rattle.ftc_serial.specs.Entries.{IsRightEntry}
 use Rattle.ftc_serial.proofs.Functions.{with_at_cases}
 use Rattle.ftc_serial.proofs.Legal.{visit_legal, told_legal}
 use Rattle.ftc_audit.specs.declared.line.PortLine.{PortLine}
@@ -75,14 +75,14 @@ of_behind rule server xs ys key value is = record {
 module _ (rule : NatRule) (few : rule.last ≤ 65535) (rules : List Rule) (server : ℕ)
     (known : slice_get rules server ≡ Some (Nat rule)) where
   is_outcome : (state : State) (at packet : ℕ) (outcome : Outcome)
-      (legal : IsLegal rules state (Visited at packet outcome)) → server ≡ at
+      (legal : IsRightEntry rules state (Visited at packet outcome)) → server ≡ at
       → taken (Nat rule) (visit_legal rules state at packet outcome legal).bytes (state.maps server) ≡ outcome
   is_outcome state at packet outcome legal same =
       outcome_is (Nat rule) (port_line_of rule) (Holds rule) HasPort (translating rule few) rules server known state at
       packet outcome (visit_legal rules state at packet outcome legal) same
 
   -- a step leaves what stood there, or gave it
-  come_on : (state : State) (entry : Entry) → IsLegal rules state entry → (key value : List ℕ) → IsPortKey key
+  come_on : (state : State) (entry : Entry) → IsRightEntry rules state entry → (key value : List ℕ) → IsPortKey key
       → get ((after (length rules) state entry).maps server) key ≡ Some value
       → (get (state.maps server) key ≡ Some value) ⊎ IsOf rule server (seen_at state entry) key value
   come_on state (Visited at packet outcome) legal key value begins =

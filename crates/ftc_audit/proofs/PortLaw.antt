@@ -21,7 +21,7 @@ use Rattle.ftc_mbox.specs.declared.rule.Rule.{Rule}
 use Rattle.ftc_mbox.specs.declared.rule.Rule.TheVariants.{Nat}
 use Rattle.ftc_serial.proofs.Functions.{any_of_all}
 use Rattle.ftc_serial.specs.declared.step.Step.{Step}
-use Rattle.ftc_serial.specs.Serial.{opening}
+use Rattle.ftc_serial.specs.Serial.{serial_opening}
 use Rattle.ftc_audit.specs.declared.line.PortLine.{PortLine}
 use Rattle.ftc_audit.specs.Visits.{Seen, AreOfBytes, visits}
 use Rattle.ftc_audit.specs.Ports.{source_port, port_line_of_flow, port_line_of, GavePort, SameInside}
@@ -175,14 +175,14 @@ starts_holding rule = record {
 pub ports_apart : (rules : List Rule) (packets : List (List ℕ)) (steps : List Step) (server : ℕ) (rule : NatRule)
     (one other : PortLine) → AllByRecursion IsRule rules → AllByRecursion AreBytes packets
     → slice_get rules server ≡ Some (Nat rule)
-    → GavePort rule server (visits rules (opening packets) steps) one → GavePort rule server (visits rules
-    (opening packets) steps) other
+    → GavePort rule server (visits rules (serial_opening packets) steps) one → GavePort rule server (visits rules
+    (serial_opening packets) steps) other
     → SameInside one other ↔ (one.outside ≡ other.outside)
 ports_apart rules packets steps server rule one other all bytes known gave given =
     let few : IsNatRule rule = rule_at rules server (Nat rule) all known in
     let are = stay_bytes rules packets steps all bytes in
     let kept = translating rule few.last in
-    let start = opening packets in
+    let start = serial_opening packets in
     let content : Content = (end_of rules start steps).maps server in
     let empty_holds = starts_holding rule in
     let held : Holds rule content = ends_holding (Nat rule) (port_line_of rule)

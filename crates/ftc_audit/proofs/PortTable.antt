@@ -24,7 +24,7 @@ use Rattle.ftc_mbox.specs.declared.rule.Rule.{Rule}
 use Rattle.ftc_mbox.specs.declared.rule.Rule.TheVariants.{Pass, Monitor, Nat, Firewall, Balance}
 use Rattle.ftc_serial.specs.declared.step.Step.{Step}
 use Rattle.ftc_serial.specs.Words.{AnyOf}
-use Rattle.ftc_serial.specs.Serial.{State, opening, serial_run}
+use Rattle.ftc_serial.specs.Serial.{State, serial_opening, serial_run}
 use Rattle.ftc_serial.proofs.Functions.{any_of_all}
 use Rattle.ftc_audit.specs.declared.line.PortLine.{PortLine}
 use Rattle.ftc_audit.specs.Visits.{Seen, visits}
@@ -87,13 +87,13 @@ module _ (rules : List Rule) (packets : List (List ℕ)) (steps : List Step) (se
     (all : AllByRecursion IsRule rules) (bytes : AllByRecursion AreBytes packets)
     (known : slice_get rules server ≡ Some (Nat rule)) where
   abbrev run : List Seen
-  run = visits rules (opening packets) steps
+  run = visits rules (serial_opening packets) steps
 
   abbrev Gave : PortLine → Type 0
   Gave line = GavePort rule server run line
 
   abbrev pub content_then : Content
-  content_then = (end_of rules (opening packets) steps).maps server
+  content_then = (end_of rules (serial_opening packets) steps).maps server
 
   is_rule : IsNatRule rule
   is_rule = rule_at rules server (Nat rule) all known
@@ -107,7 +107,7 @@ module _ (rules : List Rule) (packets : List (List ℕ)) (steps : List Step) (se
   -- what stands at an endpoint's key was given
   stored : (key value : List ℕ) → IsPortKey key → get content_then key ≡ Some value → IsOf rule server run key value
   stored key value begins has =
-      elim (ends_come rule is_rule.last rules server known (opening packets) steps key value begins has) [
+      elim (ends_come rule is_rule.last rules server known (serial_opening packets) steps key value begins has) [
         | inl before ↦
             let none : None ≡ Some value = sym (get-empty (slice_cmp nat_cmp) key) ∙ before in
             absurd (cc)
@@ -129,7 +129,7 @@ module _ (rules : List Rule) (packets : List (List ℕ)) (steps : List Step) (se
   has_line : (line : PortLine) → Gave line → HasPort content_then line
   has_line line gave =
       ends_given (Nat rule) (port_line_of rule) (Holds rule) HasPort (translating rule is_rule.last) rules server known line
-      (opening packets) steps (starts_holding rule) gave
+      (serial_opening packets) steps (starts_holding rule) gave
 
   -- the lines of the listed pairs
   module _ (pairs : List Pair) (listed : map entry_of pairs ≡ entries content_then) where
@@ -285,11 +285,11 @@ pub record IsRead (rules : List Rule) (packets : List (List ℕ)) (steps : List 
 pub read : (rules : List Rule) (packets : List (List ℕ)) (steps : List Step) (server : ℕ) (end : State)
     (content : Content) (items pairs : List Pair) (lines : List PortLine) → AllByRecursion IsRule rules
     → AllByRecursion AreBytes packets → HasNat rules server
-    → serial_run rules (opening packets) steps ≡ Some end → content ≡ end.maps server
+    → serial_run rules (serial_opening packets) steps ≡ Some end → content ≡ end.maps server
     → map entry_of pairs ≡ entries content → items ≡ pairs → IsPermutation (filter_map line_in items) lines
     → IsNonDecreasingBy outside lines → IsRead rules packets steps server lines
 read rules packets steps server end content items pairs lines all bytes (rule, known) ran is listed same moved sorted =
-    let there : end_of rules (opening packets) steps ≡ end = ends_there rules (opening packets) steps end ran in
+    let there : end_of rules (serial_opening packets) steps ≡ end = ends_there rules (serial_opening packets) steps end ran in
     let now : content ≡ content_then rules packets steps server rule all bytes known =
     is ∙ sym (ap (λ (state : State). state.maps server) there) in
     let whole : map entry_of items ≡ entries (content_then rules packets steps server rule all bytes known) =

@@ -7,7 +7,7 @@ use Rattle.ftc_serial.specs.declared.step.Step.{Step}
 use Rattle.ftc_serial.specs.Words.{AnyOf, with_at}
 use Rattle.ftc_serial.specs.Take.{Outcome, taken}
 use Rattle.ftc_serial.specs.Serial.{State, Entry, Visited, Given, entry_of, after}
-use Rattle.ftc_serial.specs.Entries.{IsLegal}
+use Rattle.ftc_serial.specs.Entries.{IsRightEntry}
 use Rattle.ftc_serial.proofs.Functions.{with_at_cases}
 use Rattle.ftc_serial.proofs.Legal.{IsVisitLegal, visit_legal, told_legal}
 use Rattle.ftc_audit.specs.Visits.{Seen, waiting_bytes, seen_at, visits}
@@ -69,14 +69,14 @@ module _ (rule : Rule) {Line : Type 0} (line_of : Seen → Option Line) (Holds :
       (outcome_is state at packet outcome legal same) (own legal.bytes)))
       (λ apart. other)
 
-  holds_on : (state : State) (entry : Entry) → IsLegal rules state entry → Holds (state.maps server)
+  holds_on : (state : State) (entry : Entry) → IsRightEntry rules state entry → Holds (state.maps server)
       → Holds ((after (length rules) state entry).maps server)
   holds_on state (Visited at packet outcome) legal holds =
       after_visit Holds state at packet outcome (visit_legal rules state at packet outcome legal)
       (λ bytes. kept.holds bytes (state.maps server) holds) holds
   holds_on state (Given packet bytes) legal holds = holds
 
-  has_on : (line : Line) (state : State) (entry : Entry) → IsLegal rules state entry → Holds (state.maps server)
+  has_on : (line : Line) (state : State) (entry : Entry) → IsRightEntry rules state entry → Holds (state.maps server)
       → Has (state.maps server) line → Has ((after (length rules) state entry).maps server) line
   has_on line state (Visited at packet outcome) legal holds has =
       after_visit (λ content. Has content line) state at packet outcome
@@ -84,7 +84,7 @@ module _ (rule : Rule) {Line : Type 0} (line_of : Seen → Option Line) (Holds :
       (λ bytes. kept.has bytes (state.maps server) line holds has) has
   has_on line state (Given packet bytes) legal holds has = has
 
-  gives_on : (line : Line) (state : State) (entry : Entry) → IsLegal rules state entry → Holds (state.maps server)
+  gives_on : (line : Line) (state : State) (entry : Entry) → IsRightEntry rules state entry → Holds (state.maps server)
       → Gave (seen_at state entry) line → Has ((after (length rules) state entry).maps server) line
   gives_on line state (Visited at packet outcome) legal holds (inl (is, told)) =
       let fair = visit_legal rules state at packet outcome legal in

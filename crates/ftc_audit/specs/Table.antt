@@ -7,7 +7,7 @@ use Rattle.ftc_mbox.specs.declared.rule.Rule.{Rule}
 use Rattle.ftc_mbox.specs.declared.rule.Rule.TheVariants.{Nat}
 use Rattle.ftc_serial.specs.declared.step.Step.{Step}
 use Rattle.ftc_serial.specs.Words.{EachLater}
-use Rattle.ftc_serial.specs.Serial.{opening, serial_run}
+use Rattle.ftc_serial.specs.Serial.{serial_opening, serial_run}
 use Rattle.ftc_serial.specs.Illegal.{IsFirstIllegal}
 use Rattle.ftc_audit.specs.declared.line.PortLine.{PortLine}
 use Rattle.ftc_audit.specs.declared.cause.PortsCause.{PortsCause}
@@ -25,8 +25,8 @@ pub record IsTableOf (rules : List Rule) (packets : List (List ℕ)) (steps : Li
     (lines : List PortLine) : Type 0 where
   pub rule : NatRule
   pub nat : slice_get rules server ≡ Some (Nat rule)
-  pub run : IsSome (serial_run rules (opening packets) steps)
-  pub table : IsPortTable rule server (visits rules (opening packets) steps) lines
+  pub run : IsSome (serial_run rules (serial_opening packets) steps)
+  pub table : IsPortTable rule server (visits rules (serial_opening packets) steps) lines
 
 -- the middlebox of that server is a translator
 abbrev pub HasNat : List Rule → ℕ → Type 0
@@ -36,7 +36,7 @@ HasNat rules server = (rule : NatRule) × (slice_get rules server ≡ Some (Nat 
 abbrev pub IsCause : List Rule → List (List ℕ) → List Step → ℕ → PortsCause → Type 0
 IsCause rules packets steps server NotNat = ¬ HasNat rules server
 IsCause rules packets steps server (BadStep place) =
-    HasNat rules server × IsFirstIllegal rules (opening packets) steps place
+    HasNat rules server × IsFirstIllegal rules (serial_opening packets) steps place
 
 -- no inside endpoint has two lines
 abbrev pub AreApart : List PortLine → Type 0

@@ -2,7 +2,7 @@
 
 ghost use Rattle.std.specs.List.{AllByRecursion};
 ghost use Rattle.ftc_packet.specs.Layout.{AreBytes};
-ghost use Rattle.ftc_serial.specs.Packets.{bytes_of};
+ghost use Rattle.ftc_serial.specs.Packets.{bytes_of_packets};
 
 use ftc_pcap::Packets;
 
@@ -17,7 +17,7 @@ fn are_bytes(captured: &[u8])
 
 /// The packets of a capture are of bytes.
 pub fn are_of_bytes(packets: &Packets)
-    ensures { AllByRecursion AreBytes (bytes_of packets.now) }
+    ensures { AllByRecursion AreBytes (bytes_of_packets packets.now) }
 {
     for place in 0..packets.len() {
         are_bytes(packets.at(place).bytes.as_slice());

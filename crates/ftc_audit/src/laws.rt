@@ -9,7 +9,7 @@ ghost use Rattle.ftc_balance.specs.declared.rule.BalanceRule.{BalanceRule};
 ghost use Rattle.ftc_mbox.specs.declared.rule.Rule.{Rule};
 ghost use Rattle.ftc_mbox.specs.declared.rule.Rule.TheVariants.{Nat, Balance};
 ghost use Rattle.ftc_serial.specs.declared.step.Step.{Step};
-ghost use Rattle.ftc_serial.specs.Serial.{opening};
+ghost use Rattle.ftc_serial.specs.Serial.{serial_opening};
 ghost use Rattle.ftc_audit.specs.declared.line.PortLine.{PortLine as APortLine};
 ghost use Rattle.ftc_audit.specs.declared.line.ClientLine.{ClientLine as AClientLine};
 ghost use Rattle.ftc_audit.specs.Visits.{Seen, AreOfBytes, visits};
@@ -23,8 +23,8 @@ pub fn ports_are_apart()
     ensures { (rules : List Rule) (packets : List (List ℕ)) (steps : List Step) (server : ℕ) (rule : NatRule)
         (one other : APortLine) → AllByRecursion IsRule rules → AllByRecursion AreBytes packets →
         slice_get rules server ≡ Some (Nat rule) →
-        GavePort rule server (visits rules (opening packets) steps) one →
-        GavePort rule server (visits rules (opening packets) steps) other →
+        GavePort rule server (visits rules (serial_opening packets) steps) one →
+        GavePort rule server (visits rules (serial_opening packets) steps) other →
         SameInside one other ↔ (one.outside ≡ other.outside) }
 {}
 
@@ -32,8 +32,8 @@ pub fn ports_are_apart()
 pub fn backends_stay()
     ensures { (rules : List Rule) (packets : List (List ℕ)) (steps : List Step) (server : ℕ) (rule : BalanceRule)
         (one other : AClientLine) → AllByRecursion IsRule rules → slice_get rules server ≡ Some (Balance rule) →
-        GaveBackend rule server (visits rules (opening packets) steps) one →
-        GaveBackend rule server (visits rules (opening packets) steps) other →
+        GaveBackend rule server (visits rules (serial_opening packets) steps) one →
+        GaveBackend rule server (visits rules (serial_opening packets) steps) other →
         SameClient one other → one.backend ≡ other.backend }
 {}
 
@@ -46,5 +46,5 @@ pub fn one_table()
 /// Packets of bytes stay packets of bytes, whatever visits they are of.
 pub fn packets_stay_bytes()
     ensures { (rules : List Rule) (packets : List (List ℕ)) (steps : List Step) → AllByRecursion IsRule rules →
-        AllByRecursion AreBytes packets → AreOfBytes (visits rules (opening packets) steps) }
+        AllByRecursion AreBytes packets → AreOfBytes (visits rules (serial_opening packets) steps) }
 {}

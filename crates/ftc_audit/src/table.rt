@@ -4,7 +4,7 @@ ghost use Rattle.std.specs.Prelude.{◌≡◌, IfOk, slice_get};
 ghost use Rattle.std.specs.List.{filter_map};
 ghost use Rattle.std.specs.List.Sorted.{IsPermutation, IsNonDecreasingBy};
 ghost use Rattle.ftc_base.specs.Refused.{IfBad};
-ghost use Rattle.ftc_serial.specs.Packets.{bytes_of};
+ghost use Rattle.ftc_serial.specs.Packets.{bytes_of_packets};
 ghost use Rattle.ftc_audit.specs.Stored.{line_in, is_nat};
 ghost use Rattle.ftc_audit.specs.Table.{IsTableOf, IsCause, AreApart, AreNamed};
 
@@ -75,10 +75,10 @@ pub fn ports(
     trace: &Trace,
     server: ServerId,
 ) -> Result<PortLines, Refuse<PortsCause>>
-    ensures table { IfOk result (λ lines. IsTableOf spec.now.rules (bytes_of packets.now) trace.now server lines) }
+    ensures table { IfOk result (λ lines. IsTableOf spec.now.rules (bytes_of_packets packets.now) trace.now server lines) }
     ensures apart { IfOk result AreApart }
     ensures named { IfOk result AreNamed }
-    ensures bad { IfBad result (IsCause spec.now.rules (bytes_of packets.now) trace.now server) }
+    ensures bad { IfBad result (IsCause spec.now.rules (bytes_of_packets packets.now) trace.now server) }
 {
     if !is_nat(spec.rules(), server) {
         return Err(Refuse::Bad(PortsCause::NotNat));

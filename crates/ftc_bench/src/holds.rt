@@ -3,7 +3,7 @@
 ghost use Rattle.std.specs.Prelude.{◌≡◌, false};
 ghost use Rattle.ftc_journal.specs.declared.job.Job.TheVariants as job;
 ghost use Rattle.ftc_protocol.specs.Jobs.{IsLegalJob};
-ghost use Rattle.ftc_chain.specs.ChainRun.{setting_in, state_of};
+ghost use Rattle.ftc_chain.specs.ChainRun.{setting_in, chain_state};
 ghost use Rattle.ftc_chain.specs.Doing.{is_visit};
 
 use crate::slow::Load;
@@ -172,7 +172,7 @@ fn visit<R: Clock>(
     server: ServerId,
     packet: PacketNo,
 ) -> Option<()>
-    requires { ∥ IsLegalJob (setting_in chain.old) (state_of chain.old) (job.Visit server packet) ∥₁ }
+    requires { ∥ IsLegalJob (setting_in chain.old) (chain_state chain.old) (job.Visit server packet) ∥₁ }
 {
     let worker = WorkerId::new(0)?;
     let place = usize::from(server.number());
@@ -205,7 +205,7 @@ fn take<R: Clock>(
     link: ServerId,
     origin: PacketNo,
 ) -> Option<()>
-    requires { ∥ IsLegalJob (setting_in chain.old) (state_of chain.old) (job.Take link origin) ∥₁ }
+    requires { ∥ IsLegalJob (setting_in chain.old) (chain_state chain.old) (job.Take link origin) ∥₁ }
 {
     let start = meter.start()?;
     let frame = chain.frame(link).ok()??;
@@ -220,7 +220,7 @@ fn take<R: Clock>(
 /// A job that is neither.
 fn step<R: Clock>(meter: &mut Meter<'_, R>, chain: &mut Chain<'_>, job: &Job) -> Option<()>
     requires other { is_visit job.now ≡ false }
-    requires legal { ∥ IsLegalJob (setting_in chain.old) (state_of chain.old) job.now ∥₁ }
+    requires legal { ∥ IsLegalJob (setting_in chain.old) (chain_state chain.old) job.now ∥₁ }
 {
     let start = meter.start()?;
     chain.step(job).ok()?;
@@ -236,7 +236,7 @@ fn make<R: Clock>(
     load: &Load,
     job: &Job,
 ) -> Option<()>
-    requires { ∥ IsLegalJob (setting_in chain.old) (state_of chain.old) job.now ∥₁ }
+    requires { ∥ IsLegalJob (setting_in chain.old) (chain_state chain.old) job.now ∥₁ }
 {
     match *job {
         Job::Visit { server, packet } => visit(meter, alloc, chain, load, server, packet),

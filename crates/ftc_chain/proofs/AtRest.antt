@@ -8,7 +8,7 @@ use Rattle.ftc_journal.specs.declared.event.Event.{Event}
 use Rattle.ftc_journal.specs.declared.event.Event.TheVariants.{Enter, Take, Apply, Visit, Pass, Lose, Carry, Crash, Recover, Pull, Propagate, Release}
 use Rattle.ftc_journal.specs.declared.job.Job.{Job}
 use Rattle.ftc_pcap.specs.declared.packets.Packet.{Packet}
-use Rattle.ftc_serial.specs.Packets.{bytes_of}
+use Rattle.ftc_serial.specs.Packets.{bytes_of_packets}
 use Rattle.ftc_protocol.specs.Jobs.{IsLegalJob}
 use Rattle.ftc_protocol.specs.Measure.{most_messages}
 use Rattle.ftc_protocol.specs.Next.{next}
@@ -31,7 +31,7 @@ if_some Fact Other (Some item) from fact = from item fact
 
 -- the packets are few
 pub short_packets : (packets : List Packet) (size : ℕ) → size ≡ length packets → size ≤ MOST_RECORDS →
-    length (bytes_of packets) ≤ MOST_RECORDS
+    length (bytes_of_packets packets) ≤ MOST_RECORDS
 short_packets packets size same few = let each = bytes_count packets in omega (arith, same, few, each)
 
 -- messages that begin without a packet are counted

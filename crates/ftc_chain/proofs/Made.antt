@@ -5,7 +5,7 @@ use Rattle.ftc_base.specs.declared.released.Released.{Released}
 use Rattle.ftc_journal.specs.declared.event.Event.{Event}
 use Rattle.ftc_journal.specs.declared.job.Job.{Job}
 use Rattle.ftc_journal.specs.declared.job.Job.TheVariants.{Enter, Take, Apply, Visit, Pass, Lose, Carry, Crash, Recover, Pull, Propagate}
-use Rattle.ftc_chain.specs.ChainRun.{ChainRun, setting_in, state_of}
+use Rattle.ftc_chain.specs.ChainRun.{ChainRun, setting_in, chain_state}
 use Rattle.ftc_network.specs.Slots.{head_of}
 use Rattle.ftc_network.specs.Stand.{IsNetwork}
 use Rattle.ftc_txn.specs.Head.{HeadState}
@@ -17,7 +17,7 @@ use Rattle.ftc_protocol.specs.Next.{next}
 use Rattle.ftc_protocol.specs.Run.{IsRun, state_after}
 use Rattle.ftc_protocol.specs.Setting.{Setting}
 use Rattle.ftc_protocol.specs.State.{ChainState, opening}
-use Rattle.ftc_serial.specs.Packets.{bytes_of}
+use Rattle.ftc_serial.specs.Packets.{bytes_of_packets}
 use Rattle.ftc_chain.specs.declared.course.Course.{Course}
 use Rattle.ftc_chain.specs.declared.given.Given.{Given}
 use Rattle.ftc_chain.specs.Course.{IsCourse, IsResting, HasReleased, HasMade, state_by}
@@ -30,7 +30,7 @@ use Rattle.ftc_chain.proofs.Releases.{one_event, state_and, is_run_state}
 abbrev pub run_of : Given → Course → ChainRun
 run_of given course = record {
   chain = given.spec.now;
-  packets = bytes_of given.packets.now;
+  packets = bytes_of_packets given.packets.now;
   script = given.script.now;
   journal = course.journal.items;
   drained = take course.outlet.drained (released_in (state_by (setting_by given) course.journal.items).trace);
@@ -41,7 +41,7 @@ run_of given course = record {
 abbrev with_events : Given → List Event → List Released → List (Option HeadState) → ChainRun
 with_events given journal drained heads = record {
   chain = given.spec.now;
-  packets = bytes_of given.packets.now;
+  packets = bytes_of_packets given.packets.now;
   script = given.script.now;
   journal = journal;
   drained = drained;
@@ -132,12 +132,12 @@ module _ (given : Given) (slot : ℕ) (job : Job) (old mid new : Course) (is : I
 
 -- a chain before a job: it rests, and the job is legal
 pub before : (given : Given) (course : Course) (job : Job) (run : ChainRun) → run_of given course ≡ run →
-    ∥ IsResting (setting_by given) course ∥₁ → ∥ IsLegalJob (setting_in run) (state_of run) job ∥₁ →
+    ∥ IsResting (setting_by given) course ∥₁ → ∥ IsLegalJob (setting_in run) (chain_state run) job ∥₁ →
     ∥ IsResting (setting_by given) course
     × IsLegalJob (setting_by given) (state_by (setting_by given) course.journal.items) job ∥₁
 before given course job run same resting legal =
     ∥∥₁_map₂ resting
-    (subst (λ (r : ChainRun). ∥ IsLegalJob (setting_in r) (state_of r) job ∥₁) (sym same) legal) (λ is may. (is, may))
+    (subst (λ (r : ChainRun). ∥ IsLegalJob (setting_in r) (chain_state r) job ∥₁) (sym same) legal) (λ is may. (is, may))
 
 -- what a network did for a job stands between
 pub did_between : (given : Given) (slot : ℕ) (job : Job) (old room mid : Course) (event : Event) →
@@ -166,7 +166,7 @@ did_between given slot job old room mid event is may legal same same_network wai
 -- a chain after a job, in whatever slot, and the releases that are due
 pub stepped : (given : Given) (slot : ℕ) (job : Job) (old room mid new : Course) (event : Event) (run : ChainRun) →
     run_of given old ≡ run → ∥ IsResting (setting_by given) old ∥₁ →
-    ∥ IsLegalJob (setting_in run) (state_of run) job ∥₁ →
+    ∥ IsLegalJob (setting_in run) (chain_state run) job ∥₁ →
     ((setting : Setting) (state : ChainState) → IsLegalJob setting state job →
     IsLegal setting state (event_of setting state slot job)) →
     room.journal.items ≡ old.journal.items → room.network ≡ old.network →

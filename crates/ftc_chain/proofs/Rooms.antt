@@ -10,22 +10,22 @@ use Rattle.ftc_protocol.specs.Measure.{most_messages}
 use Rattle.ftc_protocol.specs.Setting.{Setting, count}
 use Rattle.ftc_protocol.specs.State.{ChainState}
 use Rattle.ftc_script.specs.declared.line.ScriptLine.{ScriptLine}
-use Rattle.ftc_serial.specs.Packets.{bytes_of}
+use Rattle.ftc_serial.specs.Packets.{bytes_of_packets}
 use Rattle.ftc_network.specs.declared.network.Network.{Network}
 use Rattle.ftc_chain.specs.Doing.{MayDo}
 use Rattle.ftc_chain.proofs.Permitted.{is_below}
 
 -- the bytes of a packet of a capture
 pub bytes_at : (packets : List Packet) (place : ℕ) (packet : Packet) → slice_get packets place ≡ Some packet →
-    packet.bytes ≡ slice_index_or (bytes_of packets) place []
-bytes_at packets place packet same = sym (get_or_from_slice_get (bytes_of packets) place packet.bytes []
+    packet.bytes ≡ slice_index_or (bytes_of_packets packets) place []
+bytes_at packets place packet same = sym (get_or_from_slice_get (bytes_of_packets packets) place packet.bytes []
     (slice_get-map (λ (p : Packet). p.bytes) packets place ∙ ap (option_map (λ (p : Packet). p.bytes)) same))
 
 -- there are as many as packets
-pub bytes_count : (packets : List Packet) → length (bytes_of packets) ≡ length packets
+pub bytes_count : (packets : List Packet) → length (bytes_of_packets packets) ≡ length packets
 bytes_count packets = length-map packets (λ (p : Packet). p.bytes)
 
-pub few_bytes : (packets : List Packet) (most : ℕ) → length packets ≤ most → length (bytes_of packets) ≤ most
+pub few_bytes : (packets : List Packet) (most : ℕ) → length packets ≤ most → length (bytes_of_packets packets) ≤ most
 few_bytes packets most few = omega (arith, few, length-map packets (λ (p : Packet). p.bytes))
 
 -- of packets that entered

@@ -7,7 +7,7 @@ use Rattle.ftc_base.specs.declared.ask.Ask.{Ask}
 use Rattle.ftc_base.specs.declared.ask.Ask.TheVariants.{Read, Finish}
 use Rattle.ftc_mbox.specs.Ask.{ask}
 use Rattle.ftc_protocol.specs.Drive.{IsNoneDue}
-use Rattle.ftc_protocol.specs.Next.{bytes_of}
+use Rattle.ftc_protocol.specs.Next.{message_bytes}
 use Rattle.ftc_protocol.specs.Run.{IsRunState}
 use Rattle.ftc_protocol.specs.Setting.{Setting, servers, rule_at}
 use Rattle.ftc_protocol.specs.State.{ChainState}
@@ -15,7 +15,7 @@ use Rattle.ftc_server.specs.declared.answers.CommitAnswer.{CommitAnswer}
 use Rattle.ftc_server.specs.declared.answers.CommitAnswer.TheVariants as commit
 use Rattle.ftc_server.specs.declared.server.Server.{Server}
 use Rattle.ftc_server.specs.Looks.{ask_in}
-use Rattle.ftc_server.specs.State.{ServerState, state_of as fields_of}
+use Rattle.ftc_server.specs.State.{ServerState, fields_of as fields_of}
 use Rattle.ftc_server.specs.Steps.{Reads, EndsVisit}
 use Rattle.ftc_txn.specs.Head.{HeadState, RunsUnwounded, next_age}
 use Rattle.ftc_txn.specs.Slots.{Running, slot_at, begun, restarted}
@@ -263,7 +263,7 @@ abbrev pub Asks : Type 0
 Asks = (setting : Setting) (state : ChainState) (number worker : ℕ) (server : Server) (running : Running) →
     IsRunState setting state → IsUp setting state number server → IsNoneDue setting state →
     slot_at server.head.slots worker ≡ Some running →
-    ask_in server worker ≡ Some (ask (rule_at setting number) (bytes_of (state.message running.packet)) running.answers)
+    ask_in server worker ≡ Some (ask (rule_at setting number) (message_bytes (state.message running.packet)) running.answers)
 
 module _ (given : Given) (old : Course) (worker server : ℕ) (rests : IsResting (setting_by given) old)
     (inside : server < servers (setting_by given)) (asks : Asks)
@@ -454,7 +454,7 @@ abbrev pub Carries : Type 0
 Carries = (setting : Setting) (state : ChainState) (number worker : ℕ) (server : Server) (running : Running) →
     IsRunState setting state → IsUp setting state number server → IsNoneDue setting state →
     slot_at server.head.slots worker ≡ Some running →
-    bytes_run server (Some running) ≡ Some (bytes_of (state.message running.packet))
+    bytes_run server (Some running) ≡ Some (message_bytes (state.message running.packet))
 
 pub looks_at : (given : Given) (course : Course) (worker server : ℕ) (bytes : Option (List ℕ)) →
     IsResting (setting_by given) course → server < servers (setting_by given) →
@@ -467,7 +467,7 @@ looks_at given course worker server bytes rests inside runs carries same =
     let live_is = live_of (server_in course.network.servers.items server) worker runs in
     let up : IsUp setting state server live_is.live =
     subst (IsSlot setting state server) live_is.is (rests.course_is.stands.servers_are server inside) in
-    let are : bytes ≡ Some (bytes_of (state.message live_is.running.packet)) =
+    let are : bytes ≡ Some (message_bytes (state.message live_is.running.packet)) =
     same ∙ (ap (λ (slot : Option Server). bytes_run_at slot worker) live_is.is
     ∙ (ap (bytes_run live_is.live) live_is.runs
     ∙ carries setting state server worker live_is.live live_is.running (is_run_state setting course rests.course_is) up

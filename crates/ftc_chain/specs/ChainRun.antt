@@ -24,9 +24,9 @@ abbrev pub setting_in : ChainRun → Setting
 setting_in run = setting_of run.chain run.packets run.script
 
 -- the state to which its events lead
-abbrev pub state_of : ChainRun → ChainState
-state_of run = state_after (setting_in run) (opening (setting_in run)) run.journal
+abbrev pub chain_state : ChainRun → ChainState
+chain_state run = state_after (setting_in run) (opening (setting_in run)) run.journal
 
 -- the records that it released, in order
 abbrev pub released_by : ChainRun → List Released
-released_by run = released_in (state_of run).trace
+released_by run = released_in (chain_state run).trace

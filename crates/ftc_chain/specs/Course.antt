@@ -13,7 +13,7 @@ use Rattle.ftc_protocol.specs.Run.{IsRun, state_after}
 use Rattle.ftc_protocol.specs.Setting.{Setting, IsSetting}
 use Rattle.ftc_protocol.specs.State.{ChainState, opening}
 use Rattle.ftc_chain.specs.declared.course.Course.{Course}
-use Rattle.ftc_chain.specs.ChainRun.{ChainRun, setting_in, state_of}
+use Rattle.ftc_chain.specs.ChainRun.{ChainRun, setting_in, chain_state}
 use Rattle.ftc_chain.specs.Outlet.{IsOutlet}
 
 -- the state to which these events lead
@@ -50,8 +50,8 @@ RunsOnce network = (worker one other : ℕ) → one ≢ other → runs_in (head_
 pub record HasMade (slot : ℕ) (job : Job) (old new : ChainRun) : Type 0 where
   pub releases : List Event
   pub due : AreReleases (setting_in old)
-      (next (setting_in old) (state_of old) (event_of (setting_in old) (state_of old) slot job)) releases
+      (next (setting_in old) (chain_state old) (event_of (setting_in old) (chain_state old) slot job)) releases
   pub grown : new ≡ record old {
-    journal = old.journal ++ event_of (setting_in old) (state_of old) slot job ∷ releases;
+    journal = old.journal ++ event_of (setting_in old) (chain_state old) slot job ∷ releases;
     heads = new.heads;
   }

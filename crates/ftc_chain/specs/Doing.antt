@@ -8,14 +8,14 @@ use Rattle.ftc_protocol.specs.Next.{next}
 use Rattle.ftc_protocol.specs.Run.{IsRunState}
 use Rattle.ftc_protocol.specs.Setting.{Setting, setting_of}
 use Rattle.ftc_protocol.specs.State.{ChainState}
-use Rattle.ftc_serial.specs.Packets.{bytes_of}
+use Rattle.ftc_serial.specs.Packets.{bytes_of_packets}
 use Rattle.ftc_network.specs.declared.network.Network.{Network}
 use Rattle.ftc_network.specs.Slots.{head_at, AreSameHeads, AreOtherHeads, IsIdleHead}
 use Rattle.ftc_network.specs.Stand.{IsNetwork}
 use Rattle.ftc_chain.specs.declared.given.Given.{Given}
 
 abbrev pub setting_by : Given → Setting
-setting_by given = setting_of given.spec.now (bytes_of given.packets.now) given.script.now
+setting_by given = setting_of given.spec.now (bytes_of_packets given.packets.now) given.script.now
 
 -- the script was accepted for the ring of the chain and for as many packets
 pub record IsGiven (given : Given) : Type 0 where

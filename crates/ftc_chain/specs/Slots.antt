@@ -8,7 +8,7 @@ use Rattle.ftc_base.specs.declared.ask.Finish.{Finish}
 use Rattle.ftc_journal.specs.declared.job.Job.{Job}
 use Rattle.ftc_journal.specs.declared.job.Job.TheVariants as job
 use Rattle.ftc_mbox.specs.Ask.{ask as asked}
-use Rattle.ftc_protocol.specs.Next.{bytes_of}
+use Rattle.ftc_protocol.specs.Next.{message_bytes}
 use Rattle.ftc_protocol.specs.Setting.{rule_at}
 use Rattle.ftc_message.specs.Logged.{Logged}
 use Rattle.ftc_server.specs.declared.answers.CommitAnswer.{CommitAnswer}
@@ -19,7 +19,7 @@ use Rattle.ftc_txn.specs.Steps.{Reads as HeadReads, HasCommitted, HasQuit, resta
 use Rattle.ftc_txn.specs.declared.answers.ReadAnswer.{ReadAnswer}
 use Rattle.ftc_txn.specs.declared.answers.ReadAnswer.TheVariants as read
 use Rattle.ftc_network.specs.Slots.{runs_in, ages_left_in, is_running_in, IsIdleHead}
-use Rattle.ftc_chain.specs.ChainRun.{ChainRun, setting_in, state_of}
+use Rattle.ftc_chain.specs.ChainRun.{ChainRun, setting_in, chain_state}
 use Rattle.ftc_chain.specs.Course.{HasMade}
 
 -- ---- what is read off
@@ -50,7 +50,7 @@ ages_left_at run server = ages_left_in 18446744073709551615 (head_in run server)
 
 -- the bytes of a packet inside the chain, as they are at the server that holds it
 abbrev pub bytes_in : ChainRun → ℕ → List ℕ
-bytes_in run packet = bytes_of ((state_of run).message packet)
+bytes_in run packet = message_bytes ((chain_state run).message packet)
 
 -- what the rule of a server asks after the answers of what a slot runs there
 abbrev pub ask_at : ChainRun → ℕ → Running → Ask

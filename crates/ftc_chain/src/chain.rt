@@ -3,7 +3,7 @@
 ghost use Rattle.std.specs.Prelude.{◌≡◌, ◌<◌, ◌≤◌, ℕ, [], ◌∷◌, ◌++◌, true, false, length, take, OnOk, OnErr, IfOk, IfSome, IsNone};
 ghost use Rattle.ftc_base.specs.declared.limits.TheConstants.{FINISHING_SLOT};
 ghost use Rattle.ftc_journal.specs.declared.job.Job.TheVariants as job;
-ghost use Rattle.ftc_serial.specs.Packets.{bytes_of};
+ghost use Rattle.ftc_serial.specs.Packets.{bytes_of_packets};
 ghost use Rattle.ftc_chain.specs.Doing.{is_visit};
 
 use crate::course::Course;
@@ -37,7 +37,7 @@ pub struct Chain<'a> {
 impl<'a> Model for Chain<'a> {
     ghost use Rattle.std.specs.Prelude.{map, take};
     ghost use Rattle.std.specs.Coded.{codes};
-    ghost use Rattle.ftc_serial.specs.Packets.{bytes_of};
+    ghost use Rattle.ftc_serial.specs.Packets.{bytes_of_packets};
     ghost use Rattle.ftc_protocol.specs.Moment.{released_in};
     ghost use Rattle.ftc_txn.specs.Head.{head_code};
     ghost use Rattle.ftc_network.specs.Slots.{head_of};
@@ -51,7 +51,7 @@ impl<'a> Model for Chain<'a> {
 
     ghost view = { λ chain. record {
       chain = chain.given.spec.now;
-      packets = bytes_of chain.given.packets.now;
+      packets = bytes_of_packets chain.given.packets.now;
       script = chain.given.script.now;
       journal = chain.course.journal.items;
       drained = take chain.course.outlet.drained
@@ -64,7 +64,7 @@ impl<'a> Model for Chain<'a> {
 }
 
 impl<'a> Chain<'a> {
-    ghost use Rattle.ftc_chain.specs.ChainRun.{setting_in, state_of, released_by};
+    ghost use Rattle.ftc_chain.specs.ChainRun.{setting_in, chain_state, released_by};
     ghost use Rattle.ftc_chain.specs.Course.{HasMade};
     ghost use Rattle.ftc_chain.specs.Messages.{AreUnderWay};
     ghost use Rattle.ftc_chain.specs.Slots.{head_in, is_running_at, IsIdle, AreIdle, IsButHeads, OthersStay, HeadsAfter};
@@ -86,7 +86,7 @@ impl<'a> Chain<'a> {
         requires packets { script.now.packets ≡ length packets.now }
         ensures new { IfOk result (λ chain. chain ≡ record {
           chain = spec.now;
-          packets = bytes_of packets.now;
+          packets = bytes_of_packets packets.now;
           script = script.now;
           journal = [];
           drained = [];
@@ -123,7 +123,7 @@ impl<'a> Chain<'a> {
 
     /// The packets of the capture.
     pub fn packets(&self) -> &Packets
-        ensures { bytes_of result.now ≡ self.now.packets }
+        ensures { bytes_of_packets result.now ≡ self.now.packets }
     {
         self.given.packets
     }
@@ -137,8 +137,8 @@ impl<'a> Chain<'a> {
 
     /// The first job in the order of jobs. None where the run is finished.
     pub fn next(&self) -> Option<Job>
-        ensures first { IfSome result (λ job. ∥ IsFirstJob (setting_in self.now) (state_of self.now) job ∥₁) }
-        ensures none { IsNone result → ∥ IsFinished (setting_in self.now) (state_of self.now) ∥₁ }
+        ensures first { IfSome result (λ job. ∥ IsFirstJob (setting_in self.now) (chain_state self.now) job ∥₁) }
+        ensures none { IsNone result → ∥ IsFinished (setting_in self.now) (chain_state self.now) ∥₁ }
     {
         accepted();
         few_propagates();
@@ -149,8 +149,8 @@ impl<'a> Chain<'a> {
 
     /// Whether no event is legal any more.
     pub fn finished(&self) -> bool
-        ensures finished { result ≡ true → ∥ IsFinished (setting_in self.now) (state_of self.now) ∥₁ }
-        ensures unfinished { result ≡ false → IsFinished (setting_in self.now) (state_of self.now) → ⊥ }
+        ensures finished { result ≡ true → ∥ IsFinished (setting_in self.now) (chain_state self.now) ∥₁ }
+        ensures unfinished { result ≡ false → IsFinished (setting_in self.now) (chain_state self.now) → ⊥ }
     {
         order_of_jobs();
         self.next().is_none()
@@ -158,8 +158,8 @@ impl<'a> Chain<'a> {
 
     /// Whether a job is legal.
     pub fn legal(&self, job: &Job) -> bool
-        ensures yes { result ≡ true → ∥ IsLegalJob (setting_in self.now) (state_of self.now) job.now ∥₁ }
-        ensures no { result ≡ false → IsLegalJob (setting_in self.now) (state_of self.now) job.now → ⊥ }
+        ensures yes { result ≡ true → ∥ IsLegalJob (setting_in self.now) (chain_state self.now) job.now ∥₁ }
+        ensures no { result ≡ false → IsLegalJob (setting_in self.now) (chain_state self.now) job.now → ⊥ }
     {
         accepted();
         few_propagates();
@@ -171,7 +171,7 @@ impl<'a> Chain<'a> {
     /// All legal jobs but the visits that a slot runs, each once, in no order.
     pub fn jobs(&self) -> Result<Jobs, NoMemory>
         ensures { IfOk result (λ jobs.
-            ∥ AreJobs (is_running_at self.now) (setting_in self.now) (state_of self.now) jobs ∥₁) }
+            ∥ AreJobs (is_running_at self.now) (setting_in self.now) (chain_state self.now) jobs ∥₁) }
     {
         accepted();
         few_propagates();
@@ -185,7 +185,7 @@ impl<'a> Chain<'a> {
     /// run as it was.
     pub fn step(&mut self, job: &Job) -> Result<(), NoMemory>
         requires other { is_visit job.now ≡ false }
-        requires legal { ∥ IsLegalJob (setting_in self.old) (state_of self.old) job.now ∥₁ }
+        requires legal { ∥ IsLegalJob (setting_in self.old) (chain_state self.old) job.now ∥₁ }
         ensures ok { OnOk result (∥ HasMade FINISHING_SLOT job.now self.old self.new ∥₁) }
         ensures heads { OnOk result (HeadsAfter job.now self.old self.new) }
         ensures err { OnErr result (self.new ≡ self.old) }
@@ -196,7 +196,7 @@ impl<'a> Chain<'a> {
     /// The same, with what was seen of a link's frames, which is for a take there.
     pub(crate) fn make(&mut self, job: &Job, seen: Option<Seen>) -> Result<(), NoMemory>
         requires other { is_visit job.now ≡ false }
-        requires legal { ∥ IsLegalJob (setting_in self.old) (state_of self.old) job.now ∥₁ }
+        requires legal { ∥ IsLegalJob (setting_in self.old) (chain_state self.old) job.now ∥₁ }
         ensures ok { OnOk result (∥ HasMade FINISHING_SLOT job.now self.old self.new ∥₁) }
         ensures heads { OnOk result (HeadsAfter job.now self.old self.new) }
         ensures err { OnErr result (self.new ≡ self.old) }
@@ -218,7 +218,7 @@ impl<'a> Chain<'a> {
         server: ServerId,
         packet: PacketNo,
     ) -> Result<(), NoMemory>
-        requires { ∥ IsLegalJob (setting_in self.old) (state_of self.old) (job.Visit server packet) ∥₁ }
+        requires { ∥ IsLegalJob (setting_in self.old) (chain_state self.old) (job.Visit server packet) ∥₁ }
         ensures ok { OnOk result (∥ HasMade worker (job.Visit server packet) self.old self.new ∥₁) }
         ensures here { OnOk result (IsIdleHead (head_in self.new server)) }
         ensures err { OnErr result (IsButHeads self.old self.new) }
@@ -251,7 +251,7 @@ impl<'a> Chain<'a> {
     /// What holds at every moment of a run holds of its state: the serial run of the visits that stand exists and
     /// released what was released, and each first live member of a group has that run's content.
     pub fn moment(&self)
-        ensures { ∥ IsSound (setting_in self.now) (state_of self.now) ∥₁ }
+        ensures { ∥ IsSound (setting_in self.now) (chain_state self.now) ∥₁ }
     {
         every_moment();
         let _ = self.journal();
@@ -259,7 +259,7 @@ impl<'a> Chain<'a> {
 
     /// How many messages are held and queued.
     pub fn messages(&self) -> u64
-        ensures { ∥ AreUnderWay (state_of self.now) result ∥₁ }
+        ensures { ∥ AreUnderWay (chain_state self.now) result ∥₁ }
     {
         accepted();
         few_propagates();

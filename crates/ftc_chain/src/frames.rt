@@ -8,7 +8,7 @@ ghost use Rattle.ftc_protocol.specs.Jobs.{IsLegalJob};
 ghost use Rattle.ftc_protocol.specs.Run.{IsRunState};
 ghost use Rattle.ftc_protocol.specs.Setting.{Setting};
 ghost use Rattle.ftc_protocol.specs.State.{ChainState};
-ghost use Rattle.ftc_chain.specs.ChainRun.{setting_in, state_of};
+ghost use Rattle.ftc_chain.specs.ChainRun.{setting_in, chain_state};
 ghost use Rattle.ftc_chain.specs.Course.{HasMade};
 ghost use Rattle.ftc_chain.specs.Frames.{IsFrameOf};
 ghost use Rattle.ftc_chain.specs.Slots.{HeadsAfter};
@@ -44,7 +44,7 @@ impl<'a> Chain<'a> {
     /// A copy of the oldest frame on a link. None exactly where nothing is queued there, as on a link that the ring
     /// hasn't.
     pub fn frame(&self, link: ServerId) -> Result<Option<Bytes>, NoMemory>
-        ensures { IfOk result (λ frame. ∥ IsFrameOf (setting_in self.now) (state_of self.now) link frame ∥₁) }
+        ensures { IfOk result (λ frame. ∥ IsFrameOf (setting_in self.now) (chain_state self.now) link frame ∥₁) }
     {
         frame_at(&self.course.network, self.given.alloc, link)
     }
@@ -52,8 +52,8 @@ impl<'a> Chain<'a> {
     /// The origin of the message that may be taken from a link.
     fn oldest(&self, link: ServerId) -> Option<PacketNo>
         ensures some { IfSome result (λ origin.
-            ∥ IsLegalJob (setting_in self.now) (state_of self.now) (job.Take link origin) ∥₁) }
-        ensures only { (origin : ℕ) → IsLegalJob (setting_in self.now) (state_of self.now) (job.Take link origin) →
+            ∥ IsLegalJob (setting_in self.now) (chain_state self.now) (job.Take link origin) ∥₁) }
+        ensures only { (origin : ℕ) → IsLegalJob (setting_in self.now) (chain_state self.now) (job.Take link origin) →
             result ≡ Some origin }
     {
         what_a_link_offers();
@@ -68,9 +68,9 @@ impl<'a> Chain<'a> {
     /// What was seen is of use where it is of the oldest frame there, and is passed over elsewhere. A refused call leaves
     /// the run as it was.
     pub fn take_seen(&mut self, link: ServerId, seen: Seen) -> Result<(), NoMemory>
-        requires { ∥ ((origin : ℕ) × IsLegalJob (setting_in self.old) (state_of self.old) (job.Take link origin)) ∥₁ }
+        requires { ∥ ((origin : ℕ) × IsLegalJob (setting_in self.old) (chain_state self.old) (job.Take link origin)) ∥₁ }
         ensures ok { OnOk result ((origin : ℕ) →
-            IsLegalJob (setting_in self.old) (state_of self.old) (job.Take link origin) →
+            IsLegalJob (setting_in self.old) (chain_state self.old) (job.Take link origin) →
             ∥ HasMade FINISHING_SLOT (job.Take link origin) self.old self.new ∥₁) }
         ensures heads { OnOk result ((origin : ℕ) → HeadsAfter (job.Take link origin) self.old self.new) }
         ensures err { OnErr result (self.new ≡ self.old) }

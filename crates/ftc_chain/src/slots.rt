@@ -7,7 +7,7 @@ ghost use Rattle.ftc_txn.specs.Head.{next_age};
 ghost use Rattle.ftc_txn.specs.Slots.{packet_of};
 ghost use Rattle.ftc_txn.specs.Steps.{begins};
 ghost use Rattle.ftc_network.specs.Slots.{head_at, runs_in};
-ghost use Rattle.ftc_chain.specs.ChainRun.{setting_in, state_of};
+ghost use Rattle.ftc_chain.specs.ChainRun.{setting_in, chain_state};
 ghost use Rattle.ftc_chain.specs.Slots.{head_in, runs_at, IsIdle, is_running_at, ages_left_at, IsButHeads, OthersStay, Answered, Looks, ReadsAt, CommitsAt, HasQuitAt};
 
 use crate::chain::Chain;
@@ -34,7 +34,7 @@ impl<'a> Chain<'a> {
     /// A slot that is idle begins the visit of a packet at a server, which no slot runs. The answer is its age.
     pub fn begin(&mut self, worker: WorkerId, server: ServerId, packet: PacketNo) -> u64
         requires idle { IsIdle self.old worker }
-        requires legal { ∥ IsLegalJob (setting_in self.old) (state_of self.old) (job.Visit server packet) ∥₁ }
+        requires legal { ∥ IsLegalJob (setting_in self.old) (chain_state self.old) (job.Visit server packet) ∥₁ }
         requires once { is_running_at self.old server packet ≡ false }
         requires age { ages_left_at self.old server ≡ true }
         ensures age { IfSome (head_in self.old server) (λ head. result ≡ next_age head) }

@@ -2,8 +2,7 @@
 use Rattle.std.specs.Prelude.{ℕ, ◌≡◌, List, [], Some}
 use Rattle.ftc_journal.specs.declared.event.Event.{Event}
 use Rattle.ftc_pcap.specs.declared.capture.Capture.{Capture}
-use Rattle.ftc_serial.specs.Serial as serial
-use Rattle.ftc_serial.specs.Serial.{State, serial_run}
+use Rattle.ftc_serial.specs.Serial.{State, serial_run, serial_opening}
 use Rattle.ftc_serial.specs.Trace.{trace_of}
 use Rattle.ftc_protocol.specs.Setting.{Setting}
 use Rattle.ftc_protocol.specs.State.{opening}
@@ -25,7 +24,7 @@ pub record IsUnfinished (c : Setting) (journal : List Event) : Type 0 where
 pub record IsWhole (c : Setting) (journal : List Event) (end : State) : Type 0 where
   pub run : ∥ IsRun c journal ∥₁
   pub finished : ∥ IsFinished c (state_after c (opening c) journal) ∥₁
-  pub serial : serial_run c.rules (serial.opening c.packets) (trace_of journal) ≡ Some end
+  pub serial : serial_run c.rules (serial_opening c.packets) (trace_of journal) ≡ Some end
 
 -- and OUT is not the capture's header with the records of what the serial run released, from this place on
 pub record IsOutWrong (c : Setting) (capture : Capture) (out : List ℕ) (journal : List Event) (place : ℕ) : Type 0 where

@@ -1,9 +1,9 @@
 //! The check of a run's files.
 
 ghost use Rattle.std.specs.Prelude.{◌≡◌, length, IfOk, IfSome, IsNone, Some};
-ghost use Rattle.ftc_serial.specs.Packets.{bytes_of};
-ghost use Rattle.ftc_serial.specs.Held.{rules_of, state_of};
-ghost use Rattle.ftc_serial.specs.Serial.{opening, serial_run};
+ghost use Rattle.ftc_serial.specs.Packets.{bytes_of_packets};
+ghost use Rattle.ftc_serial.specs.Held.{rules_of, serial_state};
+ghost use Rattle.ftc_serial.specs.Serial.{serial_opening, serial_run};
 ghost use Rattle.ftc_serial.specs.Trace.{trace_of};
 ghost use Rattle.ftc_machine.specs.RunSoFar.{setting_in};
 ghost use Rattle.ftc_protocol.specs.Setting.{setting_of};
@@ -32,9 +32,9 @@ fn out_difference(
     serial: &Serial,
     out: &[u8],
 ) -> Result<Option<u64>, NoMemory>
-    requires { AreWritable capture.now.packets (state_of serial.now).released }
-    ensures same { IfOk result (λ found. IsNone found → out.now ≡ out_bytes capture.now (state_of serial.now).released) }
-    ensures differs { IfOk result (λ found. IfSome found (IsFirstDifference out.now (out_bytes capture.now (state_of serial.now).released))) }
+    requires { AreWritable capture.now.packets (serial_state serial.now).released }
+    ensures same { IfOk result (λ found. IsNone found → out.now ≡ out_bytes capture.now (serial_state serial.now).released) }
+    ensures differs { IfOk result (λ found. IfSome found (IsFirstDifference out.now (out_bytes capture.now (serial_state serial.now).released))) }
 {
     let expected = out_of(alloc, capture, serial.released())?;
     Ok(first_difference(out, expected.as_slice()))
@@ -48,7 +48,7 @@ fn report_difference(
     report: &[u8],
 ) -> Result<Option<u64>, NoMemory>
     requires rules { rules_of serial.now ≡ machine.now.chain.rules }
-    requires state { serial_run machine.now.chain.rules (opening machine.now.packets) (trace_of machine.now.journal) ≡ Some (state_of serial.now) }
+    requires state { serial_run machine.now.chain.rules (serial_opening machine.now.packets) (trace_of machine.now.journal) ≡ Some (serial_state serial.now) }
     ensures same { IfOk result (λ found. IsNone found → IsReport (setting_in machine.now) machine.now.journal report.now) }
     ensures differs { IfOk result (λ found. IfSome found (IsOtherReport (setting_in machine.now) machine.now.journal report.now)) }
 {
@@ -67,7 +67,7 @@ fn compare(
     report: &[u8],
 ) -> Result<Checked, NoMemory>
     requires chain { machine.now.chain ≡ spec.now }
-    requires packets { machine.now.packets ≡ bytes_of capture.now.packets }
+    requires packets { machine.now.packets ≡ bytes_of_packets capture.now.packets }
     ensures { IfOk result (λ verdict. IsVerdict (setting_in machine.now) capture.now out.now machine.now.journal report.now verdict) }
 {
     let journal = machine.journal();
@@ -102,7 +102,7 @@ pub fn check(
 ) -> Result<Checked, NoMemory>
     requires ring { script.now.ring ≡ record { servers = length spec.now.rules; failures = spec.now.failures } }
     requires packets { script.now.packets ≡ length capture.now.packets }
-    ensures { IfOk result (λ verdict. IsVerdict (setting_of spec.now (bytes_of capture.now.packets) script.now) capture.now out.now journal.now.items report.now verdict) }
+    ensures { IfOk result (λ verdict. IsVerdict (setting_of spec.now (bytes_of_packets capture.now.packets) script.now) capture.now out.now journal.now.items report.now verdict) }
 {
     match replay(alloc, spec, &capture.packets, script, journal) {
         Ok(machine) => compare(alloc, spec, capture, &machine, out, report),

@@ -18,7 +18,7 @@ oldest_of [] = None
 oldest_of (message ∷ messages) = Some message
 
 -- a message that has a frame, and whose fields hold what their types do
-pub record IsSound (message : Message) : Type 0 where
+pub record IsSoundMessage (message : Message) : Type 0 where
   pub typed : IsTyped message
   pub right : IsWellFormed message
 
@@ -35,6 +35,6 @@ message_in queued = message_read (message_of queued.frame)
 pub record IsQueued (queued : Queued) : Type 0 where
   pub read : message_of queued.frame ≡ Ok (message_in queued)
   pub spelled : queued.frame ≡ spelling (message_in queued)
-  pub sound : IsSound (message_in queued)
+  pub sound : IsSoundMessage (message_in queued)
   pub origin : queued.origin ≡ (message_in queued).origin
   pub logs : queued.logs ≡ length (message_in queued).logs

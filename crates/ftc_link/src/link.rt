@@ -6,8 +6,8 @@ ghost use Rattle.ftc_message.specs.Spelling.{spelling};
 ghost use Rattle.ftc_message.specs.Reading.{message_of};
 ghost use Rattle.ftc_message.specs.WellFormed.{IsWellFormed};
 ghost use Rattle.ftc_link.specs.declared.link.Sent.TheVariants as sent;
-ghost use Rattle.ftc_link.specs.Queue.{IsSound, oldest_of};
-ghost use Rattle.ftc_link.specs.Taking.{IsTaken};
+ghost use Rattle.ftc_link.specs.Queue.{IsSoundMessage, oldest_of};
+ghost use Rattle.ftc_link.specs.Taking.{TakesIfAny};
 ghost use Rattle.ftc_link.specs.Sending.{answer_of, after_answer};
 
 use crate::queued::Queued;
@@ -81,7 +81,7 @@ impl Link {
         requires { IsWellFormed message.now }
         ensures answer { IfOk result (λ sent. sent ≡ answer_of lost up) }
         ensures after { IfOk result (λ sent. self.new ≡ after_answer sent message.now self.old) }
-        ensures sound { result ≡ Ok sent.Sent → IsSound message.now }
+        ensures sound { result ≡ Ok sent.Sent → IsSoundMessage message.now }
         ensures refused { OnErr result (self.new ≡ self.old) }
         // Memory is wanted only to queue the message.
         ensures lost { (line : ℕ) → lost ≡ Some line → IsOk result }
@@ -123,7 +123,7 @@ impl Link {
 
     /// Takes the oldest message out. None exactly where nothing is queued.
     pub fn take(&mut self, alloc: Global) -> Result<Option<Message>, NoMemory>
-        ensures taken { IfOk result (IsTaken self.old self.new) }
+        ensures taken { IfOk result (TakesIfAny self.old self.new) }
         ensures refused { OnErr result (self.new ≡ self.old) }
         ensures empty { self.old.messages ≡ [] → IsOk result }
     {
@@ -146,7 +146,7 @@ impl Link {
     /// Takes the oldest message out, as [`Link::take`] does. Where what was seen is of the oldest frame, its message is
     /// used and no memory is taken, and elsewhere what was seen is passed over.
     pub fn take_seen(&mut self, alloc: Global, seen: Seen) -> Result<Option<Message>, NoMemory>
-        ensures taken { IfOk result (IsTaken self.old self.new) }
+        ensures taken { IfOk result (TakesIfAny self.old self.new) }
         ensures refused { OnErr result (self.new ≡ self.old) }
         ensures empty { self.old.messages ≡ [] → IsOk result }
         ensures known { oldest_of self.old.messages ≡ Some seen.message → IsOk result }

@@ -2,7 +2,7 @@
 
 ghost use Rattle.std.specs.Prelude.{◌≡◌, IfOk};
 ghost use Rattle.ftc_message.specs.WellFormed.{IsWellFormed};
-ghost use Rattle.ftc_link.specs.Queue.{message_in, IsSound, IsQueued};
+ghost use Rattle.ftc_link.specs.Queue.{message_in, IsSoundMessage, IsQueued};
 
 use ftc_base::{Bytes, NoMemory, PacketNo, Refuse};
 use ftc_message::{Message, decode, encode};
@@ -34,7 +34,7 @@ impl Queued {
     pub fn read(&self, alloc: Global) -> Result<Message, NoMemory>
         requires { IsQueued self.now }
         ensures message { IfOk result (λ message. message ≡ message_in self.now) }
-        ensures sound { IfOk result IsSound }
+        ensures sound { IfOk result IsSoundMessage }
     {
         match decode(alloc, self.frame.as_slice()) {
             Ok(message) => Ok(message),

@@ -21,7 +21,7 @@ use Rattle.ftc_machine.specs.declared.state.message.Place.{Place}
 use Rattle.ftc_machine.specs.declared.state.message.Place.TheVariants as place
 use Rattle.ftc_protocol.specs.Changes.{changes, is_changing, is_some_list}
 use Rattle.ftc_machine.specs.Represents.{Represents, IsPlace, IsMessageSlot, FollowsRun, footprints_in, frontiers_of}
-use Rattle.ftc_machine.specs.FootprintMaking.{IsMade}
+use Rattle.ftc_machine.specs.FootprintMaking.{IsFootprintMade}
 use Rattle.ftc_machine.specs.FootprintMarks.{marked_at}
 use Rattle.ftc_protocol.specs.Next.{outcome_at}
 use Rattle.ftc_machine.specs.Frontier.{Footprints, AreRising, AreFootprints, IsFootprint, IsFrontier, AreFrontiers, numbers_of, frontier_at}
@@ -138,7 +138,7 @@ module _ (c : Setting) (s : ChainState) (server packet worker : ℕ) (may : Foll
       fresh (stands_map (λ o. is_changing c.partitions o ≡ true) (λ o. Unit {0}) (λ o _. tt) s.trace server packet (subst (λ r. IsChanging c.partitions s.trace r packet) same (listed row packet member))))
 
   pub made_here : (vector : List ℕ) (footprint : Footprint) → vector ≡ vector_of (frontiers_of k.lists.items server) server
-      → IsMade c.partitions (outcome_at c s server packet).answers (outcome_at c s server packet).writes vector footprint
+      → IsFootprintMade c.partitions (outcome_at c s server packet).answers (outcome_at c s server packet).writes vector footprint
       → IsFootprint c.partitions s.trace (numbers_of (footprints_in k.visits.items)) server (outcome_at c s server packet) footprint
   made_here vector footprint vector_is made =
       footprint_of c.partitions s.trace (numbers_of (footprints_in k.visits.items)) server (outcome_at c s server packet) vector footprint made

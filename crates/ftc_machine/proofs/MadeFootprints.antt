@@ -16,7 +16,7 @@ use Rattle.ftc_machine.specs.declared.state.footprint.Touched.{Touched}
 use Rattle.ftc_machine.specs.declared.state.footprint.Footprint.{Footprint}
 use Rattle.ftc_protocol.specs.Changes.{Changes, changes}
 use Rattle.ftc_machine.specs.Frontier.{Numbers, IsLast, IsFootprint}
-use Rattle.ftc_machine.specs.FootprintMaking.{is_written, IsTouched, IsMade}
+use Rattle.ftc_machine.specs.FootprintMaking.{is_written, IsTouched, IsFootprintMade}
 
 -- ---- one more
 
@@ -62,7 +62,7 @@ written_changes partitions outcome partition = (written_says partitions outcome.
 
 -- a footprint that is made where the vector has the last changes of the older visits
 pub footprint_of : (partitions : ℕ) (older : List Entry) (numbers : Numbers) (server : ℕ) (outcome : Outcome) (vector : List ℕ) (footprint : Footprint)
-    → IsMade partitions outcome.answers outcome.writes vector footprint
+    → IsFootprintMade partitions outcome.answers outcome.writes vector footprint
     → ((partition : ℕ) → IsLast partitions older numbers server partition (number_at vector partition))
     → ((partition : ℕ) → Changes partitions outcome partition → Touches partitions outcome partition)
     → IsFootprint partitions older numbers server outcome footprint

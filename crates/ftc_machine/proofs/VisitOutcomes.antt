@@ -16,7 +16,7 @@ use Rattle.ftc_machine.specs.declared.state.MachineState.{MachineState}
 use Rattle.ftc_machine.specs.declared.state.message.Message.{Message as MessageOfMachine}
 use Rattle.ftc_protocol.specs.Changes.{is_some_list}
 use Rattle.ftc_machine.specs.Represents.{Represents, IsMessageSlot, FollowsRun, footprints_in}
-use Rattle.ftc_protocol.specs.Next.{bytes_in, bytes_of, logs_of, outcome_at}
+use Rattle.ftc_protocol.specs.Next.{bytes_in, message_bytes, logs_of, outcome_at}
 use Rattle.ftc_machine.specs.Frontier.{Numbers}
 use Rattle.ftc_protocol.specs.Setting.{Setting, rule_at}
 use Rattle.ftc_machine.specs.Slots.{slot_at}
@@ -54,7 +54,7 @@ joined_names logs server packet true group number = any_name group number logs (
 joined_names logs server packet false group number = sym (or_false (names logs group number) (just server packet false group number) (and_false ((group == server) && (number == packet))))
 
 module _ (partitions : ℕ) (trace : List Entry) (numbers : Numbers) where
-  bytes_same : (o : Option Message) (slot : Option MessageOfMachine) → IsMessageSlot partitions trace numbers o slot → bytes_kept slot ≡ bytes_of o
+  bytes_same : (o : Option Message) (slot : Option MessageOfMachine) → IsMessageSlot partitions trace numbers o slot → bytes_kept slot ≡ message_bytes o
   bytes_same None None is = refl
   bytes_same None (Some kept) is = absurd is
   bytes_same (Some message) None is = absurd is
@@ -72,7 +72,7 @@ module _ (c : Setting) (s : ChainState) (server packet worker : ℕ) (may : Foll
       ap (λ (r : Rule). taken r (bytes_kept (slot_at k.messages packet)) (content_at k.stores.items server)) rule_is
       ∙ (ap (λ (bytes : List ℕ). taken (rule_at c server) bytes (content_at k.stores.items server))
       (bytes_same c.partitions s.trace (Rattle.ftc_machine.specs.Frontier.numbers_of (footprints_in k.visits.items)) (s.message packet) (slot_at k.messages packet) (is.sets.messages packet))
-      ∙ ap (λ (content : Content). taken (rule_at c server) (bytes_of (s.message packet)) content)
+      ∙ ap (λ (content : Content). taken (rule_at c server) (message_bytes (s.message packet)) content)
       (is.sets.stores server (below c s server packet worker may k is) (live c s server packet worker may k is)))
 
   pub logs_are : (answers : List Answer) (group number : ℕ)

@@ -18,7 +18,7 @@ pub record IsTouched (partitions : ℕ) (writes : List Write) (vector : List ℕ
   pub changed : touched.changed ≡ is_written partitions writes touched.partition
   pub before : touched.before ≡ number_at vector touched.partition
 
-pub record IsMade (partitions : ℕ) (answers : List Answer) (writes : List Write) (vector : List ℕ)
+pub record IsFootprintMade (partitions : ℕ) (answers : List Answer) (writes : List Write) (vector : List ℕ)
     (footprint : Footprint) : Type 0 where
   pub touched : map (λ (touched : Touched). touched.partition) footprint.touched.items
       ≡ map (λ (answer : Answer). partition_of partitions answer.key) answers

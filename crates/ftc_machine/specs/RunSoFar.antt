@@ -20,8 +20,8 @@ abbrev pub setting_in : RunSoFar → Setting
 setting_in played = setting_of played.chain played.packets played.script
 
 -- the state to which the events lead
-abbrev pub state_of : RunSoFar → ChainState
-state_of played = state_after (setting_in played) (opening (setting_in played)) played.journal
+abbrev pub machine_state : RunSoFar → ChainState
+machine_state played = state_after (setting_in played) (opening (setting_in played)) played.journal
 
 -- the journal is a run of a setting, of whose runs the laws hold, and what is kept stands for its state
 pub record IsRunSoFar (setting : Setting) (journal : List Event) (kept : MachineState) : Type 0 where

@@ -1,7 +1,7 @@
 //! What an event does to what is kept.
 
 ghost use Rattle.std.specs.Prelude.{◌≡◌, ◌<◌, true, OnOk, OnErr, length};
-ghost use Rattle.ftc_serial.specs.Packets.{bytes_of};
+ghost use Rattle.ftc_serial.specs.Packets.{bytes_of_packets};
 ghost use Rattle.ftc_protocol.specs.Setting.{setting_of};
 ghost use Rattle.ftc_protocol.specs.State.{ChainState};
 ghost use Rattle.ftc_machine.specs.Represents.{RepresentsSame};
@@ -50,7 +50,7 @@ impl MachineState {
         requires tested { may_happen self.old script.now (length packets.now) event.now ≡ true }
         requires time { now < u64.MAX }
         ensures ok { OnOk result ((state : ChainState) → now ≡ state.events →
-            SimulatesEvent (setting_of spec.now (bytes_of packets.now) script.now) state event.now self.old self.new) }
+            SimulatesEvent (setting_of spec.now (bytes_of_packets packets.now) script.now) state event.now self.old self.new) }
         ensures err { OnErr result (RepresentsSame self.old self.new) }
     {
         match event {

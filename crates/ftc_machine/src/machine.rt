@@ -2,7 +2,7 @@
 
 ghost use Rattle.std.specs.Prelude.{◌≡◌, ◌++◌, [], ◌∷◌, true, false, length, IfOk, OnOk, OnErr};
 ghost use Rattle.ftc_base.specs.Refused.{IfBad};
-ghost use Rattle.ftc_serial.specs.Packets.{bytes_of};
+ghost use Rattle.ftc_serial.specs.Packets.{bytes_of_packets};
 
 use crate::event_copy::copy_event;
 use crate::laws::states_are_lawful;
@@ -36,7 +36,7 @@ pub struct Machine<'a> {
 }
 
 impl<'a> Model for Machine<'a> {
-    ghost use Rattle.ftc_serial.specs.Packets.{bytes_of};
+    ghost use Rattle.ftc_serial.specs.Packets.{bytes_of_packets};
     ghost use Rattle.ftc_protocol.specs.Setting.{setting_of};
     ghost use Rattle.ftc_machine.specs.RunSoFar.{RunSoFar, IsRunSoFar};
 
@@ -44,18 +44,18 @@ impl<'a> Model for Machine<'a> {
 
     ghost view = { λ m. record {
       chain = m.spec.now;
-      packets = bytes_of m.packets.now;
+      packets = bytes_of_packets m.packets.now;
       script = m.script.now;
       journal =
           m.journal.items;
     } };
 
     ghost invariant = { λ m. ∥ IsRunSoFar (setting_of m.spec.now
-        (bytes_of m.packets.now) m.script.now) m.journal.items m.kept ∥₁ };
+        (bytes_of_packets m.packets.now) m.script.now) m.journal.items m.kept ∥₁ };
 }
 
 impl<'a> Machine<'a> {
-    ghost use Rattle.ftc_machine.specs.RunSoFar.{setting_in, state_of};
+    ghost use Rattle.ftc_machine.specs.RunSoFar.{setting_in, machine_state};
     ghost use Rattle.ftc_protocol.specs.Moment.{IsSound};
     ghost use Rattle.ftc_protocol.specs.Run.{IsRun, IsFinished};
     ghost use Rattle.ftc_protocol.specs.Legal.{IsLegal};
@@ -74,7 +74,7 @@ impl<'a> Machine<'a> {
         requires packets { script.now.packets ≡ length packets.now }
         ensures { IfOk result (λ machine. machine ≡ record {
           chain = spec.now;
-          packets = bytes_of packets.now;
+          packets = bytes_of_packets packets.now;
           script =
               script.now;
           journal = [];
@@ -98,8 +98,8 @@ impl<'a> Machine<'a> {
     /// run as it was.
     pub fn step(&mut self, event: &Event) -> Result<(), Refuse<Illegal>>
         ensures made { OnOk result (self.new ≡ record self.old { journal = self.old.journal ++ event.now ∷ [] }) }
-        ensures legal { OnOk result (∥ IsLegal (setting_in self.old) (state_of self.old) event.now ∥₁) }
-        ensures illegal { IfBad result (λ _. IsLegal (setting_in self.old) (state_of self.old) event.now → ⊥) }
+        ensures legal { OnOk result (∥ IsLegal (setting_in self.old) (machine_state self.old) event.now ∥₁) }
+        ensures illegal { IfBad result (λ _. IsLegal (setting_in self.old) (machine_state self.old) event.now → ⊥) }
         ensures err { OnErr result (self.new ≡ self.old) }
     {
         let now = self.journal.len() as u64;
@@ -121,8 +121,8 @@ impl<'a> Machine<'a> {
 
     /// Whether no event is legal any more.
     pub fn finished(&self) -> bool
-        ensures finished { result ≡ true → ∥ IsFinished (setting_in self.now) (state_of self.now) ∥₁ }
-        ensures unfinished { result ≡ false → IsFinished (setting_in self.now) (state_of self.now) → ⊥ }
+        ensures finished { result ≡ true → ∥ IsFinished (setting_in self.now) (machine_state self.now) ∥₁ }
+        ensures unfinished { result ≡ false → IsFinished (setting_in self.now) (machine_state self.now) → ⊥ }
     {
         finished_run();
         self.kept.is_done(self.script, self.packets.len() as u32)
@@ -130,7 +130,7 @@ impl<'a> Machine<'a> {
 
     /// What became of each packet so far.
     pub fn fates(&self) -> Result<Fates, NoMemory>
-        ensures { IfOk result (λ fates. fates ≡ fates_in (setting_in self.now) (state_of self.now)) }
+        ensures { IfOk result (λ fates. fates ≡ fates_in (setting_in self.now) (machine_state self.now)) }
     {
         self.kept.fates(self.alloc, self.packets.len())
     }
@@ -147,7 +147,7 @@ impl<'a> Machine<'a> {
     /// What holds at every moment of a run holds of its state: the serial run of the visits that stand exists
     /// and released what was released, and each first live member of a group has that run's content.
     pub fn moment(&self)
-        ensures { ∥ IsSound (setting_in self.now) (state_of self.now) ∥₁ }
+        ensures { ∥ IsSound (setting_in self.now) (machine_state self.now) ∥₁ }
     {
         every_moment();
         let _ = self.journal();

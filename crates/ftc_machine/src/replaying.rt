@@ -2,7 +2,7 @@
 
 ghost use Rattle.std.specs.Prelude.{◌≡◌, length, IfOk};
 ghost use Rattle.ftc_base.specs.Refused.{IfBad};
-ghost use Rattle.ftc_serial.specs.Packets.{bytes_of};
+ghost use Rattle.ftc_serial.specs.Packets.{bytes_of_packets};
 ghost use Rattle.ftc_protocol.specs.Setting.{setting_of};
 ghost use Rattle.ftc_protocol.specs.State.{opening};
 ghost use Rattle.ftc_protocol.specs.Run.{IsRun, state_after};
@@ -39,13 +39,13 @@ pub fn replay<'a>(
     requires packets { script.now.packets ≡ length packets.now }
     ensures run { IfOk result (λ machine. machine ≡ record {
       chain = spec.now;
-      packets = bytes_of packets.now;
+      packets = bytes_of_packets packets.now;
       script =
           script.now;
       journal = journal.now.items;
     }) }
     ensures bad { IfBad result (λ fault. IsFirstIllegal
-        (setting_of spec.now (bytes_of packets.now) script.now) journal.now.items fault.event) }
+        (setting_of spec.now (bytes_of_packets packets.now) script.now) journal.now.items fault.event) }
 {
     let mut machine = Machine::new(alloc, spec, packets, script)?;
     for (place, event) in journal.as_slice().iter().enumerate() {
@@ -72,10 +72,10 @@ pub fn fates_of(
 ) -> Result<Fates, NoMemory>
     requires ring { script.now.ring ≡ record { servers = length spec.now.rules; failures = spec.now.failures } }
     requires packets { script.now.packets ≡ length packets.now }
-    requires run { ∥ IsRun (setting_of spec.now (bytes_of packets.now) script.now) journal.now.items ∥₁ }
-    ensures { IfOk result (λ fates. fates ≡ fates_in (setting_of spec.now (bytes_of packets.now) script.now)
-        (state_after (setting_of spec.now (bytes_of packets.now) script.now)
-        (opening (setting_of spec.now (bytes_of packets.now) script.now)) journal.now.items)) }
+    requires run { ∥ IsRun (setting_of spec.now (bytes_of_packets packets.now) script.now) journal.now.items ∥₁ }
+    ensures { IfOk result (λ fates. fates ≡ fates_in (setting_of spec.now (bytes_of_packets packets.now) script.now)
+        (state_after (setting_of spec.now (bytes_of_packets packets.now) script.now)
+        (opening (setting_of spec.now (bytes_of_packets packets.now) script.now)) journal.now.items)) }
 {
     match replay(alloc, spec, packets, script, journal) {
         Ok(machine) => machine.fates(),

@@ -9,7 +9,7 @@ use Rattle.ftc_server.specs.Holding.{found}
 use Rattle.ftc_server.specs.Looks.{ask_in, ask_of_slot}
 use Rattle.ftc_server.specs.Slots.{AreSlots, ask_of}
 use Rattle.ftc_mbox.specs.Ask.{ask}
-use Rattle.ftc_protocol.specs.Next.{bytes_of, bytes_in}
+use Rattle.ftc_protocol.specs.Next.{message_bytes, bytes_in}
 use Rattle.ftc_protocol.specs.Setting.{Setting}
 use Rattle.ftc_protocol.specs.State.{ChainState}
 use Rattle.ftc_refinement.proofs.Works.{held_in}
@@ -64,10 +64,10 @@ asks_of_bytes server worker running runs has =
 -- the packet of the message in the state is that of the held one
 pub bytes_in_state : (setting : Setting) (state : ChainState) (number packet : ℕ) (items : List HeldMessage)
     (has : HasBytes (found packet items)) → AreItems setting state number (items_of items) →
-    bytes_of (state.message packet) ≡ has.bytes
+    message_bytes (state.message packet) ≡ has.bytes
 bytes_in_state setting state number packet items has are =
     let there = held_in setting state number packet has.held items has.there are in
-    ap bytes_of there.there ∙ ap bytes_in (sym there.stands.as_sent.packet ∙ has.with_bytes)
+    ap message_bytes there.there ∙ ap bytes_in (sym there.stands.as_sent.packet ∙ has.with_bytes)
 
 -- a slot of which nothing is asked runs nothing
 none_by : (slot : Option Running) → ((running : Running) → slot ≡ Some running → ⊥) → slot ≡ None

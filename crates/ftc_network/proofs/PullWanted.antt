@@ -22,7 +22,7 @@ use Rattle.ftc_ties.proofs.Serving.{IsSteadyState}
 use Rattle.ftc_server.specs.declared.recovering.GroupReplica.{GroupReplica}
 use Rattle.ftc_server.specs.declared.server.Server.{Server}
 use Rattle.ftc_server.specs.Looks.{is_later_of, replica_in}
-use Rattle.ftc_server.specs.State.{ServerState, state_of}
+use Rattle.ftc_server.specs.State.{ServerState, fields_of}
 use Rattle.ftc_server.specs.Steps.{HasInstalled}
 use Rattle.ftc_standing.proofs.Lasting.{IsFirmState}
 use Rattle.ftc_refinement.specs.Contents.{IsServerAt}
@@ -120,7 +120,7 @@ module _ (c : Setting) (s : ChainState) (f : IsFirmState c s) (ends : EndsAsSaid
       is_tail c tail receiver ≡ true → is_shared c tail link receiver ≡ true →
       IsServerAt c s receiver old → IsServerAt c s link sender → ArePulled c link old sender news →
       HasInstalled old new news → IsServerAt c (next c s (Pull link)) receiver new) →
-      ((old new : Server) → IsServerAt c (next c s (Pull link)) receiver old → state_of new ≡ state_of old →
+      ((old new : Server) → IsServerAt c (next c s (Pull link)) receiver old → fields_of new ≡ fields_of old →
       IsServerAt c (next c s (Pull link)) receiver new) →
       ((old new : Server) → IsServerAt c s receiver old → IsServerAt c (next c s (Pull link)) receiver new →
       RunNothingElse old new → AreReady old → AreReady new) →

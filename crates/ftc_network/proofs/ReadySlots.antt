@@ -15,7 +15,7 @@ use Rattle.ftc_server.specs.declared.held.HeldMessage.{HeldMessage}
 use Rattle.ftc_server.specs.declared.server.Server.{Server}
 use Rattle.ftc_server.specs.Holding.{found}
 use Rattle.ftc_server.specs.Slots.{is_ready_one, slot_is_ready, slots_are_ready}
-use Rattle.ftc_server.specs.State.{ServerState, state_of}
+use Rattle.ftc_server.specs.State.{ServerState, fields_of}
 use Rattle.ftc_txn.specs.Head.{HeadState}
 use Rattle.ftc_txn.specs.Slots.{Running, slot_at}
 use Rattle.ftc_refinement.specs.Contents.{IsServerAt}
@@ -34,7 +34,7 @@ abbrev pub ready_by : ServerState → Bool
 ready_by state = slots_are_ready state.others state.head state.held.items
 
 -- what is so where slots, messages and replicas are as they were
-pub still_ready : (old new : Server) → ready_by (state_of new) ≡ ready_by (state_of old) → RunNothingElse old new →
+pub still_ready : (old new : Server) → ready_by (fields_of new) ≡ ready_by (fields_of old) → RunNothingElse old new →
     AreReady old → AreReady new
 still_ready old new same only is = record {
   all = same ∙ is.all;
@@ -42,7 +42,7 @@ still_ready old new same only is = record {
 }
 
 -- the same where it is known that what runs is ready
-pub still_there : (old new : Server) → RunNothingElse old new → AreReady old → ready_by (state_of new) ≡ true →
+pub still_there : (old new : Server) → RunNothingElse old new → AreReady old → ready_by (fields_of new) ≡ true →
     AreReady new
 still_there old new only is all = record {
   all = all;
@@ -60,7 +60,7 @@ idle_ready server idle = record {
 pub slot_still : (slot : Option Server) (old new : Server) → slot ≡ Some old →
     ((setting : Setting) (state : ChainState) (number : ℕ) → IsServerAt setting state number old →
     IsServerAt setting state number new) →
-    ready_by (state_of new) ≡ ready_by (state_of old) → RunNothingElse old new →
+    ready_by (fields_of new) ≡ ready_by (fields_of old) → RunNothingElse old new →
     (number : ℕ) → SlotStandsStill number slot (Some new)
 slot_still slot old new same stands ready only number setting state is =
     let up : IsUp setting state number old = subst (IsSlot setting state number) same is in
@@ -71,9 +71,9 @@ slot_still slot old new same stands ready only number setting state is =
     }
 
 -- the same where all fields are as they were
-pub same_still : (slot : Option Server) (old new : Server) → slot ≡ Some old → state_of new ≡ state_of old →
+pub same_still : (slot : Option Server) (old new : Server) → slot ≡ Some old → fields_of new ≡ fields_of old →
     ((setting : Setting) (state : ChainState) (number : ℕ) → IsServerAt setting state number old →
-    state_of new ≡ state_of old → IsServerAt setting state number new) →
+    fields_of new ≡ fields_of old → IsServerAt setting state number new) →
     (number : ℕ) → SlotStandsStill number slot (Some new)
 same_still slot old new same fields stands = slot_still slot old new same
     (λ setting state number at. stands setting state number at fields) (ap ready_by fields)

@@ -3,7 +3,7 @@ use Rattle.std.proofs.Common.{◌≡◌, ◌∙◌, ℕ, true, false, List, Opti
 use Rattle.std.specs.Prelude.{is_some}
 use Rattle.ftc_server.specs.declared.answers.CommitAnswer.TheVariants as commit
 use Rattle.ftc_server.specs.declared.server.Server.{Server}
-use Rattle.ftc_server.specs.State.{state_of}
+use Rattle.ftc_server.specs.State.{fields_of}
 use Rattle.ftc_server.specs.Steps.{Reads, EndsVisit}
 use Rattle.ftc_txn.specs.Head.{HeadState, RunsUnwounded}
 use Rattle.ftc_txn.specs.Slots.{Running, slot_at, wounded_of, wounded_at}
@@ -39,7 +39,7 @@ told_so old new worker key (Wounded by) wounded reads = (
   (
     reads.head.0,
     reads.head.1,
-    reads.rest ∙ ap (λ (head : HeadState). record (state_of old) { head = head }) reads.head.2,
+    reads.rest ∙ ap (λ (head : HeadState). record (fields_of old) { head = head }) reads.head.2,
   ),
 )
 told_so old new worker key Idle wounded reads = absurd (not_idle old.head worker wounded reads.head.0)

@@ -8,7 +8,7 @@ ghost use Rattle.ftc_protocol.specs.Setting.{Setting, rule_at};
 ghost use Rattle.ftc_protocol.specs.State.{ChainState};
 ghost use Rattle.ftc_protocol.specs.Drive.{IsNoneDue};
 ghost use Rattle.ftc_protocol.specs.Legal.{IsLegal};
-ghost use Rattle.ftc_protocol.specs.Next.{next, bytes_of};
+ghost use Rattle.ftc_protocol.specs.Next.{next, message_bytes};
 ghost use Rattle.ftc_protocol.specs.Run.{IsRunState};
 ghost use Rattle.ftc_server.specs.declared.server.Server.{Server};
 ghost use Rattle.ftc_server.specs.Looks.{ask_in};
@@ -48,12 +48,12 @@ pub fn what_slots_ask()
     ensures bytes { (setting : Setting) (state : ChainState) (number worker : ℕ) (server : Server) (running : Running) →
         IsRunState setting state → IsUp setting state number server → IsNoneDue setting state →
         slot_at server.head.slots worker ≡ Some running →
-        bytes_run server (Some running) ≡ Some (bytes_of (state.message running.packet)) }
+        bytes_run server (Some running) ≡ Some (message_bytes (state.message running.packet)) }
     ensures asks { (setting : Setting) (state : ChainState) (number worker : ℕ) (server : Server) (running : Running) →
         IsRunState setting state → IsUp setting state number server → IsNoneDue setting state →
         slot_at server.head.slots worker ≡ Some running →
         ask_in server worker
-        ≡ Some (ask (rule_at setting number) (bytes_of (state.message running.packet)) running.answers) }
+        ≡ Some (ask (rule_at setting number) (message_bytes (state.message running.packet)) running.answers) }
 {}
 
 /// A server in which an event has no part stands for what is there after it.

@@ -1,7 +1,7 @@
 //! The network at its start.
 
 ghost use Rattle.std.specs.Prelude.{◌≡◌, IfOk};
-ghost use Rattle.ftc_serial.specs.Packets.{bytes_of};
+ghost use Rattle.ftc_serial.specs.Packets.{bytes_of_packets};
 ghost use Rattle.ftc_protocol.specs.Setting.{Setting};
 ghost use Rattle.ftc_protocol.specs.State.{opening};
 ghost use Rattle.ftc_network.specs.Opening.{ring_of, IsOfChain, AreNewServers, AreNewLinks};

@@ -4,7 +4,7 @@ ghost use Rattle.std.specs.Prelude.{◌≡◌, ◌<◌, ◌+◌, ◌==◌, ℕ, 
 ghost use Rattle.std.specs.Option.{option_map};
 ghost use Rattle.ftc_journal.specs.declared.event.Event.TheVariants as event;
 ghost use Rattle.ftc_link.specs.Queue.{oldest_of};
-ghost use Rattle.ftc_link.specs.Taking.{IsTaken};
+ghost use Rattle.ftc_link.specs.Taking.{TakesIfAny};
 ghost use Rattle.ftc_message.specs.Reading.{message_of};
 ghost use Rattle.ftc_protocol.specs.Setting.{Setting, servers};
 ghost use Rattle.ftc_protocol.specs.State.{ChainState};
@@ -30,7 +30,7 @@ fn take_from(
     alloc: Global,
     seen: Option<Seen>,
 ) -> Result<Option<Message>, NoMemory>
-    ensures taken { IfOk result (IsTaken link.old link.new) }
+    ensures taken { IfOk result (TakesIfAny link.old link.new) }
     ensures refused { OnErr result (link.new ≡ link.old) }
     ensures empty { link.old.messages ≡ [] → IsOk result }
 {

@@ -7,7 +7,7 @@ ghost use Rattle.ftc_server.specs.declared.server.Server.{Server as AServer};
 ghost use Rattle.ftc_server.specs.declared.work.Work.TheVariants.{Visit};
 ghost use Rattle.ftc_server.specs.Looks.{work_in, ask_in};
 ghost use Rattle.ftc_server.specs.Replicas.{may_rise};
-ghost use Rattle.ftc_server.specs.State.{state_of};
+ghost use Rattle.ftc_server.specs.State.{fields_of};
 ghost use Rattle.ftc_txn.specs.Slots.{Running, slot_at, wounded_at};
 ghost use Rattle.ftc_network.specs.Stand.{AreIdle};
 ghost use Rattle.ftc_network.specs.Visiting.{StandsFor, IsUnderWay, VisitsWhole};
@@ -89,7 +89,7 @@ fn quit_one(server: &mut Server, worker: WorkerId)
     ensures gone { slot_at server.new.head.slots worker ≡ None }
     ensures others { (other : ℕ) → other ≢ worker →
         slot_at server.new.head.slots other ≡ slot_at server.old.head.slots other }
-    ensures fields { state_of server.new ≡ record (state_of server.old) { head = server.new.head } }
+    ensures fields { fields_of server.new ≡ record (fields_of server.old) { head = server.new.head } }
     ensures vector { server.new.head.vector ≡ server.old.head.vector }
 {
     what_stays();
@@ -106,7 +106,7 @@ pub fn quit_all(server: &mut Server)
     ensures stands { StandsFor server.old server.new }
     ensures withheld { server.new.buffer.items ≡ server.old.buffer.items }
     ensures idle { AreIdle server.new }
-    ensures fields { state_of server.new ≡ record (state_of server.old) { head = server.new.head } }
+    ensures fields { fields_of server.new ≡ record (fields_of server.old) { head = server.new.head } }
     ensures vector { server.new.head.vector ≡ server.old.head.vector }
 {
     for number in 0..MOST_SLOTS {

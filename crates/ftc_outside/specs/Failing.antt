@@ -20,5 +20,5 @@ abbrev pub shown_of : FailingDesk → List ℕ → Option (List ℕ)
 shown_of desk name = file_of desk.inner name
 
 -- no listed call is left
-abbrev pub IsSound : FailingDesk → Type 0
-IsSound desk = (call : ℕ) → desk.calls ≤ call → Contains desk.listed.items call → ⊥
+abbrev pub IsSoundDesk : FailingDesk → Type 0
+IsSoundDesk desk = (call : ℕ) → desk.calls ≤ call → Contains desk.listed.items call → ⊥

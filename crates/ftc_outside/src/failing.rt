@@ -81,7 +81,7 @@ impl FailingDesk {
 
 impl Desk for FailingDesk {
     ghost use Rattle.ftc_outside.specs.Memory.{file_of};
-    ghost use Rattle.ftc_outside.specs.Failing.{inner_of, listed_of, calls_of, failing_faults, shown_of, IsSound};
+    ghost use Rattle.ftc_outside.specs.Failing.{inner_of, listed_of, calls_of, failing_faults, shown_of, IsSoundDesk};
 
     ghost tells = { λ _. ⊤ };
 
@@ -89,13 +89,13 @@ impl Desk for FailingDesk {
 
     ghost faults = { failing_faults };
 
-    ghost sound = { IsSound };
+    ghost sound = { IsSoundDesk };
 
     fn fetch(&mut self, alloc: Global, name: &str) -> Result<Bytes, DeskError>
         ensures bytes { ⊤ → IfOk result (λ bytes. shown_of self.old name.now ≡ Some bytes) }
         ensures files { ⊤ → SameFiles (shown_of self.old) (shown_of self.new) }
-        ensures served { HasServed (λ _. ⊤) IsSound failing_faults (IsErrOf result DeskError.Failed) self.old self.new }
-        ensures absent { IsSound self.old → IsErrOf result DeskError.Failed → shown_of self.old name.now ≡ None }
+        ensures served { HasServed (λ _. ⊤) IsSoundDesk failing_faults (IsErrOf result DeskError.Failed) self.old self.new }
+        ensures absent { IsSoundDesk self.old → IsErrOf result DeskError.Failed → shown_of self.old name.now ≡ None }
 
         // It fails exactly in a listed call and where there is no such file.
         ensures failed { IsErrOf result DeskError.Failed ↔ (Contains (listed_of self.old) (calls_of self.old) ⊎ (shown_of self.old name.now ≡ None)) }
@@ -114,8 +114,8 @@ impl Desk for FailingDesk {
         ensures made { ⊤ → OnOk result (EmptiedAt name.now (shown_of self.new)) }
         ensures refused { ⊤ → OnErr result (MayHaveEmptiedAt name.now (shown_of self.old) (shown_of self.new)) }
         ensures others { ⊤ → SameButAt name.now (shown_of self.old) (shown_of self.new) }
-        ensures served { HasServed (λ _. ⊤) IsSound failing_faults (IsErrOf result DeskError.Failed) self.old self.new }
-        ensures absent { IsSound self.old → IsErrOf result DeskError.Failed → ⊥ }
+        ensures served { HasServed (λ _. ⊤) IsSoundDesk failing_faults (IsErrOf result DeskError.Failed) self.old self.new }
+        ensures absent { IsSoundDesk self.old → IsErrOf result DeskError.Failed → ⊥ }
 
         // It fails exactly in a listed call, which changes nothing.
         ensures failed { IsErrOf result DeskError.Failed ↔ Contains (listed_of self.old) (calls_of self.old) }
@@ -135,8 +135,8 @@ impl Desk for FailingDesk {
         ensures grown { ⊤ → OnOk result (GrewAt name.now bytes.now (shown_of self.old) (shown_of self.new)) }
         ensures refused { ⊤ → OnErr result (MayHaveGrownAt name.now bytes.now (shown_of self.old) (shown_of self.new)) }
         ensures others { ⊤ → SameButAt name.now (shown_of self.old) (shown_of self.new) }
-        ensures served { HasServed (λ _. ⊤) IsSound failing_faults (IsErrOf result DeskError.Failed) self.old self.new }
-        ensures absent { IsSound self.old → IsErrOf result DeskError.Failed → (shown_of self.old name.now ≡ None) × (name.now ≢ codes "-") }
+        ensures served { HasServed (λ _. ⊤) IsSoundDesk failing_faults (IsErrOf result DeskError.Failed) self.old self.new }
+        ensures absent { IsSoundDesk self.old → IsErrOf result DeskError.Failed → (shown_of self.old name.now ≡ None) × (name.now ≢ codes "-") }
 
         // It fails exactly in a listed call and where there is neither such a file nor the name of
         // standard output, and then changes nothing.

@@ -20,8 +20,7 @@ use Rattle.ftc_script.specs.declared.line.ScriptLine.TheVariants as line
 use Rattle.ftc_journal.specs.declared.event.VisitName.{VisitName}
 use Rattle.ftc_serial.specs.declared.step.Step.{Step}
 use Rattle.ftc_serial.specs.declared.position.Position.TheVariants as position
-use Rattle.ftc_serial.specs.Serial as serial
-use Rattle.ftc_serial.specs.Serial.{State, serial_run}
+use Rattle.ftc_serial.specs.Serial.{State, serial_run, serial_opening}
 use Rattle.ftc_serial.specs.Trace.{trace_of, names}
 use Rattle.ftc_protocol.specs.Visits.{In, Visits}
 use Rattle.ftc_protocol.specs.Legal.{IsNextLine}
@@ -196,19 +195,19 @@ licensed c (Recover k undone ∷ es) s legal =
 -- ---- the serial run of the whole trace
 
 pub whole_run : (c : Setting) → IsSetting c → (journal : List Event) → IsRun c journal → (end : State)
-    → serial_run c.rules (serial.opening c.packets) (trace_of journal) ≡ Some end → end ≡ serial_of c (state_after c (opening c) journal).trace
+    → serial_run c.rules (serial_opening c.packets) (trace_of journal) ≡ Some end → end ≡ serial_of c (state_after c (opening c) journal).trace
 whole_run c setting journal run end is =
     let s : ChainState = state_after c (opening c) journal in
     let inv = always c (is_good c setting) (opens_fit c setting) journal run in
-    same_Some end (serial_of c s.trace) (sym is ∙ subst (λ (steps : List Step). serial_run c.rules (serial.opening c.packets) steps ≡ Some (serial_of c s.trace)) (trace_is c setting journal run)
+    same_Some end (serial_of c s.trace) (sym is ∙ subst (λ (steps : List Step). serial_run c.rules (serial_opening c.packets) steps ≡ Some (serial_of c s.trace)) (trace_is c setting journal run)
     (serial_runs c s.trace inv.world.serial))
 
 pub whole_released : (c : Setting) → IsSetting c → (journal : List Event) → IsRun c journal → (end : State)
-    → serial_run c.rules (serial.opening c.packets) (trace_of journal) ≡ Some end → end.released ≡ released_in (state_after c (opening c) journal).trace
+    → serial_run c.rules (serial_opening c.packets) (trace_of journal) ≡ Some end → end.released ≡ released_in (state_after c (opening c) journal).trace
 whole_released c setting journal run end is = ap (λ (x : State). x.released) (whole_run c setting journal run end is) ∙ records_are c (state_after c (opening c) journal).trace
 
 -- a packet is at its place in it exactly where it is there in the trace's
-module _ (c : Setting) (setting : IsSetting c) (journal : List Event) (run : IsRun c journal) (end : State) (is : serial_run c.rules (serial.opening c.packets) (trace_of journal) ≡ Some end) (p : ℕ) where
+module _ (c : Setting) (setting : IsSetting c) (journal : List Event) (run : IsRun c journal) (end : State) (is : serial_run c.rules (serial_opening c.packets) (trace_of journal) ≡ Some end) (p : ℕ) where
   abbrev pub s : ChainState
   s = state_after c (opening c) journal
 
@@ -234,7 +233,7 @@ module _ (c : Setting) (setting : IsSetting c) (journal : List Event) (run : IsR
   )
 
 pub whole_filtered : (c : Setting) → IsSetting c → (journal : List Event) → IsRun c journal → (end : State)
-    → serial_run c.rules (serial.opening c.packets) (trace_of journal) ≡ Some end → (server packet : ℕ)
+    → serial_run c.rules (serial_opening c.packets) (trace_of journal) ≡ Some end → (server packet : ℕ)
     → ((state_after c (opening c) journal).fate packet ≡ Filtered server) ↔ (end.place packet ≡ Some (position.Filtered server))
 whole_filtered c setting journal run end is server packet = filtered_at c setting journal run end is packet server
 

@@ -8,8 +8,7 @@ use Rattle.ftc_journal.specs.declared.event.Event.{Event}
 use Rattle.ftc_mbox.specs.declared.rule.Rule.{Rule}
 use Rattle.ftc_serial.specs.declared.step.Step.{Step}
 use Rattle.ftc_serial.specs.Words.{AnyOf}
-use Rattle.ftc_serial.specs.Serial as serial
-use Rattle.ftc_serial.specs.Serial.{State, Entry, Visited, Given, after, entry_of, serial_step, serial_run}
+use Rattle.ftc_serial.specs.Serial.{State, Entry, Visited, Given, after, entry_of, serial_step, serial_run, serial_opening}
 use Rattle.ftc_serial.specs.Entries.{step_of}
 use Rattle.ftc_serial.proofs.Functions.{with_at_cases}
 use Rattle.ftc_protocol.specs.Setting.{Setting, servers, shape}
@@ -45,10 +44,10 @@ run_more rules (first ∷ steps) start reached step run =
     ] run
 
 -- a trace that is serial is a serial run by its steps
-pub serial_runs : (c : Setting) (trace : List Entry) → IsSerial c trace → serial_run c.rules (serial.opening c.packets) (steps_in trace) ≡ Some (serial_of c trace)
+pub serial_runs : (c : Setting) (trace : List Entry) → IsSerial c trace → serial_run c.rules (serial_opening c.packets) (steps_in trace) ≡ Some (serial_of c trace)
 serial_runs c [] is = refl
 serial_runs c (entry ∷ older) is =
-    run_more c.rules (steps_in older) (serial.opening c.packets) (serial_of c older) (step_of entry) (serial_runs c older is.1)
+    run_more c.rules (steps_in older) (serial_opening c.packets) (serial_of c older) (step_of entry) (serial_runs c older is.1)
     ∙ ap (option_map (after (length c.rules) (serial_of c older))) (legal_entry c (serial_of c older) entry is.0)
 
 pub records_are : (c : Setting) (trace : List Entry) → (serial_of c trace).released ≡ released_in trace

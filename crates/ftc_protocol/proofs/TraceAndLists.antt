@@ -16,7 +16,7 @@ use Rattle.ftc_protocol.proofs.VisitsPassed.{IsEarlier, IsPassed, Somehow, earli
 use Rattle.ftc_protocol.proofs.Places.{IsEntry, IsSerial, IsSoundTaking, Passed, Released, Waits, opening_passed, place_after, placed, serial_of}
 use Rattle.ftc_protocol.proofs.RingDistances.{IsLastLive, IsNextLive, apart_cases}
 use Rattle.ftc_protocol.proofs.MemberNesting.{IsNested, gains, pulls, recovers}
-use Rattle.ftc_serial.specs.Removal.{IsTaken, left_of}
+use Rattle.ftc_serial.specs.Removal.{IsTakenOut, left_of}
 use Rattle.ftc_protocol.proofs.UndoneVisits.{IsUndone}
 use Rattle.ftc_protocol.proofs.GroupDistance.{IsWithin, within_down, within_given, within_grown, within_more, within_pulls, within_recovers}
 use Rattle.ftc_serial.specs.Take.{Outcome}
@@ -270,7 +270,7 @@ module _ (c : Setting) (s : ChainState) (some : 0 < (servers c)) (sound : IsSoun
   pub place_kept : (p : ℕ) → ((j : ℕ) → IsInTrace Somehow s.trace j p → IsUndone c s r t j p → ⊥) → (serial_of c (left_of gone s.trace)).place p ≡ (serial_of c s.trace).place p
   place_kept p safe = elim (removed.1.place p) [ inl same ↦ sym same | inr cut ↦ absurd (none_cut s.trace (λ j st. st) cut) ]
     where
-      none_cut : (es : List Entry) → ((j : ℕ) → IsInTrace Somehow es j p → IsInTrace Somehow s.trace j p) → AnyOf (λ v. IsTaken gone v × (packet_of v ≡ p)) es → ⊥
+      none_cut : (es : List Entry) → ((j : ℕ) → IsInTrace Somehow es j p → IsInTrace Somehow s.trace j p) → AnyOf (λ v. IsTakenOut gone v × (packet_of v ≡ p)) es → ⊥
       none_cut [] lift a = a
       none_cut (Given q b ∷ es) lift a = elim a [ inl here ↦ true≢false (sym here.0) | inr there ↦ none_cut es (λ j st. lift j (inr st)) there ]
       none_cut (Visited j q o ∷ es) lift a = elim a [

@@ -20,7 +20,7 @@ use Rattle.ftc_protocol.proofs.Places.{Waits, place_after, serial_of}
 use Rattle.ftc_protocol.proofs.TraceAndLists.{World, world_visit}
 use Rattle.ftc_ring.specs.Ring.{apart, next_of}
 use Rattle.ftc_protocol.proofs.RingDistances.{apart_cases}
-use Rattle.ftc_protocol.specs.Next.{bytes_in, bytes_of, next, outcome_at, visited_at, visited_message}
+use Rattle.ftc_protocol.specs.Next.{bytes_in, message_bytes, next, outcome_at, visited_at, visited_message}
 use Rattle.ftc_protocol.proofs.SmallEvents.{held_target}
 use Rattle.ftc_protocol.specs.Changes.{is_changing, is_touching}
 use Rattle.ftc_protocol.proofs.Sets.{kept}
@@ -69,7 +69,7 @@ module _ (c : Setting) (good : IsGood c) (s : ChainState) (h : Inv c s) (k p : �
   world' = world_visit c good.some good.sound s.trace s.up s.lists h.world k p (outcome_at c s k p) live (
     bytes,
     waits,
-    ap (λ b. taken (rule_at c k) b (content_of s.trace (s.lists k k) k)) (ap bytes_of there ∙ ap bytes_in packet)
+    ap (λ b. taken (rule_at c k) b (content_of s.trace (s.lists k k) k)) (ap message_bytes there ∙ ap bytes_in packet)
         ∙ ap (taken (rule_at c k) bytes) (store_all c good.sound s.trace h.world.serial k (s.lists k k) (λ q changing. h.world.lists.heads k q live changing)),
     h.world.inside k live,
   )

@@ -2,8 +2,7 @@
 use Rattle.std.proofs.Common.{◌≡◌, List, Some, subst}
 use Rattle.ftc_journal.specs.declared.event.Event.{Event}
 use Rattle.ftc_serial.specs.declared.step.Step.{Step}
-use Rattle.ftc_serial.specs.Serial as serial
-use Rattle.ftc_serial.specs.Serial.{serial_run}
+use Rattle.ftc_serial.specs.Serial.{serial_run, serial_opening}
 use Rattle.ftc_protocol.specs.Setting.{Setting, IsSetting}
 use Rattle.ftc_protocol.specs.State.{ChainState, opening}
 use Rattle.ftc_protocol.specs.Run.{IsRun, state_after}
@@ -20,6 +19,6 @@ whole_serial c is journal run =
     let inv = always c (is_good c is) (opens_fit c is) journal run in
     record {
       end = serial_of c s.trace;
-      exists = subst (λ (steps : List Step). serial_run c.rules (serial.opening c.packets) steps ≡ Some (serial_of c s.trace)) (trace_is c is journal run)
+      exists = subst (λ (steps : List Step). serial_run c.rules (serial_opening c.packets) steps ≡ Some (serial_of c s.trace)) (trace_is c is journal run)
           (serial_runs c s.trace inv.world.serial);
     }

@@ -1,7 +1,6 @@
 -- What is so of a finished run.
 use Rattle.std.specs.Prelude.{ℕ, ◌≡◌, ◌≢◌, ◌<◌, ◌↔◌, true, false, [], Some, None}
-use Rattle.ftc_serial.specs.Serial as serial
-use Rattle.ftc_serial.specs.Serial.{State, serial_run}
+use Rattle.ftc_serial.specs.Serial.{State, serial_run, serial_opening}
 use Rattle.ftc_protocol.specs.declared.fate.Fate.TheVariants as became
 use Rattle.ftc_protocol.specs.Setting.{Setting, servers, count, is_member}
 use Rattle.ftc_protocol.specs.Visits.{In}
@@ -26,7 +25,7 @@ pub record IsComplete (setting : Setting) (state : ChainState) : Type 0 where
       In (state.lists server) group packet ↔ IsChanging setting.partitions state.trace group packet
   -- so the store of each member is the map of the serial run of the trace, which released what was released
   pub end : State
-  pub serial : serial_run setting.rules (serial.opening setting.packets) (steps_in state.trace) ≡ Some end
+  pub serial : serial_run setting.rules (serial_opening setting.packets) (steps_in state.trace) ≡ Some end
   pub released : end.released ≡ released_in state.trace
   pub stores : (group server : ℕ) → server < servers setting → is_member setting group server ≡ true →
       group < servers setting →

@@ -5,8 +5,7 @@ use Rattle.ftc_ring.specs.Ring.{apart}
 use Rattle.ftc_ring.specs.Live.{first_live_of, IsFirstLive}
 use Rattle.ftc_serial.specs.declared.step.Step.{Step}
 use Rattle.ftc_serial.specs.Words.{AnyOf}
-use Rattle.ftc_serial.specs.Serial as serial
-use Rattle.ftc_serial.specs.Serial.{State, Entry, Visited, Given, serial_run}
+use Rattle.ftc_serial.specs.Serial.{State, Entry, Visited, Given, serial_run, serial_opening}
 use Rattle.ftc_serial.specs.Entries.{step_of}
 use Rattle.ftc_serial.specs.Removal.{left_of}
 use Rattle.ftc_protocol.specs.Setting.{Setting, servers, shape, is_member}
@@ -55,7 +54,7 @@ pub record IsEverywhere (setting : Setting) (state : ChainState) (group packet :
 pub record IsSound (setting : Setting) (state : ChainState) : Type 0 where
   -- the serial run of the trace now exists, and it released what was released
   pub end : State
-  pub serial : serial_run setting.rules (serial.opening setting.packets) (steps_in (trace_now setting state)) ≡ Some end
+  pub serial : serial_run setting.rules (serial_opening setting.packets) (steps_in (trace_now setting state)) ≡ Some end
   pub released : end.released ≡ released_in state.trace
   -- the first live member of each group has that run's content
   pub first : (group server : ℕ) → group < servers setting → IsFirstLive (shape setting) state.up group server →

@@ -36,9 +36,9 @@ abbrev pub bytes_in : Option (List ℕ) → List ℕ
 bytes_in None = []
 bytes_in (Some bytes) = bytes
 
-abbrev pub bytes_of : Option Message → List ℕ
-bytes_of None = []
-bytes_of (Some message) = bytes_in message.packet
+abbrev pub message_bytes : Option Message → List ℕ
+message_bytes None = []
+message_bytes (Some message) = bytes_in message.packet
 
 abbrev pub has_packet : Option Message → Bool
 has_packet None = false
@@ -80,7 +80,7 @@ taken_message setting state link (Some message) =
 
 abbrev pub outcome_at : Setting → ChainState → ℕ → ℕ → Outcome
 outcome_at setting state server packet =
-    taken (rule_at setting server) (bytes_of (state.message packet))
+    taken (rule_at setting server) (message_bytes (state.message packet))
     (content_of state.trace (state.lists server server) server)
 
 abbrev pub visited_at : Where → Where

@@ -6,7 +6,7 @@ use Rattle.ftc_script.specs.declared.line.ScriptLine.{ScriptLine}
 use Rattle.ftc_script.specs.declared.line.ScriptLine.TheVariants as line
 use Rattle.ftc_ring.specs.Ring.{apart, next_of}
 use Rattle.ftc_ring.specs.Live.{IsAdmissible, IsBetween, IsFirstLive}
-use Rattle.ftc_serial.specs.Serial as serial
+use Rattle.ftc_serial.specs.Serial.{serial_opening}
 use Rattle.ftc_serial.specs.History.{IsHistory}
 use Rattle.ftc_protocol.specs.Setting.{Setting, servers, shape, count}
 use Rattle.ftc_protocol.specs.Visits.{In}
@@ -26,7 +26,7 @@ aim size (Queued link) = next_of size link
 pub record IsOrderly (setting : Setting) (state : ChainState) : Type 0 where
   pub admissible : IsAdmissible (shape setting) state.up
   pub inside : (server : ℕ) → state.up server ≡ true → server < servers setting
-  pub history : IsHistory setting.rules (serial.opening setting.packets) state.trace
+  pub history : IsHistory setting.rules (serial_opening setting.packets) state.trace
   pub had : (server group packet : ℕ) → In (state.lists server) group packet →
       (state.up server ≡ true) × (group < servers setting) × (apart (servers setting) group server ≤ setting.failures)
       × IsChanging setting.partitions state.trace group packet

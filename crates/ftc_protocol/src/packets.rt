@@ -4,8 +4,7 @@ ghost use Rattle.std.specs.Prelude.{◌↔◌, ◌∷◌, ◌≡◌, ◌⊎◌, 
 ghost use Rattle.ftc_journal.specs.declared.event.Event.{Event as AnEvent};
 ghost use Rattle.ftc_serial.specs.declared.position.Position.TheVariants as position;
 ghost use Rattle.ftc_serial.specs.Drive.{IsDriven};
-ghost use Rattle.ftc_serial.specs.Serial.{State as SerialState, Given, serial_run};
-ghost use Rattle.ftc_serial.specs.Serial as serial;
+ghost use Rattle.ftc_serial.specs.Serial.{State as SerialState, Given, serial_run, serial_opening};
 ghost use Rattle.ftc_serial.specs.Words.{AnyOf};
 ghost use Rattle.ftc_serial.specs.Trace.{trace_of};
 ghost use Rattle.ftc_protocol.specs.Setting.{Setting, IsSetting, servers};
@@ -63,14 +62,14 @@ pub fn losses()
 /// filtered exactly where that serial run ends with the packet released or filtered there.
 pub fn what_a_run_released()
     ensures records { (setting : Setting) → IsSetting setting → (journal : List AnEvent) → IsRun setting journal →
-        (end : SerialState) → serial_run setting.rules (serial.opening setting.packets) (trace_of journal) ≡ Some end →
+        (end : SerialState) → serial_run setting.rules (serial_opening setting.packets) (trace_of journal) ≡ Some end →
         end.released ≡ released_in (state_after setting (opening setting) journal).trace }
     ensures released { (setting : Setting) → IsSetting setting → (journal : List AnEvent) → IsRun setting journal →
-        (end : SerialState) → serial_run setting.rules (serial.opening setting.packets) (trace_of journal) ≡ Some end →
+        (end : SerialState) → serial_run setting.rules (serial_opening setting.packets) (trace_of journal) ≡ Some end →
         (packet : ℕ) → (state_after setting (opening setting) journal).fate packet ≡ became.Released
         ↔ (end.place packet ≡ Some position.Released) }
     ensures filtered { (setting : Setting) → IsSetting setting → (journal : List AnEvent) → IsRun setting journal →
-        (end : SerialState) → serial_run setting.rules (serial.opening setting.packets) (trace_of journal) ≡ Some end →
+        (end : SerialState) → serial_run setting.rules (serial_opening setting.packets) (trace_of journal) ≡ Some end →
         (server packet : ℕ) → (state_after setting (opening setting) journal).fate packet ≡ became.Filtered server
         ↔ (end.place packet ≡ Some (position.Filtered server)) }
 {}

@@ -15,7 +15,7 @@ use Rattle.ftc_serial.proofs.Functions.{with_at_cases}
 use Rattle.ftc_protocol.specs.Setting.{Setting, servers, packet_at, rule_at}
 use Rattle.ftc_protocol.specs.State.{ChainState, Message}
 use Rattle.ftc_protocol.specs.Legal.{MayHappen, is_sent}
-use Rattle.ftc_protocol.specs.Next.{next, bytes_in, bytes_of, fresh_message, taken_message, visited_message, outcome_at, sent_message, is_away, is_at, drop_if}
+use Rattle.ftc_protocol.specs.Next.{next, bytes_in, message_bytes, fresh_message, taken_message, visited_message, outcome_at, sent_message, is_away, is_at, drop_if}
 use Rattle.ftc_protocol.specs.Recovery.{following_live, is_dropped}
 use Rattle.ftc_protocol.specs.Run.{IsRunState}
 use Rattle.ftc_protocol.specs.Trace.{content_of}
@@ -109,10 +109,10 @@ module _ (setting : Setting) (state : ChainState) where
         message.packet ≡ Some old → (bytes : List ℕ) → (outcome_at setting state server packet).packet ≡ Some bytes →
         length bytes ≡ length (packet_at setting packet)
     its_outcome server packet message old there has bytes is =
-        let before = bytes_of (state.message packet) in
+        let before = message_bytes (state.message packet) in
         after_length before
         (asked (rule_at setting server) before (content_of state.trace (state.lists server server) server)).end.verdict bytes is
-        ∙ (ap (λ o. length (bytes_of o)) there
+        ∙ (ap (λ o. length (message_bytes o)) there
         ∙ (ap (λ o. length (bytes_in o)) has
         ∙ of_one setting packet message old (state.message packet) there has (are.each packet)))
 

@@ -9,7 +9,7 @@ use Rattle.ftc_protocol.specs.Setting.{Setting}
 use Rattle.ftc_protocol.specs.State.{ChainState}
 use Rattle.ftc_server.specs.declared.server.Server.{Server}
 use Rattle.ftc_server.specs.Looks.{replica_or_own}
-use Rattle.ftc_server.specs.State.{ServerState, state_of}
+use Rattle.ftc_server.specs.State.{ServerState, fields_of}
 use Rattle.ftc_edge.specs.Due.{WithheldPackets}
 use Rattle.ftc_replica.specs.Kept.{KeptLogs, covers_log, missing}
 use Rattle.ftc_vector.specs.Commits.{vector_of}
@@ -42,7 +42,7 @@ head_of content partitions vector kept =
     record { content = content; partitions = partitions; vector = vector; kept = kept }
 
 pub stays : (setting : Setting) (state : ChainState) (number : ℕ) (old new : Server) (one : ServerState) →
-    IsServerAt setting state number old → state_of new ≡ one → IsSameState one old → IsServerAt setting state number new
+    IsServerAt setting state number old → fields_of new ≡ one → IsSameState one old → IsServerAt setting state number new
 stays setting state number old new one was is same =
     stands_with setting state state number old new (contents_of old) was
     (record {
@@ -68,7 +68,7 @@ stays setting state number old new one was is same =
 pub all_same : (old : Server) (head : HeadState) (own : KeptLogs) (held : Holding) (buffer : WithheldPackets) →
     head.content ≡ old.head.content → head.partitions ≡ old.head.partitions → head.vector ≡ old.head.vector →
     own.items ≡ old.own.items → held.items ≡ old.held.items → buffer.items ≡ old.buffer.items →
-    IsSameState (record (state_of old) { head = head; own = own; held = held; buffer = buffer }) old
+    IsSameState (record (fields_of old) { head = head; own = own; held = held; buffer = buffer }) old
 all_same old head own held buffer content partitions vector owns holds withholds = record {
   ring = refl;
   number = refl;
@@ -86,32 +86,32 @@ all_same old head own held buffer content partitions vector owns holds withholds
 }
 
 module _ (setting : Setting) (state : ChainState) (number : ℕ) (old new : Server) (was : IsServerAt setting state number old) where
-  pub with_nothing : state_of new ≡ state_of old → IsServerAt setting state number new
-  with_nothing is = stays setting state number old new (state_of old) was is
+  pub with_nothing : fields_of new ≡ fields_of old → IsServerAt setting state number new
+  with_nothing is = stays setting state number old new (fields_of old) was is
       (all_same old old.head old.own old.held old.buffer refl refl refl refl refl refl)
 
   -- only the locks and the slots of the head differ
-  pub with_head : (head : HeadState) → state_of new ≡ record (state_of old) { head = head } →
+  pub with_head : (head : HeadState) → fields_of new ≡ record (fields_of old) { head = head } →
       head.content ≡ old.head.content → head.partitions ≡ old.head.partitions → head.vector ≡ old.head.vector →
       IsServerAt setting state number new
   with_head head is content partitions vector =
-      stays setting state number old new (record (state_of old) { head = head }) was is
+      stays setting state number old new (record (fields_of old) { head = head }) was is
       (all_same old head old.own old.held old.buffer content partitions vector refl refl refl)
 
   -- only rooms differ
-  pub with_own_room : state_of new ≡ record (state_of old) { own = new.own } → new.own.items ≡ old.own.items →
+  pub with_own_room : fields_of new ≡ record (fields_of old) { own = new.own } → new.own.items ≡ old.own.items →
       IsServerAt setting state number new
-  with_own_room is same = stays setting state number old new (record (state_of old) { own = new.own }) was is
+  with_own_room is same = stays setting state number old new (record (fields_of old) { own = new.own }) was is
       (all_same old old.head new.own old.held old.buffer refl refl refl same refl refl)
 
-  pub with_held_room : state_of new ≡ record (state_of old) { held = new.held } → new.held.items ≡ old.held.items →
+  pub with_held_room : fields_of new ≡ record (fields_of old) { held = new.held } → new.held.items ≡ old.held.items →
       IsServerAt setting state number new
-  with_held_room is same = stays setting state number old new (record (state_of old) { held = new.held }) was is
+  with_held_room is same = stays setting state number old new (record (fields_of old) { held = new.held }) was is
       (all_same old old.head old.own new.held old.buffer refl refl refl refl same refl)
 
-  pub with_buffer_room : state_of new ≡ record (state_of old) { buffer = new.buffer } →
+  pub with_buffer_room : fields_of new ≡ record (fields_of old) { buffer = new.buffer } →
       new.buffer.items ≡ old.buffer.items → IsServerAt setting state number new
-  with_buffer_room is same = stays setting state number old new (record (state_of old) { buffer = new.buffer }) was is
+  with_buffer_room is same = stays setting state number old new (record (fields_of old) { buffer = new.buffer }) was is
       (all_same old old.head old.own old.held new.buffer refl refl refl refl refl same)
 
 -- ---- kept logs that are known at the tails

@@ -7,7 +7,7 @@ ghost use Rattle.ftc_txn.specs.declared.answers.ReadAnswer.{ReadAnswer as AReadA
 ghost use Rattle.ftc_server.specs.declared.answers.CommitAnswer.{CommitAnswer as ACommitAnswer};
 ghost use Rattle.ftc_server.specs.declared.answers.CommitAnswer.TheVariants.{Done};
 ghost use Rattle.ftc_server.specs.declared.server.Server.{Server};
-ghost use Rattle.ftc_server.specs.State.{state_of};
+ghost use Rattle.ftc_server.specs.State.{fields_of};
 ghost use Rattle.ftc_server.specs.Steps.{HasRoomed, HasBufferRoom, HasBegun, HasQuit, Reads, EndsVisit, HasPruned, IsOpening, empty_held};
 ghost use Rattle.ftc_refinement.specs.Contents.{IsServerAt};
 
@@ -17,7 +17,7 @@ use ftc_standing::all_stand;
 /// which it stood; so does a commit that isn't done, one that drops kept logs, and one that leaves the fields.
 pub fn what_stays()
     ensures same { (setting : Setting) (state : ChainState) (server : ℕ) (old new : Server) →
-        IsServerAt setting state server old → state_of new ≡ state_of old → IsServerAt setting state server new }
+        IsServerAt setting state server old → fields_of new ≡ fields_of old → IsServerAt setting state server new }
     ensures roomed { (setting : Setting) (state : ChainState) (server : ℕ) (old new : Server) →
         IsServerAt setting state server old → HasRoomed old new → IsServerAt setting state server new }
     ensures buffered { (setting : Setting) (state : ChainState) (server : ℕ) (old new : Server) →

@@ -21,8 +21,8 @@ use Rattle.ftc_serial.specs.declared.step.Step.{Step}
 use Rattle.ftc_serial.specs.declared.step.Step.TheVariants.{Visit, Release}
 use Rattle.ftc_serial.specs.Words.{with_at}
 use Rattle.ftc_serial.specs.Take.{Outcome, taken, asked, packet_after}
-use Rattle.ftc_serial.specs.Packets.{bytes_of}
-use Rattle.ftc_serial.specs.Serial.{State, opening, Visited, Given, after, position_after, visit_at, release_at, serial_step, serial_run}
+use Rattle.ftc_serial.specs.Packets.{bytes_of_packets}
+use Rattle.ftc_serial.specs.Serial.{State, serial_opening, Visited, Given, after, position_after, visit_at, release_at, serial_step, serial_run}
 use Rattle.ftc_report.specs.Output.{IsWritable, AreWritable}
 
 all_push : {A : Type 0} (P : A → Type 0) (xs : List A) (x : A) → AllByRecursion P xs → P x → AllByRecursion P (xs ++ x ∷ [])
@@ -116,7 +116,7 @@ run_fits packets rules [] start end fit is = let same : start ≡ end = cc in su
 run_fits packets rules (step ∷ steps) start end fit is =
     run_after packets rules steps end (serial_step rules start step) (λ state h. step_fits packets rules start state step fit h) (λ state. run_fits packets rules steps state end) is
 
--- at the opening
+-- at the serial_opening
 short_at : (packets : List Packet) (packet : ℕ) (p : Packet) → AllByRecursion (λ p. length p.bytes ≤ MOST_CAPTURED) packets → slice_get packets packet ≡ Some p → length p.bytes ≤ MOST_CAPTURED
 short_at [] packet p short is = absurd (cc)
 short_at (q ∷ packets) zero p short is = let same : q ≡ p = cc in subst (λ (p : Packet). length p.bytes ≤ MOST_CAPTURED) same short.0
@@ -126,12 +126,12 @@ opening_place : (packets : List Packet) (packet : ℕ) (found : Option Packet) �
 opening_place packets packet None is short = tt
 opening_place packets packet (Some p) is short = (slice_get_within packets packet p is, short_at packets packet p short is)
 
-opening_fits : (packets : List Packet) → AllByRecursion (λ p. length p.bytes ≤ MOST_CAPTURED) packets → AllFit packets (opening (bytes_of packets))
+opening_fits : (packets : List Packet) → AllByRecursion (λ p. length p.bytes ≤ MOST_CAPTURED) packets → AllFit packets (serial_opening (bytes_of_packets packets))
 opening_fits packets short = record {
   places = λ packet. subst (λ (o : Option (List ℕ)). Fits packets packet (option_map (position.Waiting 0) o)) (sym (slice_get-map (λ p. p.bytes) packets packet)) (opening_place packets packet (slice_get packets packet) refl short);
   released = tt;
 }
 
--- what a run from the opening has released can be written
-pub run_writable : (packets : List Packet) (rules : List Rule) (steps : List Step) (end : State) → AllByRecursion (λ p. length p.bytes ≤ MOST_CAPTURED) packets → serial_run rules (opening (bytes_of packets)) steps ≡ Some end → AreWritable packets end.released
-run_writable packets rules steps end short is = (run_fits packets rules steps (opening (bytes_of packets)) end (opening_fits packets short) is).released
+-- what a run from the serial_opening has released can be written
+pub run_writable : (packets : List Packet) (rules : List Rule) (steps : List Step) (end : State) → AllByRecursion (λ p. length p.bytes ≤ MOST_CAPTURED) packets → serial_run rules (serial_opening (bytes_of_packets packets)) steps ≡ Some end → AreWritable packets end.released
+run_writable packets rules steps end short is = (run_fits packets rules steps (serial_opening (bytes_of_packets packets)) end (opening_fits packets short) is).released

@@ -1,9 +1,9 @@
 //! The report over a journal.
 
 ghost use Rattle.std.specs.Prelude.{◌≡◌, IfOk, IsSome, Some, length};
-ghost use Rattle.ftc_serial.specs.Serial.{opening, serial_run};
-ghost use Rattle.ftc_serial.specs.Packets.{bytes_of};
-ghost use Rattle.ftc_serial.specs.Held.{rules_of, state_of};
+ghost use Rattle.ftc_serial.specs.Serial.{serial_opening, serial_run};
+ghost use Rattle.ftc_serial.specs.Packets.{bytes_of_packets};
+ghost use Rattle.ftc_serial.specs.Held.{rules_of, serial_state};
 ghost use Rattle.ftc_serial.specs.Trace.{trace_of};
 ghost use Rattle.ftc_protocol.specs.Setting.{setting_of};
 ghost use Rattle.ftc_protocol.specs.Run.{IsRun};
@@ -27,9 +27,9 @@ pub fn chain_after(
     packets: &Packets,
     trace: &Trace,
 ) -> Result<Serial, NoMemory>
-    requires { IsSome (serial_run spec.now.rules (opening (bytes_of packets.now)) trace.now) }
+    requires { IsSome (serial_run spec.now.rules (serial_opening (bytes_of_packets packets.now)) trace.now) }
     ensures rules { IfOk result (λ serial. rules_of serial ≡ spec.now.rules) }
-    ensures state { IfOk result (λ serial. serial_run spec.now.rules (opening (bytes_of packets.now)) trace.now ≡ Some (state_of serial)) }
+    ensures state { IfOk result (λ serial. serial_run spec.now.rules (serial_opening (bytes_of_packets packets.now)) trace.now ≡ Some (serial_state serial)) }
 {
     match Serial::run(alloc, spec, packets, trace) {
         Ok(serial) => Ok(serial),
@@ -50,8 +50,8 @@ pub fn report(
 ) -> Result<Bytes, NoMemory>
     requires ring { script.now.ring ≡ record { servers = length spec.now.rules; failures = spec.now.failures } }
     requires packets { script.now.packets ≡ length packets.now }
-    requires run { ∥ IsRun (setting_of spec.now (bytes_of packets.now) script.now) journal.now.items ∥₁ }
-    ensures { IfOk result (λ text. text ≡ report_of (setting_of spec.now (bytes_of packets.now) script.now) journal.now.items taps.now) }
+    requires run { ∥ IsRun (setting_of spec.now (bytes_of_packets packets.now) script.now) journal.now.items ∥₁ }
+    ensures { IfOk result (λ text. text ≡ report_of (setting_of spec.now (bytes_of_packets packets.now) script.now) journal.now.items taps.now) }
 {
     // The chain is in its bounds and the script was accepted, so that the laws speak of the run.
     accepted();

@@ -5,7 +5,7 @@ ghost use Rattle.std.specs.Prelude.{map as map_list};
 ghost use Rattle.std.specs.List.{flat_map, enumerate_from};
 ghost use Rattle.hex.specs.Hex.{encode_lower};
 ghost use Rattle.ftc_store.specs.Pairs.{entry_of};
-ghost use Rattle.ftc_serial.specs.Held.{rules_of, state_of};
+ghost use Rattle.ftc_serial.specs.Held.{rules_of, serial_state};
 ghost use Rattle.ftc_report.specs.Text.{value_text, key_line, store_lines};
 ghost use Rattle.ftc_report.specs.Contents.{contents};
 
@@ -73,7 +73,7 @@ fn append_store(
 
 /// Adds the lines of each middlebox's store.
 pub fn append_stores(alloc: Global, serial: &Serial, out: &mut Bytes) -> Result<(), NoMemory>
-    ensures { OnOk result (out.new ≡ out.old ++ flat_map store_lines (enumerate_from 0 (contents (length (rules_of serial.now)) (state_of serial.now)))) }
+    ensures { OnOk result (out.new ≡ out.old ++ flat_map store_lines (enumerate_from 0 (contents (length (rules_of serial.now)) (serial_state serial.now)))) }
 {
     for place in 0..serial.servers() {
         let server = ServerId::new(place as u8).unwrap();

@@ -9,9 +9,9 @@ use Rattle.ftc_store.specs.Store.{Content}
 use Rattle.ftc_serial.specs.Words.{AnyOf}
 use Rattle.ftc_serial.specs.Take.{Outcome, taken}
 use Rattle.ftc_serial.specs.Serial.{State, Entry, Visited, Given, after}
-use Rattle.ftc_serial.specs.Entries.{IsLegal, Touches, WritesAt}
-use Rattle.ftc_serial.specs.Removal.{Taken, is_taken, IsTaken, IsBefore, Takes, left_of, IsLost}
-use Rattle.ftc_serial.specs.History.{state_after, IsHistory, IsClosedHistory, IsCut, IsAlike, IsRemovedHistory}
+use Rattle.ftc_serial.specs.Entries.{IsRightEntry, Touches, WritesAt}
+use Rattle.ftc_serial.specs.Removal.{Taken, is_taken, IsTakenOut, IsEntryBefore, Takes, left_of, IsLost}
+use Rattle.ftc_serial.specs.History.{serial_state_after, IsHistory, IsClosedHistory, IsCut, IsAlike, IsRemovedHistory}
 use Rattle.ftc_serial.proofs.Functions.{with_at_cases, with_at_both, any_of_all}
 use Rattle.ftc_serial.proofs.Alike.{SameAt, SameAnswers, taken_alike, written_alike, written_elsewhere, writes_or_not}
 use Rattle.ftc_serial.proofs.Legal.{IsVisitLegal, legal_visit, visit_legal, legal_release, release_legal}
@@ -23,7 +23,7 @@ answers_alike partitions one other (answer ∷ answers) f = (f answer.key (inl r
 
 -- a visit that was legal is legal in a state that is alike where it looks
 pub visit_alike : (rules : List Rule) (partitions : ℕ) (s t : State) (server packet : ℕ) (outcome : Outcome) → IsVisitLegal rules s server packet outcome → s.place packet ≡ t.place packet
-    → ((key : List ℕ) → Touches partitions outcome (partition_of partitions key) → SameAt (s.maps server) (t.maps server) key) → IsLegal rules t (Visited server packet outcome)
+    → ((key : List ℕ) → Touches partitions outcome (partition_of partitions key) → SameAt (s.maps server) (t.maps server) key) → IsRightEntry rules t (Visited server packet outcome)
 visit_alike rules partitions s t server packet outcome legal place same =
     let alike : SameAnswers (s.maps server) (t.maps server) (taken legal.rule legal.bytes (s.maps server)).answers =
     subst (λ (u : Outcome). SameAnswers (s.maps server) (t.maps server) u.answers) legal.is (answers_alike partitions (s.maps server) (t.maps server) outcome.answers same) in
@@ -40,7 +40,7 @@ module _ (rules : List Rule) (partitions : ℕ) (out : Taken) where
   n = length rules
 
   -- what is not taken out looks at nothing that was
-  legal_kept : (s t : State) (entry : Entry) (older : List Entry) → IsAlike partitions out s t older → AllByRecursion (λ earlier. Takes partitions out earlier entry) older → is_taken out entry ≡ false → IsLegal rules s entry → IsLegal rules t entry
+  legal_kept : (s t : State) (entry : Entry) (older : List Entry) → IsAlike partitions out s t older → AllByRecursion (λ earlier. Takes partitions out earlier entry) older → is_taken out entry ≡ false → IsRightEntry rules s entry → IsRightEntry rules t entry
   legal_kept s t (Given packet bytes) older alike takes stays legal =
       elim (alike.place packet) [
         | inl same ↦ legal_release rules t packet bytes (sym same ∙ release_legal rules s packet bytes legal)
@@ -57,7 +57,7 @@ module _ (rules : List Rule) (partitions : ℕ) (out : Taken) where
       ] in
       visit_alike rules partitions s t server packet outcome (visit_legal rules s server packet outcome legal) place same
     where
-      writer : (key : List ℕ) → Touches partitions outcome (partition_of partitions key) → (v : Entry) → WritesAt partitions server (partition_of partitions key) v → IsBefore partitions v (Visited server packet outcome)
+      writer : (key : List ℕ) → Touches partitions outcome (partition_of partitions key) → (v : Entry) → WritesAt partitions server (partition_of partitions key) v → IsEntryBefore partitions v (Visited server packet outcome)
       writer key touches (Visited k q u) writes = (partition_of partitions key, writes.1, (sym writes.0, touches))
       writer key touches (Given q bytes) writes = absurd writes
 
@@ -80,7 +80,7 @@ module _ (rules : List Rule) (partitions : ℕ) (out : Taken) where
     released = alike.released;
   }
 
-  after_gone : (s t : State) (entry : Entry) (older : List Entry) → IsAlike partitions out s t older → IsTaken out entry → IsAlike partitions out (after (length rules) s entry) t (entry ∷ older)
+  after_gone : (s t : State) (entry : Entry) (older : List Entry) → IsAlike partitions out s t older → IsTakenOut out entry → IsAlike partitions out (after (length rules) s entry) t (entry ∷ older)
   after_gone s t (Given packet bytes) older alike goes = absurd (true≢false (sym goes))
   after_gone s t (Visited server packet outcome) older alike goes = record {
     maps = λ q key. with_at_cases (λ x. SameAt x (t.maps q) key ⊎ IsLost partitions out q (partition_of partitions key) (Visited server packet outcome ∷ older)) s.maps server _ q
@@ -99,12 +99,12 @@ module _ (rules : List Rule) (partitions : ℕ) (out : Taken) where
   }
 
   taken_out : (start : State) (history : List Entry) → IsHistory rules start history → IsClosedHistory partitions out history
-      → IsHistory rules start (left_of out history) × IsAlike partitions out (state_after rules start history) (state_after rules start (left_of out history)) history
+      → IsHistory rules start (left_of out history) × IsAlike partitions out (serial_state_after rules start history) (serial_state_after rules start (left_of out history)) history
   taken_out start [] is closed = (tt, record { maps = λ server key. inl refl; place = λ p. inl refl; released = refl })
   taken_out start (entry ∷ older) is closed =
       let rest = taken_out start older is.1 closed.1 in
-      let s = state_after rules start older in let t = state_after rules start (left_of out older) in
-      let Good : List Entry → Type 0 = λ left. IsHistory rules start left × IsAlike partitions out (after (length rules) s entry) (state_after rules start left) (entry ∷ older) in
+      let s = serial_state_after rules start older in let t = serial_state_after rules start (left_of out older) in
+      let Good : List Entry → Type 0 = λ left. IsHistory rules start left × IsAlike partitions out (after (length rules) s entry) (serial_state_after rules start left) (entry ∷ older) in
       elim (is_taken out entry) as (λ b. is_taken out entry ≡ b → Good (cond (not b) (entry ∷ left_of out older) (left_of out older))) [
         | true ↦ λ goes. (rest.0, after_gone s t entry older rest.1 goes)
         | false ↦ λ stays. ((legal_kept s t entry older rest.1 closed.0 stays is.0, rest.0), after_kept s t entry older rest.1)

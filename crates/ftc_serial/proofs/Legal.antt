@@ -8,7 +8,7 @@ use Rattle.ftc_serial.specs.declared.step.Step.{Step}
 use Rattle.ftc_serial.specs.declared.step.Step.TheVariants.{Visit, Release}
 use Rattle.ftc_serial.specs.Take.{Outcome, taken}
 use Rattle.ftc_serial.specs.Serial.{State, Entry, Visited, Given, visit_at, release_at, entry_of}
-use Rattle.ftc_serial.specs.Entries.{step_of, IsLegal}
+use Rattle.ftc_serial.specs.Entries.{step_of, IsRightEntry}
 
 -- The packet waits for that middlebox, whose rule does this.
 pub record IsVisitLegal (rules : List Rule) (state : State) (server packet : ℕ) (outcome : Outcome) : Type 0 where
@@ -18,7 +18,7 @@ pub record IsVisitLegal (rules : List Rule) (state : State) (server packet : ℕ
   pub known : slice_get rules server ≡ Some rule
   pub is : outcome ≡ taken rule bytes (state.maps server)
 
-pub legal_visit : (rules : List Rule) (state : State) (server packet : ℕ) (outcome : Outcome) → IsVisitLegal rules state server packet outcome → IsLegal rules state (Visited server packet outcome)
+pub legal_visit : (rules : List Rule) (state : State) (server packet : ℕ) (outcome : Outcome) → IsVisitLegal rules state server packet outcome → IsRightEntry rules state (Visited server packet outcome)
 legal_visit rules state server packet outcome legal =
     ap (visit_at rules state server packet) legal.waits
     ∙ ap (λ b. if b then option_map (λ rule. Visited server packet (taken rule legal.bytes (state.maps server))) (slice_get rules server) else None) (eq-eqb server server refl)
@@ -52,7 +52,7 @@ same_outcome rules state server packet outcome (other, same, legal) =
     let is : outcome ≡ other = cc in
     record { bytes = legal.bytes; rule = legal.rule; waits = legal.waits; known = legal.known; is = is ∙ legal.is }
 
-pub visit_legal : (rules : List Rule) (state : State) (server packet : ℕ) (outcome : Outcome) → IsLegal rules state (Visited server packet outcome) → IsVisitLegal rules state server packet outcome
+pub visit_legal : (rules : List Rule) (state : State) (server packet : ℕ) (outcome : Outcome) → IsRightEntry rules state (Visited server packet outcome) → IsVisitLegal rules state server packet outcome
 visit_legal rules state server packet outcome legal = same_outcome rules state server packet outcome (told_visit rules state server packet (Visited server packet outcome) legal)
 
 release_told : (packet : ℕ) (entry : Entry) (place : Option Position) → release_at packet place ≡ Some entry → (bytes : List ℕ) × (entry ≡ Given packet bytes) × (place ≡ Some (position.Passed bytes))
@@ -65,17 +65,17 @@ release_told packet entry None told = absurd (cc)
 pub told_release : (rules : List Rule) (state : State) (packet : ℕ) (entry : Entry) → entry_of rules state (Release packet) ≡ Some entry → (bytes : List ℕ) × (entry ≡ Given packet bytes) × (state.place packet ≡ Some (position.Passed bytes))
 told_release rules state packet entry told = release_told packet entry (state.place packet) told
 
-pub legal_release : (rules : List Rule) (state : State) (packet : ℕ) (bytes : List ℕ) → state.place packet ≡ Some (position.Passed bytes) → IsLegal rules state (Given packet bytes)
+pub legal_release : (rules : List Rule) (state : State) (packet : ℕ) (bytes : List ℕ) → state.place packet ≡ Some (position.Passed bytes) → IsRightEntry rules state (Given packet bytes)
 legal_release rules state packet bytes passed = ap (release_at packet) passed
 
 same_bytes : (state : State) (packet : ℕ) (bytes : List ℕ) → (other : List ℕ) × (Given packet bytes ≡ Given packet other) × (state.place packet ≡ Some (position.Passed other)) → state.place packet ≡ Some (position.Passed bytes)
 same_bytes state packet bytes (other, same, passed) = let is : other ≡ bytes = cc in passed ∙ ap (λ b. Some (position.Passed b)) is
 
-pub release_legal : (rules : List Rule) (state : State) (packet : ℕ) (bytes : List ℕ) → IsLegal rules state (Given packet bytes) → state.place packet ≡ Some (position.Passed bytes)
+pub release_legal : (rules : List Rule) (state : State) (packet : ℕ) (bytes : List ℕ) → IsRightEntry rules state (Given packet bytes) → state.place packet ≡ Some (position.Passed bytes)
 release_legal rules state packet bytes legal = same_bytes state packet bytes (told_release rules state packet (Given packet bytes) legal)
 
 -- an entry that a step tells is legal, and is that step's
-pub told_legal : (rules : List Rule) (state : State) (step : Step) (entry : Entry) → entry_of rules state step ≡ Some entry → IsLegal rules state entry × (step_of entry ≡ step)
+pub told_legal : (rules : List Rule) (state : State) (step : Step) (entry : Entry) → entry_of rules state step ≡ Some entry → IsRightEntry rules state entry × (step_of entry ≡ step)
 told_legal rules state (Visit server packet) entry told =
     let found = told_visit rules state server packet entry told in
     let own : step_of entry ≡ Visit server packet = ap step_of found.1 in

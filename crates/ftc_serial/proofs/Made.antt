@@ -8,7 +8,7 @@ use Rattle.std.specs.Option.{option_map_or}
 use Rattle.std.proofs.lemmas.Option.{slice_get_within, slice_get_past, slice_get-map, get_or_from_slice_get}
 use Rattle.ftc_base.specs.declared.released.Released.{Released}
 use Rattle.ftc_pcap.specs.declared.packets.Packet.{Packet}
-use Rattle.ftc_serial.specs.Packets.{bytes_of}
+use Rattle.ftc_serial.specs.Packets.{bytes_of_packets}
 use Rattle.ftc_mbox.specs.declared.rule.Rule.{Rule}
 use Rattle.ftc_store.specs.Store.{Content, Stored, written}
 use Rattle.ftc_serial.specs.declared.position.Position.{Position}
@@ -117,7 +117,7 @@ option_twice : (o : Option Packet) → option_map (λ packet. position.Waiting 0
 option_twice None = refl
 option_twice (Some packet) = refl
 
-pub opening_place : (packets : List Packet) (positions : List Position) (place : ℕ) → positions ≡ map (λ packet. position.Waiting 0 packet.bytes) packets → slice_get positions place ≡ option_map (position.Waiting 0) (slice_get (bytes_of packets) place)
+pub opening_place : (packets : List Packet) (positions : List Position) (place : ℕ) → positions ≡ map (λ packet. position.Waiting 0 packet.bytes) packets → slice_get positions place ≡ option_map (position.Waiting 0) (slice_get (bytes_of_packets packets) place)
 opening_place packets positions place is =
     ap (λ (ps : List Position). slice_get ps place) is ∙ slice_get-map (λ packet. position.Waiting 0 packet.bytes) packets place ∙ option_twice (slice_get packets place)
     ∙ ap (option_map (position.Waiting 0)) (sym (slice_get-map (λ packet. packet.bytes) packets place))

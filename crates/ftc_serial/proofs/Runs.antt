@@ -6,9 +6,9 @@ use Rattle.ftc_mbox.specs.declared.rule.Rule.{Rule}
 use Rattle.ftc_serial.specs.declared.step.Step.{Step}
 use Rattle.ftc_serial.specs.Words.{AnyOf}
 use Rattle.ftc_serial.specs.Serial.{State, Entry, Visited, Given, entry_of, after, serial_run}
-use Rattle.ftc_serial.specs.Entries.{step_of, IsLegal, entries}
-use Rattle.ftc_serial.specs.Removal.{Taken, is_taken, Takes, IsClosed, left_of, is_taken_step, steps_left, IsRemoval}
-use Rattle.ftc_serial.specs.History.{state_after, IsHistory, IsClosedHistory, IsAlike}
+use Rattle.ftc_serial.specs.Entries.{step_of, IsRightEntry, entries}
+use Rattle.ftc_serial.specs.Removal.{Taken, is_taken, Takes, IsClosedRun, left_of, is_taken_step, steps_left, IsRemoval}
+use Rattle.ftc_serial.specs.History.{serial_state_after, IsHistory, IsClosedHistory, IsAlike}
 use Rattle.ftc_serial.proofs.Legal.{told_legal}
 use Rattle.ftc_serial.proofs.Histories.{removed_history}
 
@@ -37,7 +37,7 @@ left_onto out past (entry ∷ run) =
     ]
 
 -- what is closed first to last is closed last to first
-closed_onto : (partitions : ℕ) (out : Taken) (past run : List Entry) → IsClosedHistory partitions out past → AllByRecursion (λ later. AllByRecursion (λ earlier. Takes partitions out earlier later) past) run → IsClosed partitions out run → IsClosedHistory partitions out (onto past run)
+closed_onto : (partitions : ℕ) (out : Taken) (past run : List Entry) → IsClosedHistory partitions out past → AllByRecursion (λ later. AllByRecursion (λ earlier. Takes partitions out earlier later) past) run → IsClosedRun partitions out run → IsClosedHistory partitions out (onto past run)
 unfolding onto
 closed_onto partitions out past [] closed across within = closed
 closed_onto partitions out past (entry ∷ run) closed across within =
@@ -57,14 +57,14 @@ module _ (rules : List Rule) (start : State) where
   -- a run puts its entries onto the history before it
   record IsTold (past : List Entry) (steps : List Step) (end : State) (run : List Entry) : Type 0 where
     history : IsHistory rules start (onto past run)
-    ends : state_after rules start (onto past run) ≡ end
+    ends : serial_state_after rules start (onto past run) ≡ end
     names : map step_of run ≡ steps
 
-  told : (steps : List Step) (past : List Entry) (end : State) → IsHistory rules start past → serial_run rules (state_after rules start past) steps ≡ Some end → IsTold past steps end (entries rules (state_after rules start past) steps)
+  told : (steps : List Step) (past : List Entry) (end : State) → IsHistory rules start past → serial_run rules (serial_state_after rules start past) steps ≡ Some end → IsTold past steps end (entries rules (serial_state_after rules start past) steps)
   unfolding onto
   told [] past end is = λ run. record { history = is; ends = cc; names = refl }
   told (step ∷ steps) past end is =
-      let s = state_after rules start past in
+      let s = serial_state_after rules start past in
       elim (entry_of rules s step) as (λ o. entry_of rules s step ≡ o
       → option_and_then (λ next. serial_run rules next steps) (option_map (after (length rules) s) o) ≡ Some end
       → IsTold past (step ∷ steps) end (elim o [ None ↦ [] | Some entry ↦ entry ∷ entries rules (after (length rules) s entry) steps ])) [
@@ -76,20 +76,20 @@ module _ (rules : List Rule) (start : State) where
       ] refl
 
   -- and the steps of what was put onto a history are a run, with these entries
-  run_of : (run past : List Entry) → IsHistory rules start (onto past run) → serial_run rules (state_after rules start past) (map step_of run) ≡ Some (state_after rules start (onto past run))
+  run_of : (run past : List Entry) → IsHistory rules start (onto past run) → serial_run rules (serial_state_after rules start past) (map step_of run) ≡ Some (serial_state_after rules start (onto past run))
   unfolding onto
   run_of [] past is = refl
   run_of (entry ∷ run) past is =
-      let legal : IsLegal rules (state_after rules start past) entry = (begins (entry ∷ past) run is).0 in
-      ap (λ (o : Option Entry). option_and_then (λ next. serial_run rules next (map step_of run)) (option_map (after (length rules) (state_after rules start past)) o)) legal
+      let legal : IsRightEntry rules (serial_state_after rules start past) entry = (begins (entry ∷ past) run is).0 in
+      ap (λ (o : Option Entry). option_and_then (λ next. serial_run rules next (map step_of run)) (option_map (after (length rules) (serial_state_after rules start past)) o)) legal
       ∙ run_of run (entry ∷ past) is
 
-  entries_of : (run past : List Entry) → IsHistory rules start (onto past run) → entries rules (state_after rules start past) (map step_of run) ≡ run
+  entries_of : (run past : List Entry) → IsHistory rules start (onto past run) → entries rules (serial_state_after rules start past) (map step_of run) ≡ run
   unfolding onto
   entries_of [] past is = refl
   entries_of (entry ∷ run) past is =
-      let s = state_after rules start past in
-      let legal : IsLegal rules s entry = (begins (entry ∷ past) run is).0 in
+      let s = serial_state_after rules start past in
+      let legal : IsRightEntry rules s entry = (begins (entry ∷ past) run is).0 in
       ap (λ (o : Option Entry). elim o [ None ↦ [] | Some e ↦ e ∷ entries rules (after (length rules) s e) (map step_of run) ]) legal
       ∙ ap (λ (es : List Entry). entry ∷ es) (entries_of run (entry ∷ past) is)
 
@@ -109,7 +109,7 @@ all_none : (run : List Entry) (P : Entry → Type 0) → ((entry : Entry) → P 
 all_none [] P each = tt
 all_none (entry ∷ run) P each = (each entry, all_none run P each)
 
-pub removed : (rules : List Rule) (partitions : ℕ) (out : Taken) (start : State) (steps : List Step) (end : State) → serial_run rules start steps ≡ Some end → IsClosed partitions out (entries rules start steps) → IsRemoval rules partitions out start steps end
+pub removed : (rules : List Rule) (partitions : ℕ) (out : Taken) (start : State) (steps : List Step) (end : State) → serial_run rules start steps ≡ Some end → IsClosedRun partitions out (entries rules start steps) → IsRemoval rules partitions out start steps end
 unfolding onto
 removed rules partitions out start steps end run closed =
     let whole = entries rules start steps in
@@ -118,12 +118,12 @@ removed rules partitions out start steps end run closed =
     let same : left_of out (onto [] whole) ≡ onto [] (left_of out whole) = left_onto out [] whole in
     let exists : IsHistory rules start (onto [] (left_of out whole)) = subst (IsHistory rules start) same gone.exists in
     let names : map step_of (left_of out whole) ≡ steps_left out steps = names_left out whole ∙ ap (steps_left out) is.names in
-    let alike : IsAlike partitions out end (state_after rules start (onto [] (left_of out whole))) (onto [] whole) =
-    subst (λ (s : State). IsAlike partitions out s (state_after rules start (onto [] (left_of out whole))) (onto [] whole)) is.ends
-    (subst (λ (h : List Entry). IsAlike partitions out (state_after rules start (onto [] whole)) (state_after rules start h) (onto [] whole)) same gone.alike) in
+    let alike : IsAlike partitions out end (serial_state_after rules start (onto [] (left_of out whole))) (onto [] whole) =
+    subst (λ (s : State). IsAlike partitions out s (serial_state_after rules start (onto [] (left_of out whole))) (onto [] whole)) is.ends
+    (subst (λ (h : List Entry). IsAlike partitions out (serial_state_after rules start (onto [] whole)) (serial_state_after rules start h) (onto [] whole)) same gone.alike) in
     record {
-      other = state_after rules start (onto [] (left_of out whole));
-      exists = subst (λ (ts : List Step). serial_run rules start ts ≡ Some (state_after rules start (onto [] (left_of out whole)))) names (run_of rules start (left_of out whole) [] exists);
+      other = serial_state_after rules start (onto [] (left_of out whole));
+      exists = subst (λ (ts : List Step). serial_run rules start ts ≡ Some (serial_state_after rules start (onto [] (left_of out whole)))) names (run_of rules start (left_of out whole) [] exists);
       same = subst (λ (ts : List Step). entries rules start ts ≡ left_of out whole) names (entries_of rules start (left_of out whole) [] exists);
       content = λ server key spared. elim (alike.maps server key) [
         | inl answers ↦ sym answers

@@ -7,7 +7,7 @@ use Rattle.ftc_mbox.specs.declared.rule.Rule.{Rule}
 use Rattle.ftc_serial.specs.declared.position.Position.{Position}
 use Rattle.ftc_serial.specs.declared.position.Position.TheVariants as position
 use Rattle.ftc_serial.specs.Words.{each_below}
-use Rattle.ftc_serial.specs.Serial.{State, opening, serial_run}
+use Rattle.ftc_serial.specs.Serial.{State, serial_opening, serial_run}
 use Rattle.ftc_serial.specs.Trace.{trace_of}
 
 -- the middlebox that dropped a packet, none where it wasn't dropped
@@ -61,5 +61,5 @@ IsSettled None = ⊥
 -- each packet was released or dropped.
 pub record IsDriven (rules : List Rule) (packets : List (List ℕ)) (journal : List Event) (end : State) : Type 0 where
   pub events : journal ≡ drive (length rules) (length packets) end.place
-  pub run : serial_run rules (opening packets) (trace_of journal) ≡ Some end
+  pub run : serial_run rules (serial_opening packets) (trace_of journal) ≡ Some end
   pub settled : (packet : ℕ) → packet < length packets → IsSettled (end.place packet)

@@ -20,8 +20,8 @@ packet_of (Visited server packet outcome) = packet
 packet_of (Given packet bytes) = packet
 
 -- the entry is what its step does from this state
-abbrev pub IsLegal : List Rule → State → Entry → Type 0
-IsLegal rules state entry = entry_of rules state (step_of entry) ≡ Some entry
+abbrev pub IsRightEntry : List Rule → State → Entry → Type 0
+IsRightEntry rules state entry = entry_of rules state (step_of entry) ≡ Some entry
 
 -- what the steps do, up to the first that isn't legal
 abbrev pub entries : List Rule → State → List Step → List Entry

@@ -10,8 +10,8 @@ abbrev pub rules_of : Serial → List Rule
 rules_of serial = serial.rules
 
 -- its state
-abbrev pub state_of : Serial → State
-state_of serial = record {
+abbrev pub serial_state : Serial → State
+serial_state serial = record {
   maps = content_at serial.stores.items;
   place = slice_get serial.positions.items;
   released = serial.released;

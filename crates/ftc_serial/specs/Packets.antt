@@ -2,5 +2,5 @@
 use Rattle.std.specs.Prelude.{ℕ, List, map}
 use Rattle.ftc_pcap.specs.declared.packets.Packet.{Packet}
 
-abbrev pub bytes_of : List Packet → List (List ℕ)
-bytes_of packets = map (λ packet. packet.bytes) packets
+abbrev pub bytes_of_packets : List Packet → List (List ℕ)
+bytes_of_packets packets = map (λ packet. packet.bytes) packets

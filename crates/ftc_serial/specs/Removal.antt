@@ -17,22 +17,22 @@ abbrev pub is_taken : Taken → Entry → Bool
 is_taken out (Visited server packet outcome) = out server packet
 is_taken out (Given packet bytes) = false
 
-abbrev pub IsTaken : Taken → Entry → Type 0
-IsTaken out entry = is_taken out entry ≡ true
+abbrev pub IsTakenOut : Taken → Entry → Type 0
+IsTakenOut out entry = is_taken out entry ≡ true
 
 -- The first entry is a visit that writes a key in a partition that the second, a visit of the same middlebox, touches. In a
 -- run, where the first stands earlier, it is before the second.
-abbrev pub IsBefore : ℕ → Entry → Entry → Type 0
-IsBefore partitions (Visited server packet outcome) entry = (partition : ℕ) × WritesIn partitions outcome partition × TouchesAt partitions server partition entry
-IsBefore partitions (Given packet bytes) entry = ⊥
+abbrev pub IsEntryBefore : ℕ → Entry → Entry → Type 0
+IsEntryBefore partitions (Visited server packet outcome) entry = (partition : ℕ) × WritesIn partitions outcome partition × TouchesAt partitions server partition entry
+IsEntryBefore partitions (Given packet bytes) entry = ⊥
 
 -- With a visit that is taken out, each later visit that it is before is taken out, and each later visit of its packet, and its
 -- packet is not released later.
 abbrev pub Takes : ℕ → Taken → Entry → Entry → Type 0
-Takes partitions out earlier later = IsTaken out earlier → IsBefore partitions earlier later ⊎ (packet_of earlier ≡ packet_of later) → IsTaken out later
+Takes partitions out earlier later = IsTakenOut out earlier → IsEntryBefore partitions earlier later ⊎ (packet_of earlier ≡ packet_of later) → IsTakenOut out later
 
-abbrev pub IsClosed : ℕ → Taken → List Entry → Type 0
-IsClosed partitions out run = EachLater (Takes partitions out) run
+abbrev pub IsClosedRun : ℕ → Taken → List Entry → Type 0
+IsClosedRun partitions out run = EachLater (Takes partitions out) run
 
 abbrev pub left_of : Taken → List Entry → List Entry
 left_of out run = filter (λ entry. not (is_taken out entry)) run
@@ -46,7 +46,7 @@ steps_left out steps = filter (λ step. not (is_taken_step out step)) steps
 
 -- a visit that is taken out wrote in the partition of that middlebox
 abbrev pub IsLost : ℕ → Taken → ℕ → ℕ → List Entry → Type 0
-IsLost partitions out server partition run = AnyOf (λ entry. IsTaken out entry × WritesAt partitions server partition entry) run
+IsLost partitions out server partition run = AnyOf (λ entry. IsTakenOut out entry × WritesAt partitions server partition entry) run
 
 -- The serial run of the steps that are left exists; each visit that is left reads, writes and decides the same; each partition
 -- in which no visit that is taken out wrote has the same content; and the released records are the same.

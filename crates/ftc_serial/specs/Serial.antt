@@ -19,8 +19,8 @@ pub record State : Type 0 where
   pub released : List Released
 
 -- At the start all is empty, and each packet waits for middlebox 0 with its own bytes.
-abbrev pub opening : List (List ℕ) → State
-opening packets = record {
+abbrev pub serial_opening : List (List ℕ) → State
+serial_opening packets = record {
   maps = λ middlebox. empty;
   place = λ packet. option_map (position.Waiting 0) (slice_get packets packet);
   released = [];

@@ -16,14 +16,14 @@ ghost use Rattle.ftc_mbox.specs.InTurn.{InTurn};
 ghost use Rattle.ftc_serial.specs.declared.step.Step.{Step as AStep};
 ghost use Rattle.ftc_serial.specs.Serial.{State, Entry, serial_run};
 ghost use Rattle.ftc_serial.specs.Entries.{entries};
-ghost use Rattle.ftc_serial.specs.Removal.{Taken, IsClosed, IsRemoval};
+ghost use Rattle.ftc_serial.specs.Removal.{Taken, IsClosedRun, IsRemoval};
 ghost use Rattle.ftc_serial.specs.History.{IsHistory, IsClosedHistory, IsRemovedHistory};
 
 /// Visits that are taken out of a serial run, with all that rests on them, leave a serial run, in which
 /// the visits that are left do what they did.
 pub fn removal()
     ensures { (rules : List ARule) (partitions : ℕ) (out : Taken) (start : State) (steps : List AStep) (end : State) →
-        serial_run rules start steps ≡ Some end → IsClosed partitions out (entries rules start steps) →
+        serial_run rules start steps ≡ Some end → IsClosedRun partitions out (entries rules start steps) →
         IsRemoval rules partitions out start steps end }
 {}
 

@@ -41,10 +41,10 @@ pub struct Serial {
 }
 
 impl Serial {
-    ghost use Rattle.ftc_serial.specs.Serial.{opening, serial_step, serial_run};
+    ghost use Rattle.ftc_serial.specs.Serial.{serial_opening, serial_step, serial_run};
     ghost use Rattle.ftc_serial.specs.Illegal.{IsFirstIllegal};
-    ghost use Rattle.ftc_serial.specs.Held.{rules_of, state_of};
-    ghost use Rattle.ftc_serial.specs.Packets.{bytes_of};
+    ghost use Rattle.ftc_serial.specs.Held.{rules_of, serial_state};
+    ghost use Rattle.ftc_serial.specs.Packets.{bytes_of_packets};
     ghost use Rattle.ftc_serial.specs.Place.{place_of};
     ghost use Rattle.ftc_serial.specs.declared.step.Step.TheVariants as step;
 
@@ -52,7 +52,7 @@ impl Serial {
     pub fn new(alloc: Global, spec: &ChainSpec, packets: &Packets) -> Result<Serial, NoMemory>
         ensures rules { IfOk result (λ serial. rules_of serial ≡ spec.now.rules) }
         ensures some { IfOk result (λ serial. 1 ≤ length (rules_of serial)) }
-        ensures opening { IfOk result (λ serial. state_of serial ≡ opening (bytes_of packets.now)) }
+        ensures opening { IfOk result (λ serial. serial_state serial ≡ serial_opening (bytes_of_packets packets.now)) }
     {
         let rules = copy_rules(alloc, spec.rules())?;
         let stores = empty_stores(alloc, rules.len(), spec.partitions())?;
@@ -76,9 +76,9 @@ impl Serial {
     /// The packet goes through the middlebox of that server. It is refused exactly where the packet
     /// doesn't wait for it. A refused call leaves the chain as it was.
     pub fn visit(&mut self, server: ServerId, packet: PacketNo) -> Result<(), Refuse<NotWaiting>>
-        ensures made { OnOk result (serial_step (rules_of self.old) (state_of self.old) (step.Visit server packet) ≡ Some (state_of self.new)) }
-        ensures refused { IfBad result (λ _. serial_step (rules_of self.old) (state_of self.old) (step.Visit server packet) ≡ None) }
-        ensures err { OnErr result (state_of self.new ≡ state_of self.old) }
+        ensures made { OnOk result (serial_step (rules_of self.old) (serial_state self.old) (step.Visit server packet) ≡ Some (serial_state self.new)) }
+        ensures refused { IfBad result (λ _. serial_step (rules_of self.old) (serial_state self.old) (step.Visit server packet) ≡ None) }
+        ensures err { OnErr result (serial_state self.new ≡ serial_state self.old) }
         ensures rules { rules_of self.new ≡ rules_of self.old }
     {
         let place = packet as usize;
@@ -103,9 +103,9 @@ impl Serial {
     /// The packet, which has passed all middleboxes, leaves the chain. It is refused exactly where it
     /// hasn't. A refused call leaves the chain as it was.
     pub fn release(&mut self, packet: PacketNo) -> Result<(), Refuse<NotWaiting>>
-        ensures made { OnOk result (serial_step (rules_of self.old) (state_of self.old) (step.Release packet) ≡ Some (state_of self.new)) }
-        ensures refused { IfBad result (λ _. serial_step (rules_of self.old) (state_of self.old) (step.Release packet) ≡ None) }
-        ensures err { OnErr result (state_of self.new ≡ state_of self.old) }
+        ensures made { OnOk result (serial_step (rules_of self.old) (serial_state self.old) (step.Release packet) ≡ Some (serial_state self.new)) }
+        ensures refused { IfBad result (λ _. serial_step (rules_of self.old) (serial_state self.old) (step.Release packet) ≡ None) }
+        ensures err { OnErr result (serial_state self.new ≡ serial_state self.old) }
         ensures rules { rules_of self.new ≡ rules_of self.old }
     {
         let place = packet as usize;
@@ -126,9 +126,9 @@ impl Serial {
     /// Makes one step. It is refused exactly where the step isn't legal. A refused call leaves the chain
     /// as it was.
     pub fn step(&mut self, step: &Step) -> Result<(), Refuse<NotWaiting>>
-        ensures made { OnOk result (serial_step (rules_of self.old) (state_of self.old) step.now ≡ Some (state_of self.new)) }
-        ensures refused { IfBad result (λ _. serial_step (rules_of self.old) (state_of self.old) step.now ≡ None) }
-        ensures err { OnErr result (state_of self.new ≡ state_of self.old) }
+        ensures made { OnOk result (serial_step (rules_of self.old) (serial_state self.old) step.now ≡ Some (serial_state self.new)) }
+        ensures refused { IfBad result (λ _. serial_step (rules_of self.old) (serial_state self.old) step.now ≡ None) }
+        ensures err { OnErr result (serial_state self.new ≡ serial_state self.old) }
         ensures rules { rules_of self.new ≡ rules_of self.old }
     {
         match step {
@@ -146,8 +146,8 @@ impl Serial {
         trace: &Trace,
     ) -> Result<Serial, Refuse<BadStep>>
         ensures rules { IfOk result (λ serial. rules_of serial ≡ spec.now.rules) }
-        ensures state { IfOk result (λ serial. serial_run spec.now.rules (opening (bytes_of packets.now)) trace.now ≡ Some (state_of serial)) }
-        ensures bad { IfBad result (λ fault. IsFirstIllegal spec.now.rules (opening (bytes_of packets.now)) trace.now fault.place) }
+        ensures state { IfOk result (λ serial. serial_run spec.now.rules (serial_opening (bytes_of_packets packets.now)) trace.now ≡ Some (serial_state serial)) }
+        ensures bad { IfBad result (λ fault. IsFirstIllegal spec.now.rules (serial_opening (bytes_of_packets packets.now)) trace.now fault.place) }
     {
         let mut serial = Serial::new(alloc, spec, packets)?;
         for (place, step) in trace.as_slice().iter().enumerate() {
@@ -167,22 +167,22 @@ impl Serial {
     /// The store of a server's middlebox.
     pub fn store(&self, server: ServerId) -> &Store
         requires { server < length (rules_of self.now) }
-        ensures { result.now.content ≡ (state_of self.now).maps server }
+        ensures { result.now.content ≡ (serial_state self.now).maps server }
     {
         &self.stores[usize::from(server.number())]
     }
 
     /// Where a packet is.
     pub fn place(&self, packet: PacketNo) -> Place
-        requires { IsSome ((state_of self.now).place packet) }
-        ensures { Some result ≡ option_map place_of ((state_of self.now).place packet) }
+        requires { IsSome ((serial_state self.now).place packet) }
+        ensures { Some result ≡ option_map place_of ((serial_state self.now).place packet) }
     {
         place_of(&self.positions[packet as usize])
     }
 
     /// The released packets, in the order of their release.
     pub fn released(&self) -> &ReleasedList
-        ensures { result.now ≡ (state_of self.now).released }
+        ensures { result.now ≡ (serial_state self.now).released }
     {
         &self.released
     }

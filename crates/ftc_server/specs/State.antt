@@ -23,8 +23,8 @@ pub record ServerState : Type 0 where
   pub buffer : WithheldPackets
   pub forwarder : List Logged
 
-abbrev pub state_of : Server → ServerState
-state_of server = record {
+abbrev pub fields_of : Server → ServerState
+fields_of server = record {
   ring = server.ring;
   id = server.id;
   rule = server.rule;

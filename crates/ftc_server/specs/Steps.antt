@@ -26,7 +26,7 @@ use Rattle.ftc_server.specs.Holding.{found, without, with_changed, arrived}
 use Rattle.ftc_server.specs.Replicas.{replica_at, is_ready, with_applied, ArePruned}
 use Rattle.ftc_server.specs.Standing.{is_last, is_later_member, with_own}
 use Rattle.ftc_server.specs.Visited.{visit_of, visited_by}
-use Rattle.ftc_server.specs.State.{state_of}
+use Rattle.ftc_server.specs.State.{fields_of}
 use Rattle.ftc_server.specs.Looks.{log_in, ask_in, onward_in}
 use Rattle.ftc_replica.specs.Kept.{missing}
 use Rattle.std.specs.FinMap.{empty}
@@ -36,13 +36,13 @@ use Rattle.ftc_ring.specs.Ring.{RingShape}
 -- there may be more room, and nothing else differs
 pub record HasRoomed (old new : Server) : Type 0 where
   pub held : new.held.items ≡ old.held.items
-  pub rest : state_of new ≡ record (state_of old) { held = new.held }
+  pub rest : fields_of new ≡ record (fields_of old) { held = new.held }
 
 -- the message is held behind the others, what its sender knew is known, and nothing else differs
 pub record HasTaken (old new : Server) (message : Message) (by_ring : Bool) : Type 0 where
   pub known : new.known ≡ all_merged old.known message.commits
   pub held : new.held.items ≡ old.held.items ++ arrived message by_ring ∷ []
-  pub rest : state_of new ≡ record (state_of old) { known = new.known; held = new.held }
+  pub rest : fields_of new ≡ record (fields_of old) { known = new.known; held = new.held }
 
 -- that log of a held message is applied to the replica of its group, and is known where the server is the group's tail
 pub record HasApplied (old new : Server) (origin group packet : ℕ) : Type 0 where
@@ -52,17 +52,17 @@ pub record HasApplied (old new : Server) (origin group packet : ℕ) : Type 0 wh
   pub before : replica_at old.others.items group ≡ Some replica
   pub others : new.others.items ≡ with_applied old.others.items log
   pub known : new.known ≡ with_own old.ring old.id group (applied log replica).vector old.known
-  pub rest : state_of new ≡ record (state_of old) { others = new.others.items; known = new.known }
+  pub rest : fields_of new ≡ record (fields_of old) { others = new.others.items; known = new.known }
 
 -- a slot begins the visit of a packet
 pub record HasBegun (old new : Server) (worker packet : ℕ) : Type 0 where
   pub head : new.head ≡ begins old.head worker packet
-  pub rest : state_of new ≡ record (state_of old) { head = new.head }
+  pub rest : fields_of new ≡ record (fields_of old) { head = new.head }
 
 -- a slot gives up what it runs
 pub record HasQuit (old new : Server) (worker : ℕ) : Type 0 where
   pub head : HasHeadQuit old.head new.head worker
-  pub rest : state_of new ≡ record (state_of old) { head = new.head }
+  pub rest : fields_of new ≡ record (fields_of old) { head = new.head }
 
 -- The head answers a read. Where a slot runs something that isn't wounded, the rule asks for that key, with that leave to
 -- write there.
@@ -70,14 +70,14 @@ pub record HasRead (old new : Server) (worker : ℕ) (key : List ℕ) (answer : 
   pub change : Bool
   pub asked : (running : Running) → RunsUnwounded old.head worker running → ask_in old worker ≡ Some (Read key change)
   pub head : HeadReads old.head new.head worker key change answer
-  pub rest : state_of new ≡ record (state_of old) { head = new.head }
+  pub rest : fields_of new ≡ record (fields_of old) { head = new.head }
 
 -- The rule asks for no such key.
 pub record IsUnasked (old new : Server) (worker : ℕ) (key : List ℕ) : Type 0 where
   pub running : Running
   pub runs : RunsUnwounded old.head worker running
   pub unasked : (change : Bool) → ask_in old worker ≡ Some (Read key change) → ⊥
-  pub rest : state_of new ≡ state_of old
+  pub rest : fields_of new ≡ fields_of old
 
 -- each answer to a read
 abbrev pub Reads : Server → Server → ℕ → List ℕ → ReadAnswer → Type 0
@@ -109,12 +109,12 @@ pub record HasVisited (old new : Server) (worker : ℕ) (running : Running) (end
   pub with_packet : before.message.packet ≡ Some packet
   pub held : new.held.items
       ≡ with_changed running.packet (visited_by (visit_of old.ring.failures log packet end.verdict before.message)) old.held.items
-  pub rest : state_of new ≡ record (state_of old) { head = new.head; own = new.own; known = new.known; held = new.held }
+  pub rest : fields_of new ≡ record (fields_of old) { head = new.head; own = new.own; known = new.known; held = new.held }
 
 -- there may be more room for kept logs, and nothing else differs
 pub record HasOwnRoom (old new : Server) : Type 0 where
   pub own : new.own.items ≡ old.own.items
-  pub rest : state_of new ≡ record (state_of old) { own = new.own }
+  pub rest : fields_of new ≡ record (fields_of old) { own = new.own }
 
 -- each answer to a commit: when it comes, and what it leaves
 abbrev pub EndsVisit : Server → Server → ℕ → CommitAnswer → Type 0
@@ -122,11 +122,11 @@ EndsVisit old new worker Done =
     (running : Running) × (end : End) × RunsUnwounded old.head worker running × (ask_in old worker ≡ Some (Finish end))
     × HasVisited old new worker running end
 EndsVisit old new worker (Wounded by) =
-    (running : Running) × RunsWounded old.head worker running by × (state_of new ≡ record (state_of old) { head = restarts old.head worker running })
-EndsVisit old new worker Idle = (slot_at old.head.slots worker ≡ None) × (state_of new ≡ state_of old)
+    (running : Running) × RunsWounded old.head worker running by × (fields_of new ≡ record (fields_of old) { head = restarts old.head worker running })
+EndsVisit old new worker Idle = (slot_at old.head.slots worker ≡ None) × (fields_of new ≡ fields_of old)
 EndsVisit old new worker (Unfinished key) =
     (running : Running) × (change : Bool) × RunsUnwounded old.head worker running
-    × (ask_in old worker ≡ Some (Read key change)) × (state_of new ≡ state_of old)
+    × (ask_in old worker ≡ Some (Read key change)) × (fields_of new ≡ fields_of old)
 EndsVisit old new worker NoMemory =
     (running : Running) × (end : End) × RunsUnwounded old.head worker running × (ask_in old worker ≡ Some (Finish end))
     × HasOwnRoom old new
@@ -134,7 +134,7 @@ EndsVisit old new worker NoMemory =
 -- there may be more room in the buffer, and nothing else differs
 pub record HasBufferRoom (old new : Server) : Type 0 where
   pub buffer : new.buffer.items ≡ old.buffer.items
-  pub rest : state_of new ≡ record (state_of old) { buffer = new.buffer }
+  pub rest : fields_of new ≡ record (fields_of old) { buffer = new.buffer }
 
 -- the packet of a message, to be withheld with what it needs
 abbrev pub withheld_with : ℕ → List Need → Option (List ℕ) → List Withheld
@@ -154,7 +154,7 @@ pub record HasPassed (old new : Server) (origin : ℕ) : Type 0 where
   pub forwarder : new.forwarder ≡ (if old.id == 0 then [] else old.forwarder)
   pub buffer : new.buffer.items
       ≡ (if is_last old.ring old.id then old.buffer.items ++ withheld_of (found origin old.held.items) else old.buffer.items)
-  pub rest : state_of new ≡ record (state_of old) { held = new.held; forwarder = new.forwarder; buffer = new.buffer }
+  pub rest : fields_of new ≡ record (fields_of old) { held = new.held; forwarder = new.forwarder; buffer = new.buffer }
 
 -- the message ends, and its logs that go on are with the forwarder
 pub record HasCarried (old new : Server) (origin : ℕ) : Type 0 where
@@ -162,12 +162,12 @@ pub record HasCarried (old new : Server) (origin : ℕ) : Type 0 where
   pub there : found origin old.held.items ≡ Some carried
   pub held : new.held.items ≡ without origin old.held.items
   pub forwarder : new.forwarder ≡ with_items is_earlier (onward_in old carried) old.forwarder
-  pub rest : state_of new ≡ record (state_of old) { held = new.held; forwarder = new.forwarder }
+  pub rest : fields_of new ≡ record (fields_of old) { held = new.held; forwarder = new.forwarder }
 
 -- the first withheld packet that is due has left, if any is
 pub record HasReleased (old new : Server) : Type 0 where
   pub buffer : new.buffer.items ≡ without_due old.known old.buffer.items
-  pub rest : state_of new ≡ record (state_of old) { buffer = new.buffer }
+  pub rest : fields_of new ≡ record (fields_of old) { buffer = new.buffer }
 
 -- the replicas stand in place of those of their groups
 abbrev pub with_installed : List GroupReplica → List (Option Held) → List (Option Held)
@@ -182,18 +182,18 @@ known_with ring id (new ∷ replicas) known = with_own ring id new.group new.rep
 pub record HasInstalled (old new : Server) (replicas : List GroupReplica) : Type 0 where
   pub others : new.others.items ≡ with_installed replicas old.others.items
   pub known : new.known ≡ known_with old.ring old.id replicas old.known
-  pub rest : state_of new ≡ record (state_of old) { others = new.others.items; known = new.known }
+  pub rest : fields_of new ≡ record (fields_of old) { others = new.others.items; known = new.known }
 
 -- the messages that lack a log are dropped
 pub record HasDropped (old new : Server) : Type 0 where
   pub held : new.held.items ≡ filter (is_ready old.others.items) old.held.items
-  pub rest : state_of new ≡ record (state_of old) { held = new.held }
+  pub rest : fields_of new ≡ record (fields_of old) { held = new.held }
 
 -- the kept logs that are known at the tails are dropped
 pub record HasPruned (old new : Server) : Type 0 where
   pub own : new.own.items ≡ missing (vector_of old.known old.id) old.own.items
   pub others : ArePruned old.known old.others.items new.others.items
-  pub rest : state_of new ≡ record (state_of old) { own = new.own; others = new.others.items }
+  pub rest : fields_of new ≡ record (fields_of old) { own = new.own; others = new.others.items }
 
 -- a replica to which nothing was applied yet
 abbrev pub empty_held : ℕ → Held
@@ -247,4 +247,4 @@ pub record IsRevived (ring : RingShape) (id : ℕ) (rule : Rule) (partitions : �
 -- what it has of its own group is known where it is that group's tail
 pub record HasLearnt (old new : Server) : Type 0 where
   pub known : new.known ≡ with_own old.ring old.id old.id old.head.vector old.known
-  pub rest : state_of new ≡ record (state_of old) { known = new.known }
+  pub rest : fields_of new ≡ record (fields_of old) { known = new.known }

@@ -3,7 +3,7 @@
 ghost use Rattle.std.specs.Prelude.{◌≡◌, ◌<◌, true, OnOk, OnErr};
 ghost use Rattle.ftc_server.specs.Standing.{with_replica};
 ghost use Rattle.ftc_server.specs.Replicas.{replica_at, may_rise_in};
-ghost use Rattle.ftc_server.specs.State.{state_of};
+ghost use Rattle.ftc_server.specs.State.{fields_of};
 ghost use Rattle.ftc_server.specs.Looks.{log_in, may_apply_in};
 ghost use Rattle.ftc_server.specs.Steps.{HasApplied};
 
@@ -58,7 +58,7 @@ impl Server {
         requires ready { may_apply_in self.old origin group packet ≡ true }
         requires rise { may_rise_in (replica_at self.old.others.items group) ≡ true }
         ensures ok { OnOk result (HasApplied self.old self.new origin group packet) }
-        ensures err { OnErr result (state_of self.new ≡ state_of self.old) }
+        ensures err { OnErr result (fields_of self.new ≡ fields_of self.old) }
     {
         let Some(held) = self.held.get(origin) else {
             return Ok(());

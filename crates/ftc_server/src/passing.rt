@@ -5,7 +5,7 @@ ghost use Rattle.ftc_edge.specs.Due.{first_due, freed};
 ghost use Rattle.ftc_server.specs.declared.work.Work.TheVariants.{Send, Carry};
 ghost use Rattle.ftc_server.specs.Holding.{found};
 ghost use Rattle.ftc_server.specs.Standing.{is_last};
-ghost use Rattle.ftc_server.specs.State.{state_of};
+ghost use Rattle.ftc_server.specs.State.{fields_of};
 ghost use Rattle.ftc_server.specs.Looks.{work_in, sent, sent_in, attached_in, onward_in, are_apart, are_apart_from, onward_apart};
 ghost use Rattle.ftc_server.specs.Steps.{withheld_by, HasBufferRoom, HasPassed, HasCarried, HasReleased};
 
@@ -115,7 +115,7 @@ impl Server {
         requires work { work_in self.old origin ≡ Some Carry }
         requires apart { onward_apart self.old self.old.forwarder (found origin self.old.held.items) ≡ true }
         ensures ok { OnOk result (HasCarried self.old self.new origin) }
-        ensures err { OnErr result (state_of self.new ≡ state_of self.old) }
+        ensures err { OnErr result (fields_of self.new ≡ fields_of self.old) }
     {
         let Some(held) = self.held.get(origin) else {
             return Ok(());

@@ -4,8 +4,8 @@ ghost use Rattle.std.specs.Prelude.{◌≡◌, ◌<◌, true, OnOk, OnErr};
 ghost use Rattle.std.specs.List.{list_all};
 ghost use Rattle.ftc_server.specs.Replicas.{AreOfSame};
 ghost use Rattle.ftc_server.specs.Slots.{slots_are_ready};
-ghost use Rattle.ftc_server.specs.State.{state_of};
-ghost use Rattle.ftc_server.specs.State.{state_of};
+ghost use Rattle.ftc_server.specs.State.{fields_of};
+ghost use Rattle.ftc_server.specs.State.{fields_of};
 ghost use Rattle.ftc_server.specs.Looks.{is_later_of};
 ghost use Rattle.ftc_server.specs.Steps.{with_installed, known_with, HasInstalled, HasDropped, HasPruned};
 
@@ -54,7 +54,7 @@ impl Server {
     pub fn install(&mut self, news: GroupReplicas) -> Result<(), NoMemory>
         requires { list_all (is_later_of self.old.others.items) news ≡ true }
         ensures ok { OnOk result (HasInstalled self.old self.new news) }
-        ensures err { OnErr result (state_of self.new ≡ state_of self.old) }
+        ensures err { OnErr result (fields_of self.new ≡ fields_of self.old) }
     {
         put_all(
             &mut self.others,

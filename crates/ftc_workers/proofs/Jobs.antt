@@ -7,7 +7,7 @@ use Rattle.ftc_journal.specs.declared.job.Job.TheVariants as job
 use Rattle.ftc_jobs.specs.All.{AreJobs, IsUntaken}
 use Rattle.ftc_protocol.specs.Jobs.{IsFirstJob}
 use Rattle.ftc_serial.specs.Words.{AnyOf}
-use Rattle.ftc_chain.specs.ChainRun.{ChainRun, setting_in, state_of}
+use Rattle.ftc_chain.specs.ChainRun.{ChainRun, setting_in, chain_state}
 use Rattle.ftc_chain.specs.Slots.{is_running_at}
 use Rattle.ftc_workers.specs.Choices.{is_run, MayBegin}
 
@@ -28,7 +28,7 @@ untaken_step run (job.Propagate origin) free = tt
 
 -- the first job, where no slot runs it
 pub may_first : (run : ChainRun) (done : Job) → is_run (is_running_at run) done ≡ false →
-    ∥ IsFirstJob (setting_in run) (state_of run) done ∥₁ → MayBegin run done
+    ∥ IsFirstJob (setting_in run) (chain_state run) done ∥₁ → MayBegin run done
 may_first run done free first = record {
   legal = ∥∥₁_map first (λ is. is.legal);
   untaken = untaken_step run done free;
@@ -36,7 +36,7 @@ may_first run done free first = record {
 
 -- a job of the list of those that nobody does
 untaken_listed : (run : ChainRun) (jobs : List Job) (done : Job) →
-    ∥ AreJobs (is_running_at run) (setting_in run) (state_of run) jobs ∥₁ →
+    ∥ AreJobs (is_running_at run) (setting_in run) (chain_state run) jobs ∥₁ →
     AnyOf (λ (other : Job). other ≡ done) jobs → IsUntaken (is_running_at run) done
 untaken_listed run jobs (job.Visit server packet) are any =
     ∥∥₁_elim are (Coded-set coded_bool _ _) (λ is. ((is.each (job.Visit server packet)).0 any).1)
@@ -52,7 +52,7 @@ untaken_listed run jobs (job.Pull link) are any = tt
 untaken_listed run jobs (job.Propagate origin) are any = tt
 
 pub may_listed : (run : ChainRun) (jobs : List Job) (done : Job) →
-    ∥ AreJobs (is_running_at run) (setting_in run) (state_of run) jobs ∥₁ →
+    ∥ AreJobs (is_running_at run) (setting_in run) (chain_state run) jobs ∥₁ →
     AnyOf (λ (other : Job). other ≡ done) jobs → MayBegin run done
 may_listed run jobs done are any = record {
   legal = ∥∥₁_map are (λ is. ((is.each done).0 any).0);

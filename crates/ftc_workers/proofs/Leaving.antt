@@ -10,7 +10,7 @@ use Rattle.ftc_protocol.specs.Next.{next}
 use Rattle.ftc_server.specs.declared.answers.CommitAnswer.{CommitAnswer}
 use Rattle.ftc_server.specs.declared.answers.CommitAnswer.TheVariants as answer
 use Rattle.ftc_chain.specs.declared.chain.Chain.{the_code}
-use Rattle.ftc_chain.specs.ChainRun.{ChainRun, setting_in, state_of}
+use Rattle.ftc_chain.specs.ChainRun.{ChainRun, setting_in, chain_state}
 use Rattle.ftc_chain.specs.Course.{HasMade}
 use Rattle.ftc_chain.specs.Doing.{is_visit}
 use Rattle.ftc_chain.specs.Slots.{IsButHeads, CommitsAt, ReadsAt}
@@ -66,15 +66,15 @@ made_rest slot job old new made =
     (ap (λ (run : ChainRun). run.journal) (sym made.grown))
 
 made_counts : (slot : ℕ) (job : Job) (old new : ChainRun) → HasMade slot job old new →
-    visits new.journal ≡ visits old.journal + visits_of (event_of (setting_in old) (state_of old) slot job)
+    visits new.journal ≡ visits old.journal + visits_of (event_of (setting_in old) (chain_state old) slot job)
 made_counts slot job old new made =
-    let one : Event = event_of (setting_in old) (state_of old) slot job in
+    let one : Event = event_of (setting_in old) (chain_state old) slot job in
     let journal : new.journal ≡ old.journal ++ one ∷ made.releases = ap (λ (run : ChainRun). run.journal) made.grown in
-    let none = releases_count (setting_in old) (next (setting_in old) (state_of old) one) made.releases made.due in
+    let none = releases_count (setting_in old) (next (setting_in old) (chain_state old) one) made.releases made.due in
     omega (arith, ap visits journal, visits_append old.journal (one ∷ made.releases), none)
 
 pub gone_by_job : (slot more : ℕ) (job : Job) (old new : ChainRun) →
-    visits_of (event_of (setting_in old) (state_of old) slot job) ≡ more → ∥ HasMade slot job old new ∥₁ →
+    visits_of (event_of (setting_in old) (chain_state old) slot job) ≡ more → ∥ HasMade slot job old new ∥₁ →
     HasGone more old new
 gone_by_job slot more job old new counts made =
     gone_by more old new
@@ -86,13 +86,13 @@ pub gone_by_step : {A E : Type 0} (result : Result A E) (slot : ℕ) (job : Job)
     is_visit job ≡ false → OnOk result (∥ HasMade slot job old new ∥₁) → OnErr result (new ≡ old) →
     HasGone 0 old new
 gone_by_step (Ok value) slot job old new other ok err =
-    gone_by_job slot 0 job old new (step_counts (setting_in old) (state_of old) slot job other) ok
+    gone_by_job slot 0 job old new (step_counts (setting_in old) (chain_state old) slot job other) ok
 gone_by_step (Err fault) slot job old new other ok err = gone_nowhere old new err
 
 -- a message is taken, or that is refused
 pub gone_by_take : {A E : Type 0} (result : Result A E) (slot link : ℕ) (old new : ChainRun) →
-    ∥ ((origin : ℕ) × IsLegalJob (setting_in old) (state_of old) (job.Take link origin)) ∥₁ →
-    OnOk result ((origin : ℕ) → IsLegalJob (setting_in old) (state_of old) (job.Take link origin) →
+    ∥ ((origin : ℕ) × IsLegalJob (setting_in old) (chain_state old) (job.Take link origin)) ∥₁ →
+    OnOk result ((origin : ℕ) → IsLegalJob (setting_in old) (chain_state old) (job.Take link origin) →
     ∥ HasMade slot (job.Take link origin) old new ∥₁) → OnErr result (new ≡ old) → HasGone 0 old new
 gone_by_take (Ok value) slot link old new legal ok err =
     gone_by 0 old new
@@ -100,7 +100,7 @@ gone_by_take (Ok value) slot link old new legal ok err =
     ∥∥₁_elim (ok is.0 is.1) (Coded-set the_code new _) (made_rest slot (job.Take link is.0) old new)))
     (∥∥₁_elim legal (Coded-set coded_ℕ _ _) (λ is.
     (gone_by_job slot 0 (job.Take link is.0) old new
-    (step_counts (setting_in old) (state_of old) slot (job.Take link is.0) refl) (ok is.0 is.1)).visits_more))
+    (step_counts (setting_in old) (chain_state old) slot (job.Take link is.0) refl) (ok is.0 is.1)).visits_more))
 gone_by_take (Err fault) slot link old new legal ok err = gone_nowhere old new err
 
 -- ---- a commit

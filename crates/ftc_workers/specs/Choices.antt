@@ -4,7 +4,7 @@ use Rattle.ftc_jobs.specs.All.{IsUntaken}
 use Rattle.ftc_journal.specs.declared.job.Job.{Job}
 use Rattle.ftc_journal.specs.declared.job.Job.TheVariants as job
 use Rattle.ftc_protocol.specs.Jobs.{IsLegalJob}
-use Rattle.ftc_chain.specs.ChainRun.{ChainRun, setting_in, state_of}
+use Rattle.ftc_chain.specs.ChainRun.{ChainRun, setting_in, chain_state}
 use Rattle.ftc_chain.specs.Slots.{is_running_at}
 use Rattle.ftc_workers.specs.declared.choosing.Choice.{Choice}
 use Rattle.ftc_workers.specs.declared.choosing.Choice.TheVariants as choice
@@ -16,7 +16,7 @@ is_run runs other = false
 
 -- it is legal, and nobody does it
 pub record MayBegin (run : ChainRun) (job : Job) : Type 0 where
-  pub legal : ∥ IsLegalJob (setting_in run) (state_of run) job ∥₁
+  pub legal : ∥ IsLegalJob (setting_in run) (chain_state run) job ∥₁
   pub untaken : IsUntaken (is_running_at run) job
 
 -- a job that was chosen may be begun

@@ -3,7 +3,7 @@
 ghost use Rattle.std.specs.Prelude.{◌≡◌, ◌<◌, ◌^◌, ℕ, true, false};
 ghost use Rattle.ftc_journal.specs.declared.job.Job.TheVariants as job;
 ghost use Rattle.ftc_protocol.specs.Jobs.{IsLegalJob};
-ghost use Rattle.ftc_chain.specs.ChainRun.{setting_in, state_of};
+ghost use Rattle.ftc_chain.specs.ChainRun.{setting_in, chain_state};
 ghost use Rattle.ftc_chain.specs.Doing.{is_visit};
 ghost use Rattle.ftc_chain.specs.Slots.{IsIdle, is_running_at, ages_left_at};
 ghost use Rattle.ftc_workers.specs.Given.{HasGone, made_by};
@@ -20,7 +20,7 @@ use ftc_txn::ReadAnswer;
 /// Makes the event of a job other than a visit.
 pub fn step(chain: &mut Chain<'_>, job: &Job) -> Result<(), NoMemory>
     requires other { is_visit job.now ≡ false }
-    requires legal { ∥ IsLegalJob (setting_in chain.old) (state_of chain.old) job.now ∥₁ }
+    requires legal { ∥ IsLegalJob (setting_in chain.old) (chain_state chain.old) job.now ∥₁ }
     ensures { HasGone 0 chain.old chain.new }
 {
     chain.step(job)
@@ -28,7 +28,7 @@ pub fn step(chain: &mut Chain<'_>, job: &Job) -> Result<(), NoMemory>
 
 /// Takes the oldest message of a link, by its frame that was read where nobody waits for it.
 pub fn take_seen(chain: &mut Chain<'_>, link: ServerId, seen: Seen) -> Result<(), NoMemory>
-    requires { ∥ ((origin : ℕ) × IsLegalJob (setting_in chain.old) (state_of chain.old) (job.Take link origin)) ∥₁ }
+    requires { ∥ ((origin : ℕ) × IsLegalJob (setting_in chain.old) (chain_state chain.old) (job.Take link origin)) ∥₁ }
     ensures { HasGone 0 chain.old chain.new }
 {
     chain.take_seen(link, seen)
@@ -37,7 +37,7 @@ pub fn take_seen(chain: &mut Chain<'_>, link: ServerId, seen: Seen) -> Result<()
 /// A slot that is idle begins a visit that no slot runs.
 pub fn begin(chain: &mut Chain<'_>, worker: WorkerId, server: ServerId, packet: PacketNo)
     requires idle { IsIdle chain.old worker }
-    requires legal { ∥ IsLegalJob (setting_in chain.old) (state_of chain.old) (job.Visit server packet) ∥₁ }
+    requires legal { ∥ IsLegalJob (setting_in chain.old) (chain_state chain.old) (job.Visit server packet) ∥₁ }
     requires once { is_running_at chain.old server packet ≡ false }
     requires age { ages_left_at chain.old server ≡ true }
     ensures { HasGone 0 chain.old chain.new }

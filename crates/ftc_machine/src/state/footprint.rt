@@ -77,7 +77,7 @@ impl Footprint {
     ghost use Rattle.ftc_protocol.specs.Changes.{is_some_list};
     ghost use Rattle.ftc_machine.specs.Frontier.{has_changed, follows, contains, is_had_by};
     ghost use Rattle.ftc_machine.specs.FootprintMarks.{marked_at};
-    ghost use Rattle.ftc_machine.specs.FootprintMaking.{IsMade};
+    ghost use Rattle.ftc_machine.specs.FootprintMaking.{IsFootprintMade};
 
     /// The footprint of a visit that was given these answers and makes these writes. The vector has for
     /// each partition the number of the last visit before that changed it.
@@ -91,7 +91,7 @@ impl Footprint {
         requires some { 1 ≤ partitions }
         requires within { partitions ≤ MOST_PARTITIONS }
         ensures number { result.number ≡ number }
-        ensures made { IsMade partitions answers.now.items writes.items vector.now result }
+        ensures made { IsFootprintMade partitions answers.now.items writes.items vector.now result }
     {
         let mut touched = ArrayVec::new();
         for answer in answers.as_slice() {

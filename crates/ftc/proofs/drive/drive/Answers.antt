@@ -4,7 +4,7 @@ use Rattle.ftc_journal.specs.declared.event.Event.{Event}
 use Rattle.ftc_chain.specs.ChainRun.{ChainRun, setting_in}
 use Rattle.ftc_protocol.specs.Drive.{IsDrive}
 use Rattle.ftc_protocol.specs.Setting.{Setting, setting_of}
-use Rattle.ftc_serial.specs.Packets.{bytes_of}
+use Rattle.ftc_serial.specs.Packets.{bytes_of_packets}
 use Rattle.ftc.proofs.DriveLemmas.{driven_is_finished}
 use Rattle.ftc.proofs.drive.drive.Goals as goal
 
@@ -23,7 +23,7 @@ close-requires c =
 pub returns-clause-chosen : goal.returns-clause-chosen
 returns-clause-chosen c =
     let texts = c.args.texts.now in
-    let setting : Setting = setting_of texts.spec (bytes_of texts.capture.packets) texts.script in
+    let setting : Setting = setting_of texts.spec (bytes_of_packets texts.capture.packets) texts.script in
     let run : ChainRun = c.run.new.chain in
     let chosen : ∥ IsDrive setting texts.schedule.items run.journal ∥₁ =
     subst (λ (of : Setting). ∥ IsDrive of texts.schedule.items run.journal ∥₁) (ap setting_in c.in_ok-chain.ensures.new) c.in_ok-run.ensures.ok in

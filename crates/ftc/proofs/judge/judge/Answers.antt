@@ -1,5 +1,5 @@
 use Rattle.std.proofs.Common.{◌∙◌, sym}
-use Rattle.ftc_serial.specs.Packets.{bytes_of}
+use Rattle.ftc_serial.specs.Packets.{bytes_of_packets}
 use Rattle.ftc_machine.proofs.RunInputs.{bytes_count}
 use Rattle.ftc_protocol.specs.Setting.{Setting, IsSetting, setting_of}
 use Rattle.ftc_check.specs.Verdict.{IsVerdict}
@@ -14,7 +14,7 @@ returns-in-Err-clause-judges g c = λ t. judges_refused _ _ _ c.in-Err.status (c
 pub returns-in-Ok-Yes-clause-judges : goal.returns-in-Ok-Yes-clause-judges
 returns-in-Ok-Yes-clause-judges g c = λ tells.
     let files = c.in-Ok.files in
-    let packets = bytes_of files.capture.packets in
+    let packets = bytes_of_packets files.capture.packets in
     let setting : Setting = setting_of files.spec packets files.script in
     let is : IsSetting setting = c.accepted.ensures.setting files.spec packets files.script c.rules.ensures.bounds c.in-Ok.ensures.right c.in-Ok.ensures.ring (c.in-Ok.ensures.packets ∙ sym (bytes_count files.capture.packets)) in
     let told : IsVerdict setting files.capture c.as_slice-out.result.now files.journal.items c.as_slice-report.result.now c.in-Ok-Yes.field-0 = c.in-Ok-Yes.ensures in

@@ -5,7 +5,7 @@ use Rattle.ftc_audit.specs.declared.cause.PortsCause.{PortsCause}
 use Rattle.ftc_audit.specs.declared.line.PortLine.{PortLine}
 use Rattle.ftc_base.specs.declared.refusal.Refuse.TheVariants as refuse
 use Rattle.ftc_outside.specs.Desk.{Files, SameFiles}
-use Rattle.ftc_serial.specs.Packets.{bytes_of}
+use Rattle.ftc_serial.specs.Packets.{bytes_of_packets}
 use Rattle.ftc_serial.specs.Trace.{trace_of}
 use Rattle.ftc_serial.specs.declared.step.Step.{Step}
 use Rattle.ftc.specs.Porting.{ports_by}
@@ -49,10 +49,10 @@ returns-clause-refused g c = λ t.
     let journal_right : HasJournal c.args.names.journal.now old c.in_ok-journal.journal.items =
     journal_before c.args.names.journal.now old second c.in_ok-journal.journal.items to_second (c.in_ok-journal.ensures.accepted t-second) in
     let why : (cause : PortsCause) → c.in-Err.refusal ≡ refuse.Bad cause
-    → IsCause c.in_ok-spec.spec.rules (bytes_of c.in_ok-capture.capture.packets) (trace_of c.in_ok-journal.journal.items) c.args.server cause =
-    λ cause is. subst (λ (steps : List Step). IsCause c.in_ok-spec.spec.rules (bytes_of c.in_ok-capture.capture.packets) steps
+    → IsCause c.in_ok-spec.spec.rules (bytes_of_packets c.in_ok-capture.capture.packets) (trace_of c.in_ok-journal.journal.items) c.args.server cause =
+    λ cause is. subst (λ (steps : List Step). IsCause c.in_ok-spec.spec.rules (bytes_of_packets c.in_ok-capture.capture.packets) steps
     c.args.server cause) c.in_ok-trace.ensures (cause_told (List PortLine)
-    (IsCause c.in_ok-spec.spec.rules (bytes_of c.in_ok-capture.capture.packets) c.in_ok-trace.trace c.args.server) c.in-Err.refusal c.in-Err.ensures.bad cause is) in
+    (IsCause c.in_ok-spec.spec.rules (bytes_of_packets c.in_ok-capture.capture.packets) c.in_ok-trace.trace c.args.server) c.in-Err.refusal c.in-Err.ensures.bad cause is) in
     rw c.from.ensures (table_refused (g.D.Desk.sound c.args.desk.now) (ports_by c.args.names) c.args.server old c.in_ok-spec.spec
     c.in_ok-capture.capture c.in_ok-journal.journal.items c.in-Err.refusal chain_right capture_right journal_right why)
 
@@ -77,6 +77,6 @@ returns-in-Ok-clause-accepted g c = λ t.
       chain_right = chain_right;
       capture_right = capture_right;
       journal_right = journal_right;
-      table = subst (λ (steps : List Step). IsTableOf c.in_ok-spec.spec.rules (bytes_of c.in_ok-capture.capture.packets) steps
+      table = subst (λ (steps : List Step). IsTableOf c.in_ok-spec.spec.rules (bytes_of_packets c.in_ok-capture.capture.packets) steps
           c.args.server c.in-Ok.lines) c.in_ok-trace.ensures c.in-Ok.ensures.table;
     }

@@ -1,5 +1,5 @@
 use Rattle.std.proofs.Common.{inl, inr, refl, map}
-use Rattle.ftc_serial.specs.Held.{state_of}
+use Rattle.ftc_serial.specs.Held.{serial_state}
 use Rattle.ftc_words.specs.Shown.{named_of}
 use Rattle.ftc.specs.Done.{IsDriven, AreToldAll}
 use Rattle.ftc.proofs.OutLemmas.{on_err}
@@ -16,7 +16,7 @@ returns-in_err-write_released-clause-failed g c = λ t failed.
     let driven = c.in_ok-driven.driven in
     let left = map (λ tap. (goal.Tap-dyn g (tap.vtable, tap.value)).face tap.value) c.write_released.new.taps.list.items in
     out_begun (named_of c.args.names) c.requires.apart.written texts.spec texts.capture texts.script
-    (IsDriven texts.spec texts.capture texts.script texts.schedule.items) driven.chain.journal (state_of driven.serial)
+    (IsDriven texts.spec texts.capture texts.script texts.schedule.items) driven.chain.journal (serial_state driven.serial)
     c.in_ok-driven.ensures.finished c.in_ok-driven.ensures.chosen c.released-released.result.now
     c.released-released.ensures left (g.D.Desk.file c.args.desk.now) (g.D.Desk.file c.write_released.new.desk)
     (c.in_err-write_released.ensures.refused t) (c.write_released.ensures.others t)
@@ -28,7 +28,7 @@ returns-in_err-write_released-clause-refused g c = λ t.
     let left = map (λ tap. (goal.Tap-dyn g (tap.vtable, tap.value)).face tap.value) c.write_released.new.taps.list.items in
     on_err c.from_residual-in_err-write_released.result _ (inr (
     out_begun (named_of c.args.names) c.requires.apart.written texts.spec texts.capture texts.script
-    (IsDriven texts.spec texts.capture texts.script texts.schedule.items) driven.chain.journal (state_of driven.serial)
+    (IsDriven texts.spec texts.capture texts.script texts.schedule.items) driven.chain.journal (serial_state driven.serial)
     c.in_ok-driven.ensures.finished c.in_ok-driven.ensures.chosen c.released-released.result.now
     c.released-released.ensures left (g.D.Desk.file c.args.desk.now) (g.D.Desk.file c.write_released.new.desk)
     (c.in_err-write_released.ensures.refused t) (c.write_released.ensures.others t)))
@@ -42,7 +42,7 @@ returns-clause-done g c = λ t.
     let left = map (λ tap. (goal.Tap-dyn g (tap.vtable, tap.value)).face tap.value) c.write_released.new.taps.list.items in
     on_ok_both c.write_texts.result _ _ _ (λ written plain.
     has_written (named_of c.args.names) c.requires.apart.written texts.spec texts.capture texts.script
-    (IsDriven texts.spec texts.capture texts.script texts.schedule.items) driven.chain.journal (state_of driven.serial)
+    (IsDriven texts.spec texts.capture texts.script texts.schedule.items) driven.chain.journal (serial_state driven.serial)
     c.in_ok-driven.ensures.finished c.in_ok-driven.ensures.chosen c.released-released.result.now
     c.released-released.ensures left (g.D.Desk.file c.args.desk.now) (g.D.Desk.file c.write_released.new.desk)
     (g.D.Desk.file c.write_texts.new.desk) (c.in_ok-write_released.ensures.written t) (c.write_released.ensures.others t)
@@ -56,7 +56,7 @@ returns-clause-failed g c = λ t failed.
     let told = c.write_released.ensures.served.tells_on t in
     let left = map (λ tap. (goal.Tap-dyn g (tap.vtable, tap.value)).face tap.value) c.write_released.new.taps.list.items in
     has_begun (named_of c.args.names) c.requires.apart.written texts.spec texts.capture texts.script
-    (IsDriven texts.spec texts.capture texts.script texts.schedule.items) driven.chain.journal (state_of driven.serial)
+    (IsDriven texts.spec texts.capture texts.script texts.schedule.items) driven.chain.journal (serial_state driven.serial)
     c.in_ok-driven.ensures.finished c.in_ok-driven.ensures.chosen c.released-released.result.now
     c.released-released.ensures left (g.D.Desk.file c.args.desk.now) (g.D.Desk.file c.write_released.new.desk)
     (g.D.Desk.file c.write_texts.new.desk) (c.in_ok-write_released.ensures.written t) (c.write_released.ensures.others t)
@@ -70,7 +70,7 @@ returns-clause-refused g c = λ t.
     let left = map (λ tap. (goal.Tap-dyn g (tap.vtable, tap.value)).face tap.value) c.write_released.new.taps.list.items in
     on_err_more c.write_texts.result _ _ (λ cut. inr (
     has_begun (named_of c.args.names) c.requires.apart.written texts.spec texts.capture texts.script
-    (IsDriven texts.spec texts.capture texts.script texts.schedule.items) driven.chain.journal (state_of driven.serial)
+    (IsDriven texts.spec texts.capture texts.script texts.schedule.items) driven.chain.journal (serial_state driven.serial)
     c.in_ok-driven.ensures.finished c.in_ok-driven.ensures.chosen c.released-released.result.now
     c.released-released.ensures left (g.D.Desk.file c.args.desk.now) (g.D.Desk.file c.write_released.new.desk)
     (g.D.Desk.file c.write_texts.new.desk) (c.in_ok-write_released.ensures.written t) (c.write_released.ensures.others t)

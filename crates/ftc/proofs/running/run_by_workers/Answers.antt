@@ -1,6 +1,6 @@
 use Rattle.std.proofs.Common.{inl, inr, map, rules}
 use Rattle.ftc_outside.specs.Desk.{Files}
-use Rattle.ftc_serial.specs.Held.{state_of}
+use Rattle.ftc_serial.specs.Held.{serial_state}
 use Rattle.ftc_stream.specs.Records.{records}
 use Rattle.ftc_words.specs.Shown.{named_of}
 use Rattle.ftc.specs.Done.{IsAny, AreToldAtLast}
@@ -77,7 +77,7 @@ returns-clause-done g c = λ t.
     (c.complete.ensures.others second) in
     on_ok_both c.write_texts.result _ _ _ (λ written plain.
     has_written (named_of c.args.names) c.requires.apart.written texts.spec texts.capture texts.script IsAny
-    driven.chain.journal (state_of driven.serial) c.in_ok-worked.ensures.finished tt c.released-released.result.now
+    driven.chain.journal (serial_state driven.serial) c.in_ok-worked.ensures.finished tt c.released-released.result.now
     c.released-released.ensures left old whole (g.D.Desk.file c.write_texts.new.desk) there before
     (AreToldAtLast taps left) (c.in_ok-complete.ensures.told taps c.in_ok-worked.ensures.told) plain written)
     (c.write_texts.ensures.written third) c.write_texts.ensures.plain
@@ -102,6 +102,6 @@ returns-clause-refused g c = λ t.
     (c.complete.ensures.others second) in
     on_err_more c.write_texts.result _ _ (λ cut. inr (
     has_begun (named_of c.args.names) c.requires.apart.written texts.spec texts.capture texts.script IsAny
-    driven.chain.journal (state_of driven.serial) c.in_ok-worked.ensures.finished tt c.released-released.result.now
+    driven.chain.journal (serial_state driven.serial) c.in_ok-worked.ensures.finished tt c.released-released.result.now
     c.released-released.ensures left old whole (g.D.Desk.file c.write_texts.new.desk) there before cut))
     (c.write_texts.ensures.refused third)

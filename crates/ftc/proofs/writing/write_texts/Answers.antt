@@ -4,7 +4,7 @@ use Rattle.ftc_journal.specs.Text.{spelling}
 use Rattle.ftc_outside.specs.Tap.{HasNoFeed}
 use Rattle.ftc_protocol.specs.Setting.{setting_of}
 use Rattle.ftc_report.specs.Report.{report_of}
-use Rattle.ftc_serial.specs.Packets.{bytes_of}
+use Rattle.ftc_serial.specs.Packets.{bytes_of_packets}
 use Rattle.ftc_words.specs.Shown.{named_of}
 use Rattle.ftc.specs.Done.{lines_of}
 use Rattle.ftc.proofs.OutLemmas.{on_err}
@@ -16,7 +16,7 @@ returns-in_err-write_journal-clause-refused g c = λ t.
     let texts = c.args.texts.now in
     let events = c.args.driven.now.chain.journal in
     let left = lines_of (map (λ tap. (goal.Tap-dyn g (tap.vtable, tap.value)).face tap.value) c.args.taps.now.list.items) in
-    let setting = setting_of texts.spec (bytes_of texts.capture.packets) texts.script in
+    let setting = setting_of texts.spec (bytes_of_packets texts.capture.packets) texts.script in
     on_err c.from_residual.result _
     (journal_cut (named_of c.args.names) c.requires.apart (spelling events) (report_of setting events) left
     (g.D.Desk.file c.args.desk.now) (g.D.Desk.file c.write_journal.new.desk)
@@ -27,7 +27,7 @@ returns-in_err-lines-clause-refused g c = λ t.
     let texts = c.args.texts.now in
     let events = c.args.driven.now.chain.journal in
     let left = lines_of (map (λ tap. (goal.Tap-dyn g (tap.vtable, tap.value)).face tap.value) c.args.taps.now.list.items) in
-    let setting = setting_of texts.spec (bytes_of texts.capture.packets) texts.script in
+    let setting = setting_of texts.spec (bytes_of_packets texts.capture.packets) texts.script in
     on_err c.from_residual-in_err-lines.result _
     (journal_alone (named_of c.args.names) c.requires.apart (spelling events) (report_of setting events) left
     (g.D.Desk.file c.args.desk.now) (g.D.Desk.file c.write_journal.new.desk)
@@ -38,7 +38,7 @@ returns-in_err-report-clause-refused g c = λ t.
     let texts = c.args.texts.now in
     let events = c.args.driven.now.chain.journal in
     let left = lines_of (map (λ tap. (goal.Tap-dyn g (tap.vtable, tap.value)).face tap.value) c.args.taps.now.list.items) in
-    let setting = setting_of texts.spec (bytes_of texts.capture.packets) texts.script in
+    let setting = setting_of texts.spec (bytes_of_packets texts.capture.packets) texts.script in
     on_err c.from_residual-in_err-report.result _
     (journal_alone (named_of c.args.names) c.requires.apart (spelling events) (report_of setting events) left
     (g.D.Desk.file c.args.desk.now) (g.D.Desk.file c.write_journal.new.desk)
@@ -50,7 +50,7 @@ returns-clause-refused g c = λ t.
     let events = c.args.driven.now.chain.journal in
     let left = lines_of (map (λ tap. (goal.Tap-dyn g (tap.vtable, tap.value)).face tap.value) c.args.taps.now.list.items) in
     let told = c.write_journal.ensures.served.tells_on t in
-    let setting = setting_of texts.spec (bytes_of texts.capture.packets) texts.script in
+    let setting = setting_of texts.spec (bytes_of_packets texts.capture.packets) texts.script in
     on_err_more c.write_text.result _ _
     (report_cut (named_of c.args.names) c.requires.apart (spelling events) (report_of setting events) left
     (g.D.Desk.file c.args.desk.now) (g.D.Desk.file c.write_journal.new.desk) (g.D.Desk.file c.write_text.new.desk)

@@ -1,5 +1,5 @@
 -- a finish of the run so far is a finish of the first run
-use Rattle.ftc_chain.specs.ChainRun.{setting_in, state_of}
+use Rattle.ftc_chain.specs.ChainRun.{setting_in, chain_state}
 use Rattle.ftc_protocol.specs.Measure.{work_left}
 use Rattle.ftc_protocol.specs.Run.{IsRun}
 use Rattle.ftc_protocol.specs.Setting.{IsSetting}
@@ -18,4 +18,4 @@ invariant-loop-job l = record {
 }
 
 abbrev pub decreases-loop-job : goal.decreases-loop-job
-decreases-loop-job l = work_left (setting_in l.chain) (state_of l.chain)
+decreases-loop-job l = work_left (setting_in l.chain) (chain_state l.chain)

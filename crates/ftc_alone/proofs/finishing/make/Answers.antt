@@ -2,7 +2,7 @@ use Rattle.std.proofs.Common.{◌≡◌, false, subst}
 use Rattle.std.proofs.Math.Logic.{∥∥₁_map}
 use Rattle.ftc_base.specs.declared.limits.TheConstants.{FINISHING_SLOT}
 use Rattle.ftc_journal.specs.declared.job.Job.{Job}
-use Rattle.ftc_chain.specs.ChainRun.{setting_in, state_of}
+use Rattle.ftc_chain.specs.ChainRun.{setting_in, chain_state}
 use Rattle.ftc_protocol.specs.Jobs.{IsLegalJob}
 use Rattle.ftc_chain.specs.Course.{HasMade}
 use Rattle.ftc_chain.specs.Doing.{is_visit}
@@ -13,7 +13,7 @@ use Rattle.ftc_alone.proofs.finishing.make.Goals as goal
 
 pub visit-requires : goal.visit-requires
 visit-requires c =
-    subst (λ (job : Job). ∥ IsLegalJob (setting_in c.args.chain.now) (state_of c.args.chain.now) job ∥₁) c.in-Visit.is c.requires
+    subst (λ (job : Job). ∥ IsLegalJob (setting_in c.args.chain.now) (chain_state c.args.chain.now) job ∥₁) c.in-Visit.is c.requires
 
 pub returns : goal.returns
 returns c =

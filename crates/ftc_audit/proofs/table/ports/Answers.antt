@@ -1,8 +1,8 @@
 use Rattle.std.proofs.Common.{◌≡◌, ◌<◌, subst, sym, true, length}
 use Rattle.std.specs.Prelude.{List, slice_get}
 use Rattle.ftc_mbox.specs.declared.rule.Rule.{Rule}
-use Rattle.ftc_serial.specs.Held.{state_of}
-use Rattle.ftc_serial.specs.Packets.{bytes_of}
+use Rattle.ftc_serial.specs.Held.{serial_state}
+use Rattle.ftc_serial.specs.Packets.{bytes_of_packets}
 use Rattle.ftc_audit.specs.Stored.{is_nat}
 use Rattle.ftc_audit.proofs.PortTable.{nat_there, nat_within, read}
 use Rattle.ftc_audit.proofs.table.ports.Goals as goal
@@ -24,8 +24,8 @@ store-requires c =
 pub returns-clause-table : goal.returns-clause-table
 returns-clause-table c =
     let is : is_nat (slice_get c.rules.result.now c.args.server) ≡ true = cc in
-    (read c.args.spec.now.rules (bytes_of c.args.packets.now) c.args.trace.now c.args.server
-    (state_of c.in-Ok.serial) c.store.result.now.content c.as_slice.result.now c.in_ok-pairs.pairs c.in_ok-lines.lines
+    (read c.args.spec.now.rules (bytes_of_packets c.args.packets.now) c.args.trace.now c.args.server
+    (serial_state c.in-Ok.serial) c.store.result.now.content c.as_slice.result.now c.in_ok-pairs.pairs c.in_ok-lines.lines
     c.rules.ensures.bounds.rules c.are_of_bytes.ensures
     (nat_there c.args.spec.now.rules c.rules.result.now c.args.server c.rules.ensures.same is) c.in-Ok.ensures.state
     c.store.ensures c.in_ok-pairs.ensures c.as_slice.ensures c.in_ok-lines.ensures.moved
@@ -34,8 +34,8 @@ returns-clause-table c =
 pub returns-clause-apart : goal.returns-clause-apart
 returns-clause-apart c =
     let is : is_nat (slice_get c.rules.result.now c.args.server) ≡ true = cc in
-    (read c.args.spec.now.rules (bytes_of c.args.packets.now) c.args.trace.now c.args.server
-    (state_of c.in-Ok.serial) c.store.result.now.content c.as_slice.result.now c.in_ok-pairs.pairs c.in_ok-lines.lines
+    (read c.args.spec.now.rules (bytes_of_packets c.args.packets.now) c.args.trace.now c.args.server
+    (serial_state c.in-Ok.serial) c.store.result.now.content c.as_slice.result.now c.in_ok-pairs.pairs c.in_ok-lines.lines
     c.rules.ensures.bounds.rules c.are_of_bytes.ensures
     (nat_there c.args.spec.now.rules c.rules.result.now c.args.server c.rules.ensures.same is) c.in-Ok.ensures.state
     c.store.ensures c.in_ok-pairs.ensures c.as_slice.ensures c.in_ok-lines.ensures.moved
@@ -44,8 +44,8 @@ returns-clause-apart c =
 pub returns-clause-named : goal.returns-clause-named
 returns-clause-named c =
     let is : is_nat (slice_get c.rules.result.now c.args.server) ≡ true = cc in
-    (read c.args.spec.now.rules (bytes_of c.args.packets.now) c.args.trace.now c.args.server
-    (state_of c.in-Ok.serial) c.store.result.now.content c.as_slice.result.now c.in_ok-pairs.pairs c.in_ok-lines.lines
+    (read c.args.spec.now.rules (bytes_of_packets c.args.packets.now) c.args.trace.now c.args.server
+    (serial_state c.in-Ok.serial) c.store.result.now.content c.as_slice.result.now c.in_ok-pairs.pairs c.in_ok-lines.lines
     c.rules.ensures.bounds.rules c.are_of_bytes.ensures
     (nat_there c.args.spec.now.rules c.rules.result.now c.args.server c.rules.ensures.same is) c.in-Ok.ensures.state
     c.store.ensures c.in_ok-pairs.ensures c.as_slice.ensures c.in_ok-lines.ensures.moved

@@ -4,7 +4,7 @@ use Rattle.std.proofs.Math.Bool.{Bool-set}
 use Rattle.std.proofs.Math.Logic.{∥∥₁_elim}
 use Rattle.ftc_journal.specs.declared.event.Event.TheVariants as event
 use Rattle.ftc_link.specs.Queue.{Queue}
-use Rattle.ftc_link.specs.Taking.{TakesOldest, IsTaken}
+use Rattle.ftc_link.specs.Taking.{TakesOldest, TakesIfAny}
 use Rattle.ftc_message.specs.declared.message.Message.{Message as SentMessage}
 use Rattle.ftc_protocol.specs.Next.{next}
 use Rattle.ftc_protocol.specs.Setting.{Setting, servers}
@@ -58,7 +58,7 @@ returns-in_err-make_room-in-Some-clause-slot c =
 pub take-requires-clause-new : goal.take-requires-clause-new
 take-requires-clause-new c =
     let takes : TakesOldest c.args.link.now c.take_from.new.link c.in-Some-2.message =
-    subst (IsTaken c.args.link.now c.take_from.new.link) c.in-Some-2.is c.in_ok-message-in-Some.ensures.taken in
+    subst (TakesIfAny c.args.link.now c.take_from.new.link) c.in-Some-2.is c.in_ok-message-in-Some.ensures.taken in
     taken_up c.args.sender c.args.origin c.args.by_ring c.args.link.now c.take_from.new.link c.args.slot.now c.in-Some.server
     c.make_room.new.self c.in-Some-2.message (is_held c.in-Some-2.message.origin c.make_room.new.self.held.items) false
     c.in-Some.is takes
@@ -71,7 +71,7 @@ take-requires-clause-new c =
 pub take-requires-clause-open : goal.take-requires-clause-open
 take-requires-clause-open c =
     let takes : TakesOldest c.args.link.now c.take_from.new.link c.in-Some-2.message =
-    subst (IsTaken c.args.link.now c.take_from.new.link) c.in-Some-2.is c.in_ok-message-in-Some.ensures.taken in
+    subst (TakesIfAny c.args.link.now c.take_from.new.link) c.in-Some-2.is c.in_ok-message-in-Some.ensures.taken in
     taken_up c.args.sender c.args.origin c.args.by_ring c.args.link.now c.take_from.new.link c.args.slot.now c.in-Some.server
     c.make_room.new.self c.in-Some-2.message
     (is_open c.make_room.new.self.id (arrived c.in-Some-2.message c.args.by_ring)) true c.in-Some.is takes
@@ -90,7 +90,7 @@ returns-in-Some-2-clause-ok c setting state ring run legal queued is =
     let roomed = c.make_room.new.self in
     let new = c.take.new.self in
     let takes : TakesOldest c.args.link.now c.take_from.new.link c.in-Some-2.message =
-    subst (IsTaken c.args.link.now c.take_from.new.link) c.in-Some-2.is c.in_ok-message-in-Some.ensures.taken in
+    subst (TakesIfAny c.args.link.now c.take_from.new.link) c.in-Some-2.is c.in_ok-message-in-Some.ensures.taken in
     let first = ap (λ (q : Queue). q.messages) takes.oldest in
     let up : IsUp setting state receiver old = subst (IsSlot setting state receiver) c.in-Some.is is in
     let at = c.what_stays.ensures.roomed setting state receiver old roomed up.at c.make_room.ensures.same in

@@ -14,7 +14,7 @@ use Rattle.ftc_protocol.specs.Setting.{servers, shape, rule_at, is_tail}
 use Rattle.ftc_protocol.specs.State.{Where}
 use Rattle.ftc_protocol.specs.Trace.{content_of}
 use Rattle.ftc_protocol.specs.Orderly.{aim}
-use Rattle.ftc_protocol.specs.Next.{next, outcome_at, bytes_of, bytes_in}
+use Rattle.ftc_protocol.specs.Next.{next, outcome_at, message_bytes, bytes_in}
 use Rattle.ftc_serial.specs.Take.{Outcome, taken}
 use Rattle.ftc_serial.specs.Reads.{IsRead}
 use Rattle.ftc_ring.specs.Ring.{RingShape}
@@ -58,12 +58,12 @@ returns c setting state server worker running end old new run legal is runs aske
     let ask_is = some_same (ask old.rule done.packet running.answers) (Finish end)
     (sym (ap (ask_of_slot old) runs.slot ∙ (ap (ask_of old.rule running) done.there
     ∙ ap (option_map (λ bytes. ask old.rule bytes running.answers)) done.with_packet)) ∙ asked) in
-    let bytes_are = ap bytes_of there ∙ ap bytes_in (sym there_as.stands.as_sent.packet
+    let bytes_are = ap message_bytes there ∙ ap bytes_in (sym there_as.stands.as_sent.packet
     ∙ (ap (λ (h : HeldMessage). h.message.packet) (one_found at there_as.held done.before there_as.there done.there) ∙ done.with_packet)) in
     let content = content_of state.trace (state.lists server server) server in
     let made = outcome_of running end done.packet in
     let outcome = outcome_at setting state server packet in
-    let outcome_is : outcome ≡ made = ap (λ r. taken r (bytes_of (state.message packet)) content) (sym is.rule)
+    let outcome_is : outcome ≡ made = ap (λ r. taken r (message_bytes (state.message packet)) content) (sym is.rule)
     ∙ (ap (λ b. taken old.rule b content) bytes_are
     ∙ (ap (taken old.rule done.packet) (sym is.stands.replicas.own.content)
     ∙ c.what_is_taken_in_turn.ensures old.rule done.packet old.head.content end running.answers turn done.head.current
@@ -89,7 +89,7 @@ returns c setting state server worker running end old new run legal is runs aske
     running.answers end.writes.items)) is_it done.head.logged))) in
     let touching = logs_what_touches running.answers done.log done.head.no_log ∙ ap is_touching (sym outcome_is) in
     let reads = subst (λ (o : Outcome). AllByRecursion (λ (write : Write). IsRead o.answers write.key) o.writes) outcome_is
-    (c.what_it_reads.ensures (rule_at setting server) (bytes_of (state.message packet)) content) in
+    (c.what_it_reads.ensures (rule_at setting server) (message_bytes (state.message packet)) content) in
     elim end.writes.items as (λ w. end.writes.items ≡ w → IsServerAt setting after server new) [
       | [] ↦ λ none. commits setting state after server old new (replica_or_own old None) old.known held is beside
           (head_stays old new worker running end done none

@@ -14,7 +14,7 @@ use Rattle.ftc_protocol.specs.State.{Where}
 use Rattle.ftc_protocol.specs.Trace.{content_of}
 use Rattle.ftc_protocol.specs.Orderly.{aim}
 use Rattle.ftc_protocol.specs.Recovery.{visits_in}
-use Rattle.ftc_protocol.specs.Next.{next, outcome_at, bytes_of, bytes_in}
+use Rattle.ftc_protocol.specs.Next.{next, outcome_at, message_bytes, bytes_in}
 use Rattle.ftc_serial.specs.Take.{Outcome, taken}
 use Rattle.ftc_serial.specs.Reads.{IsRead}
 use Rattle.ftc_txn.specs.Logs.{IsLogOf}
@@ -57,13 +57,13 @@ returns c setting state server worker running end old new visits made run legal 
     let ask_is = some_same (ask old.rule done.packet running.answers) (Finish end)
     (sym (ap (ask_of_slot old) runs.slot ∙ (ap (ask_of old.rule running) done.there
     ∙ ap (option_map (λ bytes. ask old.rule bytes running.answers)) done.with_packet)) ∙ asked) in
-    let bytes_are = ap bytes_of there ∙ ap bytes_in (sym there_as.stands.as_sent.packet
+    let bytes_are = ap message_bytes there ∙ ap bytes_in (sym there_as.stands.as_sent.packet
     ∙ (ap (λ (h : HeldMessage). h.message.packet) (one_found at there_as.held done.before there_as.there done.there)
     ∙ done.with_packet)) in
     let content = content_of state.trace (state.lists server server) server in
     let outcome = outcome_at setting state server packet in
     let outcome_is : outcome ≡ outcome_of running end done.packet =
-    ap (λ r. taken r (bytes_of (state.message packet)) content) (sym is.rule)
+    ap (λ r. taken r (message_bytes (state.message packet)) content) (sym is.rule)
     ∙ (ap (λ b. taken old.rule b content) bytes_are
     ∙ (ap (taken old.rule done.packet) (sym is.stands.replicas.own.content)
     ∙ c.what_is_taken_in_turn.ensures old.rule done.packet old.head.content end running.answers turn done.head.current
@@ -71,7 +71,7 @@ returns c setting state server worker running end old new visits made run legal 
     let partitions_are = old.head_partitions ∙ is.partitions in
     let reads = subst (λ (o : Outcome). AllByRecursion (λ (write : Write). IsRead o.answers write.key) o.writes)
     outcome_is
-    (c.what_it_reads.ensures (rule_at setting server) (bytes_of (state.message packet)) content) in
+    (c.what_it_reads.ensures (rule_at setting server) (message_bytes (state.message packet)) content) in
     let logged = log_made server setting.partitions old.head.vector packet running.answers end.writes.items done.log
     (subst (λ g. IfSome done.log (IsLogOf g setting.partitions old.head.vector packet running.answers end.writes.items))
     (old.head_group ∙ is.number_is)

@@ -1,7 +1,7 @@
 use Rattle.std.proofs.Common.{ℕ, sym, subst, ltb-true, lt-ltb}
 use Rattle.std.proofs.Math.Bool.{Bool-set}
 use Rattle.std.proofs.Math.Logic.{∥∥₁_elim, ∥∥₁_map}
-use Rattle.ftc_chain.specs.ChainRun.{ChainRun, state_of}
+use Rattle.ftc_chain.specs.ChainRun.{ChainRun, chain_state}
 use Rattle.ftc_chain.specs.Course.{state_by}
 use Rattle.ftc_chain.specs.Doing.{setting_by}
 use Rattle.ftc_chain.specs.Messages.{AreUnderWay, messages_in}
@@ -28,7 +28,7 @@ returns c =
     let course = c.self.inside.course in
     let setting = setting_by given in
     let state = state_by setting course.journal.items in
-    subst (λ (run : ChainRun). ∥ AreUnderWay (state_of run) c.messages_in.result ∥₁) c.self.view_is
+    subst (λ (run : ChainRun). ∥ AreUnderWay (chain_state run) c.messages_in.result ∥₁) c.self.view_is
     (∥∥₁_map c.self.invariant.1 (λ resting.
     let rest = at_rest given course _ c.len.ensures.same c.few_propagates.ensures
     (c.accepted.ensures.few given.spec.now _ given.script.now c.ring.ensures.accepted

@@ -5,7 +5,7 @@ use Rattle.ftc_protocol.specs.Drive.{IsNoneDue}
 use Rattle.ftc_protocol.specs.Moment.{released_in}
 use Rattle.ftc_protocol.specs.Run.{IsRun}
 use Rattle.ftc_protocol.specs.Setting.{Setting, setting_of}
-use Rattle.ftc_serial.specs.Packets.{bytes_of}
+use Rattle.ftc_serial.specs.Packets.{bytes_of_packets}
 use Rattle.ftc_chain.specs.Course.{state_by}
 use Rattle.ftc_chain.specs.Outlet.{IsOutlet}
 use Rattle.ftc_ring.specs.Ring.{RingShape}
@@ -15,12 +15,12 @@ use Rattle.ftc_chain.proofs.chain.Chain.new.Goals as goal
 
 pub invariant_of-result : goal.invariant_of-result
 invariant_of-result c =
-    let setting : Setting = setting_of c.args.spec.now (bytes_of c.args.packets.now) c.args.script.now in
+    let setting : Setting = setting_of c.args.spec.now (bytes_of_packets c.args.packets.now) c.args.script.now in
     let none : c.new-2.result.items ≡ [] = c.new-2.ensures in (
       record { ring = c.requires.ring; packets = c.requires.packets },
       ∣ record {
         course_is = record {
-          right = c.accepted.ensures.setting c.args.spec.now (bytes_of c.args.packets.now) c.args.script.now
+          right = c.accepted.ensures.setting c.args.spec.now (bytes_of_packets c.args.packets.now) c.args.script.now
               c.rules.ensures.bounds c.ring.ensures.accepted c.requires.ring
               (c.requires.packets ∙ sym (bytes_count c.args.packets.now));
           run = subst (IsRun setting) (sym none) tt;

@@ -5,7 +5,7 @@ use Rattle.ftc_journal.specs.declared.job.Job.TheVariants.{Take}
 use Rattle.ftc_protocol.specs.Jobs.{IsLegalJob}
 use Rattle.ftc_protocol.specs.Setting.{servers}
 use Rattle.ftc_ring.specs.Ring.{RingShape}
-use Rattle.ftc_chain.specs.ChainRun.{ChainRun, setting_in, state_of}
+use Rattle.ftc_chain.specs.ChainRun.{ChainRun, setting_in, chain_state}
 use Rattle.ftc_chain.specs.Course.{state_by}
 use Rattle.ftc_chain.specs.Doing.{setting_by}
 use Rattle.ftc_chain.proofs.AtRest.{none_is}
@@ -19,7 +19,7 @@ returns-then-number-servers-clause-only c =
     let course = c.self.inside.course in
     let setting = setting_by given in
     let state = state_by setting course.journal.items in
-    subst (λ (run : ChainRun). (origin : ℕ) → IsLegalJob (setting_in run) (state_of run) (Take c.args.link origin) →
+    subst (λ (run : ChainRun). (origin : ℕ) → IsLegalJob (setting_in run) (chain_state run) (Take c.args.link origin) →
     None ≡ Some origin) c.self.view_is
     (λ origin legal. absurd (∥∥₁_elim c.self.invariant.1 none_is (λ resting.
     let size : course.network.ring.servers ≡ servers setting =
@@ -34,7 +34,7 @@ returns-clause-some c =
     let setting = setting_by given in
     let state = state_by setting course.journal.items in
     subst (λ (run : ChainRun). IfSome c.oldest_at.result (λ (origin : ℕ).
-    ∥ IsLegalJob (setting_in run) (state_of run) (Take c.args.link origin) ∥₁)) c.self.view_is
+    ∥ IsLegalJob (setting_in run) (chain_state run) (Take c.args.link origin) ∥₁)) c.self.view_is
     (if_told c.oldest_at.result _ (λ origin is. ∥∥₁_map c.self.invariant.1 (λ resting.
     (c.oldest_at.ensures setting state origin (rests setting course resting)).0 is)))
 
@@ -44,7 +44,7 @@ returns-clause-only c =
     let course = c.self.inside.course in
     let setting = setting_by given in
     let state = state_by setting course.journal.items in
-    subst (λ (run : ChainRun). (origin : ℕ) → IsLegalJob (setting_in run) (state_of run) (Take c.args.link origin) →
+    subst (λ (run : ChainRun). (origin : ℕ) → IsLegalJob (setting_in run) (chain_state run) (Take c.args.link origin) →
     c.oldest_at.result ≡ Some origin) c.self.view_is
     (λ origin legal. told_once c.oldest_at.result origin (∥∥₁_map c.self.invariant.1 (λ resting.
     (c.oldest_at.ensures setting state origin (rests setting course resting)).1 legal)))

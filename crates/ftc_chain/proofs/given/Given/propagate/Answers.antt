@@ -3,7 +3,7 @@ use Rattle.ftc_base.specs.declared.limits.TheConstants.{MOST_RECORDS}
 use Rattle.ftc_journal.specs.declared.event.Event.TheVariants as event
 use Rattle.ftc_journal.specs.declared.job.Job.TheVariants as job
 use Rattle.ftc_protocol.specs.Measure.{most_messages}
-use Rattle.ftc_serial.specs.Packets.{bytes_of}
+use Rattle.ftc_serial.specs.Packets.{bytes_of_packets}
 use Rattle.ftc_chain.specs.Doing.{setting_by}
 use Rattle.ftc_chain.proofs.Permitted.{allowed, done, within_of}
 use Rattle.ftc_chain.proofs.Rooms.{few_bytes, room_to_propagate}
@@ -21,7 +21,7 @@ propagate-requires-clause-room c =
     let job = job.Propagate c.args.origin in
     let few : length given.packets.now ≤ MOST_RECORDS = omega (arith, c.len.ensures.same, c.len.ensures.few) in
     let most : most_messages setting < 2 ^ 32 =
-    c.accepted.ensures.few given.spec.now (bytes_of given.packets.now) given.script.now c.ring.ensures.accepted
+    c.accepted.ensures.few given.spec.now (bytes_of_packets given.packets.now) given.script.now c.ring.ensures.accepted
     (few_bytes given.packets.now MOST_RECORDS few) in
     room_to_propagate setting c.args.origin c.args.network.now 4294967295 (omega (arith, most))
     (λ state may. within_of setting may.state job may.run

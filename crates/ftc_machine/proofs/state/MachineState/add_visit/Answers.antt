@@ -14,7 +14,7 @@ use Rattle.ftc_vector.specs.Commits.{vector_of, group_raised}
 use Rattle.ftc_machine.specs.declared.state.footprint.Footprint.{Footprint}
 use Rattle.ftc_protocol.specs.Changes.{is_touching}
 use Rattle.ftc_machine.specs.Represents.{footprints_in, frontiers_of}
-use Rattle.ftc_machine.specs.FootprintMaking.{IsMade}
+use Rattle.ftc_machine.specs.FootprintMaking.{IsFootprintMade}
 use Rattle.ftc_machine.specs.FootprintMarks.{marked_at}
 use Rattle.ftc_protocol.specs.Next.{outcome_at}
 use Rattle.ftc_machine.specs.Frontier.{IsFootprint, numbers_of}
@@ -40,8 +40,8 @@ returns-clause-ok c setting s worker now outcome logs may is =
     let vector : c.of.result.now ≡ vector_of (frontiers_of k.lists.items server) server = c.of.ensures.same ∙ ap (λ (reach : List (List ℕ)). vector_of reach server) old_row in
     let made : IsFootprint setting.partitions s.trace (numbers_of (footprints_in k.visits.items)) server (outcome_at setting s server packet) footprint =
     made_here setting s server packet worker may k is c.of.result.now footprint vector
-    (subst (λ (partitions : ℕ). IsMade partitions (outcome_at setting s server packet).answers (outcome_at setting s server packet).writes c.of.result.now footprint) is.partitions
-    (subst (λ (o : Outcome). IsMade k.partitions o.answers o.writes c.of.result.now footprint) outcome c.of-footprint.ensures.made)) in
+    (subst (λ (partitions : ℕ). IsFootprintMade partitions (outcome_at setting s server packet).answers (outcome_at setting s server packet).writes c.of.result.now footprint) is.partitions
+    (subst (λ (o : Outcome). IsFootprintMade k.partitions o.answers o.writes c.of.result.now footprint) outcome c.of-footprint.ensures.made)) in
     let put = footprint_put k.visits.items _ c.from-place.result server packet c.index_mut-3.result.now c.put.new.self footprint refl c.put.ensures row place (omega arith) c.requires.room.visits in
     let number : footprint.number ≡ s.events + 1 = c.of-footprint.ensures.number ∙ ap (λ n. n + 1) now in
     let touched : is_touching (outcome_at setting s server packet) ≡ not c.is_empty-is_touched.result =
