@@ -22,7 +22,8 @@ use Rattle.ftc.specs.declared.status.Status.{Status}
 use Rattle.ftc.specs.declared.status.Status.TheVariants as status
 use Rattle.ftc_words.specs.Command.{Named, Mode, plain, workers, alone}
 use Rattle.ftc.specs.Texts.{ring_of, HasChain, HasCapture, HasSchedule, AreTexts}
-use Rattle.ftc.specs.Refused.{IsTextRefused, IsWrongChain, IsWrongCapture, IsWrongScript, IsWrongSchedule, IsWrongJournal, IsNeverWrong, IsScheduleRefused, IsRunRefused, IsCheckRefused}
+use Rattle.ftc.specs.Refused.{IsTextRefused, IsWrongChain, IsWrongCapture, IsWrongScript, IsWrongSchedule}
+use Rattle.ftc.specs.Refused.{IsWrongJournal, IsNeverWrong, IsScheduleRefused, IsRunRefused, IsCheckRefused}
 use Rattle.ftc.specs.Done.{Ends}
 use Rattle.ftc.specs.Checking.{IsJudged, AreChecked, IsRightRun, Judges, IsYesOrRefused, IsCheckEnd}
 
@@ -37,22 +38,33 @@ pub some_once : {A : Type 0} (one other : A) → Some one ≡ Some other → one
 some_once one other same = cc
 
 -- a text that is right is refused for the desk or for memory alone
-pub not_refused : (sound : Type 0) (files : Files) (name : List ℕ) (IsWrong : List ℕ → Status → Type 0) (ending : Status)
-    → ((text : List ℕ) → files name ≡ Some text → IsWrong text ending → ⊥) → (ending ≡ status.DeskFault → ⊥) → IsTextRefused sound files name IsWrong ending → ending ≡ status.NoMemory
+pub not_refused : (sound : Type 0) (files : Files) (name : List ℕ) (IsWrong : List ℕ → Status →
+    Type 0) (ending : Status)
+    → ((text : List ℕ) → files name ≡ Some text → IsWrong text ending → ⊥) → (ending ≡ status.DeskFault → ⊥) →
+    IsTextRefused sound files name IsWrong ending → ending ≡ status.NoMemory
 not_refused sound files name IsWrong status.Done fine no-fault refused = absurd (fine refused.0 refused.1 refused.2)
 not_refused sound files name IsWrong status.Usage fine no-fault refused = absurd (fine refused.0 refused.1 refused.2)
-not_refused sound files name IsWrong (status.Chain line cause) fine no-fault refused = absurd (fine refused.0 refused.1 refused.2)
-not_refused sound files name IsWrong (status.Capture at cause) fine no-fault refused = absurd (fine refused.0 refused.1 refused.2)
-not_refused sound files name IsWrong (status.Script line cause) fine no-fault refused = absurd (fine refused.0 refused.1 refused.2)
-not_refused sound files name IsWrong (status.Schedule line cause) fine no-fault refused = absurd (fine refused.0 refused.1 refused.2)
-not_refused sound files name IsWrong (status.Ports cause) fine no-fault refused = absurd (fine refused.0 refused.1 refused.2)
-not_refused sound files name IsWrong (status.Journal line cause) fine no-fault refused = absurd (fine refused.0 refused.1 refused.2)
-not_refused sound files name IsWrong (status.Beats line cause) fine no-fault refused = absurd (fine refused.0 refused.1 refused.2)
-not_refused sound files name IsWrong (status.Check verdict) fine no-fault refused = absurd (fine refused.0 refused.1 refused.2)
+not_refused sound files name IsWrong (status.Chain line cause) fine no-fault refused =
+    absurd (fine refused.0 refused.1 refused.2)
+not_refused sound files name IsWrong (status.Capture at cause) fine no-fault refused =
+    absurd (fine refused.0 refused.1 refused.2)
+not_refused sound files name IsWrong (status.Script line cause) fine no-fault refused =
+    absurd (fine refused.0 refused.1 refused.2)
+not_refused sound files name IsWrong (status.Schedule line cause) fine no-fault refused =
+    absurd (fine refused.0 refused.1 refused.2)
+not_refused sound files name IsWrong (status.Ports cause) fine no-fault refused =
+    absurd (fine refused.0 refused.1 refused.2)
+not_refused sound files name IsWrong (status.Journal line cause) fine no-fault refused =
+    absurd (fine refused.0 refused.1 refused.2)
+not_refused sound files name IsWrong (status.Beats line cause) fine no-fault refused =
+    absurd (fine refused.0 refused.1 refused.2)
+not_refused sound files name IsWrong (status.Check verdict) fine no-fault refused =
+    absurd (fine refused.0 refused.1 refused.2)
 not_refused sound files name IsWrong status.DeskFault fine no-fault refused = absurd (no-fault refl)
 not_refused sound files name IsWrong status.NoMemory fine no-fault refused = refl
 
-pub no_chain : (text : List ℕ) (chain : Chain) → chain_of text ≡ Ok chain → (ending : Status) → IsWrongChain text ending → ⊥
+pub no_chain : (text : List ℕ) (chain : Chain) → chain_of text ≡ Ok chain → (ending : Status) →
+    IsWrongChain text ending → ⊥
 no_chain text chain right status.Done wrong = wrong
 no_chain text chain right status.Usage wrong = wrong
 no_chain text chain right (status.Chain line cause) wrong = not_both (chain_of text) chain _ right wrong
@@ -66,12 +78,14 @@ no_chain text chain right (status.Check verdict) wrong = wrong
 no_chain text chain right status.DeskFault wrong = wrong
 no_chain text chain right status.NoMemory wrong = wrong
 
-no_script : (ring : RingShape) (packets : ℕ) (text : List ℕ) (script : ScriptShape) → script_of ring packets text ≡ Ok script → (ending : Status) → IsWrongScript ring packets text ending → ⊥
+no_script : (ring : RingShape) (packets : ℕ) (text : List ℕ) (script : ScriptShape) →
+    script_of ring packets text ≡ Ok script → (ending : Status) → IsWrongScript ring packets text ending → ⊥
 no_script ring packets text script right status.Done wrong = wrong
 no_script ring packets text script right status.Usage wrong = wrong
 no_script ring packets text script right (status.Chain line cause) wrong = wrong
 no_script ring packets text script right (status.Capture at cause) wrong = wrong
-no_script ring packets text script right (status.Script line cause) wrong = not_both (script_of ring packets text) script _ right wrong
+no_script ring packets text script right (status.Script line cause) wrong =
+    not_both (script_of ring packets text) script _ right wrong
 no_script ring packets text script right (status.Schedule line cause) wrong = wrong
 no_script ring packets text script right (status.Ports cause) wrong = wrong
 no_script ring packets text script right (status.Journal line cause) wrong = wrong
@@ -80,7 +94,8 @@ no_script ring packets text script right (status.Check verdict) wrong = wrong
 no_script ring packets text script right status.DeskFault wrong = wrong
 no_script ring packets text script right status.NoMemory wrong = wrong
 
-no_schedule : (text : List ℕ) (journal : List Event) → journal_of text ≡ Ok journal → (ending : Status) → IsWrongSchedule text ending → ⊥
+no_schedule : (text : List ℕ) (journal : List Event) → journal_of text ≡ Ok journal → (ending : Status) →
+    IsWrongSchedule text ending → ⊥
 no_schedule text journal right status.Done wrong = wrong
 no_schedule text journal right status.Usage wrong = wrong
 no_schedule text journal right (status.Chain line cause) wrong = wrong
@@ -94,7 +109,8 @@ no_schedule text journal right (status.Check verdict) wrong = wrong
 no_schedule text journal right status.DeskFault wrong = wrong
 no_schedule text journal right status.NoMemory wrong = wrong
 
-pub no_journal : (text : List ℕ) (journal : List Event) → journal_of text ≡ Ok journal → (ending : Status) → IsWrongJournal text ending → ⊥
+pub no_journal : (text : List ℕ) (journal : List Event) → journal_of text ≡ Ok journal → (ending : Status) →
+    IsWrongJournal text ending → ⊥
 no_journal text journal right status.Done wrong = wrong
 no_journal text journal right status.Usage wrong = wrong
 no_journal text journal right (status.Chain line cause) wrong = wrong
@@ -108,19 +124,24 @@ no_journal text journal right (status.Check verdict) wrong = wrong
 no_journal text journal right status.DeskFault wrong = wrong
 no_journal text journal right status.NoMemory wrong = wrong
 
-same_verdict : (other chain : Chain) (taken capture : Capture) (told script : ScriptShape) (some out : List ℕ) (events journal : List Event) (text report : List ℕ) (verdict : Checked)
+same_verdict : (other chain : Chain) (taken capture : Capture) (told script : ScriptShape) (some out : List ℕ)
+    (events journal : List Event) (text report : List ℕ) (verdict : Checked)
     → other ≡ chain → taken ≡ capture → told ≡ script → some ≡ out → events ≡ journal → text ≡ report
-    → IsVerdict (setting_of other (bytes_of_packets taken.packets) told) taken some events text verdict → IsVerdict (setting_of chain (bytes_of_packets capture.packets) script) capture out journal report verdict
-same_verdict other chain taken capture told script some out events journal text report verdict of_chain of_capture of_script of_out of_journal of_report is =
+    → IsVerdict (setting_of other (bytes_of_packets taken.packets) told) taken some events text verdict →
+    IsVerdict (setting_of chain (bytes_of_packets capture.packets) script) capture out journal report verdict
+same_verdict other chain taken capture told script some out events journal text report verdict of_chain of_capture
+    of_script of_out of_journal of_report is =
     rw (← of_chain, ← of_capture, ← of_script, ← of_out, ← of_journal, ← of_report) is
 
 -- the laws of the crates below
 pub record Laws : Type 0 where
   pub one_capture : (text : List ℕ) (one other : Capture) → Spells text one → Spells text other → one ≡ other
-  pub no_fault : (text : List ℕ) (capture : Capture) (fault : CaptureFault) → Spells text capture → IsFault text fault → ⊥
+  pub no_fault : (text : List ℕ) (capture : Capture) (fault : CaptureFault) → Spells text capture → IsFault text fault →
+      ⊥
   pub one_verdict : VerdictsAreOne
 
-pub no_capture : (laws : Laws) (text : List ℕ) (capture : Capture) → Spells text capture → (ending : Status) → IsWrongCapture text ending → ⊥
+pub no_capture : (laws : Laws) (text : List ℕ) (capture : Capture) → Spells text capture → (ending : Status) →
+    IsWrongCapture text ending → ⊥
 no_capture laws text capture right status.Done wrong = wrong
 no_capture laws text capture right status.Usage wrong = wrong
 no_capture laws text capture right (status.Chain line cause) wrong = wrong
@@ -134,7 +155,9 @@ no_capture laws text capture right (status.Check verdict) wrong = wrong
 no_capture laws text capture right status.DeskFault wrong = wrong
 no_capture laws text capture right status.NoMemory wrong = wrong
 
-module _ (laws : Laws) (names : Named) (files : Files) (chain : Chain) (capture : Capture) (script : ScriptShape) (out : List ℕ) (journal : List Event) (report : List ℕ) (checked : AreChecked names files chain capture script out journal report) where
+module _ (laws : Laws) (names : Named) (files : Files) (chain : Chain) (capture : Capture) (script : ScriptShape)
+    (out : List ℕ) (journal : List Event) (report : List ℕ)
+    (checked : AreChecked names files chain capture script out journal report) where
   -- what else the texts may be said to spell is the same
   chain_reads : (text : List ℕ) → files names.chain ≡ Some text → chain_of text ≡ Ok chain
   chain_reads text file =
@@ -152,7 +175,8 @@ module _ (laws : Laws) (names : Named) (files : Files) (chain : Chain) (capture 
   capture_is : (other : Capture) → HasCapture names.capture files other → other ≡ capture
   capture_is other has = laws.one_capture has.text other capture has.right (capture_reads has.text has.file)
 
-  script_reads : (other : Chain) (taken : Capture) (text : List ℕ) → other ≡ chain → taken ≡ capture → files names.script ≡ Some text → script_of (ring_of other) (length taken.packets) text ≡ Ok script
+  script_reads : (other : Chain) (taken : Capture) (text : List ℕ) → other ≡ chain → taken ≡ capture →
+      files names.script ≡ Some text → script_of (ring_of other) (length taken.packets) text ≡ Ok script
   script_reads other taken text is also file =
       let has = checked.inputs.script_right in
       let same = some_once text has.text (sym file ∙ has.file) in
@@ -164,20 +188,29 @@ module _ (laws : Laws) (names : Named) (files : Files) (chain : Chain) (capture 
       subst (λ (t : List ℕ). journal_of t ≡ Ok journal) (some_once has.text text (sym has.file ∙ file)) has.right
 
   -- none of the six is refused, but for the desk or for memory
-  refused_once : (sound : Type 0) (ending : Status) → (ending ≡ status.DeskFault → ⊥) → IsCheckRefused sound names files ending → ending ≡ status.NoMemory
+  refused_once : (sound : Type 0) (ending : Status) → (ending ≡ status.DeskFault → ⊥) →
+      IsCheckRefused sound names files ending → ending ≡ status.NoMemory
   refused_once sound ending no-fault refused =
       elim refused [
-        | inl first ↦ not_refused sound files names.chain IsWrongChain ending (λ text file. no_chain text chain (chain_reads text file) ending) no-fault first
+        | inl first ↦ not_refused sound files names.chain IsWrongChain ending
+            (λ text file. no_chain text chain (chain_reads text file) ending) no-fault first
         | inr behind ↦ let (other, other_right, refused) = behind in elim refused [
-          | inl first ↦ not_refused sound files names.capture IsWrongCapture ending (λ text file. no_capture laws text capture (capture_reads text file) ending) no-fault first
+          | inl first ↦ not_refused sound files names.capture IsWrongCapture ending
+              (λ text file. no_capture laws text capture (capture_reads text file) ending) no-fault first
           | inr behind ↦ let (taken, taken_right, refused) = behind in elim refused [
-            | inl first ↦ not_refused sound files names.script (IsWrongScript (ring_of other) (length taken.packets)) ending
-                (λ text file. no_script (ring_of other) (length taken.packets) text script (script_reads other taken text (chain_is other other_right) (capture_is taken taken_right) file) ending) no-fault first
+            | inl first ↦ not_refused sound files names.script
+                (IsWrongScript (ring_of other) (length taken.packets)) ending
+                (λ text file. no_script (ring_of other) (length taken.packets) text script
+                (script_reads other taken text (chain_is other other_right)
+                (capture_is taken taken_right) file) ending) no-fault first
             | inr behind ↦ elim behind.2 [
-              | inl first ↦ not_refused sound files names.out IsNeverWrong ending (λ text file wrong. wrong) no-fault first
+              | inl first ↦ not_refused sound files names.out IsNeverWrong ending
+                  (λ text file wrong. wrong) no-fault first
               | inr behind ↦ elim behind.2 [
-                | inl first ↦ not_refused sound files names.journal IsWrongJournal ending (λ text file. no_journal text journal (journal_reads text file) ending) no-fault first
-                | inr behind ↦ not_refused sound files names.report IsNeverWrong ending (λ text file wrong. wrong) no-fault behind.2
+                | inl first ↦ not_refused sound files names.journal IsWrongJournal ending
+                    (λ text file. no_journal text journal (journal_reads text file) ending) no-fault first
+                | inr behind ↦ not_refused sound files names.report IsNeverWrong ending
+                    (λ text file wrong. wrong) no-fault behind.2
               ]
             ]
           ]
@@ -185,41 +218,58 @@ module _ (laws : Laws) (names : Named) (files : Files) (chain : Chain) (capture 
       ]
 
   -- so a check ends done or says what is wrong, or for want of memory
-  for_memory : (sound : Type 0) (ending : Status) → (ending ≡ status.DeskFault → ⊥) → IsCheckRefused sound names files ending → IsCheckEnd ending
+  for_memory : (sound : Type 0) (ending : Status) → (ending ≡ status.DeskFault → ⊥) →
+      IsCheckRefused sound names files ending → IsCheckEnd ending
   for_memory sound ending no-fault refused = subst IsCheckEnd (sym (refused_once sound ending no-fault refused)) tt
 
-  pub judges_all : (sound : Type 0) (ending : Status) → Judges sound names files ending → (ending ≡ status.DeskFault → ⊥) → IsCheckEnd ending
+  pub judges_all : (sound : Type 0) (ending : Status) → Judges sound names files ending →
+      (ending ≡ status.DeskFault → ⊥) → IsCheckEnd ending
   judges_all sound status.Done judged no-fault = tt
   judges_all sound status.Usage refused no-fault = for_memory sound status.Usage no-fault refused
-  judges_all sound (status.Chain line cause) refused no-fault = for_memory sound (status.Chain line cause) no-fault refused
-  judges_all sound (status.Capture at cause) refused no-fault = for_memory sound (status.Capture at cause) no-fault refused
-  judges_all sound (status.Script line cause) refused no-fault = for_memory sound (status.Script line cause) no-fault refused
-  judges_all sound (status.Schedule line cause) refused no-fault = for_memory sound (status.Schedule line cause) no-fault refused
+  judges_all sound (status.Chain line cause) refused no-fault =
+      for_memory sound (status.Chain line cause) no-fault refused
+  judges_all sound (status.Capture at cause) refused no-fault =
+      for_memory sound (status.Capture at cause) no-fault refused
+  judges_all sound (status.Script line cause) refused no-fault =
+      for_memory sound (status.Script line cause) no-fault refused
+  judges_all sound (status.Schedule line cause) refused no-fault =
+      for_memory sound (status.Schedule line cause) no-fault refused
   judges_all sound (status.Ports cause) refused no-fault = for_memory sound (status.Ports cause) no-fault refused
-  judges_all sound (status.Journal line cause) refused no-fault = for_memory sound (status.Journal line cause) no-fault refused
-  judges_all sound (status.Beats line cause) refused no-fault = for_memory sound (status.Beats line cause) no-fault refused
+  judges_all sound (status.Journal line cause) refused no-fault =
+      for_memory sound (status.Journal line cause) no-fault refused
+  judges_all sound (status.Beats line cause) refused no-fault =
+      for_memory sound (status.Beats line cause) no-fault refused
   judges_all sound (status.Check verdict) judged no-fault = tt
   judges_all sound status.DeskFault refused no-fault = absurd (no-fault refl)
   judges_all sound status.NoMemory judged no-fault = tt
 
   -- where one verdict is Yes, each is
-  pub verdict_is : IsVerdict (setting_of chain (bytes_of_packets capture.packets) script) capture out journal report Yes → (verdict : Checked) → IsJudged names files verdict → verdict ≡ Yes
+  pub verdict_is : IsVerdict
+      (setting_of chain (bytes_of_packets capture.packets) script) capture out journal report Yes →
+      (verdict : Checked) → IsJudged names files verdict → verdict ≡ Yes
   verdict_is fine verdict judged =
       let of_chain = chain_is judged.chain judged.checked.inputs.chain_right in
       let of_capture = capture_is judged.capture judged.checked.inputs.capture_right in
       let spelled = judged.checked.inputs.script_right in
-      let of_script : judged.script ≡ script = ok_once _ judged.script script spelled.right (script_reads judged.chain judged.capture spelled.text of_chain of_capture spelled.file) in
+      let of_script : judged.script ≡ script =
+      ok_once _ judged.script script spelled.right
+      (script_reads judged.chain judged.capture spelled.text of_chain of_capture spelled.file) in
       let of_out = some_once judged.out out (sym judged.checked.out_file ∙ checked.out_file) in
       let read = judged.checked.journal_right in
-      let of_journal : judged.journal ≡ journal = ok_once (journal_of read.text) judged.journal journal read.right (journal_reads read.text read.file) in
+      let of_journal : judged.journal ≡ journal =
+      ok_once (journal_of read.text) judged.journal journal read.right (journal_reads read.text read.file) in
       let of_report = some_once judged.report report (sym judged.checked.report_file ∙ checked.report_file) in
-      laws.one_verdict (setting_of chain (bytes_of_packets capture.packets) script) capture out journal report verdict Yes
-      (same_verdict judged.chain chain judged.capture capture judged.script script judged.out out judged.journal journal judged.report report verdict
+      laws.one_verdict (setting_of chain
+      (bytes_of_packets capture.packets) script) capture out journal report verdict Yes
+      (same_verdict judged.chain chain judged.capture capture judged.script script judged.out out judged.journal journal
+      judged.report report verdict
       of_chain of_capture of_script of_out of_journal of_report judged.verdict_right) fine
 
 module _ (laws : Laws) (names : Named) (files : Files) (right : IsRightRun names files) where
-  wrong : (sound : Type 0) (ending : Status) → Judges sound names files ending → (ending ≡ status.DeskFault → ⊥) → IsCheckEnd ending
-  wrong = judges_all laws names files right.judged.chain right.judged.capture right.judged.script right.judged.out right.judged.journal right.judged.report right.judged.checked
+  wrong : (sound : Type 0) (ending : Status) → Judges sound names files ending → (ending ≡ status.DeskFault → ⊥) →
+      IsCheckEnd ending
+  wrong = judges_all laws names files right.judged.chain right.judged.capture right.judged.script right.judged.out
+      right.judged.journal right.judged.report right.judged.checked
 
   pub agrees : (sound : Type 0) (ending : Status) → Judges sound names files ending → IsYesOrRefused ending
   agrees sound status.Done judged = tt
@@ -231,12 +281,16 @@ module _ (laws : Laws) (names : Named) (files : Files) (right : IsRightRun names
   agrees sound (status.Ports cause) fault = absurd (wrong sound (status.Ports cause) fault (λ same. cc))
   agrees sound (status.Journal line cause) fault = absurd (wrong sound (status.Journal line cause) fault (λ same. cc))
   agrees sound (status.Beats line cause) fault = absurd (wrong sound (status.Beats line cause) fault (λ same. cc))
-  agrees sound (status.Check verdict) judged = absurd (judged.1 (verdict_is laws names files right.judged.chain right.judged.capture right.judged.script right.judged.out right.judged.journal right.judged.report right.judged.checked right.judged.verdict_right verdict judged.0))
+  agrees sound (status.Check verdict) judged =
+      absurd (judged.1 (verdict_is laws names files right.judged.chain right.judged.capture right.judged.script
+      right.judged.out right.judged.journal right.judged.report right.judged.checked right.judged.verdict_right verdict
+      judged.0))
   agrees sound status.DeskFault judged = tt
   agrees sound status.NoMemory judged = tt
 
 -- a run whose texts are right ends done, or for want of memory, or by a fault of the desk
-module _ (laws : Laws) (names : Named) (mode : Mode) (files : Files) (chain : Chain) (capture : Capture) (script : ScriptShape) (schedule : List Event)
+module _ (laws : Laws) (names : Named) (mode : Mode) (files : Files) (chain : Chain) (capture : Capture)
+    (script : ScriptShape) (schedule : List Event)
     (texts : AreTexts names mode files chain capture script schedule) where
   text_of_chain : (text : List ℕ) → files names.chain ≡ Some text → chain_of text ≡ Ok chain
   text_of_chain text file =
@@ -254,37 +308,48 @@ module _ (laws : Laws) (names : Named) (mode : Mode) (files : Files) (chain : Ch
   the_capture : (other : Capture) → HasCapture names.capture files other → other ≡ capture
   the_capture other has = laws.one_capture has.text other capture has.right (text_of_capture has.text has.file)
 
-  text_of_script : (other : Chain) (taken : Capture) (text : List ℕ) → other ≡ chain → taken ≡ capture → files names.script ≡ Some text
+  text_of_script : (other : Chain) (taken : Capture) (text : List ℕ) → other ≡ chain → taken ≡ capture →
+      files names.script ≡ Some text
       → script_of (ring_of other) (length taken.packets) text ≡ Ok script
   text_of_script other taken text is also file =
       let has = texts.inputs.script_right in
       let same = some_once text has.text (sym file ∙ has.file) in
       rw (is, also, same) has.right
 
-  schedule_once : (sound : Type 0) (way : Mode) → HasSchedule way files schedule → (ending : Status) → (ending ≡ status.DeskFault → ⊥)
+  schedule_once : (sound : Type 0) (way : Mode) → HasSchedule way files schedule → (ending : Status) →
+      (ending ≡ status.DeskFault → ⊥)
       → IsScheduleRefused sound way files ending → ending ≡ status.NoMemory
   schedule_once sound plain has ending no-fault refused = absurd refused
   schedule_once sound (workers count) has ending no-fault refused = absurd refused
   schedule_once sound (alone name move) has ending no-fault refused =
       not_refused sound files name IsWrongSchedule ending
-      (λ text file. no_schedule text schedule (subst (λ (t : List ℕ). journal_of t ≡ Ok schedule) (some_once has.text text (sym has.file ∙ file)) has.right) ending)
+      (λ text file. no_schedule text schedule
+      (subst (λ (t : List ℕ). journal_of t
+      ≡ Ok schedule) (some_once has.text text (sym has.file ∙ file)) has.right) ending)
       no-fault refused
 
-  run_refused_once : (sound : Type 0) (ending : Status) → (ending ≡ status.DeskFault → ⊥) → IsRunRefused sound names mode files ending → ending ≡ status.NoMemory
+  run_refused_once : (sound : Type 0) (ending : Status) → (ending ≡ status.DeskFault → ⊥) →
+      IsRunRefused sound names mode files ending → ending ≡ status.NoMemory
   run_refused_once sound ending no-fault refused =
       elim refused [
-        | inl first ↦ not_refused sound files names.chain IsWrongChain ending (λ text file. no_chain text chain (text_of_chain text file) ending) no-fault first
+        | inl first ↦ not_refused sound files names.chain IsWrongChain ending
+            (λ text file. no_chain text chain (text_of_chain text file) ending) no-fault first
         | inr behind ↦ let (other, other_right, refused) = behind in elim refused [
-          | inl first ↦ not_refused sound files names.capture IsWrongCapture ending (λ text file. no_capture laws text capture (text_of_capture text file) ending) no-fault first
+          | inl first ↦ not_refused sound files names.capture IsWrongCapture ending
+              (λ text file. no_capture laws text capture (text_of_capture text file) ending) no-fault first
           | inr behind ↦ let (taken, taken_right, refused) = behind in elim refused [
-            | inl first ↦ not_refused sound files names.script (IsWrongScript (ring_of other) (length taken.packets)) ending
-                (λ text file. no_script (ring_of other) (length taken.packets) text script (text_of_script other taken text (one_chain other other_right) (the_capture taken taken_right) file) ending) no-fault first
+            | inl first ↦ not_refused sound files names.script
+                (IsWrongScript (ring_of other) (length taken.packets)) ending
+                (λ text file. no_script (ring_of other) (length taken.packets) text script
+                (text_of_script other taken text (one_chain other other_right)
+                (the_capture taken taken_right) file) ending) no-fault first
             | inr behind ↦ schedule_once sound mode texts.schedule_right ending no-fault behind.2
           ]
         ]
       ]
 
-  done_or_memory : (sound : Type 0) (new : Files) (ending : Status) → (ending ≡ status.DeskFault → ⊥) → IsRunRefused sound names mode files ending × SameFiles files new
+  done_or_memory : (sound : Type 0) (new : Files) (ending : Status) → (ending ≡ status.DeskFault → ⊥) →
+      IsRunRefused sound names mode files ending × SameFiles files new
       → (ending ≡ status.Done) ⊎ (ending ≡ status.NoMemory)
   done_or_memory sound new ending no-fault refused = inr (run_refused_once sound ending no-fault refused.0)
 
@@ -293,13 +358,21 @@ module _ (laws : Laws) (names : Named) (mode : Mode) (files : Files) (chain : Ch
       → (ending ≡ status.Done) ⊎ (ending ≡ status.NoMemory)
   completes sound taps left new status.Done ends no-fault = inl refl
   completes sound taps left new status.Usage ends no-fault = done_or_memory sound new status.Usage no-fault ends
-  completes sound taps left new (status.Chain line cause) ends no-fault = done_or_memory sound new (status.Chain line cause) no-fault ends
-  completes sound taps left new (status.Capture at cause) ends no-fault = done_or_memory sound new (status.Capture at cause) no-fault ends
-  completes sound taps left new (status.Script line cause) ends no-fault = done_or_memory sound new (status.Script line cause) no-fault ends
-  completes sound taps left new (status.Schedule line cause) ends no-fault = done_or_memory sound new (status.Schedule line cause) no-fault ends
-  completes sound taps left new (status.Ports cause) ends no-fault = done_or_memory sound new (status.Ports cause) no-fault ends
-  completes sound taps left new (status.Journal line cause) ends no-fault = done_or_memory sound new (status.Journal line cause) no-fault ends
-  completes sound taps left new (status.Beats line cause) ends no-fault = done_or_memory sound new (status.Beats line cause) no-fault ends
-  completes sound taps left new (status.Check verdict) ends no-fault = done_or_memory sound new (status.Check verdict) no-fault ends
+  completes sound taps left new (status.Chain line cause) ends no-fault =
+      done_or_memory sound new (status.Chain line cause) no-fault ends
+  completes sound taps left new (status.Capture at cause) ends no-fault =
+      done_or_memory sound new (status.Capture at cause) no-fault ends
+  completes sound taps left new (status.Script line cause) ends no-fault =
+      done_or_memory sound new (status.Script line cause) no-fault ends
+  completes sound taps left new (status.Schedule line cause) ends no-fault =
+      done_or_memory sound new (status.Schedule line cause) no-fault ends
+  completes sound taps left new (status.Ports cause) ends no-fault =
+      done_or_memory sound new (status.Ports cause) no-fault ends
+  completes sound taps left new (status.Journal line cause) ends no-fault =
+      done_or_memory sound new (status.Journal line cause) no-fault ends
+  completes sound taps left new (status.Beats line cause) ends no-fault =
+      done_or_memory sound new (status.Beats line cause) no-fault ends
+  completes sound taps left new (status.Check verdict) ends no-fault =
+      done_or_memory sound new (status.Check verdict) no-fault ends
   completes sound taps left new status.DeskFault ends no-fault = absurd (no-fault refl)
   completes sound taps left new status.NoMemory ends no-fault = inr refl

@@ -1,5 +1,6 @@
 -- OUT that was written in part is completed.
-use Rattle.std.proofs.Common.{◌≡◌, ◌∙◌, sym, ap, subst, ℕ, List, [], ◌∷◌, ◌++◌, length, take, drop, ◌-◌, Some, Option, append_assoc, append-nil}
+use Rattle.std.proofs.Common.{◌≡◌, ◌∙◌, sym, ap, subst, ℕ, List, [], ◌∷◌, ◌++◌, length, take, drop, ◌-◌, Some, Option}
+use Rattle.std.proofs.Common.{append_assoc, append-nil}
 use Rattle.std.specs.Prelude.{OnOk, Result, Ok, Err}
 use Rattle.std.specs.List.{flat_map}
 use Rattle.std.proofs.lemmas.Grind.{flat_map-append}
@@ -46,15 +47,18 @@ module _ (law : NonePassedOver) (capture : Capture) (put rest released : List Re
       now ≡ Some (out_bytes capture released)
   completed now first items empty same is =
       let record_of = released_record capture in
-      let put_is : records capture put ≡ flat_map record_of put = ap (λ (items : List Released). flat_map record_of items) put_whole in
-      let bytes : ((capture.header ++ records capture put) ++ first) ++ flat_map record_of items ≡ capture.header ++ flat_map record_of released =
+      let put_is : records capture put ≡ flat_map record_of put =
+      ap (λ (items : List Released). flat_map record_of items) put_whole in
+      let bytes : ((capture.header ++ records capture put) ++ first) ++ flat_map record_of items ≡ capture.header
+      ++ flat_map record_of released =
       ap (λ (piece : List ℕ). ((capture.header ++ records capture put) ++ piece) ++ flat_map record_of items) empty
       ∙ (ap (λ (front : List ℕ). front ++ flat_map record_of items) (append-nil (capture.header ++ records capture put))
       ∙ (ap (λ (others : List Released). (capture.header ++ records capture put) ++ flat_map record_of others) same
       ∙ (append_assoc capture.header (records capture put) (flat_map record_of rest)
       ∙ ap (λ (behind : List ℕ). capture.header ++ behind)
       (ap (λ (front : List ℕ). front ++ flat_map record_of rest) put_is
-      ∙ (sym (flat_map-append record_of put rest) ∙ ap (λ (items : List Released). flat_map record_of items) (sym parts)))))) in
+      ∙ (sym (flat_map-append record_of put rest) ∙ ap (λ (items : List Released). flat_map record_of items)
+      (sym parts)))))) in
       is ∙ ap (λ (b : List ℕ). Some b) bytes
 
   pub told_the_rest : (taps left : List Face) (items : List Released) → items ≡ rest → AreLeft items taps left →

@@ -1,5 +1,6 @@
 -- The names of a command are different.
-use Rattle.std.proofs.Common.{◌≡◌, ◌≢◌, ℕ, zero, suc, Bool, true, false, not, ◌&&◌, ◌||◌, List, [], ◌∷◌, refl, None, Some}
+use Rattle.std.proofs.Common.{◌≡◌, ◌≢◌, ℕ, zero, suc, Bool, true, false, not, ◌&&◌, ◌||◌, List, [], ◌∷◌, refl, None}
+use Rattle.std.proofs.Common.{Some}
 use Rattle.std.specs.Prelude.{slice_get}
 use Rattle.std.specs.List.{list_any}
 use Rattle.std.specs.Str.{bytes_eq}
@@ -24,20 +25,24 @@ second_neither true b is = cc
 second_neither false b is = is
 
 -- a word is not one of those behind it
-differs : (w v : List ℕ) (ws : List (List ℕ)) (place : ℕ) → not (list_any (bytes_eq w) ws) ≡ true → slice_get ws place ≡ Some v → w ≢ v
+differs : (w v : List ℕ) (ws : List (List ℕ)) (place : ℕ) → not (list_any (bytes_eq w) ws) ≡ true →
+    slice_get ws place ≡ Some v → w ≢ v
 differs w v [] place none there same = cc
 differs w v (u ∷ us) zero none there same =
     let here : u ≡ v = cc in
     neither (bytes_eq w u) (list_any (bytes_eq w) us) none ((bytes_eq-Decides w u).1 (rw here same))
-differs w v (u ∷ us) (suc place) none there same = differs w v us place (second_neither (bytes_eq w u) (list_any (bytes_eq w) us) none) there same
+differs w v (u ∷ us) (suc place) none there same =
+    differs w v us place (second_neither (bytes_eq w u) (list_any (bytes_eq w) us) none) there same
 
-first_differs : (w v : List ℕ) (ws : List (List ℕ)) (place : ℕ) → are_distinct (w ∷ ws) ≡ true → slice_get ws place ≡ Some v → w ≢ v
+first_differs : (w v : List ℕ) (ws : List (List ℕ)) (place : ℕ) → are_distinct (w ∷ ws) ≡ true →
+    slice_get ws place ≡ Some v → w ≢ v
 first_differs w v ws place distinct there = differs w v ws place (both_left _ (are_distinct ws) distinct) there
 
 rest_distinct : (w : List ℕ) (ws : List (List ℕ)) → are_distinct (w ∷ ws) ≡ true → are_distinct ws ≡ true
 rest_distinct w ws distinct = both_right (not (list_any (bytes_eq w) ws)) (are_distinct ws) distinct
 
-six_differ : (a b c d e f : List ℕ) → are_distinct (a ∷ b ∷ c ∷ d ∷ e ∷ f ∷ []) ≡ true → AreDifferent (record { chain = a; script = b; capture = c; out = d; journal = e; report = f })
+six_differ : (a b c d e f : List ℕ) → are_distinct (a ∷ b ∷ c ∷ d ∷ e ∷ f ∷ []) ≡ true →
+    AreDifferent (record { chain = a; script = b; capture = c; out = d; journal = e; report = f })
 six_differ a b c d e f distinct =
     let from_script = rest_distinct a (b ∷ c ∷ d ∷ e ∷ f ∷ []) distinct in
     let from_capture = rest_distinct b (c ∷ d ∷ e ∷ f ∷ []) from_script in
@@ -67,11 +72,13 @@ six_differ a b c d e f distinct =
     }
 
 names_differ : (names : Named) → are_distinct (six_of names) ≡ true → AreDifferent names
-names_differ names distinct = six_differ names.chain names.script names.capture names.out names.journal names.report distinct
+names_differ names distinct =
+    six_differ names.chain names.script names.capture names.out names.journal names.report distinct
 
 -- whatever the options of a run give
 pub run_differs : (names : Named) (mode : Mode) → are_distinct (files_of (run names mode)) ≡ true → AreDifferent names
 run_differs names plain distinct = names_differ names distinct
 run_differs names (workers count) distinct = names_differ names distinct
 run_differs names (alone schedule None) distinct = names_differ names (rest_distinct schedule (six_of names) distinct)
-run_differs names (alone schedule (Some moved)) distinct = names_differ names (rest_distinct moved.1 (six_of names) (rest_distinct schedule (moved.1 ∷ six_of names) distinct))
+run_differs names (alone schedule (Some moved)) distinct =
+    names_differ names (rest_distinct moved.1 (six_of names) (rest_distinct schedule (moved.1 ∷ six_of names) distinct))

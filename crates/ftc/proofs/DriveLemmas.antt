@@ -26,7 +26,8 @@ FinishesAreFinished = (setting : Setting) (journal whole : List Event) → IsFin
 -- a chain that was driven is finished, and so is one that was brought to its end
 pub driven_is_finished : DrivesAreRuns → (run : ChainRun) (schedule : List Event) →
     ∥ IsDrive (setting_in run) schedule run.journal ∥₁ → ∥ IsFinished (setting_in run) (chain_state run) ∥₁
-driven_is_finished law run schedule chosen = ∥∥₁_map chosen (λ drive. (law (setting_in run) schedule run.journal drive).1)
+driven_is_finished law run schedule chosen =
+    ∥∥₁_map chosen (λ drive. (law (setting_in run) schedule run.journal drive).1)
 
 pub ended_is_finished : FinishesAreFinished → (run : ChainRun) (journal : List Event) →
     ∥ IsFinish (setting_in run) journal run.journal ∥₁ → ∥ IsFinished (setting_in run) (chain_state run) ∥₁

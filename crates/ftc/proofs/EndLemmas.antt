@@ -1,5 +1,6 @@
 -- What the steps of a run leave is what it leaves at its end.
-use Rattle.std.proofs.Common.{◌≡◌, ◌≢◌, ◌∙◌, sym, refl, ℕ, Bool, true, false, if◌then◌else◌, List, Option, Some, inl, inr, ◌⊎◌, subst}
+use Rattle.std.proofs.Common.{◌≡◌, ◌≢◌, ◌∙◌, sym, refl, ℕ, Bool, true, false, if◌then◌else◌, List, Option, Some, inl}
+use Rattle.std.proofs.Common.{inr, ◌⊎◌, subst}
 use Rattle.std.specs.Prelude.{Ok}
 use Rattle.std.specs.Str.{bytes_eq}
 use Rattle.std.specs.List.{AllByRecursion}
@@ -39,7 +40,8 @@ use Rattle.ftc.specs.Texts.{AreTexts}
 use Rattle.ftc.specs.Driven.{IsFinishedRun, HasWritten, HasBegun}
 use Rattle.ftc.proofs.Moments.{EveryMoment, sound_throughout}
 use Rattle.ftc.specs.Checking.{IsRightRun}
-use Rattle.ftc.specs.Done.{IsDone, IsDoneBeside, IsChosen, WereTold, IsOutOpen, IsCut, IsCutShort, Ends, lines_of, report_bytes}
+use Rattle.ftc.specs.Done.{IsDone, IsDoneBeside, IsChosen, WereTold, IsOutOpen, IsCut, IsCutShort, Ends, lines_of}
+use Rattle.ftc.specs.Done.{report_bytes}
 
 -- ---- the files with one more
 
@@ -54,23 +56,27 @@ otherwise true one other not = absurd (not refl)
 otherwise false one other not = refl
 
 put_other : (at bytes : List ℕ) (files : Files) (name : List ℕ) → name ≢ at → put at bytes files name ≡ files name
-put_other at bytes files name not = otherwise (bytes_eq name at) (Some bytes) (files name) (λ same. not ((bytes_eq-Decides name at).0 same))
+put_other at bytes files name not =
+    otherwise (bytes_eq name at) (Some bytes) (files name) (λ same. not ((bytes_eq-Decides name at).0 same))
 
 -- the laws of the crates below
 pub record EndLaws : Type 0 where
-  pub printed : (events : List Event) → AllByRecursion (IsEvent version.Second) events → journal_of (spelling events) ≡ Ok events
+  pub printed : (events : List Event) → AllByRecursion (IsEvent version.Second) events →
+      journal_of (spelling events) ≡ Ok events
   pub right : WholeRunsAreRight
   pub moments : EveryMoment
   pub visited : RightRunsAreVisited
   pub settled : RightRunsAreSettled
   pub lost : (setting : Setting) (journal : List Event) (packet number : ℕ)
-      → (state_after setting (opening setting) journal).fate packet ≡ became.Lost number → IsLostAt setting journal number
+      → (state_after setting (opening setting) journal).fate packet ≡ became.Lost number →
+      IsLostAt setting journal number
 
 module _ (laws : EndLaws) (names : Named) (mode : Mode) (old : Files) (apart : AreDifferent names) (chain : Chain)
     (capture : Capture) (script : ScriptShape) (schedule journal : List Event) (end : State)
     (texts : AreTexts names mode old chain capture script schedule)
     (run : IsFinishedRun (setting_of chain (bytes_of_packets capture.packets) script) journal end)
-    (chosen : IsChosen mode chain capture script schedule journal) (lines : List (List ℕ)) (plain : AllByRecursion HasNoFeed lines) where
+    (chosen : IsChosen mode chain capture script schedule journal) (lines : List (List ℕ))
+    (plain : AllByRecursion HasNoFeed lines) where
   abbrev setting : Setting
   setting = setting_of chain (bytes_of_packets capture.packets) script
 
@@ -116,7 +122,11 @@ module _ (laws : EndLaws) (names : Named) (mode : Mode) (old : Files) (apart : A
             };
           };
           out_file = written.out_file;
-          journal_right = record { text = spelling journal; file = written.journal_file; right = laws.printed journal run.numbers };
+          journal_right = record {
+            text = spelling journal;
+            file = written.journal_file;
+            right = laws.printed journal run.numbers;
+          };
           report_file = written.report_file;
         };
         verdict_right = verdict;
@@ -155,17 +165,26 @@ module _ (laws : EndLaws) (names : Named) (mode : Mode) (old : Files) (apart : A
   all = put names.report report (put names.journal (spelling journal) (put names.out out old))
 
   all_out : all names.out ≡ Some out
-  all_out = put_other names.report report (put names.journal (spelling journal) (put names.out out old)) names.out apart.written.out_report ∙ (put_other names.journal (spelling journal) (put names.out out old) names.out apart.written.out_journal ∙ put_at names.out out old)
+  all_out = put_other names.report report
+      (put names.journal (spelling journal) (put names.out out old)) names.out apart.written.out_report ∙
+      (put_other names.journal (spelling journal)
+      (put names.out out old) names.out apart.written.out_journal ∙ put_at names.out out old)
 
   all_journal : all names.journal ≡ Some (spelling journal)
-  all_journal = put_other names.report report (put names.journal (spelling journal) (put names.out out old)) names.journal apart.written.journal_report ∙ put_at names.journal (spelling journal) (put names.out out old)
+  all_journal = put_other names.report report
+      (put names.journal (spelling journal)
+      (put names.out out old)) names.journal apart.written.journal_report ∙ put_at names.journal (spelling journal)
+      (put names.out out old)
 
   all_written : AreWritten names out (spelling journal) report old all
   all_written = record {
     out_file = all_out;
     journal_file = all_journal;
     report_file = put_at names.report report (put names.journal (spelling journal) (put names.out out old));
-    others = λ name other. put_other names.report report (put names.journal (spelling journal) (put names.out out old)) name other.1.1.0 ∙ (put_other names.journal (spelling journal) (put names.out out old) name other.1.0 ∙ put_other names.out out old name other.0);
+    others = λ name other. put_other names.report report
+        (put names.journal (spelling journal) (put names.out out old)) name other.1.1.0 ∙
+        (put_other names.journal (spelling journal)
+        (put names.out out old) name other.1.0 ∙ put_other names.out out old name other.0);
   }
 
   cut_short : (left : List Face) (new : Files) → AreCutShort names out (spelling journal) report old new →
@@ -231,7 +250,8 @@ module _ (laws : EndLaws) (names : Named) (mode : Mode) (old : Files) (apart : A
       IsDoneBeside names mode taps left old new
   unfolding ended_done done right
   ended_beside law has = record {
-    done = ended_done laws names mode old apart chain capture script schedule has.journal has.end texts has.run has.chosen
+    done = ended_done laws names mode old apart chain capture script schedule has.journal has.end texts has.run
+        has.chosen
         (lines_of left) has.plain mid new same has.written;
     told = ∥∥₁_map has.run.whole.run (λ legal. subst Told
         (law of has.run.right has.journal legal has.end has.run.whole.serial) has.told);

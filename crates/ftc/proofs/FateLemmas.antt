@@ -1,5 +1,6 @@
 -- What became of packets, by their places at the end of a serial run.
-use Rattle.std.proofs.Common.{◌≡◌, ◌∙◌, ◌+◌, ◌<◌, ◌==◌, ◌++◌, ℕ, zero, suc, Bool, true, false, List, [], ◌∷◌, length, map, Option, Some, None, refl, sym, ap, subst, arith}
+use Rattle.std.proofs.Common.{◌≡◌, ◌∙◌, ◌+◌, ◌<◌, ◌==◌, ◌++◌, ℕ, zero, suc, Bool, true, false, List, [], ◌∷◌, length}
+use Rattle.std.proofs.Common.{map, Option, Some, None, refl, sym, ap, subst, arith}
 use Rattle.std.proofs.Math.Logic.{∥∥₁_elim}
 use Rattle.std.proofs.lemmas.List.FromFn.{map-range_with_len_more}
 use Rattle.std.specs.Coded.{Coded-set, coded_list}
@@ -14,7 +15,8 @@ use Rattle.ftc_protocol.specs.Fates.{fates_in}
 use Rattle.ftc_protocol.specs.Run.{IsRun, state_after}
 use Rattle.ftc_protocol.specs.Setting.{Setting, IsSetting, count}
 use Rattle.ftc_protocol.specs.State.{opening}
-use Rattle.ftc_serial.specs.Serial.{State, Entry, Visited, Given, entry_of, after, position_after, serial_run, serial_opening}
+use Rattle.ftc_serial.specs.Serial.{State, Entry, Visited, Given, entry_of, after, position_after, serial_run}
+use Rattle.ftc_serial.specs.Serial.{serial_opening}
 use Rattle.ftc_serial.specs.Place.{place_of}
 use Rattle.ftc_serial.specs.Trace.{trace_of}
 use Rattle.ftc_serial.specs.Words.{with_at}
@@ -117,7 +119,8 @@ are_fates : Releases → Filters → (setting : Setting) (journal : List Event) 
     IsFinishedRun setting journal end → IsRun setting journal → AreFatesOf end.place (FateOf setting journal)
 are_fates releases filters setting journal end finished run = record {
   released = λ packet at. (releases setting finished.right journal run end finished.whole.serial packet).1 at;
-  filtered = λ server packet at. (filters setting finished.right journal run end finished.whole.serial server packet).1 at;
+  filtered = λ server packet at.
+      (filters setting finished.right journal run end finished.whole.serial server packet).1 at;
 }
 
 pub fates_are : Releases → Filters → (setting : Setting) (journal : List Event) (end : State) →

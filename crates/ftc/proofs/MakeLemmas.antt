@@ -21,7 +21,8 @@ use Rattle.ftc.proofs.Agreeing.{not_both}
 
 -- a name is not that of standard output
 pub made_apart : (name : List ℕ) → list_all is_name (name ∷ []) ≡ true → name ≢ codes "-"
-made_apart name named same = let all : list_all is_name (codes "-" ∷ []) ≡ true = rw same at named in let apart : false ≡ true = all in cc
+made_apart name named same = let all : list_all is_name (codes "-" ∷ []) ≡ true =
+    rw same at named in let apart : false ≡ true = all in cc
 
 -- ---- the chain's text is right
 
@@ -29,7 +30,12 @@ abbrev made_chain : Chain
 made_chain = record {
   failures = 1;
   partitions = 16;
-  rules = Nat (record { inside = record { base = 167772160; length = 8 }; outside = 3405803781; first = 20000; last = 59999 })
+  rules = Nat (record {
+    inside = record { base = 167772160; length = 8 };
+    outside = 3405803781;
+    first = 20000;
+    last = 59999;
+  })
       ∷ Firewall (record {
         lines = record {
           allow = true;
@@ -58,21 +64,24 @@ fault_told X F Why refusal told fault is = subst (λ (r : Refuse F). IfBad {A = 
 
 -- ---- its ends
 
-module _ (packets seed : ℕ) (name : List ℕ) (old new : Files) (bytes told : List ℕ) (making : AreMaking packets seed bytes told) where
+module _ (packets seed : ℕ) (name : List ℕ) (old new : Files) (bytes told : List ℕ)
+    (making : AreMaking packets seed bytes told) where
   pub make_done : AreMade name bytes told old new → IsMade packets seed name old new
   make_done made = record { bytes = bytes; told = told; making = making; made = made }
 
   short : AreMadeShort name bytes told old new → IsMadeShort packets seed name old new
   short made = record { bytes = bytes; told = told; making = making; made = made }
 
-  pub make_cut : (sound : Type 0) (error : DeskError) → (sound → error ≡ desk.Failed → ⊥) → AreMadeShort name bytes told old new
+  pub make_cut : (sound : Type 0) (error : DeskError) → (sound → error ≡ desk.Failed → ⊥) →
+      AreMadeShort name bytes told old new
       → MakeEnds sound packets seed name old new (desk_status error)
   make_cut sound desk.Failed safe made = (short made, λ s. safe s refl)
   make_cut sound desk.NoMemory safe made = inr (short made)
 
 -- it is done, but for want of memory or by a fault of the desk
 pub make_completes : (sound : Type 0) (packets seed : ℕ) (name : List ℕ) (old new : Files) (ending : Status)
-    → MakeEnds sound packets seed name old new ending → (ending ≡ status.DeskFault → ⊥) → (ending ≡ status.Done) ⊎ (ending ≡ status.NoMemory)
+    → MakeEnds sound packets seed name old new ending → (ending ≡ status.DeskFault → ⊥) →
+    (ending ≡ status.Done) ⊎ (ending ≡ status.NoMemory)
 make_completes sound packets seed name old new status.Done ends no-fault = inl refl
 make_completes sound packets seed name old new status.Usage ends no-fault = absurd ends
 make_completes sound packets seed name old new (status.Chain line cause) ends no-fault = absurd ends

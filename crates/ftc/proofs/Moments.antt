@@ -13,7 +13,9 @@ abbrev pub EveryMoment : Type 0
 EveryMoment = (setting : Setting) → IsSetting setting → (before after : List Event) → IsRun setting (before ++ after)
     → IsSound setting (state_after setting (opening setting) before)
 
-pub sound_throughout : EveryMoment → (setting : Setting) → IsSetting setting → (journal : List Event) → ∥ IsRun setting journal ∥₁
+pub sound_throughout : EveryMoment → (setting : Setting) → IsSetting setting → (journal : List Event) →
+    ∥ IsRun setting journal ∥₁
     → IsSoundThroughout setting journal
 sound_throughout law setting right journal run before after parts =
-    ∥∥₁_map run (λ legal. law setting right before after (subst (λ (events : List Event). IsRun setting events) parts legal))
+    ∥∥₁_map run (λ legal. law setting right before after
+    (subst (λ (events : List Event). IsRun setting events) parts legal))

@@ -11,7 +11,8 @@ use Rattle.ftc_mbox.specs.Chain.{Chain}
 use Rattle.ftc_script.specs.Script.{ScriptShape}
 use Rattle.ftc_journal.specs.declared.event.Event.{Event}
 use Rattle.ftc.specs.Texts.{ring_of, HasChain, HasCapture, HasScript, HasJournal, HasSchedule, AreInputs}
-use Rattle.ftc.specs.Refused.{IsTextRefused, IsWrongScript, IsWrongSchedule, IsWrongJournal, IsNeverWrong, IsScheduleRefused, IsRunRefused, IsCheckRefused}
+use Rattle.ftc.specs.Refused.{IsTextRefused, IsWrongScript, IsWrongSchedule, IsWrongJournal, IsNeverWrong}
+use Rattle.ftc.specs.Refused.{IsScheduleRefused, IsRunRefused, IsCheckRefused}
 use Rattle.ftc.specs.Checking.{Judges}
 use Rattle.ftc.specs.Done.{Ends}
 
@@ -20,7 +21,8 @@ schedule_isnt_done sound plain files refused = refused
 schedule_isnt_done sound (workers count) files refused = refused
 schedule_isnt_done sound (alone name move) files refused = refused.2
 
-run_isnt_done : (sound : Type 0) (names : Named) (mode : Mode) (files : Files) → IsRunRefused sound names mode files status.Done → ⊥
+run_isnt_done : (sound : Type 0) (names : Named) (mode : Mode) (files : Files) →
+    IsRunRefused sound names mode files status.Done → ⊥
 run_isnt_done sound names mode files refused = elim refused [
   | inl first ↦ first.2
   | inr behind ↦ elim behind.2 [
@@ -29,9 +31,11 @@ run_isnt_done sound names mode files refused = elim refused [
   ]
 ]
 
-pub ends_refused : (sound : Type 0) (names : Named) (mode : Mode) (taps left : List Face) (old new : Files) (ending : Status) →
+pub ends_refused : (sound : Type 0) (names : Named) (mode : Mode) (taps left : List Face) (old new : Files)
+    (ending : Status) →
     IsRunRefused sound names mode old ending → SameFiles old new → Ends sound names mode taps left old new ending
-ends_refused sound names mode taps left old new status.Done refused same = absurd (run_isnt_done sound names mode old refused)
+ends_refused sound names mode taps left old new status.Done refused same =
+    absurd (run_isnt_done sound names mode old refused)
 ends_refused sound names mode taps left old new status.Usage refused same = (refused, same)
 ends_refused sound names mode taps left old new (status.Chain line cause) refused same = (refused, same)
 ends_refused sound names mode taps left old new (status.Capture at cause) refused same = (refused, same)
@@ -52,12 +56,17 @@ check_isnt_done sound names files refused = elim refused [
     | inr behind ↦ elim behind.2 [
       | inl first ↦ first.2
       | inr behind ↦
-          elim behind.2 [ inl first ↦ first.2 | inr behind ↦ elim behind.2 [ inl first ↦ first.2 | inr behind ↦ behind.2.2 ] ]
+          elim behind.2 [
+            | inl first ↦ first.2
+            | inr behind ↦
+                elim behind.2 [ inl first ↦ first.2 | inr behind ↦ behind.2.2 ]
+          ]
     ]
   ]
 ]
 
-check_isnt_judged : (sound : Type 0) (names : Named) (files : Files) (verdict : Checked) → IsCheckRefused sound names files (status.Check verdict) → ⊥
+check_isnt_judged : (sound : Type 0) (names : Named) (files : Files) (verdict : Checked) →
+    IsCheckRefused sound names files (status.Check verdict) → ⊥
 check_isnt_judged sound names files verdict refused = elim refused [
   | inl first ↦ first.2
   | inr behind ↦ elim behind.2 [
@@ -65,12 +74,17 @@ check_isnt_judged sound names files verdict refused = elim refused [
     | inr behind ↦ elim behind.2 [
       | inl first ↦ first.2
       | inr behind ↦
-          elim behind.2 [ inl first ↦ first.2 | inr behind ↦ elim behind.2 [ inl first ↦ first.2 | inr behind ↦ behind.2.2 ] ]
+          elim behind.2 [
+            | inl first ↦ first.2
+            | inr behind ↦
+                elim behind.2 [ inl first ↦ first.2 | inr behind ↦ behind.2.2 ]
+          ]
     ]
   ]
 ]
 
-pub judges_refused : (sound : Type 0) (names : Named) (files : Files) (ending : Status) → IsCheckRefused sound names files ending → Judges sound names files ending
+pub judges_refused : (sound : Type 0) (names : Named) (files : Files) (ending : Status) →
+    IsCheckRefused sound names files ending → Judges sound names files ending
 judges_refused sound names files status.Done refused = absurd (check_isnt_done sound names files refused)
 judges_refused sound names files status.Usage refused = refused
 judges_refused sound names files (status.Chain line cause) refused = refused
@@ -80,77 +94,123 @@ judges_refused sound names files (status.Schedule line cause) refused = refused
 judges_refused sound names files (status.Ports cause) refused = refused
 judges_refused sound names files (status.Journal line cause) refused = refused
 judges_refused sound names files (status.Beats line cause) refused = refused
-judges_refused sound names files (status.Check verdict) refused = absurd (check_isnt_judged sound names files verdict refused)
+judges_refused sound names files (status.Check verdict) refused =
+    absurd (check_isnt_judged sound names files verdict refused)
 judges_refused sound names files status.DeskFault refused = refused
 judges_refused sound names files status.NoMemory refused = tt
 
 -- ---- what was said of the files as they are now, of the files as they were
 
-pub refused_before : (sound now-sound : Type 0) (old new : Files) (name : List ℕ) (IsWrong : List ℕ → Status → Type 0) (ending : Status) → (sound → now-sound) → SameFiles old new
+pub refused_before : (sound now-sound : Type 0) (old new : Files) (name : List ℕ) (IsWrong : List ℕ → Status →
+    Type 0) (ending : Status) → (sound → now-sound) → SameFiles old new
     → IsTextRefused now-sound new name IsWrong ending → IsTextRefused sound old name IsWrong ending
-refused_before sound now-sound old new name IsWrong status.Done stays same refused = (refused.0, sym (same name) ∙ refused.1, refused.2)
-refused_before sound now-sound old new name IsWrong status.Usage stays same refused = (refused.0, sym (same name) ∙ refused.1, refused.2)
-refused_before sound now-sound old new name IsWrong (status.Chain line cause) stays same refused = (refused.0, sym (same name) ∙ refused.1, refused.2)
-refused_before sound now-sound old new name IsWrong (status.Capture at cause) stays same refused = (refused.0, sym (same name) ∙ refused.1, refused.2)
-refused_before sound now-sound old new name IsWrong (status.Script line cause) stays same refused = (refused.0, sym (same name) ∙ refused.1, refused.2)
-refused_before sound now-sound old new name IsWrong (status.Schedule line cause) stays same refused = (refused.0, sym (same name) ∙ refused.1, refused.2)
-refused_before sound now-sound old new name IsWrong (status.Ports cause) stays same refused = (refused.0, sym (same name) ∙ refused.1, refused.2)
-refused_before sound now-sound old new name IsWrong (status.Journal line cause) stays same refused = (refused.0, sym (same name) ∙ refused.1, refused.2)
-refused_before sound now-sound old new name IsWrong (status.Beats line cause) stays same refused = (refused.0, sym (same name) ∙ refused.1, refused.2)
-refused_before sound now-sound old new name IsWrong (status.Check verdict) stays same refused = (refused.0, sym (same name) ∙ refused.1, refused.2)
-refused_before sound now-sound old new name IsWrong status.DeskFault stays same refused = λ s. sym (same name) ∙ refused (stays s)
+refused_before sound now-sound old new name IsWrong status.Done stays same refused =
+    (refused.0, sym (same name) ∙ refused.1, refused.2)
+refused_before sound now-sound old new name IsWrong status.Usage stays same refused =
+    (refused.0, sym (same name) ∙ refused.1, refused.2)
+refused_before sound now-sound old new name IsWrong (status.Chain line cause) stays same refused =
+    (refused.0, sym (same name) ∙ refused.1, refused.2)
+refused_before sound now-sound old new name IsWrong (status.Capture at cause) stays same refused =
+    (refused.0, sym (same name) ∙ refused.1, refused.2)
+refused_before sound now-sound old new name IsWrong (status.Script line cause) stays same refused =
+    (refused.0, sym (same name) ∙ refused.1, refused.2)
+refused_before sound now-sound old new name IsWrong (status.Schedule line cause) stays same refused =
+    (refused.0, sym (same name) ∙ refused.1, refused.2)
+refused_before sound now-sound old new name IsWrong (status.Ports cause) stays same refused =
+    (refused.0, sym (same name) ∙ refused.1, refused.2)
+refused_before sound now-sound old new name IsWrong (status.Journal line cause) stays same refused =
+    (refused.0, sym (same name) ∙ refused.1, refused.2)
+refused_before sound now-sound old new name IsWrong (status.Beats line cause) stays same refused =
+    (refused.0, sym (same name) ∙ refused.1, refused.2)
+refused_before sound now-sound old new name IsWrong (status.Check verdict) stays same refused =
+    (refused.0, sym (same name) ∙ refused.1, refused.2)
+refused_before sound now-sound old new name IsWrong status.DeskFault stays same refused =
+    λ s. sym (same name) ∙ refused (stays s)
 refused_before sound now-sound old new name IsWrong status.NoMemory stays same refused = tt
 
-pub capture_before : (name : List ℕ) (old new : Files) (capture : Capture) → SameFiles old new → HasCapture name new capture → HasCapture name old capture
-capture_before name old new capture same has = record { text = has.text; file = sym (same name) ∙ has.file; right = has.right }
+pub capture_before : (name : List ℕ) (old new : Files) (capture : Capture) → SameFiles old new →
+    HasCapture name new capture → HasCapture name old capture
+capture_before name old new capture same has =
+    record { text = has.text; file = sym (same name) ∙ has.file; right = has.right }
 
-pub script_before : (name : List ℕ) (old new : Files) (chain : Chain) (packets : ℕ) (script : ScriptShape) → SameFiles old new → HasScript name new chain packets script → HasScript name old chain packets script
-script_before name old new chain packets script same has = record { text = has.text; file = sym (same name) ∙ has.file; right = has.right }
+pub script_before : (name : List ℕ) (old new : Files) (chain : Chain) (packets : ℕ) (script : ScriptShape) →
+    SameFiles old new → HasScript name new chain packets script → HasScript name old chain packets script
+script_before name old new chain packets script same has =
+    record { text = has.text; file = sym (same name) ∙ has.file; right = has.right }
 
-pub journal_before : (name : List ℕ) (old new : Files) (journal : List Event) → SameFiles old new → HasJournal name new journal → HasJournal name old journal
-journal_before name old new journal same has = record { text = has.text; file = sym (same name) ∙ has.file; right = has.right }
+pub journal_before : (name : List ℕ) (old new : Files) (journal : List Event) → SameFiles old new →
+    HasJournal name new journal → HasJournal name old journal
+journal_before name old new journal same has =
+    record { text = has.text; file = sym (same name) ∙ has.file; right = has.right }
 
 -- ---- a text behind those that are right
 
-pub script_refused : (sound : Type 0) (names : Named) (mode : Mode) (files : Files) (chain : Chain) (capture : Capture) (ending : Status)
+pub script_refused : (sound : Type 0) (names : Named) (mode : Mode) (files : Files) (chain : Chain) (capture : Capture)
+    (ending : Status)
     → HasChain names.chain files chain → HasCapture names.capture files capture
     → IsTextRefused sound files names.script (IsWrongScript (ring_of chain) (length capture.packets)) ending
     → IsRunRefused sound names mode files ending
 script_refused sound names mode files chain capture ending chain_right capture_right refused =
     inr (chain, chain_right, inr (capture, capture_right, inl refused))
 
-pub schedule_refused : (sound : Type 0) (names : Named) (mode : Mode) (files : Files) (chain : Chain) (capture : Capture) (script : ScriptShape) (ending : Status)
-    → AreInputs names files chain capture script → IsScheduleRefused sound mode files ending → IsRunRefused sound names mode files ending
+pub schedule_refused : (sound : Type 0) (names : Named) (mode : Mode) (files : Files) (chain : Chain)
+    (capture : Capture) (script : ScriptShape) (ending : Status)
+    → AreInputs names files chain capture script → IsScheduleRefused sound mode files ending →
+    IsRunRefused sound names mode files ending
 schedule_refused sound names mode files chain capture script ending inputs refused =
     inr (chain, inputs.chain_right, inr (capture, inputs.capture_right, inr (script, inputs.script_right, refused)))
 
 -- what was said of the schedule as it is now, of the schedule as it was
-pub schedule_refused_before : (sound now-sound : Type 0) (mode : Mode) (old new : Files) (ending : Status) → (sound → now-sound) → SameFiles old new
+pub schedule_refused_before : (sound now-sound : Type 0) (mode : Mode) (old new : Files) (ending : Status) →
+    (sound → now-sound) → SameFiles old new
     → IsScheduleRefused now-sound mode new ending → IsScheduleRefused sound mode old ending
 schedule_refused_before sound now-sound plain old new ending stays same refused = refused
 schedule_refused_before sound now-sound (workers count) old new ending stays same refused = refused
 schedule_refused_before sound now-sound (alone name move) old new ending stays same refused =
     refused_before sound now-sound old new name IsWrongSchedule ending stays same refused
 
-pub schedule_before : (mode : Mode) (old new : Files) (schedule : List Event) → SameFiles old new → HasSchedule mode new schedule → HasSchedule mode old schedule
+pub schedule_before : (mode : Mode) (old new : Files) (schedule : List Event) → SameFiles old new →
+    HasSchedule mode new schedule → HasSchedule mode old schedule
 schedule_before plain old new schedule same has = has
 schedule_before (workers count) old new schedule same has = has
 schedule_before (alone name move) old new schedule same has = journal_before name old new schedule same has
 
-pub whole_script_refused : (sound : Type 0) (names : Named) (files : Files) (chain : Chain) (capture : Capture) (ending : Status) → HasChain names.chain files chain → HasCapture names.capture files capture
-    → IsTextRefused sound files names.script (IsWrongScript (ring_of chain) (length capture.packets)) ending → IsCheckRefused sound names files ending
-whole_script_refused sound names files chain capture ending chain_right capture_right refused = inr (chain, chain_right, inr (capture, capture_right, inl refused))
+pub whole_script_refused : (sound : Type 0) (names : Named) (files : Files) (chain : Chain) (capture : Capture)
+    (ending : Status) → HasChain names.chain files chain → HasCapture names.capture files capture
+    → IsTextRefused sound files names.script (IsWrongScript (ring_of chain) (length capture.packets)) ending →
+    IsCheckRefused sound names files ending
+whole_script_refused sound names files chain capture ending chain_right capture_right refused =
+    inr (chain, chain_right, inr (capture, capture_right, inl refused))
 
-pub out_refused : (sound : Type 0) (names : Named) (files : Files) (chain : Chain) (capture : Capture) (script : ScriptShape) (ending : Status) → AreInputs names files chain capture script
+pub out_refused : (sound : Type 0) (names : Named) (files : Files) (chain : Chain) (capture : Capture)
+    (script : ScriptShape) (ending : Status) → AreInputs names files chain capture script
     → IsTextRefused sound files names.out IsNeverWrong ending → IsCheckRefused sound names files ending
-out_refused sound names files chain capture script ending inputs refused = inr (chain, inputs.chain_right, inr (capture, inputs.capture_right, inr (script, inputs.script_right, inl refused)))
+out_refused sound names files chain capture script ending inputs refused =
+    inr (chain, inputs.chain_right, inr (capture, inputs.capture_right, inr (script, inputs.script_right, inl refused)))
 
-pub journal_refused : (sound : Type 0) (names : Named) (files : Files) (chain : Chain) (capture : Capture) (script : ScriptShape) (out : List ℕ) (ending : Status) → AreInputs names files chain capture script
-    → files names.out ≡ Some out → IsTextRefused sound files names.journal IsWrongJournal ending → IsCheckRefused sound names files ending
+pub journal_refused : (sound : Type 0) (names : Named) (files : Files) (chain : Chain) (capture : Capture)
+    (script : ScriptShape) (out : List ℕ) (ending : Status) → AreInputs names files chain capture script
+    → files names.out ≡ Some out → IsTextRefused sound files names.journal IsWrongJournal ending →
+    IsCheckRefused sound names files ending
 journal_refused sound names files chain capture script out ending inputs out_file refused =
-    inr (chain, inputs.chain_right, inr (capture, inputs.capture_right, inr (script, inputs.script_right, inr (out, out_file, inl refused))))
+    inr (
+      chain,
+      inputs.chain_right,
+      inr (capture, inputs.capture_right, inr (script, inputs.script_right, inr (out, out_file, inl refused))),
+    )
 
-pub report_refused : (sound : Type 0) (names : Named) (files : Files) (chain : Chain) (capture : Capture) (script : ScriptShape) (out : List ℕ) (journal : List Event) (ending : Status) → AreInputs names files chain capture script
-    → files names.out ≡ Some out → HasJournal names.journal files journal → IsTextRefused sound files names.report IsNeverWrong ending → IsCheckRefused sound names files ending
+pub report_refused : (sound : Type 0) (names : Named) (files : Files) (chain : Chain) (capture : Capture)
+    (script : ScriptShape) (out : List ℕ) (journal : List Event) (ending : Status) →
+    AreInputs names files chain capture script
+    → files names.out ≡ Some out → HasJournal names.journal files journal →
+    IsTextRefused sound files names.report IsNeverWrong ending → IsCheckRefused sound names files ending
 report_refused sound names files chain capture script out journal ending inputs out_file journal_right refused =
-    inr (chain, inputs.chain_right, inr (capture, inputs.capture_right, inr (script, inputs.script_right, inr (out, out_file, inr (journal, journal_right, refused)))))
+    inr (
+      chain,
+      inputs.chain_right,
+      inr (
+        capture,
+        inputs.capture_right,
+        inr (script, inputs.script_right, inr (out, out_file, inr (journal, journal_right, refused))),
+      ),
+    )

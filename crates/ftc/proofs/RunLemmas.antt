@@ -1,5 +1,6 @@
 -- What a run wrote, from what its steps did.
-use Rattle.std.proofs.Common.{◌≡◌, ◌∙◌, ◌⊎◌, inl, inr, sym, ap, subst, ℕ, List, [], ◌∷◌, ◌++◌, Option, Some, None, append-nil}
+use Rattle.std.proofs.Common.{◌≡◌, ◌∙◌, ◌⊎◌, inl, inr, sym, ap, subst, ℕ, List, [], ◌∷◌, ◌++◌, Option, Some, None}
+use Rattle.std.proofs.Common.{append-nil}
 use Rattle.std.specs.Prelude.{OnOk, OnErr, Result, Ok, Err, unwrap_or}
 use Rattle.std.specs.List.{AllByRecursion}
 use Rattle.ftc_base.specs.declared.released.Released.{Released}
@@ -56,7 +57,8 @@ elsewhere at old new others name not = others name not.0
 -- the records are those that the run released
 module _ (names : Named) (apart : AreApart names) (chain : Chain) (capture : Capture) (script : ScriptShape)
     (MayBe : List Event → Type 0) (journal : List Event) (end : State)
-    (run : IsFinishedRun (setting_of chain (bytes_of_packets capture.packets) script) journal end) (chosen : MayBe journal)
+    (run : IsFinishedRun (setting_of chain (bytes_of_packets capture.packets) script) journal end)
+    (chosen : MayBe journal)
     (records : List Released) (records_are : records ≡ end.released) (left : List Face) (old : Files) where
   abbrev setting : Setting
   setting = setting_of chain (bytes_of_packets capture.packets) script
@@ -71,7 +73,8 @@ module _ (names : Named) (apart : AreApart names) (chain : Chain) (capture : Cap
     chosen = chosen;
     cut = out_cut names apart (out_bytes capture end.released) (spelling journal) (report_of setting journal)
         (lines_of left) old new
-        (subst (λ (items : List Released). MayHold (old names.out) (new names.out) (out_bytes capture items)) records_are
+        (subst (λ (items : List Released). MayHold (old names.out) (new names.out)
+        (out_bytes capture items)) records_are
         held) others;
   }
 

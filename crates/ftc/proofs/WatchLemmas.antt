@@ -1,5 +1,6 @@
 -- How a watch over heartbeats ends.
-use Rattle.std.proofs.Common.{◌≡◌, ◌≢◌, ◌∙◌, ◌⊎◌, inl, inr, refl, sym, subst, ap, ap₂, ℕ, Bool, true, false, ◌&&◌, List, [], ◌∷◌, ◌++◌, append-nil, take, length, Option, Some, Result, Ok, Err, codes}
+use Rattle.std.proofs.Common.{◌≡◌, ◌≢◌, ◌∙◌, ◌⊎◌, inl, inr, refl, sym, subst, ap, ap₂, ℕ, Bool, true, false, ◌&&◌, List}
+use Rattle.std.proofs.Common.{[], ◌∷◌, ◌++◌, append-nil, take, length, Option, Some, Result, Ok, Err, codes}
 use Rattle.std.specs.Prelude.{unwrap_or}
 use Rattle.std.specs.List.{list_all}
 use Rattle.ftc_outside.specs.Desk.{Files, SameFiles, SameButAt, GrewAt, MayHaveGrownAt}
@@ -25,7 +26,8 @@ use Rattle.ftc.specs.declared.status.Status.TheVariants as status
 use Rattle.ftc.specs.Status.{desk_status}
 use Rattle.ftc.specs.Texts.{ring_of, HasChain, HasCapture}
 use Rattle.ftc.specs.Refused.{IsTextRefused, IsWrongChain, IsWrongCapture}
-use Rattle.ftc.specs.Watching.{WatchNamed, standard_output, HasBeats, AreBeats, IsWrongBeats, IsWatchRefused, AreMade, AreMadeShort, watching, script_made, script_read, IsWatched, IsWatchedShort, WatchEnds}
+use Rattle.ftc.specs.Watching.{WatchNamed, standard_output, HasBeats, AreBeats, IsWrongBeats, IsWatchRefused, AreMade}
+use Rattle.ftc.specs.Watching.{AreMadeShort, watching, script_made, script_read, IsWatched, IsWatchedShort, WatchEnds}
 use Rattle.ftc.proofs.Agreeing.{Laws, not_refused, not_both, ok_once, some_once, no_chain, no_capture}
 
 last_named : (a b : Bool) → (a && b) ≡ true → b ≡ true
@@ -65,7 +67,8 @@ beats_refused sound names files chain capture ending chain_right capture_right r
 )
 
 isnt_done : (sound : Type 0) (names : WatchNamed) (files : Files) → IsWatchRefused sound names files status.Done → ⊥
-isnt_done sound names files refused = elim refused [ inl first ↦ first.2 | inr behind ↦ elim behind.2 [ inl first ↦ first.2 | inr behind ↦ behind.2.2 ] ]
+isnt_done sound names files refused =
+    elim refused [ inl first ↦ first.2 | inr behind ↦ elim behind.2 [ inl first ↦ first.2 | inr behind ↦ behind.2.2 ] ]
 
 pub watch_refused : (sound : Type 0) (limit : ℕ) (names : WatchNamed) (old new : Files) (ending : Status)
     → IsWatchRefused sound names old ending → SameFiles old new → WatchEnds sound limit names old new ending
@@ -90,7 +93,11 @@ module _ (name made told : List ℕ) (old between new : Files) (same : SameFiles
 
   -- what was written, of the files as they were when the texts were read
   made_from : AreMade name made told between new → AreMade name made told old new
-  made_from are = record { file = are.file; output = grown told are.output; others = λ other none. are.others other none ∙ same other }
+  made_from are = record {
+    file = are.file;
+    output = grown told are.output;
+    others = λ other none. are.others other none ∙ same other;
+  }
 
   short_from : AreMadeShort name made told between new → AreMadeShort name made told old new
   short_from are = record {
@@ -149,7 +156,8 @@ made_begun name made told apart old new held others = record {
 }
 
 pub made_none : (name made told : List ℕ) (files : Files) → AreMadeShort name made told files files
-made_none name made told files = record { file = inl refl; output = inl refl; order = inl refl; others = λ other none. refl }
+made_none name made told files =
+    record { file = inl refl; output = inl refl; order = inl refl; others = λ other none. refl }
 
 -- what is told of a watch
 pub same_summary : (watched : Watching) (fenced refused : ℕ) (held : List ℕ) → fenced ≡ crashes_in watched.script

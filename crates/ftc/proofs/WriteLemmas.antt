@@ -35,7 +35,8 @@ module _ (names : Named) (apart : AreApart names) (journal : List ℕ) (report :
 
   pub journal_alone : (new : Files) → new names.journal ≡ Some journal → SameButAt names.journal old new →
       AreTextsCut names journal report left old new
-  journal_alone new is others = journal_cut new (whole_is_front (old names.journal) (new names.journal) journal is) others
+  journal_alone new is others =
+      journal_cut new (whole_is_front (old names.journal) (new names.journal) journal is) others
 
   module _ (mid new : Files) (there : mid names.journal ≡ Some journal) (before : SameButAt names.journal old mid)
       (behind : SameButAt names.report mid new) where
@@ -74,7 +75,8 @@ module _ (names : Named) (apart : AreApart names) (out journal : List ℕ) (repo
   pub out_cut : (new : Files) → MayHold (old names.out) (new names.out) out → SameButAt names.out old new →
       AreCutBeside names out journal report left old new
   out_cut new held others =
-      let journal_is : new names.journal ≡ old names.journal = others names.journal (λ same. apart.out_journal (sym same)) in
+      let journal_is : new names.journal ≡ old names.journal =
+      others names.journal (λ same. apart.out_journal (sym same)) in
       let report_is : new names.report ≡ old names.report = others names.report (λ same. apart.out_report (sym same)) in
       record {
         lines = [];

@@ -45,7 +45,8 @@ pub record IsJudged (names : Named) (files : Files) (verdict : Checked) : Type 0
   pub journal : List Event
   pub report : List ℕ
   pub checked : AreChecked names files chain capture script out journal report
-  pub verdict_right : IsVerdict (setting_of chain (bytes_of_packets capture.packets) script) capture out journal report verdict
+  pub verdict_right : IsVerdict
+      (setting_of chain (bytes_of_packets capture.packets) script) capture out journal report verdict
 
 -- After each front of the journal the serial run of the visits that stand exists and released what was released, the
 -- first live member of each group has that run's content, and all visits of a released packet stand.
@@ -59,7 +60,8 @@ IsSoundThroughout setting journal =
 -- lost; and one that is lost went away by the event of its fate's number, which could lose something where it stands.
 pub record IsRightRun (names : Named) (files : Files) : Type 0 where
   pub judged : IsJudged names files Yes
-  pub sound : IsSoundThroughout (setting_of judged.chain (bytes_of_packets judged.capture.packets) judged.script) judged.journal
+  pub sound : IsSoundThroughout
+      (setting_of judged.chain (bytes_of_packets judged.capture.packets) judged.script) judged.journal
   pub visited : ∥ ReleasedVisited (length judged.chain.rules) judged.journal ∥₁
   pub settled : (packet : ℕ) → packet < length judged.capture.packets →
       (state_after_journal judged.chain judged.capture judged.script judged.journal).fate packet ≢ became.Inside

@@ -73,7 +73,8 @@ WereTold other taps left records = AreToldAtLast taps left records
 -- It is done, its report has the lines of the taps that are left, and these were told.
 pub record IsDoneBeside (names : Named) (mode : Mode) (taps left : List Face) (old new : Files) : Type 0 where
   pub done : IsDone names mode (lines_of left) old new
-  pub told : ∥ WereTold mode taps left (released_in (state_after_journal done.right.judged.chain done.right.judged.capture
+  pub told : ∥ WereTold mode taps left
+      (released_in (state_after_journal done.right.judged.chain done.right.judged.capture
       done.right.judged.script done.right.judged.journal).trace) ∥₁
 
 -- The file is as it was, or has some front of what it would have.

@@ -37,7 +37,8 @@ IsAnswer other ending = Unit {0}
 -- no file
 abbrev pub HasEnded : Type 0 → Option Command → List Face → List Face → Files → Files → Status → Type 0
 HasEnded sound (Some (run names mode)) taps left old new ending = Ends sound names mode taps left old new ending
-HasEnded sound (Some (make packets seed capture)) taps left old new ending = MakeEnds sound packets seed capture old new ending
+HasEnded sound (Some (make packets seed capture)) taps left old new ending =
+    MakeEnds sound packets seed capture old new ending
 HasEnded sound (Some (check names)) taps left old new ending = Judges sound names old ending × SameFiles old new
 HasEnded sound (Some (ports chain capture journal server)) taps left old new ending = PortsEnd sound
     (port_names chain capture journal) server old new ending

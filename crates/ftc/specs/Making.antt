@@ -23,7 +23,8 @@ use Rattle.ftc.specs.Watching.{AreMade, AreMadeShort}
 
 -- the chain that a made capture runs through
 abbrev pub made_text : List ℕ
-made_text = codes "f 1\npartitions 16\nnat inside 10.0.0.0/8 outside 203.0.113.5 ports 20000-59999\nfirewall\nallow udp any 198.51.100.10/32 80\nbalance 198.51.100.10:80 to 192.0.2.1,192.0.2.2\nmonitor 16\n"
+made_text = codes
+    "f 1\npartitions 16\nnat inside 10.0.0.0/8 outside 203.0.113.5 ports 20000-59999\nfirewall\nallow udp any 198.51.100.10/32 80\nbalance 198.51.100.10:80 to 192.0.2.1,192.0.2.2\nmonitor 16\n"
 
 -- no server crashes, and no message is lost
 abbrev pub empty_script : Chain → ℕ → ScriptShape

@@ -52,7 +52,8 @@ pub fn complete<D: Desk>(
     released: &ReleasedList,
 ) -> Result<(), DeskError>
     requires { AreWritable capture.now.packets released.now }
-    ensures written { D.tells desk.old → D.file desk.old name.now ≡ Some (capture.now.header ++ records capture.now put.now) →
+    ensures written { D.tells desk.old →
+        D.file desk.old name.now ≡ Some (capture.now.header ++ records capture.now put.now) →
         OnOk result (D.file desk.new name.now ≡ Some (out_bytes capture.now released.now)) }
     ensures told { OnOk result (AreToldBehind (writable capture.now put.now) released.now
         (⟦<Taps as Seen>⟧.faces taps.old) (⟦<Taps as Seen>⟧.faces taps.new)) }

@@ -42,7 +42,8 @@ pub fn close<'a>(alloc: Global, texts: &Texts, chain: Chain<'a>) -> Result<Drive
     ensures finished { IfOk result (λ driven. IsFinishedRun
         (setting_of texts.now.spec (bytes_of_packets texts.now.capture.packets) texts.now.script)
         driven.chain.journal (serial_state driven.serial)) }
-    ensures writable { IfOk result (λ driven. AreWritable texts.now.capture.packets (serial_state driven.serial).released) }
+    ensures writable { IfOk result
+        (λ driven. AreWritable texts.now.capture.packets (serial_state driven.serial).released) }
     ensures rules { IfOk result (λ driven. rules_of driven.serial ≡ texts.now.spec.rules) }
 {
     // The chain is in its bounds and the script was accepted, so that the laws speak of the run.
@@ -69,7 +70,8 @@ pub fn drive<'a>(alloc: Global, texts: &'a Texts) -> Result<Driven<'a>, NoMemory
     ensures chosen { IfOk result (λ driven. ∥ IsDrive
         (setting_of texts.now.spec (bytes_of_packets texts.now.capture.packets) texts.now.script)
         texts.now.schedule.items driven.chain.journal ∥₁) }
-    ensures writable { IfOk result (λ driven. AreWritable texts.now.capture.packets (serial_state driven.serial).released) }
+    ensures writable { IfOk result
+        (λ driven. AreWritable texts.now.capture.packets (serial_state driven.serial).released) }
     ensures rules { IfOk result (λ driven. rules_of driven.serial ≡ texts.now.spec.rules) }
 {
     drives();

@@ -2,7 +2,9 @@
 
 ghost use Rattle.std.specs.Prelude.{◌≡◌, IfOk, string_bytes};
 ghost use Rattle.ftc.specs.declared.status.Status.TheVariants as status;
-ghost use Rattle.ftc.specs.Status.{chain_number, capture_number, journal_number, beats_number, code_of, fault_line, verdict_line, ports_line, line_of, desk_status, chain_status, capture_status, script_status, journal_status, schedule_status, ports_status, beats_status};
+ghost use Rattle.ftc.specs.Status.{chain_number, capture_number, journal_number, beats_number, code_of, fault_line};
+ghost use Rattle.ftc.specs.Status.{verdict_line, ports_line, line_of, desk_status, chain_status, capture_status};
+ghost use Rattle.ftc.specs.Status.{script_status, journal_status, schedule_status, ports_status, beats_status};
 
 use ftc_audit::PortsCause;
 use ftc_base::{Bytes, NoMemory, Refuse};

@@ -7,7 +7,8 @@ ghost use Rattle.ftc_script.specs.Script.{IsScript};
 ghost use Rattle.ftc.specs.Answers.{IsInputAnswer, IsScriptAnswer, IsRunAnswer};
 ghost use Rattle.ftc_words.specs.Shown.{named_of, shown_mode};
 ghost use Rattle.ftc.specs.Texts.{ring_of, HasChain, HasCapture, HasScript, HasSchedule, AreTexts};
-ghost use Rattle.ftc.specs.Refused.{IsTextRefused, IsWrongChain, IsWrongCapture, IsWrongScript, IsScheduleRefused, IsRunRefused};
+ghost use Rattle.ftc.specs.Refused.{IsTextRefused, IsWrongChain, IsWrongCapture, IsWrongScript, IsScheduleRefused};
+ghost use Rattle.ftc.specs.Refused.{IsRunRefused};
 
 use crate::status::{Status, schedule_status};
 use ftc_conf::read_chain;

@@ -5,7 +5,8 @@ ghost use Rattle.ftc_outside.specs.Desk.{SameFiles, HasServed};
 ghost use Rattle.ftc_watch.specs.Lines.{summary};
 ghost use Rattle.ftc.specs.Answers.{IsWatchAnswer};
 ghost use Rattle.ftc.specs.Refused.{IsTextRefused};
-ghost use Rattle.ftc.specs.Watching.{watched_by, HasBeats, AreBeats, IsWrongBeats, IsWatchRefused, AreMade, AreMadeShort, WatchEnds};
+ghost use Rattle.ftc.specs.Watching.{watched_by, HasBeats, AreBeats, IsWrongBeats, IsWatchRefused, AreMade};
+ghost use Rattle.ftc.specs.Watching.{AreMadeShort, WatchEnds};
 
 use crate::output::write_text;
 use crate::status::Status;

@@ -51,7 +51,8 @@ fn end<'a>(alloc: Global, texts: &Texts, chain: Chain<'a>) -> Result<Driven<'a>,
     ensures finished { IfOk result (λ driven. IsFinishedRun
         (setting_of texts.now.spec (bytes_of_packets texts.now.capture.packets) texts.now.script)
         driven.chain.journal (serial_state driven.serial)) }
-    ensures writable { IfOk result (λ driven. AreWritable texts.now.capture.packets (serial_state driven.serial).released) }
+    ensures writable { IfOk result
+        (λ driven. AreWritable texts.now.capture.packets (serial_state driven.serial).released) }
     ensures rules { IfOk result (λ driven. rules_of driven.serial ≡ texts.now.spec.rules) }
 {
     ftc_protocol::finish();

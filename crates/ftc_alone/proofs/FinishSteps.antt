@@ -23,7 +23,8 @@ use Rattle.ftc_alone.specs.Alone.{IsSameGiven, IsInFinish}
 -- ---- slots
 
 -- only a visit has a slot
-any_slot : (c : Setting) (s : ChainState) (slot other : ℕ) (job : Job) → is_visit job ≡ false → event_of c s slot job ≡ event_of c s other job
+any_slot : (c : Setting) (s : ChainState) (slot other : ℕ) (job : Job) → is_visit job ≡ false →
+    event_of c s slot job ≡ event_of c s other job
 any_slot c s slot other (job.Visit server packet) not = absurd (cc)
 any_slot c s slot other (job.Enter packet) not = refl
 any_slot c s slot other (job.Take link origin) not = refl
@@ -49,12 +50,14 @@ isnt_visit (job.Recover server) not = refl
 isnt_visit (job.Pull link) not = refl
 isnt_visit (job.Propagate origin) not = refl
 
-pub made_in : (slot other : ℕ) (job : Job) (old new : ChainRun) → is_visit job ≡ false → HasMade slot job old new → HasMade other job old new
+pub made_in : (slot other : ℕ) (job : Job) (old new : ChainRun) → is_visit job ≡ false → HasMade slot job old new →
+    HasMade other job old new
 made_in slot other job old new not made =
     let same = any_slot (setting_in old) (chain_state old) slot other job not in
     record {
       releases = made.releases;
-      due = subst (λ (e : Event). AreReleases (setting_in old) (next (setting_in old) (chain_state old) e) made.releases) same made.due;
+      due = subst (λ (e : Event). AreReleases (setting_in old)
+          (next (setting_in old) (chain_state old) e) made.releases) same made.due;
       grown = made.grown
           ∙ ap (λ (e : Event). record old { journal = old.journal ++ e ∷ made.releases; heads = new.heads }) same;
     }
@@ -77,31 +80,44 @@ given_heads old new is =
 
 -- ---- nearer to the end
 
-module _ (c : Setting) (falls : (before : List Event) (event : Event) → IsRun c (before ++ event ∷ []) → work_left c (state_by c (before ++ event ∷ [])) < work_left c (state_by c before))
+module _ (c : Setting) (falls : (before : List Event) (event : Event) → IsRun c (before ++ event ∷ []) →
+    work_left c (state_by c (before ++ event ∷ [])) < work_left c (state_by c before))
     (front : (before after : List Event) → IsRun c (before ++ after) → IsRun c before) where
-  less : (before : List Event) (event : Event) (events : List Event) → IsRun c (before ++ event ∷ events) → work_left c (state_by c (before ++ event ∷ events)) < work_left c (state_by c before)
+  less : (before : List Event) (event : Event) (events : List Event) → IsRun c (before ++ event ∷ events) →
+      work_left c (state_by c (before ++ event ∷ events)) < work_left c (state_by c before)
   less before event [] run = falls before event run
   less before event (another ∷ events) run =
-      let same : (before ++ event ∷ []) ++ another ∷ events ≡ before ++ event ∷ another ∷ events = append_assoc before (event ∷ []) (another ∷ events) in
+      let same : (before ++ event ∷ []) ++ another ∷ events ≡ before ++ event ∷ another ∷ events =
+      append_assoc before (event ∷ []) (another ∷ events) in
       let on : IsRun c ((before ++ event ∷ []) ++ another ∷ events) = subst (IsRun c) (sym same) run in
-      let far : work_left c (state_by c ((before ++ event ∷ []) ++ another ∷ events)) < work_left c (state_by c (before ++ event ∷ [])) = less (before ++ event ∷ []) another events on in
-      let near : work_left c (state_by c (before ++ event ∷ [])) < work_left c (state_by c before) = falls before event (front (before ++ event ∷ []) (another ∷ events) on) in
-      let there : work_left c (state_by c (before ++ event ∷ another ∷ events)) < work_left c (state_by c (before ++ event ∷ [])) = subst (λ (es : List Event). work_left c (state_by c es) < work_left c (state_by c (before ++ event ∷ []))) same far in
+      let far : work_left c (state_by c ((before ++ event ∷ []) ++ another ∷ events)) < work_left c
+      (state_by c (before ++ event ∷ [])) = less (before ++ event ∷ []) another events on in
+      let near : work_left c (state_by c (before ++ event ∷ [])) < work_left c (state_by c before) =
+      falls before event (front (before ++ event ∷ []) (another ∷ events) on) in
+      let there : work_left c (state_by c (before ++ event ∷ another ∷ events)) < work_left c
+      (state_by c (before ++ event ∷ [])) =
+      subst (λ (es : List Event). work_left c (state_by c es) < work_left c
+      (state_by c (before ++ event ∷ []))) same far in
       omega (arith, there, near)
 
 pub nearer : (slot : ℕ) (job : Job) (old new : ChainRun) → HasMade slot job old new
-    → ((c : Setting) → IsSetting c → (before : List Event) (event : Event) → IsRun c (before ++ event ∷ []) → work_left c (state_after c (opening c) (before ++ event ∷ [])) < work_left c (state_after c (opening c) before))
+    → ((c : Setting) → IsSetting c → (before : List Event) (event : Event) → IsRun c (before ++ event ∷ []) →
+    work_left c (state_after c (opening c) (before ++ event ∷ [])) < work_left c (state_after c (opening c) before))
     → ((c : Setting) (before after : List Event) → IsRun c (before ++ after) → IsRun c before)
-    → IsSetting (setting_in old) → IsRun (setting_in new) new.journal → work_left (setting_in new) (chain_state new) < work_left (setting_in old) (chain_state old)
+    → IsSetting (setting_in old) → IsRun (setting_in new) new.journal →
+    work_left (setting_in new) (chain_state new) < work_left (setting_in old) (chain_state old)
 nearer slot job old new made falls front right =
-    subst (λ (run : ChainRun). IsRun (setting_in run) run.journal → work_left (setting_in run) (chain_state run) < work_left (setting_in old) (chain_state old)) (sym made.grown)
-    (less (setting_in old) (falls (setting_in old) right) (front (setting_in old)) old.journal (event_of (setting_in old) (chain_state old) slot job) made.releases)
+    subst (λ (run : ChainRun). IsRun (setting_in run) run.journal →
+    work_left (setting_in run) (chain_state run) < work_left (setting_in old) (chain_state old)) (sym made.grown)
+    (less (setting_in old) (falls (setting_in old) right) (front (setting_in old)) old.journal
+    (event_of (setting_in old) (chain_state old) slot job) made.releases)
 
 -- ---- back from the end
 
 -- a finish of the later run is one of the first
 abbrev pub LeadsBack : ChainRun → ChainRun → Type 0
-LeadsBack first now = (whole : List Event) → IsFinish (setting_in first) now.journal whole → IsFinish (setting_in first) first.journal whole
+LeadsBack first now = (whole : List Event) → IsFinish (setting_in first) now.journal whole →
+    IsFinish (setting_in first) first.journal whole
 
 abbrev pub Begins : Type 0
 Begins = (c : Setting) (journal whole : List Event) (job : Job) (releases : List Event)
@@ -110,31 +126,42 @@ Begins = (c : Setting) (journal whole : List Event) (job : Job) (releases : List
     → IsFinish c ((journal ++ event_after c journal job ∷ []) ++ releases) whole
     → IsFinish c journal whole
 
-pub back_one : Begins → (job : Job) (now new : ChainRun) → IsFirstJob (setting_in now) (chain_state now) job → HasMade FINISHING_SLOT job now new → LeadsBack now new
+pub back_one : Begins → (job : Job) (now new : ChainRun) → IsFirstJob (setting_in now) (chain_state now) job →
+    HasMade FINISHING_SLOT job now new → LeadsBack now new
 back_one begun job now new first made whole finish =
     let c : Setting = setting_in now in let event : Event = event_after c now.journal job in
-    let on : state_by c (now.journal ++ event ∷ []) ≡ next c (chain_state now) event = state_on c now.journal (event ∷ []) (opening c) in
-    let due : AreReleases c (state_by c (now.journal ++ event ∷ [])) made.releases = subst (λ (s : ChainState). AreReleases c s made.releases) (sym on) made.due in
-    let grown : new.journal ≡ (now.journal ++ event ∷ []) ++ made.releases = ap (λ (run : ChainRun). run.journal) made.grown ∙ sym (append_assoc now.journal (event ∷ []) made.releases) in
-    begun c now.journal whole job made.releases first due (subst (λ (events : List Event). IsFinish c events whole) grown finish)
+    let on : state_by c (now.journal ++ event ∷ []) ≡ next c (chain_state now) event =
+    state_on c now.journal (event ∷ []) (opening c) in
+    let due : AreReleases c (state_by c (now.journal ++ event ∷ [])) made.releases =
+    subst (λ (s : ChainState). AreReleases c s made.releases) (sym on) made.due in
+    let grown : new.journal ≡ (now.journal ++ event ∷ []) ++ made.releases =
+    ap (λ (run : ChainRun). run.journal) made.grown ∙ sym (append_assoc now.journal (event ∷ []) made.releases) in
+    begun c now.journal whole job made.releases first due
+    (subst (λ (events : List Event). IsFinish c events whole) grown finish)
 
-pub back_on : (first now new : ChainRun) → IsSameGiven first now → LeadsBack first now → LeadsBack now new → LeadsBack first new
+pub back_on : (first now new : ChainRun) → IsSameGiven first now → LeadsBack first now → LeadsBack now new →
+    LeadsBack first new
 back_on first now new same back one whole finish =
     let settings : setting_in now ≡ setting_in first = ap setting_in same in
-    back whole (subst (λ (c : Setting). IsFinish c new.journal whole → IsFinish c now.journal whole) settings (one whole) finish)
+    back whole (subst (λ (c : Setting). IsFinish c new.journal whole →
+    IsFinish c now.journal whole) settings (one whole) finish)
 
 -- at the end the run is the finish
 pub at_end : (first now : ChainRun) → IsSameGiven first now → LeadsBack first now
-    → ((c : Setting) (journal : List Event) → IsFinished c (state_after c (opening c) journal) → IsFinish c journal journal)
+    → ((c : Setting) (journal : List Event) → IsFinished c (state_after c (opening c) journal) →
+    IsFinish c journal journal)
     → IsFinished (setting_in now) (chain_state now) → IsFinish (setting_in first) first.journal now.journal
 at_end first now same back ended finished =
     let settings : setting_in now ≡ setting_in first = ap setting_in same in
-    back now.journal (subst (λ (c : Setting). IsFinish c now.journal now.journal) settings (ended (setting_in now) now.journal finished))
+    back now.journal (subst (λ (c : Setting). IsFinish c now.journal now.journal) settings
+    (ended (setting_in now) now.journal finished))
 
 -- a run that was on the way to the finish has a front of it
 pub in_finish : (first now : ChainRun) → IsSameGiven first now → LeadsBack first now
-    → ((c : Setting) → IsSetting c → (journal : List Event) → IsRun c journal → (whole : List Event) × IsFinish c journal whole)
-    → IsSetting (setting_in now) → IsRun (setting_in now) now.journal → IsInFinish (setting_in first) first.journal now.journal
+    → ((c : Setting) → IsSetting c → (journal : List Event) → IsRun c journal →
+    (whole : List Event) × IsFinish c journal whole)
+    → IsSetting (setting_in now) → IsRun (setting_in now) now.journal →
+    IsInFinish (setting_in first) first.journal now.journal
 in_finish first now same back exists right run =
     let settings : setting_in now ≡ setting_in first = ap setting_in same in
     let some = exists (setting_in now) right now.journal run in

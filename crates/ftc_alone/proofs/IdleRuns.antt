@@ -1,5 +1,6 @@
 -- Slots that stay idle through a job.
-use Rattle.std.proofs.Common.{◌≡◌, ◌∙◌, ℕ, Result, Ok, Err, OnOk, OnErr, Option, Some, List, None, inl, inr, sym, ap, subst}
+use Rattle.std.proofs.Common.{◌≡◌, ◌∙◌, ℕ, Result, Ok, Err, OnOk, OnErr, Option, Some, List, None, inl, inr, sym, ap}
+use Rattle.std.proofs.Common.{subst}
 use Rattle.std.proofs.lemmas.Bool.{cases_eq}
 use Rattle.ftc_journal.specs.declared.job.Job.{Job}
 use Rattle.ftc_journal.specs.declared.job.Job.TheVariants as job
@@ -44,7 +45,8 @@ idle_after (job.Propagate origin) old new worker stay = stay_idle old new worker
 -- a step is made, or refused
 pub idle_stepped : {A E : Type 0} (result : Result A E) (done : Job) (old new : ChainRun) →
     OnOk result (HeadsAfter done old new) → OnErr result (new ≡ old) → AreIdle old → AreIdle new
-idle_stepped (Ok value) done old new heads same idle worker below = idle_after done old new worker heads (idle worker below)
+idle_stepped (Ok value) done old new heads same idle worker below =
+    idle_after done old new worker heads (idle worker below)
 idle_stepped (Err fault) done old new heads same idle worker below = subst AreIdle (sym same) idle worker below
 
 -- nothing at all differs

@@ -1,5 +1,6 @@
 -- A schedule is played part by part.
-use Rattle.std.proofs.Common.{◌≡◌, ◌++◌, ◌+◌, ◌<◌, inl, inr, ℕ, zero, suc, arith, length, take, drop, get_or, List, [], ◌∷◌, Some, refl, sym, ap, subst, ◌∙◌}
+use Rattle.std.proofs.Common.{◌≡◌, ◌++◌, ◌+◌, ◌<◌, inl, inr, ℕ, zero, suc, arith, length, take, drop, get_or, List, []}
+use Rattle.std.proofs.Common.{◌∷◌, Some, refl, sym, ap, subst, ◌∙◌}
 use Rattle.std.proofs.lemmas.List.{append_assoc, append-nil, take-append-drop}
 use Rattle.ftc_journal.specs.declared.event.Event.{Event}
 use Rattle.ftc_journal.specs.declared.job.Job.{Job}
@@ -18,12 +19,15 @@ use Rattle.ftc_alone.specs.Alone.{IsSameGiven, IsInFinish, IsInDrive, HasPlayed,
 
 -- ---- two parts of a schedule
 
-joined : (c : Setting) (one other : List Event) (s : ChainState) (events more : List Event) → IsPlay c s one events → IsPlay c (state_after c s events) other more → IsPlay c s (one ++ other) (events ++ more)
+joined : (c : Setting) (one other : List Event) (s : ChainState) (events more : List Event) → IsPlay c s one events →
+    IsPlay c (state_after c s events) other more → IsPlay c s (one ++ other) (events ++ more)
 joined c [] other s events more none after =
-    subst (λ (es : List Event). IsPlay c (state_after c s es) other more → IsPlay c s other (es ++ more)) (sym none) (λ is. is) after
+    subst (λ (es : List Event). IsPlay c (state_after c s es) other more →
+    IsPlay c s other (es ++ more)) (sym none) (λ is. is) after
 joined c (event ∷ one) other s events more (inl x) after =
     let made : Event = event_of c s (slot_of event) x.0 in
-    let end : state_after c s events ≡ state_after c (state_after c (next c s made) x.1) x.2 = ap (state_after c s) x.6 ∙ state_on c x.1 x.2 (next c s made) in
+    let end : state_after c s events ≡ state_after c (state_after c (next c s made) x.1) x.2 =
+    ap (state_after c s) x.6 ∙ state_on c x.1 x.2 (next c s made) in
     inl (
       x.0,
       x.1,
@@ -32,12 +36,14 @@ joined c (event ∷ one) other s events more (inl x) after =
       x.4,
       x.5,
       ap (λ (es : List Event). es ++ more) x.6 ∙ ap (λ (es : List Event). made ∷ es) (append_assoc x.1 x.2 more),
-      joined c one other (state_after c (next c s made) x.1) x.2 more x.7 (subst (λ (t : ChainState). IsPlay c t other more) end after),
+      joined c one other (state_after c (next c s made) x.1) x.2 more x.7
+          (subst (λ (t : ChainState). IsPlay c t other more) end after),
     )
 joined c (event ∷ one) other s events more (inr x) after = inr (x.0, joined c one other s events more x.1 after)
 
 -- the same of runs
-pub played_on : (one other : List Event) (first now new : ChainRun) → HasPlayed one first now → HasPlayed other now new → HasPlayed (one ++ other) first new
+pub played_on : (one other : List Event) (first now new : ChainRun) → HasPlayed one first now →
+    HasPlayed other now new → HasPlayed (one ++ other) first new
 played_on one other first now new front more =
     let c : Setting = setting_in first in
     let there : HasPlayed other (record first { journal = first.journal ++ front.played; heads = now.heads }) new =
@@ -45,7 +51,8 @@ played_on one other first now new front more =
     let on = state_on c first.journal front.played (opening c) in
     record {
       played = front.played ++ there.played;
-      play = joined c one other (chain_state first) front.played there.played front.play (subst (λ (t : ChainState). IsPlay c t other there.played) on there.play);
+      play = joined c one other (chain_state first) front.played there.played front.play
+          (subst (λ (t : ChainState). IsPlay c t other there.played) on there.play);
       grown = there.grown ∙ ap (λ (es : List Event). record first { journal = es; heads = new.heads })
           (append_assoc first.journal front.played there.played);
     }
@@ -53,9 +60,15 @@ played_on one other first now new front more =
 -- ---- nothing, and one event
 
 pub played_nothing : (now : ChainRun) → HasPlayed [] now now
-played_nothing now = record { played = []; play = refl; grown = ap (λ (es : List Event). record now { journal = es }) (sym (append-nil now.journal)) }
+played_nothing now = record {
+  played = [];
+  play = refl;
+  grown = ap (λ (es : List Event). record now { journal = es }) (sym (append-nil now.journal));
+}
 
-pub played_one : (event : Event) (job : Job) (old new : ChainRun) → job_of event ≡ Some job → IsLegalJob (setting_in old) (chain_state old) job → HasMade (slot_of event) job old new → HasPlayed (event ∷ []) old new
+pub played_one : (event : Event) (job : Job) (old new : ChainRun) → job_of event ≡ Some job →
+    IsLegalJob (setting_in old) (chain_state old) job → HasMade (slot_of event) job old new →
+    HasPlayed (event ∷ []) old new
 played_one event job old new is legal made =
     let happened : Event = event_of (setting_in old) (chain_state old) (slot_of event) job in
     record {
@@ -69,7 +82,8 @@ played_one event job old new is legal made =
 pub one_job : (one other : Job) → Some one ≡ Some other → one ≡ other
 one_job one other same = cc
 
-pub passed_over : (event : Event) (now : ChainRun) → IsPassedOver (setting_in now) (chain_state now) event → HasPlayed (event ∷ []) now now
+pub passed_over : (event : Event) (now : ChainRun) → IsPassedOver (setting_in now) (chain_state now) event →
+    HasPlayed (event ∷ []) now now
 passed_over event now over = record {
   played = [];
   play = inr (over, refl);
@@ -82,7 +96,8 @@ played_given schedule old new is = is.grown
     (ap (λ (run : ChainRun). run.journal) (sym is.grown))
 
 -- where nothing but heads differed before
-pub played_after : (schedule : List Event) (first now new : ChainRun) → IsButHeads first now → HasPlayed schedule now new →
+pub played_after : (schedule : List Event) (first now new : ChainRun) → IsButHeads first now →
+    HasPlayed schedule now new →
     HasPlayed schedule first new
 played_after schedule first now new but played =
     let there : HasPlayed schedule (record first { heads = now.heads }) new =
@@ -90,7 +105,8 @@ played_after schedule first now new but played =
     record { played = there.played; play = there.play; grown = there.grown }
 
 -- nor behind
-pub played_before : (schedule : List Event) (first now new : ChainRun) → IsButHeads now new → HasPlayed schedule first now →
+pub played_before : (schedule : List Event) (first now new : ChainRun) → IsButHeads now new →
+    HasPlayed schedule first now →
     HasPlayed schedule first new
 played_before schedule first now new but played = record {
   played = played.played;
@@ -116,19 +132,23 @@ some_before schedule first now new but some = record {
 
 -- ---- the events so far
 
-pub played_some : (events : List Event) (place : ℕ) (first now : ChainRun) → HasPlayed (take place events) first now → HasPlayedSome events first now
+pub played_some : (events : List Event) (place : ℕ) (first now : ChainRun) → HasPlayed (take place events) first now →
+    HasPlayedSome events first now
 played_some events place first now played = record {
   done = take place events;
   front = record { rest = drop place events; parts = sym (take-append-drop place events) };
   played = played;
 }
 
-taken_one : (events : List Event) (place : ℕ) (event : Event) → place < length events → event ≡ get_or events place event → take (suc place) events ≡ take place events ++ event ∷ []
+taken_one : (events : List Event) (place : ℕ) (event : Event) → place < length events →
+    event ≡ get_or events place event → take (suc place) events ≡ take place events ++ event ∷ []
 taken_one [] place event within is = absurd (omega arith)
 taken_one (first ∷ events) zero event within is = ap (λ (e : Event). e ∷ []) (sym is)
-taken_one (first ∷ events) (suc place) event within is = ap (λ (es : List Event). first ∷ es) (taken_one events place event (omega arith) is)
+taken_one (first ∷ events) (suc place) event within is =
+    ap (λ (es : List Event). first ∷ es) (taken_one events place event (omega arith) is)
 
-pub one_taken_more : (events : List Event) (place : ℕ) (event : Event) → place < length events → event ≡ get_or events place event → take (place + 1) events ≡ take place events ++ event ∷ []
+pub one_taken_more : (events : List Event) (place : ℕ) (event : Event) → place < length events →
+    event ≡ get_or events place event → take (place + 1) events ≡ take place events ++ event ∷ []
 one_taken_more events place event within is =
     let one : suc place ≡ place + 1 = omega arith in
     subst (λ (n : ℕ). take n events ≡ take place events ++ event ∷ []) one (taken_one events place event within is)
@@ -136,28 +156,39 @@ one_taken_more events place event within is =
 -- ---- the drive of a schedule
 
 module _ (first now : ChainRun) (opens : first.journal ≡ []) where
-  opened : (schedule : List Event) → HasPlayed schedule first now → IsPlay (setting_in first) (opening (setting_in first)) schedule now.journal
+  opened : (schedule : List Event) → HasPlayed schedule first now →
+      IsPlay (setting_in first) (opening (setting_in first)) schedule now.journal
   opened schedule is =
       let c : Setting = setting_in first in
-      let play : IsPlay c (state_after c (opening c) []) schedule is.played = subst (λ (es : List Event). IsPlay c (state_after c (opening c) es) schedule is.played) opens is.play in
-      let all : now.journal ≡ is.played = ap (λ (run : ChainRun). run.journal) is.grown ∙ ap (λ (es : List Event). es ++ is.played) opens in
+      let play : IsPlay c (state_after c (opening c) []) schedule is.played =
+      subst (λ (es : List Event). IsPlay c (state_after c (opening c) es) schedule is.played) opens is.play in
+      let all : now.journal ≡ is.played =
+      ap (λ (run : ChainRun). run.journal) is.grown ∙ ap (λ (es : List Event). es ++ is.played) opens in
       subst (IsPlay c (opening c) schedule) (sym all) play
 
-  pub driven : (schedule events : List Event) → HasPlayed schedule first now → IsFinish (setting_in now) now.journal events → IsDrive (setting_in first) schedule events
+  pub driven : (schedule events : List Event) → HasPlayed schedule first now →
+      IsFinish (setting_in now) now.journal events → IsDrive (setting_in first) schedule events
   driven schedule events is finish = record {
     played = now.journal;
     play = opened schedule is;
-    finish = subst (λ (c : Setting). IsFinish c now.journal events) (ap setting_in (played_given schedule first now is)) finish;
+    finish = subst (λ (c : Setting). IsFinish c now.journal events)
+        (ap setting_in (played_given schedule first now is)) finish;
   }
 
-  pub in_drive : (schedule events : List Event) → HasPlayed schedule first now → IsInFinish (setting_in now) now.journal events → IsInDrive (setting_in first) schedule events
-  in_drive schedule events is within = record { whole = within.whole; drive = driven schedule within.whole is within.finish; front = within.front }
+  pub in_drive : (schedule events : List Event) → HasPlayed schedule first now →
+      IsInFinish (setting_in now) now.journal events → IsInDrive (setting_in first) schedule events
+  in_drive schedule events is within =
+      record { whole = within.whole; drive = driven schedule within.whole is within.finish; front = within.front }
 
   pub some_in_drive : (schedule : List Event)
       → ((c : Setting) → IsSetting c → (schedule : List Event) → (whole : List Event) × IsDrive c schedule whole)
-      → ((c : Setting) → IsSetting c → (schedule more played whole : List Event) → IsPlay c (opening c) schedule played → IsDrive c (schedule ++ more) whole → (rest : List Event) × (whole ≡ played ++ rest))
-      → IsSetting (setting_in first) → HasPlayedSome schedule first now → IsInDrive (setting_in first) schedule now.journal
+      → ((c : Setting) → IsSetting c → (schedule more played whole : List Event) →
+      IsPlay c (opening c) schedule played → IsDrive c (schedule ++ more) whole →
+      (rest : List Event) × (whole ≡ played ++ rest))
+      → IsSetting (setting_in first) → HasPlayedSome schedule first now →
+      IsInDrive (setting_in first) schedule now.journal
   some_in_drive schedule exists front right some =
       let c : Setting = setting_in first in let drive = exists c right schedule in
-      let parts = front c right some.done some.front.rest now.journal drive.0 (opened some.done some.played) (subst (λ (es : List Event). IsDrive c es drive.0) some.front.parts drive.1) in
+      let parts = front c right some.done some.front.rest now.journal drive.0 (opened some.done some.played)
+      (subst (λ (es : List Event). IsDrive c es drive.0) some.front.parts drive.1) in
       record { whole = drive.0; drive = drive.1; front = record { rest = parts.0; parts = parts.1 } }

@@ -5,11 +5,13 @@ use Rattle.std.specs.Coded.{Coded-set}
 use Rattle.ftc_chain.specs.declared.chain.Chain.{the_code}
 use Rattle.ftc_chain.specs.ChainRun.{ChainRun}
 
-pub on_ok : {A E : Type 0} (result : Result A E) (Fact Other : Type 0) → (Fact → Other) → OnOk result Fact → OnOk result Other
+pub on_ok : {A E : Type 0} (result : Result A E) (Fact Other : Type 0) → (Fact → Other) → OnOk result Fact →
+    OnOk result Other
 on_ok (Ok value) Fact Other from fact = from fact
 on_ok (Err fault) Fact Other from fact = tt
 
-pub on_err : {A E : Type 0} (result : Result A E) (Fact Other : Type 0) → (Fact → Other) → OnErr result Fact → OnErr result Other
+pub on_err : {A E : Type 0} (result : Result A E) (Fact Other : Type 0) → (Fact → Other) → OnErr result Fact →
+    OnErr result Other
 on_err (Ok value) Fact Other from fact = tt
 on_err (Err fault) Fact Other from fact = from fact
 

@@ -1,5 +1,6 @@
 -- What a balancer's visits leave in its store: each client keeps the backend that it was given.
-use Rattle.std.proofs.Common.{◌≡◌, ◌≢◌, ◌∙◌, ◌⊎◌, inl, inr, refl, sym, ap, subst, ℕ, zero, suc, ◌+◌, ◌≤◌, ◌==◌, ◌&&◌, ◌%◌, Bool, true, false, List, [], ◌∷◌, length, Option, Some, None, arith, MatchOption}
+use Rattle.std.proofs.Common.{◌≡◌, ◌≢◌, ◌∙◌, ◌⊎◌, inl, inr, refl, sym, ap, subst, ℕ, zero, suc, ◌+◌, ◌≤◌, ◌==◌, ◌&&◌}
+use Rattle.std.proofs.Common.{◌%◌, Bool, true, false, List, [], ◌∷◌, length, Option, Some, None, arith, MatchOption}
 use Rattle.std.specs.Prelude.{slice_index, if◌then◌else◌}
 use Rattle.std.specs.List.{AllByRecursion, list_any}
 use Rattle.std.specs.Int.{w32, to_be_bytes}
@@ -77,7 +78,8 @@ module _ (rule : BalanceRule) where
     -- nothing is written, and the store has the line that there is
     record IsQuiet : Type 0 where
       pub nothing : outcome.writes ≡ []
-      pub had : (server : ℕ) (line : ClientLine) → client_line_of rule (seen server) ≡ Some line → HasBackend content line
+      pub had : (server : ℕ) (line : ClientLine) → client_line_of rule (seen server) ≡ Some line →
+          HasBackend content line
 
     -- the next backend for a client that has none
     record IsNew : Type 0 where
@@ -88,7 +90,8 @@ module _ (rule : BalanceRule) where
       pub within : IsBalanceRule rule → backend ≤ 4294967295
       pub writes : outcome.writes ≡ put (key_of flow) (to_be_bytes w32 backend) ∷ put turn_key turn ∷ []
       pub gave : (server : ℕ) (line : ClientLine) → client_line_of rule (seen server) ≡ Some line
-          → record { backend = backend; protocol = flow.protocol; address = flow.source; port = flow.source_port } ≡ line
+          → record { backend = backend; protocol = flow.protocol; address = flow.source; port = flow.source_port }
+          ≡ line
 
     -- what a visit writes, and the packet that goes on
     writes_of : (told : Asked) → asked (Balance rule) packet content ≡ told → outcome.writes ≡ told.end.writes.items
@@ -98,7 +101,8 @@ module _ (rule : BalanceRule) where
         → outcome.packet ≡ packet_after packet told.end.verdict
     packet_of told is = ap (λ (t : Asked). packet_after packet t.end.verdict) is
 
-    no_line : (server : ℕ) (line : ClientLine) → flow_found packet ≡ None → client_line_of rule (seen server) ≡ Some line → ⊥
+    no_line : (server : ℕ) (line : ClientLine) → flow_found packet ≡ None →
+        client_line_of rule (seen server) ≡ Some line → ⊥
     no_line server line none told = let is : None ≡ Some line = rw none at told in cc
 
     other_line : (server : ℕ) (line : ClientLine) (flow : Flow) → flow_found packet ≡ Some flow → comes flow ≡ false
@@ -119,7 +123,12 @@ module _ (rule : BalanceRule) where
           address = flow.source;
           port = flow.source_port;
         }) ≡ Some line = rw (found, is, goes) at told in
-        let here : Some (record { backend = backend; protocol = flow.protocol; address = flow.source; port = flow.source_port }) ≡ Some line =
+        let here : Some (record {
+          backend = backend;
+          protocol = flow.protocol;
+          address = flow.source;
+          port = flow.source_port;
+        }) ≡ Some line =
         rw (shown packet flow backend flow.destination_port found) at same in
         cc
 

@@ -1,5 +1,6 @@
 -- In a run of packets of bytes, each packet that waits and each value that is kept is of bytes.
-use Rattle.std.proofs.Common.{◌≡◌, ◌==◌, refl, sym, subst, ℕ, zero, suc, ◌+◌, Bool, true, false, cond, List, [], ◌∷◌, ◌++◌, length, Option, Some, None, arith}
+use Rattle.std.proofs.Common.{◌≡◌, ◌==◌, refl, sym, subst, ℕ, zero, suc, ◌+◌, Bool, true, false, cond, List, [], ◌∷◌}
+use Rattle.std.proofs.Common.{◌++◌, length, Option, Some, None, arith}
 use Rattle.std.specs.Prelude.{slice_get, option_map, if◌then◌else◌}
 use Rattle.std.specs.List.{AllByRecursion}
 use Rattle.std.specs.Ordering.{nat_cmp, eq_by_cmp}
@@ -177,7 +178,11 @@ module _ (rules : List Rule) (all : AllByRecursion IsRule rules) where
   run_fits state [] is = tt
   run_fits state (step ∷ steps) is =
       elim (entry_of rules state step) as (λ (told : Option Entry). entry_of rules state step ≡ told
-      → AreOfBytes (elim told as (λ (o : Option Entry). List Seen) [ None ↦ [] | Some entry ↦ seen_at state entry ++ visits rules (after (length rules) state entry) steps ])) [
+      → AreOfBytes (elim told as (λ (o : Option Entry). List Seen) [
+        | None ↦ []
+        | Some entry ↦ seen_at state entry
+            ++ visits rules (after (length rules) state entry) steps
+      ])) [
         | None ↦ λ _. tt
         | Some entry ↦ λ told. both_fit (seen_at state entry) _ (seen_fits state entry is)
             (run_fits (after (length rules) state entry) steps (state_on state entry
@@ -199,4 +204,5 @@ opening_fits packets all = record {
 pub stay_bytes : (rules : List Rule) (packets : List (List ℕ)) (steps : List Step) → AllByRecursion IsRule rules
     → AllByRecursion AreBytes packets
     → AreOfBytes (visits rules (serial_opening packets) steps)
-stay_bytes rules packets steps are bytes = run_fits rules are (serial_opening packets) steps (opening_fits packets bytes)
+stay_bytes rules packets steps are bytes =
+    run_fits rules are (serial_opening packets) steps (opening_fits packets bytes)

@@ -1,5 +1,6 @@
 -- Packets of bytes stay packets of bytes.
-use Rattle.std.proofs.Common.{◌≡◌, ◌≤◌, ◌<◌, refl, ap, subst, ℕ, zero, suc, ◌+◌, ◌/◌, ◌%◌, ◌==◌, Bool, true, false, List, [], ◌∷◌, length, take, drop, Option, Some, None, arith, MatchOption, eqb-true}
+use Rattle.std.proofs.Common.{◌≡◌, ◌≤◌, ◌<◌, refl, ap, subst, ℕ, zero, suc, ◌+◌, ◌/◌, ◌%◌, ◌==◌, Bool, true, false}
+use Rattle.std.proofs.Common.{List, [], ◌∷◌, length, take, drop, Option, Some, None, arith, MatchOption, eqb-true}
 use Rattle.std.specs.Prelude.{slice_index, slice_set, nat_lt, unwrap_or, if◌then◌else◌, IfSome, ◌&&◌}
 use Rattle.std.specs.Int.{w16, w32, w64, to_be_bytes, from_be_bytes}
 use Rattle.std.specs.List.{AllByRecursion, list_any}
@@ -17,7 +18,8 @@ use Rattle.ftc_base.specs.Endpoint.{endpoint}
 use Rattle.ftc_packet.specs.declared.flow.Flow.{Flow}
 use Rattle.ftc_packet.specs.Layout.{AreBytes, word_at, with_word, protocol_of, transport_start, checksum_place}
 use Rattle.ftc_packet.specs.Flow.{IsFlow, flow_in, flow_found}
-use Rattle.ftc_packet.specs.Rewrite.{with_end, new_header_checksum, new_transport_checksum, written_checksum, updated_for_address, address_place, port_place}
+use Rattle.ftc_packet.specs.Rewrite.{with_end, new_header_checksum, new_transport_checksum, written_checksum}
+use Rattle.ftc_packet.specs.Rewrite.{updated_for_address, address_place, port_place}
 use Rattle.ftc_packet.specs.Sum.{updated_checksum}
 use Rattle.ftc_nat.specs.declared.rule.NatRule.{NatRule}
 use Rattle.ftc_nat.specs.Bounds.{IsNatRule}

@@ -37,7 +37,8 @@ abbrev Among : List PortLine → List PortLine → Type 0
 Among lines others = (line : PortLine) → AnyOf (λ other. other ≡ line) lines → AnyOf (λ other. other ≡ line) others
 
 first_same : (one other : PortLine) (lines others : List PortLine) → AllByRecursion (IsBelow one) lines
-    → AllByRecursion (IsBelow other) others → Among (one ∷ lines) (other ∷ others) → Among (other ∷ others) (one ∷ lines)
+    → AllByRecursion (IsBelow other) others → Among (one ∷ lines) (other ∷ others) →
+    Among (other ∷ others) (one ∷ lines)
     → one ≡ other
 first_same one other lines others rises also there back =
     elim (there one (inl refl)) [

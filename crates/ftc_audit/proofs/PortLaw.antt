@@ -1,5 +1,6 @@
 -- At a translator inside endpoints are equal exactly where their outside ports are.
-use Rattle.std.proofs.Common.{◌≡◌, ◌≤◌, ◌↔◌, ◌∙◌, ◌⊎◌, inl, inr, sym, ap, subst, refl, ℕ, true, false, List, [], ◌∷◌, take, drop, get_or, Option, Some, None, arith, MatchOption}
+use Rattle.std.proofs.Common.{◌≡◌, ◌≤◌, ◌↔◌, ◌∙◌, ◌⊎◌, inl, inr, sym, ap, subst, refl, ℕ, true, false, List, [], ◌∷◌}
+use Rattle.std.proofs.Common.{take, drop, get_or, Option, Some, None, arith, MatchOption}
 use Rattle.std.specs.Prelude.{slice_get, if◌then◌else◌, option_and_then}
 use Rattle.std.specs.Int.{w16, w32, from_be_bytes}
 use Rattle.std.specs.Ordering.{nat_cmp}

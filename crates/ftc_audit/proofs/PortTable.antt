@@ -1,5 +1,6 @@
 -- The lines that a translator's store has after a run are the port table of the run.
-use Rattle.std.proofs.Common.{◌≡◌, ◌≤◌, ◌<◌, ◌↔◌, ◌∙◌, ◌⊎◌, inl, inr, refl, sym, ap, ap₂, subst, ℕ, ◌==◌, Bool, true, false, T, List, [], ◌∷◌, map, length, Option, Some, None, arith, eqb-true, eq-eqb}
+use Rattle.std.proofs.Common.{◌≡◌, ◌≤◌, ◌<◌, ◌↔◌, ◌∙◌, ◌⊎◌, inl, inr, refl, sym, ap, ap₂, subst, ℕ, ◌==◌, Bool, true}
+use Rattle.std.proofs.Common.{false, T, List, [], ◌∷◌, map, length, Option, Some, None, arith, eqb-true, eq-eqb}
 use Rattle.std.specs.Prelude.{◌&&◌, slice_get, if◌then◌else◌, IsSome}
 use Rattle.std.specs.Int.{w16, w32, to_be_bytes, from_be_bytes}
 use Rattle.std.specs.List.{AllByRecursion, Contains, IsDistinct, filter_map, cons_option}
@@ -34,9 +35,11 @@ use Rattle.ftc_audit.specs.Table.{IsPortTable, IsTableOf, HasNat, AreApart, AreN
 use Rattle.ftc_audit.proofs.ByteRuns.{rule_at, stay_bytes}
 use Rattle.ftc_audit.proofs.Runs.{end_of, ends_given}
 use Rattle.ftc_audit.proofs.Translating.{IsPortKey, HasPort, Holds, translating}
-use Rattle.ftc_audit.proofs.PortLaw.{IsPortLine, key_of, gave_fits, gave_named, same_inside, same_key, starts_holding, ports_apart}
+use Rattle.ftc_audit.proofs.PortLaw.{IsPortLine, key_of, gave_fits, gave_named, same_inside, same_key, starts_holding}
+use Rattle.ftc_audit.proofs.PortLaw.{ports_apart}
 use Rattle.ftc_audit.proofs.Coming.{IsOf, ends_there, ends_come}
-use Rattle.ftc_audit.proofs.Lists.{any_of_contains, contains_any, all_contained, any_weaker, from_item, of_item, distinct_moved, rise}
+use Rattle.ftc_audit.proofs.Lists.{any_of_contains, contains_any, all_contained, any_weaker, from_item, of_item}
+use Rattle.ftc_audit.proofs.Lists.{distinct_moved, rise}
 use Rattle.ftc_audit.proofs.StoredPairs.{IsAt, front, behind, below_itself, in_order, in_content, in_pairs}
 
 abbrev outside : PortLine → ℕ
@@ -128,7 +131,8 @@ module _ (rules : List Rule) (packets : List (List ℕ)) (steps : List Step) (se
 
   has_line : (line : PortLine) → Gave line → HasPort content_then line
   has_line line gave =
-      ends_given (Nat rule) (port_line_of rule) (Holds rule) HasPort (translating rule is_rule.last) rules server known line
+      ends_given (Nat rule) (port_line_of rule) (Holds rule) HasPort
+      (translating rule is_rule.last) rules server known line
       (serial_opening packets) steps (starts_holding rule) gave
 
   -- the lines of the listed pairs
@@ -289,7 +293,8 @@ pub read : (rules : List Rule) (packets : List (List ℕ)) (steps : List Step) (
     → map entry_of pairs ≡ entries content → items ≡ pairs → IsPermutation (filter_map line_in items) lines
     → IsNonDecreasingBy outside lines → IsRead rules packets steps server lines
 read rules packets steps server end content items pairs lines all bytes (rule, known) ran is listed same moved sorted =
-    let there : end_of rules (serial_opening packets) steps ≡ end = ends_there rules (serial_opening packets) steps end ran in
+    let there : end_of rules (serial_opening packets) steps ≡ end =
+    ends_there rules (serial_opening packets) steps end ran in
     let now : content ≡ content_then rules packets steps server rule all bytes known =
     is ∙ sym (ap (λ (state : State). state.maps server) there) in
     let whole : map entry_of items ≡ entries (content_then rules packets steps server rule all bytes known) =

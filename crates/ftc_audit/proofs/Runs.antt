@@ -1,5 +1,6 @@
 -- What the visits of one middlebox leave in its store, over a whole run.
-use Rattle.std.proofs.Common.{◌≡◌, ◌∙◌, ◌⊎◌, sym, ap, ap₂, subst, ℕ, List, [], ◌∷◌, ◌++◌, length, Option, Some, None, inl, inr, refl}
+use Rattle.std.proofs.Common.{◌≡◌, ◌∙◌, ◌⊎◌, sym, ap, ap₂, subst, ℕ, List, [], ◌∷◌, ◌++◌, length, Option, Some, None}
+use Rattle.std.proofs.Common.{inl, inr, refl}
 use Rattle.std.specs.Prelude.{slice_get}
 use Rattle.ftc_store.specs.Store.{Content, written}
 use Rattle.ftc_mbox.specs.declared.rule.Rule.{Rule}
@@ -32,7 +33,8 @@ any_of_both P (x ∷ xs) ys any =
       | inr more ↦ elim (any_of_both P xs ys more) [ inl front ↦ inl (inr front) | inr behind ↦ inr behind ]
     ]
 
--- A visit of a rule keeps what holds of its store, and what the store has of a line; and the store has the line of the visit.
+-- A visit of a rule keeps what holds of its store, and what the store has of a line; and the store has the line of the
+-- visit.
 pub record IsKept (rule : Rule) {Line : Type 0} (line_of : Seen → Option Line) (Holds : Content
     → Type 0) (Has : Content → Line → Type 0) : Type 0 where
   pub holds : (bytes : List ℕ) (content : Content) → Holds content → Holds (written
@@ -51,7 +53,8 @@ module _ (rule : Rule) {Line : Type 0} (line_of : Seen → Option Line) (Holds :
   abbrev Gave : List Seen → Line → Type 0
   Gave run line = AnyOf (λ seen. (seen.server ≡ server) × (line_of seen ≡ Some line)) run
 
-  pub outcome_is : (state : State) (at packet : ℕ) (outcome : Outcome) (legal : IsVisitLegal rules state at packet outcome)
+  pub outcome_is : (state : State) (at packet : ℕ) (outcome : Outcome)
+      (legal : IsVisitLegal rules state at packet outcome)
       → server ≡ at → taken rule legal.bytes (state.maps server) ≡ outcome
   outcome_is state at packet outcome legal same =
       let rule_is = some_once rule legal.rule (sym known ∙ (ap (slice_get rules) same ∙ legal.known)) in
@@ -145,7 +148,11 @@ module _ (rule : Rule) {Line : Type 0} (line_of : Seen → Option Line) (Holds :
   ends_given line state [] holds gave = absurd gave
   ends_given line state (step ∷ steps) holds gave =
       elim (entry_of rules state step) as (λ (told : Option Entry). entry_of rules state step ≡ told
-      → Gave (elim told as (λ (o : Option Entry). List Seen) [ None ↦ [] | Some entry ↦ seen_at state entry ++ visits rules (after (length rules) state entry) steps ]) line
+      → Gave (elim told as (λ (o : Option Entry). List Seen) [
+        | None ↦ []
+        | Some entry ↦ seen_at state entry
+            ++ visits rules (after (length rules) state entry) steps
+      ]) line
       → Has ((elim told as (λ (o : Option Entry). State) [
         | None ↦ state
         | Some entry ↦ end_of rules (after

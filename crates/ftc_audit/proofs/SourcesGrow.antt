@@ -15,7 +15,8 @@ with_one_more sources (first ∷ told) one = with_one_more (with_source sources 
 pub sources_more : (old new : List Endpoint) (told : List Released) (one : Released) → old ≡ sources_of told →
     new ≡ with_source old (source_of one.bytes) → new ≡ sources_of (told ++ one ∷ [])
 sources_more old new told one is added =
-    added ∙ ap (λ (sources : List Endpoint). with_source sources (source_of one.bytes)) is ∙ sym (with_one_more [] told one)
+    added ∙ ap (λ (sources : List Endpoint). with_source sources (source_of one.bytes)) is ∙ sym
+    (with_one_more [] told one)
 
 -- so many are no more than may be
 pub are_few : (count most : ℕ) (sources : List Endpoint) → count ≡ length sources →

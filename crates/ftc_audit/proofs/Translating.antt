@@ -1,5 +1,6 @@
 -- What a translator's visits leave in its store: each endpoint keeps the port that it was given, and no two have one.
-use Rattle.std.proofs.Common.{◌≡◌, ◌≢◌, ◌∙◌, ◌⊎◌, inl, inr, refl, sym, ap, subst, ℕ, ◌+◌, ◌<◌, ◌≤◌, ◌==◌, true, false, List, [], ◌∷◌, length, Option, Some, None, arith, MatchOption}
+use Rattle.std.proofs.Common.{◌≡◌, ◌≢◌, ◌∙◌, ◌⊎◌, inl, inr, refl, sym, ap, subst, ℕ, ◌+◌, ◌<◌, ◌≤◌, ◌==◌, true, false}
+use Rattle.std.proofs.Common.{List, [], ◌∷◌, length, Option, Some, None, arith, MatchOption}
 use Rattle.std.specs.Prelude.{nat_lt, unwrap_or, if◌then◌else◌, take, drop}
 use Rattle.std.proofs.lemmas.Bool.Decides.{nat_tests}
 use Rattle.std.specs.Str.{bytes_eq}
@@ -105,7 +106,12 @@ module _ (rule : NatRule) where
           ∷ put (inside_key flow.protocol (next_of content)) (endpoint flow.source flow.source_port)
           ∷ []
       pub drawn : (server : ℕ) (line : PortLine) → port_line_of rule (seen server) ≡ Some line
-          → record { outside = next_of content; protocol = flow.protocol; address = flow.source; port = flow.source_port } ≡ line
+          → record {
+            outside = next_of content;
+            protocol = flow.protocol;
+            address = flow.source;
+            port = flow.source_port;
+          } ≡ line
       pub gave : (server : ℕ) → port_line_of rule (seen server) ≡ Some (record {
         outside = next_of content;
         protocol = flow.protocol;
@@ -121,7 +127,8 @@ module _ (rule : NatRule) where
         → outcome.packet ≡ packet_after packet told.end.verdict
     packet_of told is = ap (λ (t : Asked). packet_after packet t.end.verdict) is
 
-    no_line : (server : ℕ) (line : PortLine) → flow_found packet ≡ None → port_line_of rule (seen server) ≡ Some line → ⊥
+    no_line : (server : ℕ) (line : PortLine) → flow_found packet ≡ None → port_line_of rule (seen server) ≡ Some line →
+        ⊥
     no_line server line none told = let is : None ≡ Some line = rw none at told in cc
 
     dropped : (server : ℕ) (line : PortLine) (flow : Flow) → flow_found packet ≡ Some flow → outcome.packet ≡ None
@@ -145,7 +152,12 @@ module _ (rule : NatRule) where
           address = flow.source;
           port = flow.source_port;
         }) ≡ Some line = rw (found, is, goes) at told in
-        let here : Some (record { outside = port; protocol = flow.protocol; address = flow.source; port = flow.source_port }) ≡ Some line =
+        let here : Some (record {
+          outside = port;
+          protocol = flow.protocol;
+          address = flow.source;
+          port = flow.source_port;
+        }) ≡ Some line =
         rw (shown packet flow rule.outside port found) at same in
         cc
 

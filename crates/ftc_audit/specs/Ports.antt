@@ -13,8 +13,8 @@ abbrev pub source_port : Option Flow → ℕ
 source_port None = 0
 source_port (Some flow) = flow.source_port
 
--- The line of a packet of this flow that left the inside net: its inside endpoint, and the port with which it went on. A packet
--- that was dropped has none.
+-- The line of a packet of this flow that left the inside net: its inside endpoint, and the port with which it went on.
+-- A packet that was dropped has none.
 abbrev pub port_line_of_flow : NatRule → Option (List ℕ) → Flow → Option PortLine
 port_line_of_flow rule None flow = None
 port_line_of_flow rule (Some after) flow =

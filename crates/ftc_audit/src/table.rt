@@ -75,7 +75,8 @@ pub fn ports(
     trace: &Trace,
     server: ServerId,
 ) -> Result<PortLines, Refuse<PortsCause>>
-    ensures table { IfOk result (λ lines. IsTableOf spec.now.rules (bytes_of_packets packets.now) trace.now server lines) }
+    ensures table { IfOk result
+        (λ lines. IsTableOf spec.now.rules (bytes_of_packets packets.now) trace.now server lines) }
     ensures apart { IfOk result AreApart }
     ensures named { IfOk result AreNamed }
     ensures bad { IfBad result (IsCause spec.now.rules (bytes_of_packets packets.now) trace.now server) }

@@ -3,7 +3,8 @@
 ghost use Rattle.std.specs.Prelude.{◌≡◌, ◌+◌, ◌^◌, ◌<◌, ◌%◌, slice_index, length, ◌==◌};
 ghost use Rattle.std.specs.Int.{to_be_bytes, w32};
 ghost use Rattle.std.specs.List.{list_any};
-ghost use Rattle.ftc_balance.specs.Balance.{client_key, turn_key, turn_in, new_client, from_client, from_backend, replied, balance_ask};
+ghost use Rattle.ftc_balance.specs.Balance.{client_key, turn_key, turn_in, new_client, from_client, from_backend};
+ghost use Rattle.ftc_balance.specs.Balance.{replied, balance_ask};
 
 use crate::rule::BalanceRule;
 use ftc_base::{Answer, Answers, Ask, Change, Finish, Key, Value, Verdict, Write, Writes};

@@ -1,9 +1,11 @@
 -- Printed numbers are read again, and a word that is read as a number is that number printed.
-use Rattle.std.proofs.Common.{◌≡◌, ◌≤◌, ◌<◌, ◌^◌, ℕ, zero, suc, Bool, true, false, List, [], ◌∷◌, length, get_or, if◌then◌else◌, ◌⊎◌, refl, sym, ap, ◌∙◌, arith, rules, Ok, Err}
+use Rattle.std.proofs.Common.{◌≡◌, ◌≤◌, ◌<◌, ◌^◌, ℕ, zero, suc, Bool, true, false, List, [], ◌∷◌, length, get_or}
+use Rattle.std.proofs.Common.{if◌then◌else◌, ◌⊎◌, refl, sym, ap, ◌∙◌, arith, rules, Ok, Err}
 use Rattle.std.specs.Prelude.{◌==◌, ◌&&◌, nat_le, not, decimal}
 use Rattle.std.specs.List.{AllByRecursion, list_all}
 use Rattle.std.proofs.lemmas.Bool.Decides.{nat_tests}
-use Rattle.std.proofs.lemmas.Fmt.{digits_decimal, digits_value-decimal, decimal_digit, first_decimal, decimal_nonempty, decimal-digits_value}
+use Rattle.std.proofs.lemmas.Fmt.{digits_decimal, digits_value-decimal, decimal_digit, first_decimal, decimal_nonempty}
+use Rattle.std.proofs.lemmas.Fmt.{decimal-digits_value}
 use Rattle.std.proofs.lemmas.Str.Parse.{IsNumeralModel, numerals_by_fold}
 use Rattle.ftc_base.specs.Number.{number_of, is_numeral, is_digit, decimal_from}
 use Rattle.ftc_base.specs.declared.lexer.Lexical.TheVariants.{NotNumber, TooLarge}
@@ -84,19 +86,24 @@ number_of-decimal n most within small =
 
 pub number_spelled : (word : List ℕ) (n most : ℕ) → most ≤ 4294967295 → number_of word most ≡ Ok n
     → (word ≡ decimal n) × (n ≤ most)
-number_spelled word n most low e = elim (is_numeral word) as (λ t. is_numeral word ≡ t → (if t then (if nat_le (decimal_from 0 word) most then Ok (decimal_from 0 word) else Err TooLarge) else Err NotNumber) ≡ Ok n → (word ≡ decimal n) × (n ≤ most)) [
-  | true ↦ λ is. elim (nat_le (decimal_from 0 word) most) as (λ t. nat_le (decimal_from 0 word) most ≡ t → (if t then Ok (decimal_from 0 word) else Err TooLarge) ≡ Ok n → (word ≡ decimal n) × (n ≤ most)) [
-    | true ↦ λ fits told.
-        let worth : decimal_from 0 word ≡ n = cc in
-        let small : decimal_from 0 word ≤ most = grind (arith, nat_tests) in
-        let made = numeral_is word is in (
-          sym (ap decimal (sym worth) ∙ decimal-digits_value own word made.digits made.some made.alone (omega arith)),
-          omega arith,
-        )
-    | false ↦ λ fits told. absurd cc
-  ] refl
-  | false ↦ λ is told. absurd cc
-] refl e
+number_spelled word n most low e =
+    elim (is_numeral word) as (λ t. is_numeral word ≡ t →
+    (if t then (if nat_le (decimal_from 0 word) most then Ok (decimal_from 0 word) else Err TooLarge)
+    else Err NotNumber) ≡ Ok n → (word ≡ decimal n) × (n ≤ most)) [
+      | true ↦ λ is. elim (nat_le (decimal_from 0 word) most) as (λ t. nat_le (decimal_from 0 word) most ≡ t →
+          (if t then Ok (decimal_from 0 word) else Err TooLarge) ≡ Ok n → (word ≡ decimal n) × (n ≤ most)) [
+            | true ↦ λ fits told.
+                let worth : decimal_from 0 word ≡ n = cc in
+                let small : decimal_from 0 word ≤ most = grind (arith, nat_tests) in
+                let made = numeral_is word is in (
+                  sym (ap decimal (sym worth) ∙ decimal-digits_value own word made.digits made.some made.alone
+                      (omega arith)),
+                  omega arith,
+                )
+            | false ↦ λ fits told. absurd cc
+          ] refl
+      | false ↦ λ is told. absurd cc
+    ] refl e
 
 without_digits : (separator : ℕ) (ds : List ℕ) → (separator < 48) ⊎ (57 < separator) → AllByRecursion IsDigit ds
     → Without separator ds

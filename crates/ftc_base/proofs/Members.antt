@@ -1,10 +1,12 @@
 -- The members of a set after a change.
-use Rattle.std.proofs.Common.{◌≡◌, ◌≢◌, ◌/◌, ◌-◌, ℕ, ◌<◌, ◌≤◌, ◌*◌, ◌%◌, ◌^◌, Bool, true, false, refl, sym, ap, ◌∙◌, arith, cond, inl, inr}
+use Rattle.std.proofs.Common.{◌≡◌, ◌≢◌, ◌/◌, ◌-◌, ℕ, ◌<◌, ◌≤◌, ◌*◌, ◌%◌, ◌^◌, Bool, true, false, refl, sym, ap, ◌∙◌}
+use Rattle.std.proofs.Common.{arith, cond, inl, inr}
 use Rattle.std.specs.Prelude.{◌==◌, ◌||◌, ◌&&◌, not, min, ◌⊎◌}
 use Rattle.std.specs.Int.{bit_at, bit_not, w64}
 use Rattle.std.specs.Int.RustNames.{bit_or, bit_and}
 use Rattle.std.proofs.lemmas.Bool.{cases_eq}
-use Rattle.std.proofs.lemmas.Nat.Bits.{bit_at_set_same, bit_at_set_other, bit_at_clear_same, bit_at_clear_other, bit_at_and, bit_at_above, bit_at-lt, same_from_bits, shr_and_one, bit_at-zero}
+use Rattle.std.proofs.lemmas.Nat.Bits.{bit_at_set_same, bit_at_set_other, bit_at_clear_same, bit_at_clear_other}
+use Rattle.std.proofs.lemmas.Nat.Bits.{bit_at_and, bit_at_above, bit_at-lt, same_from_bits, shr_and_one, bit_at-zero}
 use Rattle.std.proofs.lemmas.Bool.Decides.{nat_tests}
 use Rattle.ftc_base.specs.Sets.{has}
 
@@ -16,11 +18,14 @@ pub has-bit : (set number : ℕ) → (bit_and (set / 2 ^ number) 1 == 1) ≡ has
 unfolding has
 has-bit set number = rw (shr_and_one set number) refl
 
-pub has-with : (set number member : ℕ) → number < 64 → has (bit_or set (1 * 2 ^ number % 2 ^ 64)) member ≡ (member == number || has set member)
+pub has-with : (set number member : ℕ) → number < 64 →
+    has (bit_or set (1 * 2 ^ number % 2 ^ 64)) member ≡ (member == number || has set member)
 unfolding has
-has-with set number member within = grind (arith, nat_tests, bit_at_set_same w64 set number within, bit_at_set_other w64 set number within member)
+has-with set number member within =
+    grind (arith, nat_tests, bit_at_set_same w64 set number within, bit_at_set_other w64 set number within member)
 
-pub has-without : (set number member : ℕ) → number < 64 → set < 2 ^ 64 → has (bit_and set (bit_not w64 (1 * 2 ^ number % 2 ^ 64))) member ≡ (not (member == number) && has set member)
+pub has-without : (set number member : ℕ) → number < 64 → set < 2 ^ 64 →
+    has (bit_and set (bit_not w64 (1 * 2 ^ number % 2 ^ 64))) member ≡ (not (member == number) && has set member)
 unfolding has
 has-without set number member within small =
     let high : 64 ≤ member → bit_at set member ≡ 0 = bit_at_above set 64 member small in

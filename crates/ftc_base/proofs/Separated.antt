@@ -33,7 +33,8 @@ written separator (b ∷ bs) e =
 pub parts_of-part : (separator : ℕ) (part rest : List ℕ) → (separator == separator) ≡ true → Without separator part
     → parts_of separator (part ++ separator ∷ rest) ≡ part ∷ parts_of separator rest
 parts_of-part separator [] rest same all = rw same refl
-parts_of-part separator (b ∷ bs) rest same all = rw all.0 (ap (onto_first b) (parts_of-part separator bs rest same all.1))
+parts_of-part separator (b ∷ bs) rest same all =
+    rw all.0 (ap (onto_first b) (parts_of-part separator bs rest same all.1))
 
 pub parts_of-last : (separator : ℕ) (part : List ℕ) → Without separator part → parts_of separator part ≡ part ∷ []
 parts_of-last separator [] all = refl

@@ -1,5 +1,6 @@
 -- The address or the net that a word spells, and the bytes of an address with a port.
-use Rattle.std.specs.Prelude.{◌≡◌, ◌≤◌, ◌+◌, ◌*◌, ◌-◌, ◌/◌, ◌^◌, ◌==◌, ℕ, Bool, List, [], ◌∷◌, ◌++◌, Option, Some, None, Result, Ok, Err, if◌then◌else◌, codes}
+use Rattle.std.specs.Prelude.{◌≡◌, ◌≤◌, ◌+◌, ◌*◌, ◌-◌, ◌/◌, ◌^◌, ◌==◌, ℕ, Bool, List, [], ◌∷◌, ◌++◌, Option, Some, None}
+use Rattle.std.specs.Prelude.{Result, Ok, Err, if◌then◌else◌, codes}
 use Rattle.std.specs.Int.{w16, w32, to_be_bytes}
 use Rattle.std.specs.List.{slice_split}
 use Rattle.std.specs.Str.{bytes_eq}
@@ -19,7 +20,9 @@ with_octet (Ok high) (Err fault) = Err NotAddress
 with_octet (Err fault) low = Err NotAddress
 
 abbrev pub address_in : List (List ℕ) → Result ℕ Lexical
-address_in (a ∷ b ∷ c ∷ d ∷ []) = with_octet (with_octet (with_octet (with_octet (Ok 0) (number_of a 255)) (number_of b 255)) (number_of c 255)) (number_of d 255)
+address_in (a ∷ b ∷ c ∷ d ∷ []) =
+    with_octet (with_octet (with_octet (with_octet (Ok 0) (number_of a 255)) (number_of b 255)) (number_of c 255))
+    (number_of d 255)
 address_in parts = Err NotAddress
 
 -- four numbers up to 255 with dots between them

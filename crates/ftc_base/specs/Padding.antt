@@ -7,7 +7,8 @@ abbrev pub padded : List ℕ → List ℕ
 padded xs = xs ++ replicate (16 - length xs) 0
 
 -- what was made up is found again
-pub padded-take : (bytes : List ℕ) (len : ℕ) → length bytes ≡ 16 → len ≤ 16 → drop len bytes ≡ replicate (16 - len) 0 → padded (take len bytes) ≡ bytes
+pub padded-take : (bytes : List ℕ) (len : ℕ) → length bytes ≡ 16 → len ≤ 16 → drop len bytes ≡ replicate (16 - len) 0 →
+    padded (take len bytes) ≡ bytes
 padded-take bytes len size small zeros =
     let taken : length (take len bytes) ≡ len = omega (arith, length-take len bytes) in
     rw (taken, ← zeros) (take-append-drop len bytes)

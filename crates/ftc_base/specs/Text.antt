@@ -1,5 +1,7 @@
 -- A text as lines, a line as words, and what a word says.
-use Rattle.std.specs.Prelude.{◌≡◌, ◌≢◌, ◌⊎◌, ◌≤◌, ◌<◌, ◌+◌, ◌*◌, ◌-◌, ℕ, suc, Bool, true, false, ◌||◌, ◌&&◌, ◌==◌, not, nat_le, List, [], ◌∷◌, length, slice_get, slice_index, slice_range, All, Some, Result, Ok, Err, if◌then◌else◌}
+use Rattle.std.specs.Prelude.{◌≡◌, ◌≢◌, ◌⊎◌, ◌≤◌, ◌<◌, ◌+◌, ◌*◌, ◌-◌, ℕ, suc, Bool, true, false, ◌||◌, ◌&&◌, ◌==◌, not}
+use Rattle.std.specs.Prelude.{nat_le, List, [], ◌∷◌, length, slice_get, slice_index, slice_range, All, Some, Result, Ok}
+use Rattle.std.specs.Prelude.{Err, if◌then◌else◌}
 use Rattle.std.specs.List.{list_all, onto_first}
 use Rattle.ftc_base.specs.declared.lexer.Line.{Line}
 use Rattle.ftc_base.specs.declared.lexer.Word.{Word}
@@ -31,7 +33,8 @@ pub record IsLine (text : List ℕ) (from : ℕ) (line : Line) : Type 0 where
   pub ordered : line.start ≤ line.end
   pub within : line.end ≤ length text
   pub no_feed : All (λ b. b ≢ 10) (slice_range text line.start line.end)
-  pub ended : ((slice_get text line.end ≡ Some 10) × (line.next ≡ line.end + 1)) ⊎ ((line.end ≡ length text) × (line.next ≡ length text))
+  pub ended : ((slice_get text line.end ≡ Some 10) × (line.next ≡ line.end + 1))
+      ⊎ ((line.end ≡ length text) × (line.next ≡ length text))
 
 -- the first bytes at or after `from` that are no blanks, with a blank or the end behind them
 pub record IsWord (line : List ℕ) (from : ℕ) (word : Word) : Type 0 where

@@ -29,11 +29,15 @@ impl Model for Key {
 
     ghost view = { λ key. take key.len key.bytes };
 
-    ghost invariant = { λ key. (length key.bytes ≡ 16) × (1 ≤ key.len) × (key.len ≤ 16) × (drop key.len key.bytes ≡ replicate (16 - key.len) 0) };
+    ghost invariant = { λ key. (length key.bytes ≡ 16) × (1 ≤ key.len) × (key.len ≤ 16)
+        × (drop key.len key.bytes ≡ replicate (16 - key.len) 0) };
 
     ghost inverse = { λ bytes. record { bytes = padded bytes; len = length bytes } };
 
-    ghost inverse_ok = { λ key held. rw (padded-take key.bytes key.len held.0 held.2 held.3, length-front key.bytes key.len held.0 held.2) refl };
+    ghost inverse_ok = { λ key held. rw (
+      padded-take key.bytes key.len held.0 held.2 held.3,
+      length-front key.bytes key.len held.0 held.2,
+    ) refl };
 }
 
 impl Key {
@@ -136,11 +140,15 @@ impl Model for Value {
 
     ghost view = { λ value. take value.len value.bytes };
 
-    ghost invariant = { λ value. (length value.bytes ≡ 16) × (value.len ≤ 16) × (drop value.len value.bytes ≡ replicate (16 - value.len) 0) };
+    ghost invariant = { λ value. (length value.bytes ≡ 16) × (value.len ≤ 16)
+        × (drop value.len value.bytes ≡ replicate (16 - value.len) 0) };
 
     ghost inverse = { λ bytes. record { bytes = padded bytes; len = length bytes } };
 
-    ghost inverse_ok = { λ value held. rw (padded-take value.bytes value.len held.0 held.1 held.2, length-front value.bytes value.len held.0 held.1) refl };
+    ghost inverse_ok = { λ value held. rw (
+      padded-take value.bytes value.len held.0 held.1 held.2,
+      length-front value.bytes value.len held.0 held.1,
+    ) refl };
 }
 
 impl Value {

@@ -1,6 +1,7 @@
 //! Where lines and words stand in a text.
 
-ghost use Rattle.std.specs.Prelude.{◌≡◌, ◌≤◌, ◌<◌, ◌↔◌, length, true, false, drop, slice_index, slice_range, All, IsNone, IfSome, IfNone};
+ghost use Rattle.std.specs.Prelude.{◌≡◌, ◌≤◌, ◌<◌, ◌↔◌, length, true, false, drop, slice_index, slice_range, All};
+ghost use Rattle.std.specs.Prelude.{IsNone, IfSome, IfNone};
 ghost use Rattle.ftc_base.specs.Text.{IsLine, IsWord, is_blank};
 
 use thiserror::Error;

@@ -44,8 +44,8 @@ impl Sum {
     }
 }
 
-/// What is held under the latch in a run: all holds, and what the events of each kind have of them. A frame that is taken and
-/// a rule that is asked have no part in it; the frame that a pass writes does.
+/// What is held under the latch in a run: all holds, and what the events of each kind have of them. A frame that is
+/// taken and a rule that is asked have no part in it; the frame that a pass writes does.
 #[derive(Clone, Copy, Debug)]
 pub struct Holds {
     pub all: Sum,

@@ -1,4 +1,5 @@
-//! Times of the calls on which each hop of a packet stands, and of workers before slow middleboxes. They are printed where the word `bench` is given.
+//! Times of the calls on which each hop of a packet stands, and of workers before slow middleboxes. They are printed
+//! where the word `bench` is given.
 #![tactic(auto)]
 
 mod holds;

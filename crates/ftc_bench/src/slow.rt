@@ -85,8 +85,8 @@ impl Load {
     }
 }
 
-/// The nanoseconds that so many workers need where each visit stays so many in its middlebox. None where there was no memory,
-/// or no clock.
+/// The nanoseconds that so many workers need where each visit stays so many in its middlebox. None where there was no
+/// memory, or no clock.
 pub fn slow_run<R: AllocGlobal + Clock + Threads + Wait + Sync>(
     rt: &R,
     workers: u8,

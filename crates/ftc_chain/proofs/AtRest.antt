@@ -1,11 +1,13 @@
 -- What is known of a chain between two calls.
-use Rattle.std.proofs.Common.{◌≡◌, ◌∙◌, ◌<◌, ◌≤◌, ◌+◌, ◌-◌, ◌^◌, ℕ, List, [], ◌∷◌, true, Option, Some, None, length, refl, sym, subst, arith}
+use Rattle.std.proofs.Common.{◌≡◌, ◌∙◌, ◌<◌, ◌≤◌, ◌+◌, ◌-◌, ◌^◌, ℕ, List, [], ◌∷◌, true, Option, Some, None, length}
+use Rattle.std.proofs.Common.{refl, sym, subst, arith}
 use Rattle.std.specs.Prelude.{IfSome, is_some}
 use Rattle.std.proofs.Math.Logic.{∥∥₁_elim}
 use Rattle.ftc_base.specs.declared.limits.TheConstants.{MOST_RECORDS}
 use Rattle.ftc_jobs.specs.Rest.{IsAtRest}
 use Rattle.ftc_journal.specs.declared.event.Event.{Event}
-use Rattle.ftc_journal.specs.declared.event.Event.TheVariants.{Enter, Take, Apply, Visit, Pass, Lose, Carry, Crash, Recover, Pull, Propagate, Release}
+use Rattle.ftc_journal.specs.declared.event.Event.TheVariants.{Enter, Take, Apply, Visit, Pass, Lose, Carry, Crash}
+use Rattle.ftc_journal.specs.declared.event.Event.TheVariants.{Recover, Pull, Propagate, Release}
 use Rattle.ftc_journal.specs.declared.job.Job.{Job}
 use Rattle.ftc_pcap.specs.declared.packets.Packet.{Packet}
 use Rattle.ftc_serial.specs.Packets.{bytes_of_packets}
@@ -75,9 +77,11 @@ some_cannot Fact (Some item) some cannot fact = ∥∥₁_elim fact none_is (can
 
 -- jobs may be asked for
 pub at_rest : (given : Given) (course : Course) (packets : ℕ) → packets ≡ length given.packets.now →
-    ((setting : Setting) → IsSetting setting → (journal : List Event) → IsRun setting journal → AreFew setting journal) →
+    ((setting : Setting) → IsSetting setting → (journal : List Event) → IsRun setting journal →
+    AreFew setting journal) →
     most_messages (setting_by given) < 2 ^ 32 → IsResting (setting_by given) course →
-    IsAtRest (setting_by given) (state_by (setting_by given) course.journal.items) given.script.now packets course.network
+    IsAtRest (setting_by given)
+    (state_by (setting_by given) course.journal.items) given.script.now packets course.network
 at_rest given course packets same begun few is =
     let setting : Setting = setting_by given in
     let state : ChainState = state_by setting course.journal.items in
@@ -107,7 +111,8 @@ events_are setting journal =
 
 -- a legal job may be done
 pub may_do : (setting : Setting) (course : Course) (job : Job) → length course.journal.items < 2 ^ 64 - 1 →
-    IsCourse setting course → IsLegalJob setting (state_by setting course.journal.items) job → MayDo setting job course.network
+    IsCourse setting course → IsLegalJob setting (state_by setting course.journal.items) job →
+    MayDo setting job course.network
 may_do setting course job few is legal = record {
   state = state_by setting course.journal.items;
   run = is_run_state setting course is;

@@ -1,5 +1,6 @@
 -- A commit that makes a visit.
-use Rattle.std.proofs.Common.{◌≡◌, ◌≢◌, ◌∙◌, ◌++◌, [], ◌∷◌, ◌<◌, ◌-◌, ◌^◌, ◌↔◌, ℕ, List, length, false, Option, Some, None, Result, Ok, Err, OnOk, refl, sym, ap, subst}
+use Rattle.std.proofs.Common.{◌≡◌, ◌≢◌, ◌∙◌, ◌++◌, [], ◌∷◌, ◌<◌, ◌-◌, ◌^◌, ◌↔◌, ℕ, List, length, false, Option, Some}
+use Rattle.std.proofs.Common.{None, Result, Ok, Err, OnOk, refl, sym, ap, subst}
 use Rattle.std.specs.Prelude.{is_err}
 use Rattle.std.proofs.Math.Logic.{∥∥₁_map, ∥∥₁_elim, ∥∥₁_prop}
 use Rattle.ftc_base.specs.declared.ask.Ask.TheVariants.{Finish}
@@ -34,7 +35,8 @@ use Rattle.ftc_chain.proofs.AtRest.{events_are}
 use Rattle.ftc_chain.proofs.HeadsKept.{head_as, once_as, once_kept, others_no_more}
 use Rattle.ftc_chain.proofs.Made.{run_of, still_rests, stepped}
 use Rattle.ftc_chain.proofs.Releases.{is_run_state}
-use Rattle.ftc_chain.proofs.SlotCalls.{live_of, after_end, Asks, asked_as, inside_of, other_heads, ends_no_more, undone_at}
+use Rattle.ftc_chain.proofs.SlotCalls.{live_of, after_end, Asks, asked_as, inside_of, other_heads, ends_no_more}
+use Rattle.ftc_chain.proofs.SlotCalls.{undone_at}
 
 -- a network between two calls is at rest
 pub at_rest_there : (setting : Setting) (course : Course) (network : Network) → network ≡ course.network →
@@ -59,11 +61,13 @@ module _ (given : Given) (old : Course) (network mid : Network) (worker server p
     (named : running.packet ≡ packet) (follows : FollowsCommit worker server network mid)
     (slots : (setting : Setting) (state : ChainState) →
     IsLegalJob setting state (job.Visit server packet) ↔ IsLegal setting state (event.Visit server packet worker)) where
-  pub visit_done : HasDone (setting_by given) worker (job.Visit server packet) (event.Visit server packet worker) network mid
+  pub visit_done : HasDone (setting_by given) worker (job.Visit server packet)
+      (event.Visit server packet worker) network mid
   visit_done state run legal stands = (
     refl,
     ∥∥₁_map (follows (setting_by given) state running run (legal.1 refl) stands runs) (λ both.
-        subst (λ (p : ℕ). IsNetwork (setting_by given) (next (setting_by given) state (event.Visit server p worker)) mid)
+        subst (λ (p : ℕ). IsNetwork (setting_by given)
+        (next (setting_by given) state (event.Visit server p worker)) mid)
         named both.1),
   )
 
@@ -121,11 +125,13 @@ done_at given old mid new worker server packet rests inside others stay asks end
 
 -- ---- a commit that makes no visit
 
-module _ (given : Given) (old room : Course) (mid : Network) (run : ChainRun) (worker server : ℕ) (answer : CommitAnswer)
+module _ (given : Given) (old room : Course) (mid : Network) (run : ChainRun) (worker server : ℕ)
+    (answer : CommitAnswer)
     (same : run_of given old ≡ run) (rests : ∥ IsResting (setting_by given) old ∥₁)
     (journal : room.journal.items ≡ old.journal.items) (roomed : room.network ≡ old.network)
     (waiting : room.outlet.waiting ≡ old.outlet.waiting) (drained : room.outlet.drained ≡ old.outlet.drained)
-    (ends : SlotEndsVisit (server_in room.network.servers.items server) (server_in mid.servers.items server) worker answer)
+    (ends : SlotEndsVisit (server_in room.network.servers.items server)
+    (server_in mid.servers.items server) worker answer)
     (others : (other : ℕ) → other ≢ server →
     server_in mid.servers.items other ≡ server_in room.network.servers.items other) where
   abbrev new : Course
@@ -138,7 +144,8 @@ module _ (given : Given) (old room : Course) (mid : Network) (run : ChainRun) (w
   pub once_ended : RunsOnce old.network → RunsOnce mid
   once_ended once = once_kept room.network mid
       (others_no_more server room.network mid (other_heads room.network mid server others)
-      (ends_no_more (server_in room.network.servers.items server) (server_in mid.servers.items server) worker answer ends))
+      (ends_no_more (server_in room.network.servers.items server)
+      (server_in mid.servers.items server) worker answer ends))
       (once_as old.network room.network roomed once)
 
   pub undone : answer ≢ commit.Done → StandsStill room.network mid → server < old.network.ring.servers →
@@ -149,7 +156,8 @@ module _ (given : Given) (old room : Course) (mid : Network) (run : ChainRun) (w
       (subst (λ (n : Network). (other : ℕ) → other ≢ server →
       server_in mid.servers.items other ≡ server_in n.servers.items other) roomed others)
       journal drained (undone_rests stands) asks answer not
-      (subst (λ (n : Network). SlotEndsVisit (server_in n.servers.items server) (server_in mid.servers.items server) worker
+      (subst (λ (n : Network). SlotEndsVisit (server_in n.servers.items server)
+      (server_in mid.servers.items server) worker
       answer) roomed ends)))
 
 -- ---- a commit that makes one
@@ -166,7 +174,8 @@ module _ (given : Given) (old room : Course) (mid : Network) (events : EventList
     (grown : events.items ≡ room.journal.items ++ event.Visit server packet worker ∷ [])
     (runs : runs_in (head_at old.network server) worker ≢ None)
     (named : Some packet ≡ packet_of (runs_in (head_at old.network server) worker))
-    (released : (setting : Setting) → IsCourse setting (record { journal = events; network = mid; outlet = room.outlet }) →
+    (released : (setting : Setting) →
+    IsCourse setting (record { journal = events; network = mid; outlet = room.outlet }) →
     HasReleased setting (record { journal = events; network = mid; outlet = room.outlet }) new) where
   -- the visit stands in the journal, and the releases that are due behind it
   pub visit_made : FollowsCommit worker server room.network mid →
@@ -174,7 +183,8 @@ module _ (given : Given) (old room : Course) (mid : Network) (events : EventList
       IsLegalJob setting state (job.Visit server packet) ↔ IsLegal setting state (event.Visit server packet worker)) →
       ((setting : Setting) (state : ChainState) (events : List Event) → AreReleases setting state events →
       IsNoneDue setting (state_after setting state events)) →
-      ∥ IsResting (setting_by given) new × HasMade worker (job.Visit server packet) (run_of given old) (run_of given new) ∥₁
+      ∥ IsResting (setting_by given) new
+      × HasMade worker (job.Visit server packet) (run_of given old) (run_of given new) ∥₁
   visit_made follows slots ends =
       let live_is = live_of (server_in old.network.servers.items server) worker runs in
       let runs_old : runs_in (head_at old.network server) worker ≡ Some live_is.running =
@@ -184,7 +194,9 @@ module _ (given : Given) (old room : Course) (mid : Network) (events : EventList
       ∥∥₁_elim rests ∥∥₁_prop (λ is. stepped given worker (job.Visit server packet) old room
       (record { journal = events; network = mid; outlet = room.outlet }) new (event.Visit server packet worker)
       (run_of given old) refl ∣ is ∣₁
-      (visit_legal given old room.network mid worker server packet roomed live_is.running runs_room packet_is follows slots is)
+      (visit_legal given old room.network mid worker server packet roomed live_is.running runs_room packet_is follows
+      slots is)
       (λ setting state. (slots setting state).1) journal roomed waiting drained refl grown
-      (visit_done given old room.network mid worker server packet roomed live_is.running runs_room packet_is follows slots)
+      (visit_done given old room.network mid worker server packet roomed live_is.running runs_room packet_is follows
+      slots)
       released ends)

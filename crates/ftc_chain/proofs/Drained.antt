@@ -1,5 +1,6 @@
 -- What is taken out of a chain.
-use Rattle.std.proofs.Common.{◌≡◌, ◌++◌, ◌+◌, ◌≤◌, [], ◌∷◌, List, Option, Some, None, take, length, refl, ap, arith, eq-eqb, eqb-true}
+use Rattle.std.proofs.Common.{◌≡◌, ◌++◌, ◌+◌, ◌≤◌, [], ◌∷◌, List, Option, Some, None, take, length, refl, ap, arith}
+use Rattle.std.proofs.Common.{eq-eqb, eqb-true}
 use Rattle.std.specs.Prelude.{IfSome, IsNone}
 use Rattle.std.specs.Coded.{Coded-set}
 use Rattle.std.proofs.Math.Bool.{Bool-set}
@@ -23,8 +24,10 @@ pub taken_out : (released : List Released) (old new : Outgoing) (result : Option
     IfSome result (λ one. old.waiting ≡ one ∷ new.waiting) → IfSome result (λ one. new.drained ≡ old.drained + 1) →
     (IsNone result → new.waiting ≡ old.waiting) → (IsNone result → new.drained ≡ old.drained) →
     IsOutlet released old → IsOutlet released new
-taken_out released old new None waiting drained same uncounted is = still_out released old new (same refl) (uncounted refl) is
-taken_out released old new (Some one) waiting drained same uncounted is = one_out released old new one waiting drained is
+taken_out released old new None waiting drained same uncounted is =
+    still_out released old new (same refl) (uncounted refl) is
+taken_out released old new (Some one) waiting drained same uncounted is =
+    one_out released old new one waiting drained is
 
 -- what follows of two facts of an item, where there is one
 pub both_some : {A : Type 0} (One Two Fact : A → Type 0) (option : Option A) →

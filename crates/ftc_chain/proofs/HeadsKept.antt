@@ -1,5 +1,6 @@
 -- Heads through the calls of a network, and as a contract sees them.
-use Rattle.std.proofs.Common.{◌≡◌, ◌∙◌, ℕ, zero, suc, List, [], ◌∷◌, map, Option, Some, None, length, slice_index_or, inl, inr, refl, sym, ap, subst, arith}
+use Rattle.std.proofs.Common.{◌≡◌, ◌∙◌, ℕ, zero, suc, List, [], ◌∷◌, map, Option, Some, None, length, slice_index_or}
+use Rattle.std.proofs.Common.{inl, inr, refl, sym, ap, subst, arith}
 use Rattle.std.proofs.lemmas.Bool.{cases_eq}
 use Rattle.ftc_journal.specs.declared.job.Job.{Job}
 use Rattle.ftc_journal.specs.declared.job.Job.TheVariants as job
@@ -85,7 +86,8 @@ pub once_as : (old new : Network) → new ≡ old → RunsOnce old → RunsOnce 
 once_as old new same = subst RunsOnce (sym same)
 
 -- after a job, and then releases
-pub once_after : (done : Job) (old room mid new : Network) → room ≡ old → HeadsDone done room mid → AreSameHeads mid new →
+pub once_after : (done : Job) (old room mid new : Network) → room ≡ old → HeadsDone done room mid →
+    AreSameHeads mid new →
     RunsOnce old → RunsOnce new
 once_after done old room mid new same did stays once =
     once_kept mid new (same_no_more mid new stays)

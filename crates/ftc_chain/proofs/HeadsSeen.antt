@@ -35,7 +35,8 @@ module _ (given : Given) (old new : Course) (run : ChainRun) (same : run_of give
   pub heads_stay : AreSameHeads old.network new.network → HeadsStay run (run_of given new)
   heads_stay stay server = one_stays server (stay server)
 
-  pub others_stay : (server : ℕ) → AreOtherHeads server old.network new.network → OthersStay server run (run_of given new)
+  pub others_stay : (server : ℕ) → AreOtherHeads server old.network new.network →
+      OthersStay server run (run_of given new)
   others_stay server stay other differs = one_stays other (stay other differs)
 
   -- a slot that is idle stays so

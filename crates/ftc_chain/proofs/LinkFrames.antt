@@ -1,5 +1,6 @@
 -- The oldest frame on a link.
-use Rattle.std.proofs.Common.{◌≡◌, ◌∷◌, ◌≤◌, ℕ, List, [], Option, Some, None, Result, Ok, refl, sym, ap, subst, arith, eq-eqb, eqb-true}
+use Rattle.std.proofs.Common.{◌≡◌, ◌∷◌, ◌≤◌, ℕ, List, [], Option, Some, None, Result, Ok, refl, sym, ap, subst, arith}
+use Rattle.std.proofs.Common.{eq-eqb, eqb-true}
 use Rattle.std.specs.Prelude.{IfSome}
 use Rattle.std.specs.Option.{option_map}
 use Rattle.std.proofs.lemmas.Option.{none-some, same_Some}
@@ -61,7 +62,8 @@ none_past setting state link order past origin = no_item (queued_on state link o
 abbrev pub frame_told : List SentMessage → Option (Result SentMessage FrameFault)
 frame_told messages = option_map Ok (oldest_of messages)
 
-module _ (setting : Setting) (state : ChainState) (link : ℕ) (queue : Queue) (is : IsLink setting state link queue) where
+module _ (setting : Setting) (state : ChainState) (link : ℕ) (queue : Queue)
+    (is : IsLink setting state link queue) where
   are_queued : (messages : List SentMessage) → queue.messages ≡ messages →
       AreArrived since_of origin_of (IsSentAs setting state) (queued_on state link) messages
   are_queued messages parts =

@@ -1,10 +1,12 @@
 -- A chain after one job more.
-use Rattle.std.proofs.Common.{◌≡◌, ◌∙◌, ◌++◌, [], ◌∷◌, ℕ, List, map, Option, take, false, refl, arith, sym, ap, subst, append_assoc}
+use Rattle.std.proofs.Common.{◌≡◌, ◌∙◌, ◌++◌, [], ◌∷◌, ℕ, List, map, Option, take, false, refl, arith, sym, ap, subst}
+use Rattle.std.proofs.Common.{append_assoc}
 use Rattle.std.proofs.Math.Logic.{∥∥₁_elim, ∥∥₁_map, ∥∥₁_map₂, ∥∥₁_prop}
 use Rattle.ftc_base.specs.declared.released.Released.{Released}
 use Rattle.ftc_journal.specs.declared.event.Event.{Event}
 use Rattle.ftc_journal.specs.declared.job.Job.{Job}
-use Rattle.ftc_journal.specs.declared.job.Job.TheVariants.{Enter, Take, Apply, Visit, Pass, Lose, Carry, Crash, Recover, Pull, Propagate}
+use Rattle.ftc_journal.specs.declared.job.Job.TheVariants.{Enter, Take, Apply, Visit, Pass, Lose, Carry, Crash, Recover}
+use Rattle.ftc_journal.specs.declared.job.Job.TheVariants.{Pull, Propagate}
 use Rattle.ftc_chain.specs.ChainRun.{ChainRun, setting_in, chain_state}
 use Rattle.ftc_network.specs.Slots.{head_of}
 use Rattle.ftc_network.specs.Stand.{IsNetwork}
@@ -114,7 +116,8 @@ module _ (given : Given) (slot : ℕ) (job : Job) (old mid new : Course) (is : I
       record {
         releases = done.releases;
         due = subst (λ (s : ChainState). AreReleases setting s done.releases)
-            (ap (state_by setting) between.grown ∙ state_and setting (opening setting) old.journal.items event) done.due;
+            (ap (state_by setting) between.grown ∙ state_and setting
+            (opening setting) old.journal.items event) done.due;
         grown =
             let journal : new.journal.items ≡ old.journal.items ++ event ∷ done.releases =
             done.grown ∙ (ap (λ (journal : List Event). journal ++ done.releases) between.grown
@@ -137,7 +140,8 @@ pub before : (given : Given) (course : Course) (job : Job) (run : ChainRun) → 
     × IsLegalJob (setting_by given) (state_by (setting_by given) course.journal.items) job ∥₁
 before given course job run same resting legal =
     ∥∥₁_map₂ resting
-    (subst (λ (r : ChainRun). ∥ IsLegalJob (setting_in r) (chain_state r) job ∥₁) (sym same) legal) (λ is may. (is, may))
+    (subst (λ (r : ChainRun). ∥ IsLegalJob (setting_in r) (chain_state r) job ∥₁) (sym same) legal)
+    (λ is may. (is, may))
 
 -- what a network did for a job stands between
 pub did_between : (given : Given) (slot : ℕ) (job : Job) (old room mid : Course) (event : Event) →
@@ -147,7 +151,8 @@ pub did_between : (given : Given) (slot : ℕ) (job : Job) (old room mid : Cours
     (event_of (setting_by given) (state_by (setting_by given) old.journal.items) slot job) →
     room.journal.items ≡ old.journal.items → room.network ≡ old.network →
     room.outlet.waiting ≡ old.outlet.waiting → room.outlet.drained ≡ old.outlet.drained → mid.outlet ≡ room.outlet →
-    mid.journal.items ≡ room.journal.items ++ event ∷ [] → HasDone (setting_by given) slot job event room.network mid.network →
+    mid.journal.items ≡ room.journal.items ++ event ∷ [] →
+    HasDone (setting_by given) slot job event room.network mid.network →
     ∥ IsBetween given slot job old mid ∥₁
 did_between given slot job old room mid event is may legal same same_network waiting drained same_outlet grown done =
     let setting : Setting = setting_by given in
@@ -177,7 +182,8 @@ pub stepped : (given : Given) (slot : ℕ) (job : Job) (old room mid new : Cours
     ((setting : Setting) (state : ChainState) (events : List Event) → AreReleases setting state events →
     IsNoneDue setting (state_after setting state events)) →
     ∥ IsResting (setting_by given) new × HasMade slot job run (run_of given new) ∥₁
-stepped given slot job old room mid new event run same resting legal in_slot same_journal same_network waiting drained same_outlet
+stepped given slot job old room mid new event run same resting legal in_slot same_journal same_network waiting drained
+    same_outlet
     grown done released ends =
     ∥∥₁_elim (before given old job run same resting legal) ∥∥₁_prop (λ both.
     ∥∥₁_map (did_between given slot job old room mid event both.0 both.1

@@ -1,5 +1,6 @@
 -- The heads of a chain to which nothing has happened.
-use Rattle.std.proofs.Common.{◌≡◌, ◌<◌, ◌∙◌, ℕ, map, slice_index_or, Option, Some, None, inl, inr, sym, ap, subst, arith}
+use Rattle.std.proofs.Common.{◌≡◌, ◌<◌, ◌∙◌, ℕ, map, slice_index_or, Option, Some, None, inl, inr, sym, ap, subst}
+use Rattle.std.proofs.Common.{arith}
 use Rattle.std.proofs.lemmas.Bool.{cases_lt}
 use Rattle.std.proofs.lemmas.List.{get_or_past}
 use Rattle.ftc_mbox.specs.Chain.{Chain}
@@ -12,7 +13,8 @@ use Rattle.ftc_network.specs.Slots.{head_of, head_at, runs_in, IsIdleHead}
 use Rattle.ftc_chain.specs.Course.{RunsOnce}
 use Rattle.ftc_chain.proofs.HeadsKept.{head_as, none_runs, idle_runs}
 
-new_is_idle : (chain : Chain) (number : ℕ) (slot : Option Server) → IsNewSlot chain number slot → IsIdleHead (head_of slot)
+new_is_idle : (chain : Chain) (number : ℕ) (slot : Option Server) → IsNewSlot chain number slot →
+    IsIdleHead (head_of slot)
 new_is_idle chain number None is = absurd is
 new_is_idle chain number (Some server) is = is.idle
 

@@ -1,8 +1,10 @@
 -- What was released: each release adds a record, and no other event changes them.
-use Rattle.std.proofs.Common.{◌≡◌, ◌∙◌, ◌++◌, ◌+◌, ◌≤◌, ℕ, zero, suc, true, false, not, List, [], ◌∷◌, length, take, refl, sym, ap, arith, append_assoc, append-nil, length-append, if◌then◌else◌}
+use Rattle.std.proofs.Common.{◌≡◌, ◌∙◌, ◌++◌, ◌+◌, ◌≤◌, ℕ, zero, suc, true, false, not, List, [], ◌∷◌, length, take}
+use Rattle.std.proofs.Common.{refl, sym, ap, arith, append_assoc, append-nil, length-append, if◌then◌else◌}
 use Rattle.ftc_base.specs.declared.released.Released.{Released}
 use Rattle.ftc_journal.specs.declared.event.Event.{Event}
-use Rattle.ftc_journal.specs.declared.event.Event.TheVariants.{Enter, Take, Apply, Visit, Pass, Lose, Carry, Crash, Recover, Pull, Propagate, Release}
+use Rattle.ftc_journal.specs.declared.event.Event.TheVariants.{Enter, Take, Apply, Visit, Pass, Lose, Carry, Crash}
+use Rattle.ftc_journal.specs.declared.event.Event.TheVariants.{Recover, Pull, Propagate, Release}
 use Rattle.ftc_serial.specs.Removal.{left_of}
 use Rattle.ftc_serial.specs.Serial.{Entry, Visited, Given}
 use Rattle.ftc_serial.specs.Trace.{names}
@@ -22,7 +24,8 @@ use Rattle.ftc_chain.specs.Outlet.{Outgoing, IsOutlet}
 released_left : (out : Visits) (trace : List Entry) → released_in (left_of out trace) ≡ released_in trace
 released_left out [] = refl
 released_left out (Given packet bytes ∷ older) =
-    ap (λ (records : List Released). records ++ record { packet = packet; bytes = bytes } ∷ []) (released_left out older)
+    ap (λ (records : List Released). records ++ record { packet = packet; bytes = bytes }
+    ∷ []) (released_left out older)
 released_left out (Visited server packet outcome ∷ older) =
     elim (out server packet) as (λ b.
     released_in (if not b then Visited server packet outcome ∷ left_of out older else left_of out older)
@@ -121,7 +124,8 @@ module _ (setting : Setting) where
 
 -- ---- the outlet
 
-front_length : (drained waiting : List Released) (count : ℕ) → length drained ≡ count → take count (drained ++ waiting) ≡ drained
+front_length : (drained waiting : List Released) (count : ℕ) → length drained ≡ count →
+    take count (drained ++ waiting) ≡ drained
 front_length [] waiting zero same = refl
 front_length [] waiting (suc count) same = absurd (omega (arith, same))
 front_length (one ∷ drained) waiting zero same = absurd (omega (arith, same))
@@ -134,7 +138,8 @@ module _ (released : List Released) where
   drained_are outlet is = ap (λ (records : List Released). take outlet.drained records) is.parts
       ∙ front_length is.drained outlet.waiting outlet.drained is.count
 
-  pub few_drained : (outlet : Outgoing) → IsOutlet released outlet → outlet.drained + length outlet.waiting ≤ length released
+  pub few_drained : (outlet : Outgoing) → IsOutlet released outlet →
+      outlet.drained + length outlet.waiting ≤ length released
   few_drained outlet is =
       let same = ap (λ (records : List Released). length records) is.parts in
       omega (arith, same, is.count, length-append is.drained outlet.waiting)
@@ -177,7 +182,8 @@ module _ (released : List Released) where
       ∙ ap (λ (list : List Released). list ++ one ∷ []) (sym (drained_are old is))
 
   -- where none waits, all were taken out
-  pub all_out : (outlet : Outgoing) → outlet.waiting ≡ [] → IsOutlet released outlet → take outlet.drained released ≡ released
+  pub all_out : (outlet : Outgoing) → outlet.waiting ≡ [] → IsOutlet released outlet →
+      take outlet.drained released ≡ released
   all_out outlet none is = drained_are outlet is
       ∙ (sym (append-nil is.drained) ∙ (ap (λ (list : List Released). is.drained ++ list) (sym none) ∙ sym is.parts))
 

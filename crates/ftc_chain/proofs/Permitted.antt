@@ -50,7 +50,8 @@ done (Ok value) setting job event old new same follows = λ state run legal is.
     (follows setting state run (subst (IsLegal setting state) (sym (same state)) legal) is) ∣₁
 
 -- a job that is another was done with it
-pub done_as : {A E : Type 0} (result : Result A E) (setting : Setting) (job other : Job) (old new : Network) → job ≡ other →
+pub done_as : {A E : Type 0} (result : Result A E) (setting : Setting) (job other : Job) (old new : Network) →
+    job ≡ other →
     OnOk result (IsDone setting FINISHING_SLOT other old new) → OnOk result (IsDone setting FINISHING_SLOT job old new)
 done_as result setting job other old new same =
     subst (λ (j : Job). OnOk result (IsDone setting FINISHING_SLOT j old new)) (sym same)
@@ -73,7 +74,8 @@ may_leave setting server origin network lost same may =
     subst (λ (b : Bool). ∥ IsAllowed (leaving b server origin) network ∥₁) (sym same)
     (allowed setting (job.Lose server origin) (event.Lose server origin) network (λ state. refl) may)
 
-pub on_ok : {A E : Type 0} (result : Result A E) (Fact Other : Type 0) → (Fact → Other) → OnOk result Fact → OnOk result Other
+pub on_ok : {A E : Type 0} (result : Result A E) (Fact Other : Type 0) → (Fact → Other) → OnOk result Fact →
+    OnOk result Other
 on_ok (Ok value) Fact Other from fact = from fact
 on_ok (Err fault) Fact Other from fact = tt
 

@@ -1,10 +1,12 @@
 -- Each packet is released once at most, so there are no more records than packets.
-use Rattle.std.proofs.Common.{◌≡◌, ◌∙◌, ◌++◌, ◌<◌, ◌≤◌, ℕ, List, [], ◌∷◌, map, length, inl, inr, refl, sym, ap, subst, arith}
+use Rattle.std.proofs.Common.{◌≡◌, ◌∙◌, ◌++◌, ◌<◌, ◌≤◌, ℕ, List, [], ◌∷◌, map, length, inl, inr, refl, sym, ap, subst}
+use Rattle.std.proofs.Common.{arith}
 use Rattle.std.proofs.lemmas.Bool.{cases_lt}
 use Rattle.std.proofs.lemmas.List.{length-map}
 use Rattle.ftc_base.specs.declared.released.Released.{Released}
 use Rattle.ftc_journal.specs.declared.event.Event.{Event}
-use Rattle.ftc_journal.specs.declared.event.Event.TheVariants.{Enter, Take, Apply, Visit, Pass, Lose, Carry, Crash, Recover, Pull, Propagate, Release}
+use Rattle.ftc_journal.specs.declared.event.Event.TheVariants.{Enter, Take, Apply, Visit, Pass, Lose, Carry, Crash}
+use Rattle.ftc_journal.specs.declared.event.Event.TheVariants.{Recover, Pull, Propagate, Release}
 use Rattle.ftc_serial.specs.Serial.{Entry, Visited, Given}
 use Rattle.ftc_protocol.specs.declared.fate.Fate.{Fate}
 use Rattle.ftc_protocol.specs.declared.fate.Fate.TheVariants as became
@@ -130,5 +132,7 @@ pub fewer_than_packets : (given : GivenInputs) (course : Course) →
 fewer_than_packets given course fates order opens runs_on rest =
     let setting : Setting = setting_by given in
     no_more_than_packets setting
-    (λ state run. subst AreFates run.reaches (fates setting run.right run.journal run.run)) (order setting) (runs_on setting)
-    course.journal.items (opens setting rest.course_is.right) rest.course_is.run (is_run_state setting course rest.course_is)
+    (λ state run. subst AreFates run.reaches (fates setting run.right run.journal run.run)) (order setting)
+    (runs_on setting)
+    course.journal.items (opens setting rest.course_is.right) rest.course_is.run
+    (is_run_state setting course rest.course_is)

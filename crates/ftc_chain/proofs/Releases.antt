@@ -1,5 +1,6 @@
 -- The releases that are due, one after another.
-use Rattle.std.proofs.Common.{◌≡◌, ◌∙◌, ◌++◌, [], ◌∷◌, ℕ, List, Result, Ok, Err, refl, sym, ap, subst, append-nil, append_assoc}
+use Rattle.std.proofs.Common.{◌≡◌, ◌∙◌, ◌++◌, [], ◌∷◌, ℕ, List, Result, Ok, Err, refl, sym, ap, subst, append-nil}
+use Rattle.std.proofs.Common.{append_assoc}
 use Rattle.std.specs.Prelude.{IsOk, OnOk}
 use Rattle.ftc_base.specs.declared.released.Released.{Released}
 use Rattle.ftc_journal.specs.declared.event.Event.{Event}
@@ -34,7 +35,8 @@ module _ (setting : Setting) where
   legal_and state [] event are is = (is, tt)
   legal_and state (first ∷ events) event are is = (are.0, legal_and (next setting state first) events event are.1 is)
 
-  pub is_run_state : (course : Course) → IsCourse setting course → IsRunState setting (state_by setting course.journal.items)
+  pub is_run_state : (course : Course) → IsCourse setting course →
+      IsRunState setting (state_by setting course.journal.items)
   is_run_state course is = record { right = is.right; journal = course.journal.items; run = is.run; reaches = refl }
 
   -- some were made, and those that are still due come behind them
@@ -110,7 +112,8 @@ module _ (setting : Setting) where
       IsNetwork setting (state_by setting now.journal.items) new.network → HasReleased setting first new
   all_made first now new is same same_outlet none stands = record {
     releases = is.releases;
-    due = subst (AreReleases setting (state_by setting first.journal.items)) (append-nil is.releases) (is.through [] none);
+    due = subst (AreReleases setting (state_by setting first.journal.items)) (append-nil is.releases)
+        (is.through [] none);
     grown = same ∙ is.grown;
     drained = ap (λ (outlet : Outgoing). outlet.drained) same_outlet ∙ is.drained;
     course_is = record {

@@ -1,5 +1,6 @@
 -- The counts of a network have room where a job is legal.
-use Rattle.std.proofs.Common.{◌≡◌, ◌<◌, ◌≤◌, ◌∙◌, ℕ, zero, suc, List, [], ◌∷◌, Some, drop, length, slice_get, slice_index_or, sym, ap, subst, arith}
+use Rattle.std.proofs.Common.{◌≡◌, ◌<◌, ◌≤◌, ◌∙◌, ℕ, zero, suc, List, [], ◌∷◌, Some, drop, length, slice_get}
+use Rattle.std.proofs.Common.{slice_index_or, sym, ap, subst, arith}
 use Rattle.std.proofs.lemmas.List.{length-map}
 use Rattle.std.proofs.lemmas.Option.{slice_get-map, get_or_from_slice_get}
 use Rattle.std.specs.Option.{option_map}
@@ -37,7 +38,8 @@ room_to_enter setting packet network most few =
     let below = given.legal.0.1 in
     omega (arith, given.stands.counts.entered_is, same, below, few))
 
-there : (lines : List ScriptLine) (done : ℕ) (line : ScriptLine) → IsNextLine (drop done lines) line → done < length lines
+there : (lines : List ScriptLine) (done : ℕ) (line : ScriptLine) → IsNextLine (drop done lines) line →
+    done < length lines
 there [] zero line next = absurd next
 there [] (suc done) line next = absurd next
 there (first ∷ lines) zero line next = omega arith

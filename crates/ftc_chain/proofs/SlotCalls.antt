@@ -1,5 +1,6 @@
 -- What the calls on slots leave of a chain.
-use Rattle.std.proofs.Common.{◌≡◌, ◌≢◌, ◌∙◌, ◌<◌, ℕ, Bool, List, Option, Some, None, length, slice_set, inl, inr, refl, sym, ap, subst, get_or-set_same, get_or-set_other, length-set}
+use Rattle.std.proofs.Common.{◌≡◌, ◌≢◌, ◌∙◌, ◌<◌, ℕ, Bool, List, Option, Some, None, length, slice_set, inl, inr, refl}
+use Rattle.std.proofs.Common.{sym, ap, subst, get_or-set_same, get_or-set_other, length-set}
 use Rattle.std.specs.Prelude.{option_map}
 use Rattle.std.proofs.lemmas.Bool.{cases_eq, cases_lt, cases_Bool}
 use Rattle.std.proofs.lemmas.List.{get_or_past}
@@ -24,7 +25,8 @@ use Rattle.ftc_txn.specs.declared.answers.ReadAnswer.{ReadAnswer}
 use Rattle.ftc_txn.specs.declared.answers.ReadAnswer.TheVariants as read
 use Rattle.ftc_network.specs.declared.network.Network.{Network}
 use Rattle.ftc_network.specs.Parts.{server_in}
-use Rattle.ftc_network.specs.Slots.{head_of, head_at, runs_in, AreOtherHeads, RunNoMore, SlotQuits, SlotReads, SlotEndsVisit, bytes_run, bytes_run_at}
+use Rattle.ftc_network.specs.Slots.{head_of, head_at, runs_in, AreOtherHeads, RunNoMore, SlotQuits, SlotReads}
+use Rattle.ftc_network.specs.Slots.{SlotEndsVisit, bytes_run, bytes_run_at}
 use Rattle.ftc_network.specs.Stand.{IsSlot, IsUp}
 use Rattle.ftc_txn.specs.Slots.{wounded_by}
 use Rattle.ftc_txn.specs.Steps.{Reads as HeadReads}
@@ -35,7 +37,8 @@ use Rattle.ftc_chain.specs.declared.given.Given.{Given}
 use Rattle.ftc_chain.specs.ChainRun.{ChainRun}
 use Rattle.ftc_chain.specs.Course.{IsResting, RunsOnce, state_by}
 use Rattle.ftc_chain.specs.Doing.{setting_by}
-use Rattle.ftc_chain.specs.Slots.{head_in, runs_at, ask_at, IsIdle, Looks, OthersStay, IsAt, HasRead, ReadsAt, IsAsking, CommitsAt, QuitsIn, HasQuitAt}
+use Rattle.ftc_chain.specs.Slots.{head_in, runs_at, ask_at, IsIdle, Looks, OthersStay, IsAt, HasRead, ReadsAt, IsAsking}
+use Rattle.ftc_chain.specs.Slots.{CommitsAt, QuitsIn, HasQuitAt}
 use Rattle.ftc_chain.proofs.HeadsKept.{head_as, SlotsRunNoMore, none_runs}
 use Rattle.ftc_ring.specs.Ring.{RingShape}
 use Rattle.ftc_chain.proofs.HeadsSeen.{head_seen, but_heads, as_it_was}
@@ -75,7 +78,8 @@ set_running slots worker other now runs none = elim (cases_eq other worker) [
 runs_some : (slot : Option Running) (running : Running) → slot ≡ Some running → slot ≢ None
 runs_some slot running some none = let both : Some running ≡ None = sym some ∙ none in absurd cc
 
-pub quits_heads : (old new : Option Server) (worker : ℕ) → SlotQuits old new worker → runs_in (head_of old) worker ≢ None →
+pub quits_heads : (old new : Option Server) (worker : ℕ) → SlotQuits old new worker →
+    runs_in (head_of old) worker ≢ None →
     QuitsIn (head_of old) (head_of new) worker
 quits_heads None new worker quits runs = absurd (runs refl)
 quits_heads (Some old) None worker quits runs = absurd quits
@@ -112,7 +116,8 @@ head_reads_no_more old new worker key change (read.Blocked holder) (running, run
     ap (λ (head : HeadState). slot_at head.slots other) same ∙ none
 head_reads_no_more old new worker key change (read.Wounded by) (running, runs, same) other none =
     ap (λ (head : HeadState). slot_at head.slots other) same
-    ∙ set_running old.slots worker other (restarted running) (runs_some (slot_at old.slots worker) running runs.slot) none
+    ∙ set_running old.slots worker other (restarted running)
+    (runs_some (slot_at old.slots worker) running runs.slot) none
 head_reads_no_more old new worker key change read.Idle (idle, same) other none =
     ap (λ (head : HeadState). slot_at head.slots other) same ∙ none
 head_reads_no_more old new worker key change read.NotAsked reads other none = absurd reads
@@ -158,7 +163,8 @@ ends_runs old new worker (commit.Unfinished key) (running, change, runs, asked, 
 ends_runs old new worker commit.NoMemory (running, end, runs, asked, rest) other none =
     still_none old new other (ap (λ (s : ServerState). s.head) rest.rest) none
 
-pub ends_no_more : (old new : Option Server) (worker : ℕ) (answer : CommitAnswer) → SlotEndsVisit old new worker answer →
+pub ends_no_more : (old new : Option Server) (worker : ℕ) (answer : CommitAnswer) →
+    SlotEndsVisit old new worker answer →
     RunNoMore (head_of old) (head_of new)
 ends_no_more None new worker answer (down, idle) other none = none_runs (head_of new) other (ap head_of down)
 ends_no_more (Some old) None worker answer ends other none = absurd ends
@@ -183,28 +189,30 @@ pub once_begun : (old new : Network) (worker server packet : ℕ) →
     ((at : ℕ) → runs_in (head_at old at) worker ≡ None) →
     head_at new server ≡ option_map (λ (h : HeadState). begins h worker packet) (head_at old server) →
     AreOtherHeads server old new → RunsOnce old → RunsOnce new
-once_begun old new worker server packet idle here others once slot one other differs runs = elim (cases_eq slot worker) [
-  | inl same ↦ elim (cases_eq other server) [
-    | inl at ↦ absurd (runs (ap (λ (h : Option HeadState). runs_in h slot)
-        (others one (λ one_at. differs (one_at ∙ sym at)))
-        ∙ (ap (runs_in (head_at old one)) same ∙ idle one)))
-    | inr away ↦ ap (λ (h : Option HeadState). runs_in h slot) (others other away)
-        ∙ (ap (runs_in (head_at old other)) same ∙ idle other)
-  ]
-  | inr apart ↦
-      let as_before = λ (at : ℕ). elim (cases_eq at server) as (λ _.
-      runs_in (head_at new at) slot ≡ runs_in (head_at old at) slot) [
-        | inl at_server ↦ ap (λ (n : ℕ). runs_in (head_at new n) slot) at_server
-            ∙ (ap (λ (h : Option HeadState). runs_in h slot) here
-            ∙ (begins_other (head_at old server) worker packet slot apart
-            ∙ ap (λ (n : ℕ). runs_in (head_at old n) slot) (sym at_server)))
-        | inr away ↦ ap (λ (h : Option HeadState). runs_in h slot) (others at away)
-      ] in
-      as_before other ∙ once slot one other differs (λ none. runs (as_before one ∙ none))
-]
+once_begun old new worker server packet idle here others once slot one other differs runs =
+    elim (cases_eq slot worker) [
+      | inl same ↦ elim (cases_eq other server) [
+        | inl at ↦ absurd (runs (ap (λ (h : Option HeadState). runs_in h slot)
+            (others one (λ one_at. differs (one_at ∙ sym at)))
+            ∙ (ap (runs_in (head_at old one)) same ∙ idle one)))
+        | inr away ↦ ap (λ (h : Option HeadState). runs_in h slot) (others other away)
+            ∙ (ap (runs_in (head_at old other)) same ∙ idle other)
+      ]
+      | inr apart ↦
+          let as_before = λ (at : ℕ). elim (cases_eq at server) as (λ _.
+          runs_in (head_at new at) slot ≡ runs_in (head_at old at) slot) [
+            | inl at_server ↦ ap (λ (n : ℕ). runs_in (head_at new n) slot) at_server
+                ∙ (ap (λ (h : Option HeadState). runs_in h slot) here
+                ∙ (begins_other (head_at old server) worker packet slot apart
+                ∙ ap (λ (n : ℕ). runs_in (head_at old n) slot) (sym at_server)))
+            | inr away ↦ ap (λ (h : Option HeadState). runs_in h slot) (others at away)
+          ] in
+          as_before other ∙ once slot one other differs (λ none. runs (as_before one ∙ none))
+    ]
 
 -- a slot that gives up what it runs at the one server where it runs something
-pub quits_everywhere : (old new : Network) (worker server : ℕ) → RunsOnce old → runs_in (head_at old server) worker ≢ None →
+pub quits_everywhere : (old new : Network) (worker server : ℕ) → RunsOnce old →
+    runs_in (head_at old server) worker ≢ None →
     QuitsIn (head_at old server) (head_at new server) worker → AreOtherHeads server old new →
     (at : ℕ) → runs_in (head_at new at) worker ≡ None
 quits_everywhere old new worker server once runs quits others at = elim (cases_eq at server) [
@@ -263,7 +271,8 @@ abbrev pub Asks : Type 0
 Asks = (setting : Setting) (state : ChainState) (number worker : ℕ) (server : Server) (running : Running) →
     IsRunState setting state → IsUp setting state number server → IsNoneDue setting state →
     slot_at server.head.slots worker ≡ Some running →
-    ask_in server worker ≡ Some (ask (rule_at setting number) (message_bytes (state.message running.packet)) running.answers)
+    ask_in server worker ≡ Some
+    (ask (rule_at setting number) (message_bytes (state.message running.packet)) running.answers)
 
 module _ (given : Given) (old : Course) (worker server : ℕ) (rests : IsResting (setting_by given) old)
     (inside : server < servers (setting_by given)) (asks : Asks)
@@ -343,7 +352,8 @@ module _ (given : Given) (old new : Course) (worker server : ℕ) (rests : IsRes
 
   -- ---- reads
 
-  has_read : (live : Server) (key : List ℕ) (answer : ReadAnswer) → server_in new.network.servers.items server ≡ Some live →
+  has_read : (live : Server) (key : List ℕ) (answer : ReadAnswer) →
+      server_in new.network.servers.items server ≡ Some live →
       Rattle.ftc_server.specs.Steps.HasRead live_is.live live worker key answer → HasRead before after worker key answer
   has_read live key answer is reads = record {
     server = server;
@@ -358,7 +368,8 @@ module _ (given : Given) (old new : Course) (worker server : ℕ) (rests : IsRes
     rest = but_heads given old new before refl journal drained;
   }
 
-  read_by : (live : Server) (key : List ℕ) (answer : ReadAnswer) → server_in new.network.servers.items server ≡ Some live →
+  read_by : (live : Server) (key : List ℕ) (answer : ReadAnswer) →
+      server_in new.network.servers.items server ≡ Some live →
       Reads live_is.live live worker key answer → ReadsAt before after worker key answer
   read_by live key (read.Value value) is reads = has_read live key (read.Value value) is reads
   read_by live key (read.Blocked holder) is reads = has_read live key (read.Blocked holder) is reads
@@ -377,7 +388,8 @@ module _ (given : Given) (old new : Course) (worker server : ℕ) (rests : IsRes
   )
 
   pub reads_at : (key : List ℕ) (answer : ReadAnswer) →
-      SlotReads (server_in old.network.servers.items server) (server_in new.network.servers.items server) worker key answer →
+      SlotReads (server_in old.network.servers.items server)
+      (server_in new.network.servers.items server) worker key answer →
       ReadsAt before after worker key answer
   reads_at key answer reads =
       let then = after_read live_is.live (server_in new.network.servers.items server) worker key answer
@@ -404,7 +416,8 @@ module _ (given : Given) (old new : Course) (worker server : ℕ) (rests : IsRes
     server = server;
     running = running;
     before = live_is.live.head;
-    at = at running live (restarts live_is.live.head worker running) there.slot is (ap (λ (s : ServerState). s.head) rest);
+    at = at running live (restarts live_is.live.head worker running) there.slot is
+        (ap (λ (s : ServerState). s.head) rest);
     wounded = there.wounded;
     rest = but_heads given old new before refl journal drained;
   }
@@ -422,7 +435,8 @@ module _ (given : Given) (old new : Course) (worker server : ℕ) (rests : IsRes
   )
 
   pub undone_at : (answer : CommitAnswer) → answer ≢ commit.Done →
-      SlotEndsVisit (server_in old.network.servers.items server) (server_in new.network.servers.items server) worker answer →
+      SlotEndsVisit (server_in old.network.servers.items server)
+      (server_in new.network.servers.items server) worker answer →
       CommitsAt before after worker answer
   undone_at answer undone ends =
       let then = after_end live_is.live (server_in new.network.servers.items server) worker answer

@@ -1,5 +1,7 @@
 -- The origins of the messages that servers hold and links have.
-use Rattle.std.proofs.Common.{◌≡◌, ◌≢◌, ◌∙◌, ◌++◌, ◌+◌, ◌<◌, ◌≤◌, ◌==◌, ◌^◌, ◌⊎◌, ◌↔◌, ℕ, zero, suc, Bool, true, false, List, [], ◌∷◌, map, length, Option, Some, None, inl, inr, refl, sym, ap, subst, arith, length-append, eq-eqb, eqb-true, if◌then◌else◌}
+use Rattle.std.proofs.Common.{◌≡◌, ◌≢◌, ◌∙◌, ◌++◌, ◌+◌, ◌<◌, ◌≤◌, ◌==◌, ◌^◌, ◌⊎◌, ◌↔◌, ℕ, zero, suc, Bool, true, false}
+use Rattle.std.proofs.Common.{List, [], ◌∷◌, map, length, Option, Some, None, inl, inr, refl, sym, ap, subst, arith}
+use Rattle.std.proofs.Common.{length-append, eq-eqb, eqb-true, if◌then◌else◌}
 use Rattle.std.specs.List.{AllByRecursion}
 use Rattle.std.proofs.lemmas.Bool.{cases_eq, true≢false}
 use Rattle.std.proofs.lemmas.List.{length-map}
@@ -47,7 +49,8 @@ in_either (first ∷ one) other number (inr later) = elim (in_either one other n
   | inr is ↦ inr is
 ]
 
-not_in : (number : ℕ) (numbers : List ℕ) → (IsIn numbers number → ⊥) → AllByRecursion (λ (other : ℕ). number ≢ other) numbers
+not_in : (number : ℕ) (numbers : List ℕ) → (IsIn numbers number → ⊥) →
+    AllByRecursion (λ (other : ℕ). number ≢ other) numbers
 not_in number [] isnt = tt
 not_in number (first ∷ numbers) isnt =
     ((λ same. isnt (inl (sym same))), not_in number numbers (λ later. isnt (inr later)))
@@ -90,7 +93,8 @@ few_numbers zero (first ∷ numbers) once below = let none = below.0 in absurd (
 few_numbers (suc most) numbers once below = elim (split_at most numbers) [
   | inr none ↦
       let fewer = few_numbers most numbers once
-      (both_are (λ (n : ℕ). n < suc most) (λ (n : ℕ). n ≢ most) (λ (n : ℕ). n < most) (less_of most) numbers below none) in
+      (both_are (λ (n : ℕ). n < suc most) (λ (n : ℕ). n ≢ most) (λ (n : ℕ). n < most)
+      (less_of most) numbers below none) in
       omega (arith, fewer)
   | inl parts ↦
       let before = parts.0 in
@@ -128,7 +132,8 @@ module _ {M A : Type 0} (since : M → ℕ) (origin_of : A → ℕ) (Stands : �
   abbrev IsThere : ℕ → Type 0
   IsThere origin = (message : M) × (there origin ≡ Some message)
 
-  kept_in : (items : List A) (origin : ℕ) → IsIn (map origin_of items) origin → kept_of origin_of origin items ≡ None → ⊥
+  kept_in : (items : List A) (origin : ℕ) → IsIn (map origin_of items) origin → kept_of origin_of origin items ≡ None →
+      ⊥
   kept_in [] origin is none = is
   kept_in (item ∷ items) origin is none =
       elim (origin_of item == origin) as (λ b. origin_of item == origin ≡ b →
@@ -145,7 +150,8 @@ module _ {M A : Type 0} (since : M → ℕ) (origin_of : A → ℕ) (Stands : �
   in_kept [] origin item is = absurd (none-some item is)
   in_kept (first ∷ items) origin item is =
       elim (origin_of first == origin) as (λ b. origin_of first == origin ≡ b →
-      (if b then Some first else kept_of origin_of origin items) ≡ Some item → IsIn (map origin_of (first ∷ items)) origin) [
+      (if b then Some first else kept_of origin_of origin items) ≡ Some item →
+      IsIn (map origin_of (first ∷ items)) origin) [
         | true ↦ λ same e. inl (eqb-true (origin_of first) origin same)
         | false ↦ λ differs e. inr (in_kept items origin item e)
       ] refl is
@@ -156,7 +162,8 @@ module _ {M A : Type 0} (since : M → ℕ) (origin_of : A → ℕ) (Stands : �
   there_of origin None (Some item) kept some = absurd kept
   there_of origin (Some message) k kept some = (message, refl)
 
-  kept_where : (origin : ℕ) (o : Option M) (k : Option A) (message : M) → IsKeptAs Stands origin o k → o ≡ Some message →
+  kept_where : (origin : ℕ) (o : Option M) (k : Option A) (message : M) → IsKeptAs Stands origin o k →
+      o ≡ Some message →
       (item : A) × (k ≡ Some item)
   kept_where origin None k message kept is = absurd (none-some message is)
   kept_where origin (Some own) None message kept is = absurd kept
@@ -180,8 +187,10 @@ module _ {M A : Type 0} (since : M → ℕ) (origin_of : A → ℕ) (Stands : �
           AllByRecursion (λ (later : A). IsSooner since there (origin_of item) (origin_of later)) others →
           AllByRecursion (λ (n : ℕ). origin_of item ≢ n) (map origin_of others)
       each_apart [] sooner = tt
-      each_apart (other ∷ others) sooner =
-          (apart_of (origin_of item) (origin_of other) (are (origin_of item) (inl refl)) sooner.0, each_apart others sooner.1)
+      each_apart (other ∷ others) sooner = (
+        apart_of (origin_of item) (origin_of other) (are (origin_of item) (inl refl)) sooner.0,
+        each_apart others sooner.1,
+      )
 
   pub arrived_origins : (items : List A) → AreArrived since origin_of Stands there items →
       AreOrigins IsThere (map origin_of items)
@@ -193,7 +202,8 @@ module _ {M A : Type 0} (since : M → ℕ) (origin_of : A → ℕ) (Stands : �
         each = λ origin. (
           here origin,
           λ is.
-              let kept = kept_where origin (there origin) (kept_of origin_of origin items) is.0 (are.each origin) is.1 in
+              let kept = kept_where origin (there origin) (kept_of origin_of origin items) is.0
+              (are.each origin) is.1 in
               in_kept items origin kept.0 kept.1,
         );
         once = origins_apart items here are.order;
@@ -217,7 +227,11 @@ all_at : (At : ℕ → ℕ → Type 0) → ((one other origin : ℕ) → At one 
     (from : ℕ) (lists : List (List ℕ)) → AreAt At from lists →
     AreOrigins (AtSome At from (from + length lists)) (flat lists)
 all_at At apart from [] at = record {
-  each = λ origin. ((λ is. absurd is), (λ is. let more = is.1 in let less = is.2 in absurd (omega (arith, more, less))));
+  each = λ origin. (
+    (λ is. absurd is),
+    (λ is. let more = is.1 in let less = is.2 in
+        absurd (omega (arith, more, less))),
+  );
   once = tt;
 }
 all_at At apart from (numbers ∷ lists) at =
@@ -273,11 +287,13 @@ where_there test o message there at = ap (where_it test) there ∙ ap (λ b. if 
 same_message : (o : Option Message) (one other : Message) → o ≡ Some one → o ≡ Some other → one ≡ other
 same_message o one other is also = let same = sym is ∙ also in cc
 
-same_holder : (one other : ℕ) (place : Where) → is_held_by one place ≡ true → is_held_by other place ≡ true → one ≡ other
+same_holder : (one other : ℕ) (place : Where) → is_held_by one place ≡ true → is_held_by other place ≡ true →
+    one ≡ other
 same_holder one other (Held holder visited by_ring) is also = sym (eqb-true holder one is) ∙ eqb-true holder other also
 same_holder one other (Queued link) is also = absurd cc
 
-same_queue : (one other : ℕ) (place : Where) → is_queued_on one place ≡ true → is_queued_on other place ≡ true → one ≡ other
+same_queue : (one other : ℕ) (place : Where) → is_queued_on one place ≡ true → is_queued_on other place ≡ true →
+    one ≡ other
 same_queue one other (Held holder visited by_ring) is also = absurd cc
 same_queue one other (Queued link) is also = sym (eqb-true link one is) ∙ eqb-true link other also
 
@@ -325,7 +341,8 @@ module _ (setting : Setting) (state : ChainState) (order : IsOrderly setting sta
         held_of_slot from slot (subst (λ (n : ℕ). IsSlot setting state n slot) here (each 0 (omega arith))),
         held_of_slots (suc from) slots (λ number below.
             let next : from + suc number ≡ suc from + number = omega arith in
-            subst (λ (n : ℕ). IsSlot setting state n (server_in slots number)) next (each (suc number) (omega (arith, below)))),
+            subst (λ (n : ℕ). IsSlot setting state n (server_in slots number)) next
+            (each (suc number) (omega (arith, below)))),
       )
 
   queued_on_links : (from : ℕ) (links : List Queue) →
@@ -338,7 +355,8 @@ module _ (setting : Setting) (state : ChainState) (order : IsOrderly setting sta
         arrived_origins _ _ _ _ queue.messages first.queued,
         queued_on_links (suc from) links (λ number below.
             let next : from + suc number ≡ suc from + number = omega arith in
-            subst (λ (n : ℕ). IsLink setting state n (link_in links number)) next (each (suc number) (omega (arith, below)))),
+            subst (λ (n : ℕ). IsLink setting state n (link_in links number)) next
+            (each (suc number) (omega (arith, below)))),
       )
 
   held_apart : (one other origin : ℕ) → IsHeldAt one origin → IsHeldAt other origin → one ≡ other
@@ -397,7 +415,8 @@ module _ (setting : Setting) (state : ChainState) (order : IsOrderly setting sta
         subst (λ (n : ℕ). IsLink setting state n (link_in network.links.items number)) same
         (is.links_are number (omega (arith, below, size, network.each_link)))))
 
-    in_all : (origin : ℕ) (message : Message) (place : Where) → state.message origin ≡ Some message → message.place ≡ place →
+    in_all : (origin : ℕ) (message : Message) (place : Where) → state.message origin ≡ Some message →
+        message.place ≡ place →
         IsIn (flat (map held_origins network.servers.items) ++ flat (map queued_origins network.links.items)) origin
     in_all origin message (Held server visited by_ring) there at =
         let size = ap (λ (ring : RingShape). ring.servers) is.ring in
@@ -450,7 +469,8 @@ module _ (setting : Setting) (state : ChainState) (order : IsOrderly setting sta
               let same = same_message (state.message origin) (at.3).0 (on.3).0 first.0 second.0 in
               not_both at.0 on.0 ((at.3).0).place first.1
               (subst (λ (m : Message). is_queued_on on.0 m.place ≡ true) (sym same) second.1));
-          count_is = length-append held queued ∙ ap2 (held_size network.servers.items) (queued_size network.links.items);
+          count_is = length-append held queued ∙ ap2 (held_size network.servers.items)
+              (queued_size network.links.items);
         }
       where
         ap2 : {a b x y : ℕ} → a ≡ x → b ≡ y → a + b ≡ x + y
@@ -458,7 +478,8 @@ module _ (setting : Setting) (state : ChainState) (order : IsOrderly setting sta
 
 -- ---- there are few
 
-pub all_in : (P : ℕ → Type 0) (numbers : List ℕ) → ((number : ℕ) → IsIn numbers number → P number) → AllByRecursion P numbers
+pub all_in : (P : ℕ → Type 0) (numbers : List ℕ) → ((number : ℕ) → IsIn numbers number → P number) →
+    AllByRecursion P numbers
 all_in P [] each = tt
 all_in P (number ∷ numbers) each = (each number (inl refl), all_in P numbers (λ n is. each n (inr is)))
 

@@ -1,5 +1,5 @@
--- What a contract sees of a chain: what it was given, its events so far, which released packets were taken out, and what
--- the head of each server has.
+-- What a contract sees of a chain: what it was given, its events so far, which released packets were taken out, and
+-- what the head of each server has.
 use Rattle.std.specs.Prelude.{ℕ, List, Option}
 use Rattle.ftc_base.specs.declared.released.Released.{Released}
 use Rattle.ftc_journal.specs.declared.event.Event.{Event}

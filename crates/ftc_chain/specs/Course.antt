@@ -45,8 +45,8 @@ abbrev pub RunsOnce : Network → Type 0
 RunsOnce network = (worker one other : ℕ) → one ≢ other → runs_in (head_at network one) worker ≢ None →
     runs_in (head_at network other) worker ≡ None
 
--- The journal has the job's event at its end, a visit in that slot, and then the releases that are due after it. Nothing
--- else differs but heads.
+-- The journal has the job's event at its end, a visit in that slot, and then the releases that are due after it.
+-- Nothing else differs but heads.
 pub record HasMade (slot : ℕ) (job : Job) (old new : ChainRun) : Type 0 where
   pub releases : List Event
   pub due : AreReleases (setting_in old)

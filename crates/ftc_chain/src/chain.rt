@@ -1,6 +1,7 @@
 //! The chain.
 
-ghost use Rattle.std.specs.Prelude.{◌≡◌, ◌<◌, ◌≤◌, ℕ, [], ◌∷◌, ◌++◌, true, false, length, take, OnOk, OnErr, IfOk, IfSome, IsNone};
+ghost use Rattle.std.specs.Prelude.{◌≡◌, ◌<◌, ◌≤◌, ℕ, [], ◌∷◌, ◌++◌, true, false, length, take, OnOk, OnErr, IfOk};
+ghost use Rattle.std.specs.Prelude.{IfSome, IsNone};
 ghost use Rattle.ftc_base.specs.declared.limits.TheConstants.{FINISHING_SLOT};
 ghost use Rattle.ftc_journal.specs.declared.job.Job.TheVariants as job;
 ghost use Rattle.ftc_serial.specs.Packets.{bytes_of_packets};
@@ -67,7 +68,8 @@ impl<'a> Chain<'a> {
     ghost use Rattle.ftc_chain.specs.ChainRun.{setting_in, chain_state, released_by};
     ghost use Rattle.ftc_chain.specs.Course.{HasMade};
     ghost use Rattle.ftc_chain.specs.Messages.{AreUnderWay};
-    ghost use Rattle.ftc_chain.specs.Slots.{head_in, is_running_at, IsIdle, AreIdle, IsButHeads, OthersStay, HeadsAfter};
+    ghost use Rattle.ftc_chain.specs.Slots.{head_in, is_running_at, IsIdle, AreIdle, IsButHeads, OthersStay};
+    ghost use Rattle.ftc_chain.specs.Slots.{HeadsAfter};
     ghost use Rattle.ftc_network.specs.Slots.{IsIdleHead};
     ghost use Rattle.ftc_jobs.specs.All.{AreJobs};
     ghost use Rattle.ftc_protocol.specs.Jobs.{IsLegalJob, IsFirstJob};
@@ -210,8 +212,8 @@ impl<'a> Chain<'a> {
     }
 
     /// Makes the visit of a packet at a server in a worker's slot, from its begin to its commit, and the releases that
-    /// are due after it. What the server's slots ran is given up first. A refused call leaves the run as it was, but for
-    /// what those slots ran.
+    /// are due after it. What the server's slots ran is given up first. A refused call leaves the run as it was, but
+    /// for what those slots ran.
     pub fn visit(
         &mut self,
         worker: WorkerId,

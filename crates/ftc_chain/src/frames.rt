@@ -65,10 +65,11 @@ impl<'a> Chain<'a> {
     }
 
     /// Takes the oldest message of a link, and makes the releases that are due after it, as the step of that job does.
-    /// What was seen is of use where it is of the oldest frame there, and is passed over elsewhere. A refused call leaves
-    /// the run as it was.
+    /// What was seen is of use where it is of the oldest frame there, and is passed over elsewhere. A refused call
+    /// leaves the run as it was.
     pub fn take_seen(&mut self, link: ServerId, seen: Seen) -> Result<(), NoMemory>
-        requires { ∥ ((origin : ℕ) × IsLegalJob (setting_in self.old) (chain_state self.old) (job.Take link origin)) ∥₁ }
+        requires { ∥ ((origin : ℕ)
+            × IsLegalJob (setting_in self.old) (chain_state self.old) (job.Take link origin)) ∥₁ }
         ensures ok { OnOk result ((origin : ℕ) →
             IsLegalJob (setting_in self.old) (chain_state self.old) (job.Take link origin) →
             ∥ HasMade FINISHING_SLOT (job.Take link origin) self.old self.new ∥₁) }

@@ -21,7 +21,8 @@ impl<'a> Given<'a> {
     /// A packet of the capture comes to server 0.
     fn enter(&self, network: &mut Network, packet: PacketNo) -> Result<(), NoMemory>
         requires { ∥ MayDo (setting_by self.now) (job.Enter packet) network.old ∥₁ }
-        ensures ok { OnOk result (IsDone (setting_by self.now) FINISHING_SLOT (job.Enter packet) network.old network.new) }
+        ensures ok { OnOk result
+            (IsDone (setting_by self.now) FINISHING_SLOT (job.Enter packet) network.old network.new) }
         ensures err { OnErr result (StandsStill network.old network.new) }
         ensures withheld { OnOk result (withheld_in network.new ≡ withheld_in network.old) }
         ensures heads { AreSameHeads network.old network.new }
@@ -39,7 +40,8 @@ impl<'a> Given<'a> {
         origin: PacketNo,
     ) -> Result<(), NoMemory>
         requires { ∥ MayDo (setting_by self.now) (job.Lose server origin) network.old ∥₁ }
-        ensures ok { OnOk result (IsDone (setting_by self.now) FINISHING_SLOT (job.Lose server origin) network.old network.new) }
+        ensures ok { OnOk result
+            (IsDone (setting_by self.now) FINISHING_SLOT (job.Lose server origin) network.old network.new) }
         ensures err { OnErr result (StandsStill network.old network.new) }
         ensures withheld { OnOk result (withheld_in network.new ≤ withheld_in network.old + 1) }
         ensures heads { AreSameHeads network.old network.new }
@@ -63,7 +65,8 @@ impl<'a> Given<'a> {
     fn recover(&self, network: &mut Network, server: ServerId) -> Result<VisitNames, NoMemory>
         requires { ∥ MayDo (setting_by self.now) (job.Recover server) network.old ∥₁ }
         ensures ok { IfOk result (λ undone.
-            HasDone (setting_by self.now) FINISHING_SLOT (job.Recover server) (event.Recover server undone) network.old network.new) }
+            HasDone (setting_by self.now) FINISHING_SLOT (job.Recover server)
+            (event.Recover server undone) network.old network.new) }
         ensures err { OnErr result (StandsStill network.old network.new) }
         ensures withheld { OnOk result (withheld_in network.new ≤ withheld_in network.old) }
         ensures heads { OnOk result (HeadsDone (job.Recover server) network.old network.new) }
@@ -78,7 +81,8 @@ impl<'a> Given<'a> {
     /// A message begins without a packet.
     fn propagate(&self, network: &mut Network, origin: PacketNo) -> Result<(), NoMemory>
         requires { ∥ MayDo (setting_by self.now) (job.Propagate origin) network.old ∥₁ }
-        ensures ok { OnOk result (IsDone (setting_by self.now) FINISHING_SLOT (job.Propagate origin) network.old network.new) }
+        ensures ok { OnOk result
+            (IsDone (setting_by self.now) FINISHING_SLOT (job.Propagate origin) network.old network.new) }
         ensures err { OnErr result (StandsStill network.old network.new) }
         ensures withheld { OnOk result (withheld_in network.new ≡ withheld_in network.old) }
         ensures heads { AreSameHeads network.old network.new }
@@ -136,7 +140,8 @@ impl<'a> Given<'a> {
     ) -> Result<Event, NoMemory>
         requires other { is_visit job.now ≡ false }
         requires may { ∥ MayDo (setting_by self.now) job.now network.old ∥₁ }
-        ensures ok { IfOk result (λ event. HasDone (setting_by self.now) FINISHING_SLOT job.now event network.old network.new) }
+        ensures ok { IfOk result
+            (λ event. HasDone (setting_by self.now) FINISHING_SLOT job.now event network.old network.new) }
         ensures err { OnErr result (StandsStill network.old network.new) }
         ensures withheld { OnOk result (withheld_in network.new ≤ withheld_in network.old + 1) }
         ensures heads { OnOk result (HeadsDone job.now network.old network.new) }
@@ -162,7 +167,8 @@ impl<'a> Given<'a> {
         packet: PacketNo,
     ) -> Result<(), NoMemory>
         requires { ∥ MayDo (setting_by self.now) (job.Visit server packet) network.old ∥₁ }
-        ensures ok { OnOk result (IsDone (setting_by self.now) worker (job.Visit server packet) network.old network.new) }
+        ensures ok { OnOk result
+            (IsDone (setting_by self.now) worker (job.Visit server packet) network.old network.new) }
         ensures err { OnErr result (StandsStill network.old network.new) }
         ensures withheld { OnOk result (withheld_in network.new ≡ withheld_in network.old) }
         ensures here { OnOk result (IsIdleHead (head_at network.new server)) }

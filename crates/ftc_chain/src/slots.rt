@@ -8,7 +8,8 @@ ghost use Rattle.ftc_txn.specs.Slots.{packet_of};
 ghost use Rattle.ftc_txn.specs.Steps.{begins};
 ghost use Rattle.ftc_network.specs.Slots.{head_at, runs_in};
 ghost use Rattle.ftc_chain.specs.ChainRun.{setting_in, chain_state};
-ghost use Rattle.ftc_chain.specs.Slots.{head_in, runs_at, IsIdle, is_running_at, ages_left_at, IsButHeads, OthersStay, Answered, Looks, ReadsAt, CommitsAt, HasQuitAt};
+ghost use Rattle.ftc_chain.specs.Slots.{head_in, runs_at, IsIdle, is_running_at, ages_left_at, IsButHeads, OthersStay};
+ghost use Rattle.ftc_chain.specs.Slots.{Answered, Looks, ReadsAt, CommitsAt, HasQuitAt};
 
 use crate::chain::Chain;
 use crate::releasing::release_due;

@@ -33,7 +33,8 @@ onto_first-some b [] = λ e. cc
 onto_first-some b (x ∷ xs) = λ e. cc
 
 lines_some : (b : ℕ) (bs : List ℕ) → lines_of (b ∷ bs) ≢ []
-lines_some b bs = elim (b == 10) as (λ (t : Bool). (if t then [] ∷ lines_of bs else onto_first b (lines_of bs)) ≢ []) [ true ↦ λ e. cc | false ↦ onto_first-some b (lines_of bs) ]
+lines_some b bs = elim (b == 10) as (λ (t : Bool). (if t then [] ∷ lines_of bs
+    else onto_first b (lines_of bs)) ≢ []) [ true ↦ λ e. cc | false ↦ onto_first-some b (lines_of bs) ]
 
 -- a text whose last line has ended keeps its lines, whatever follows
 pub lines_together : (front rest : List ℕ) → IsWhole front → lines_of (front ++ rest) ≡ lines_of front ++ lines_of rest
@@ -41,7 +42,9 @@ lines_together [] rest whole = refl
 lines_together (b ∷ []) rest whole = let feed : b ≡ 10 = whole in rw feed refl
 lines_together (b ∷ c ∷ bs) rest whole =
     let later = lines_together (c ∷ bs) rest whole in
-    elim (b == 10) as (λ (t : Bool). (if t then [] ∷ lines_of ((c ∷ bs) ++ rest) else onto_first b (lines_of ((c ∷ bs) ++ rest))) ≡ (if t then [] ∷ lines_of (c ∷ bs) else onto_first b (lines_of (c ∷ bs))) ++ lines_of rest) [
+    elim (b == 10) as (λ (t : Bool). (if t then [] ∷ lines_of ((c ∷ bs) ++ rest)
+    else onto_first b (lines_of ((c ∷ bs) ++ rest))) ≡ (if t then [] ∷ lines_of (c ∷ bs)
+    else onto_first b (lines_of (c ∷ bs))) ++ lines_of rest) [
       | true ↦ ap (λ (ls : List (List ℕ)). [] ∷ ls) later
       | false ↦ ap (onto_first b) later ∙ onto_first-append b (lines_of (c ∷ bs)) (lines_of rest) (lines_some c bs)
     ]
@@ -70,12 +73,14 @@ pub lines_of_piece : (piece line : List ℕ) → IsPiece piece line → lines_of
 lines_of_piece piece line (plain, inl ended) = rw ended (line_with_feed line plain)
 lines_of_piece piece line (plain, inr (same, some)) = rw same (line_not_empty line plain some)
 
-ends_with_feed : (front rest line : List ℕ) → IsWhole front → front ≢ [] → HasNoFeed line → front ++ rest ≡ line ++ 10 ∷ [] → rest ≡ []
+ends_with_feed : (front rest line : List ℕ) → IsWhole front → front ≢ [] → HasNoFeed line →
+    front ++ rest ≡ line ++ 10 ∷ [] → rest ≡ []
 ends_with_feed [] rest line whole some plain same = absurd (some refl)
 ends_with_feed (x ∷ []) rest [] whole some plain same = cc
 ends_with_feed (x ∷ []) rest (b ∷ bs) whole some plain same = let feed : b ≡ 10 = cc in absurd (plain.0 feed)
 ends_with_feed (x ∷ y ∷ xs) rest [] whole some plain same = absurd (cc)
-ends_with_feed (x ∷ y ∷ xs) rest (b ∷ bs) whole some plain same = ends_with_feed (y ∷ xs) rest bs whole (λ e. cc) plain.1 (cc)
+ends_with_feed (x ∷ y ∷ xs) rest (b ∷ bs) whole some plain same =
+    ends_with_feed (y ∷ xs) rest bs whole (λ e. cc) plain.1 (cc)
 
 has_feed : (front rest line : List ℕ) → IsWhole front → front ≢ [] → HasNoFeed line → front ++ rest ≡ line → ⊥
 has_feed [] rest line whole some plain same = some refl
@@ -84,9 +89,12 @@ has_feed (x ∷ []) rest (b ∷ bs) whole some plain same = let feed : b ≡ 10 
 has_feed (x ∷ y ∷ xs) rest (b ∷ bs) whole some plain same = has_feed (y ∷ xs) rest bs whole (λ e. cc) plain.1 (cc)
 
 -- a line is cut nowhere
-pub piece_is_one : (front rest piece line : List ℕ) → IsPiece piece line → IsWhole front → front ≢ [] → front ++ rest ≡ piece → rest ≡ []
-piece_is_one front rest piece line (plain, inl ended) whole some same = ends_with_feed front rest line whole some plain (same ∙ ended)
-piece_is_one front rest piece line (plain, inr (alone, line-some)) whole some same = absurd (has_feed front rest line whole some plain (same ∙ alone))
+pub piece_is_one : (front rest piece line : List ℕ) → IsPiece piece line → IsWhole front → front ≢ [] →
+    front ++ rest ≡ piece → rest ≡ []
+piece_is_one front rest piece line (plain, inl ended) whole some same =
+    ends_with_feed front rest line whole some plain (same ∙ ended)
+piece_is_one front rest piece line (plain, inr (alone, line-some)) whole some same =
+    absurd (has_feed front rest line whole some plain (same ∙ alone))
 
 -- such a text in the specification's words
 pub whole_parts : (text : List ℕ) → IsWhole text → (text ≡ []) ⊎ ((before : List ℕ) × (text ≡ before ++ 10 ∷ []))

@@ -17,7 +17,11 @@ in_none x h = absurd (omega (arith, h.1))
 
 pub in_left : {A : Type 0} (xs ys : List A) (x : A) → Contains xs x → Contains (xs ++ ys) x
 in_left [] ys x h = absurd (in_none x h)
-in_left (y ∷ xs) ys x h = elim (in_cons y xs x h) [ inl e ↦ (0, omega arith, e) | inr rest ↦ in_tail y (xs ++ ys) x (in_left xs ys x rest) ]
+in_left (y ∷ xs) ys x h = elim (in_cons y xs x h) [
+  | inl e ↦ (0, omega arith, e)
+  | inr rest ↦
+      in_tail y (xs ++ ys) x (in_left xs ys x rest)
+]
 
 pub in_right : {A : Type 0} (xs ys : List A) (x : A) → Contains ys x → Contains (xs ++ ys) x
 in_right [] ys x h = h
@@ -32,7 +36,8 @@ in_either (y ∷ xs) ys x h =
     ]
 
 -- what one element gives
-pub in_flat_map : {A B : Type 0} (f : A → List B) (xs : List A) (x : A) (y : B) → Contains xs x → Contains (f x) y → Contains (flat_map f xs) y
+pub in_flat_map : {A B : Type 0} (f : A → List B) (xs : List A) (x : A) (y : B) → Contains xs x → Contains (f x) y →
+    Contains (flat_map f xs) y
 in_flat_map f [] x y h given = absurd (in_none x h)
 in_flat_map f (z ∷ xs) x y h given =
     elim (in_cons z xs x h) [

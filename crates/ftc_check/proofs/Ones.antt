@@ -11,11 +11,14 @@ use Rattle.ftc_check.proofs.Illegal.{there_still}
 pub none_differs : (a b : List ℕ) (place : ℕ) → IsFirstDifference a b place → a ≡ b → ⊥
 none_differs a b place differs same = differs.there (ap (λ (text : List ℕ). slice_get text place) same)
 
-not_later : (a b : List ℕ) (place other : ℕ) → IsFirstDifference a b place → IsFirstDifference a b other → place < other → ⊥
+not_later : (a b : List ℕ) (place other : ℕ) → IsFirstDifference a b place → IsFirstDifference a b other →
+    place < other → ⊥
 not_later a b place other first later less =
-    first.there (sym (there_still a place other less) ∙ ap (λ (text : List ℕ). slice_get text place) later.front ∙ there_still b place other less)
+    first.there (sym (there_still a place other less) ∙ ap
+    (λ (text : List ℕ). slice_get text place) later.front ∙ there_still b place other less)
 
-pub one_place : (a b : List ℕ) (place other : ℕ) → IsFirstDifference a b place → IsFirstDifference a b other → place ≡ other
+pub one_place : (a b : List ℕ) (place other : ℕ) → IsFirstDifference a b place → IsFirstDifference a b other →
+    place ≡ other
 one_place a b place other first later = elim (cases_lt place other) [
   | inl less ↦ absurd (not_later a b place other first later less)
   | inr rest ↦ elim (cases_lt other place) [

@@ -1,5 +1,6 @@
 -- A text to which lines are added that are no lines of taps.
-use Rattle.std.proofs.Common.{◌≡◌, inl, ℕ, true, false, List, [], ◌∷◌, ◌++◌, refl, ap, sym, subst, ◌∙◌, arith, append_assoc}
+use Rattle.std.proofs.Common.{◌≡◌, inl, ℕ, true, false, List, [], ◌∷◌, ◌++◌, refl, ap, sym, subst, ◌∙◌, arith}
+use Rattle.std.proofs.Common.{append_assoc}
 use Rattle.std.specs.List.{flat_map}
 use Rattle.std.proofs.lemmas.List.{append-nil}
 use Rattle.std.proofs.lemmas.List.Elements.{All-nil}
@@ -32,7 +33,8 @@ pub keeps_nothing : KeepsOwn []
 keeps_nothing text own = subst IsOwn (sym (append-nil text)) own
 
 pub keeps_both : (piece more : List ℕ) → KeepsOwn piece → KeepsOwn more → KeepsOwn (piece ++ more)
-keeps_both piece more keeps keeps-more text own = subst IsOwn (append_assoc text piece more) (keeps-more (text ++ piece) (keeps text own))
+keeps_both piece more keeps keeps-more text own =
+    subst IsOwn (append_assoc text piece more) (keeps-more (text ++ piece) (keeps text own))
 
 pub keeps_all : {A : Type 0} (f : A → List ℕ) → ((x : A) → KeepsOwn (f x)) → (xs : List A) → KeepsOwn (flat_map f xs)
 keeps_all f each [] text own = keeps_nothing text own
@@ -43,7 +45,8 @@ pub record IsOther (line : List ℕ) : Type 0 where
   pub plain : HasNoFeed line
   pub other : (rest : List ℕ) → is_tap_line (line ++ rest) ≡ false
 
-pub begins : (word : List ℕ) → is_plain word ≡ true → ((rest : List ℕ) → is_tap_line (word ++ rest) ≡ false) → IsOther word
+pub begins : (word : List ℕ) → is_plain word ≡ true → ((rest : List ℕ) → is_tap_line (word ++ rest) ≡ false) →
+    IsOther word
 begins word plain other = record { plain = plain_word word plain; other = other }
 
 pub goes_on : (line word : List ℕ) → IsOther line → HasNoFeed word → IsOther (line ++ word)
@@ -62,4 +65,5 @@ keeps_line line is text own =
 
 -- and one that ends with a word
 pub keeps_word : (line word : List ℕ) → IsOther line → HasNoFeed word → KeepsOwn (line ++ (word ++ 10 ∷ []))
-keeps_word line word is plain = subst KeepsOwn (append_assoc line word (10 ∷ [])) (keeps_line (line ++ word) (goes_on line word is plain))
+keeps_word line word is plain =
+    subst KeepsOwn (append_assoc line word (10 ∷ [])) (keeps_line (line ++ word) (goes_on line word is plain))

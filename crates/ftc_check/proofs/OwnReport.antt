@@ -15,17 +15,21 @@ use Rattle.ftc_protocol.specs.Run.{state_after}
 use Rattle.ftc_store.specs.Store.{Content}
 use Rattle.ftc_report.specs.Contents.{contents_after}
 use Rattle.ftc_report.specs.Report.{report_of}
-use Rattle.ftc_report.specs.Text.{is_released, is_filtered, is_lost, count_line, count_lines, head, fate_line, value_text, key_line, store_line, store_lines, tap_line, report_text}
+use Rattle.ftc_report.specs.Text.{is_released, is_filtered, is_lost, count_line, count_lines, head, fate_line}
+use Rattle.ftc_report.specs.Text.{value_text, key_line, store_line, store_lines, tap_line, report_text}
 use Rattle.ftc_check.specs.Taps.{IsWithoutTaps}
 use Rattle.ftc_outside.specs.Tap.{HasNoFeed}
 use Rattle.ftc_outside.proofs.Plain.{plain_word, plain_together, plain_decimal}
 use Rattle.ftc_check.proofs.Cuts.{tap_more}
 use Rattle.ftc_check.proofs.Lines.{IsWhole, whole_before_feed}
 use Rattle.ftc_check.proofs.Plain.{plain_hex}
-use Rattle.ftc_check.proofs.Own.{IsOwn, KeepsOwn, IsOther, nothing_own, keeps_nothing, keeps_both, keeps_all, begins, goes_on, keeps_line, keeps_word}
+use Rattle.ftc_check.proofs.Own.{IsOwn, KeepsOwn, IsOther, nothing_own, keeps_nothing, keeps_both, keeps_all, begins}
+use Rattle.ftc_check.proofs.Own.{goes_on, keeps_line, keeps_word}
 
 count_starts : (what : List ℕ) (count : ℕ) → IsOther what → IsOther ((what ++ codes " ") ++ decimal count)
-count_starts what count is = goes_on (what ++ codes " ") (decimal count) (goes_on what (codes " ") is (plain_word (codes " ") refl)) (plain_decimal count)
+count_starts what count is =
+    goes_on (what ++ codes " ") (decimal count) (goes_on what (codes " ") is (plain_word (codes " ") refl))
+    (plain_decimal count)
 
 keeps_count : (what : List ℕ) (count : ℕ) → IsOther what → KeepsOwn (count_line what count)
 keeps_count what count is = keeps_line ((what ++ codes " ") ++ decimal count) (count_starts what count is)
@@ -50,20 +54,29 @@ keeps_head fates = keeps_both (codes "ftc-report 1\n") (count_lines fates)
     (keeps_line (codes "ftc-report 1") (begins (codes "ftc-report 1") refl (λ rest. refl))) (keeps_counts fates)
 
 fate_starts : (packet : ℕ) → IsOther (codes "fate " ++ decimal packet)
-fate_starts packet = goes_on (codes "fate ") (decimal packet) (begins (codes "fate ") refl (λ rest. refl)) (plain_decimal packet)
+fate_starts packet = goes_on (codes "fate ") (decimal packet) (begins (codes "fate ") refl (λ rest. refl))
+    (plain_decimal packet)
 
 -- a fate with its number
-keeps_told : (packet number : ℕ) (told : List ℕ) → HasNoFeed told → KeepsOwn (codes "fate " ++ decimal packet ++ told ++ decimal number ++ codes "\n")
+keeps_told : (packet number : ℕ) (told : List ℕ) → HasNoFeed told →
+    KeepsOwn (codes "fate " ++ decimal packet ++ told ++ decimal number ++ codes "\n")
 keeps_told packet number told plain =
     let start = codes "fate " ++ decimal packet in
-    keeps_line (start ++ told ++ decimal number) (goes_on (start ++ told) (decimal number) (goes_on start told (fate_starts packet) plain) (plain_decimal number))
+    keeps_line (start ++ told
+    ++ decimal number) (goes_on (start ++ told) (decimal number) (goes_on start told (fate_starts packet) plain)
+    (plain_decimal number))
 
 keeps_fate : (numbered : ℕ × Fate) → KeepsOwn (fate_line numbered)
 unfolding fate_line
-keeps_fate (packet, Released) = keeps_word (codes "fate " ++ decimal packet) (codes " released") (fate_starts packet) (plain_word (codes " released") refl)
-keeps_fate (packet, Filtered server) = keeps_told packet server (codes " filtered ") (plain_word (codes " filtered ") refl)
+keeps_fate (packet, Released) =
+    keeps_word (codes "fate " ++ decimal packet) (codes " released") (fate_starts packet)
+    (plain_word (codes " released") refl)
+keeps_fate (packet, Filtered server) =
+    keeps_told packet server (codes " filtered ") (plain_word (codes " filtered ") refl)
 keeps_fate (packet, Lost event) = keeps_told packet event (codes " lost ") (plain_word (codes " lost ") refl)
-keeps_fate (packet, Inside) = keeps_word (codes "fate " ++ decimal packet) (codes " inside") (fate_starts packet) (plain_word (codes " inside") refl)
+keeps_fate (packet, Inside) =
+    keeps_word (codes "fate " ++ decimal packet) (codes " inside") (fate_starts packet)
+    (plain_word (codes " inside") refl)
 
 plain_value : (value : List ℕ) → HasNoFeed (value_text value)
 plain_value [] = plain_word (codes "-") refl
@@ -73,17 +86,24 @@ keeps_key : (entry : List ℕ × List ℕ) → KeepsOwn (key_line entry)
 unfolding key_line
 keeps_key (key, value) =
     let start = codes "key " ++ encode_lower key in
-    let begun : IsOther start = goes_on (codes "key ") (encode_lower key) (begins (codes "key ") refl (λ rest. refl)) (plain_hex key) in
-    keeps_line (start ++ codes " " ++ value_text value) (goes_on (start ++ codes " ") (value_text value) (goes_on start (codes " ") begun (plain_word (codes " ") refl)) (plain_value value))
+    let begun : IsOther start =
+    goes_on (codes "key ") (encode_lower key) (begins (codes "key ") refl (λ rest. refl)) (plain_hex key) in
+    keeps_line (start ++ codes " "
+    ++ value_text value) (goes_on (start
+    ++ codes " ") (value_text value) (goes_on start (codes " ") begun (plain_word (codes " ") refl))
+    (plain_value value))
 
 keeps_store_line : (server count : ℕ) → KeepsOwn (store_line server count)
 unfolding store_line
 keeps_store_line server count =
     let start = codes "store " ++ decimal server in
-    keeps_count start count (goes_on (codes "store ") (decimal server) (begins (codes "store ") refl (λ rest. refl)) (plain_decimal server))
+    keeps_count start count (goes_on (codes "store ") (decimal server) (begins (codes "store ") refl (λ rest. refl))
+    (plain_decimal server))
 
 keeps_store : (numbered : ℕ × Content) → KeepsOwn (store_lines numbered)
-keeps_store (server, content) = keeps_both (store_line server (len content)) (flat_map key_line (entries content)) (keeps_store_line server (len content)) (keeps_all key_line keeps_key (entries content))
+keeps_store (server, content) =
+    keeps_both (store_line server (len content)) (flat_map key_line (entries content))
+    (keeps_store_line server (len content)) (keeps_all key_line keeps_key (entries content))
 
 keeps_report : (fates : List Fate) (contents : List Content) → KeepsOwn (report_text fates contents [])
 keeps_report fates contents =

@@ -10,12 +10,17 @@ use Rattle.ftc_protocol.specs.Finish.{IsComplete}
 use Rattle.ftc_protocol.specs.Whole.{ReleasedVisited}
 
 module _ (c : Setting) (is : IsSetting c) (journal : List Event) where
-  pub all_visited : ((setting : Setting) → IsSetting setting → (journal : List Event) → IsRun setting journal → ReleasedVisited (servers setting) journal)
+  pub all_visited : ((setting : Setting) → IsSetting setting → (journal : List Event) → IsRun setting journal →
+      ReleasedVisited (servers setting) journal)
       → ∥ IsRun c journal ∥₁ → ∥ ReleasedVisited (servers c) journal ∥₁
   all_visited visited run = ∥∥₁_map run (visited c is journal)
 
-  pub none_inside : ((setting : Setting) → IsSetting setting → (journal : List Event) → IsRun setting journal → IsFinished setting (state_after setting (opening setting) journal) → IsComplete setting (state_after setting (opening setting) journal))
+  pub none_inside : ((setting : Setting) → IsSetting setting → (journal : List Event) → IsRun setting journal →
+      IsFinished setting (state_after setting (opening setting) journal) →
+      IsComplete setting (state_after setting (opening setting) journal))
       → ∥ IsRun c journal ∥₁ → ∥ IsFinished c (state_after c (opening c) journal) ∥₁
       → (packet : ℕ) → packet < count c → (state_after c (opening c) journal).fate packet ≢ became.Inside
   none_inside complete run finished packet below inside =
-      ∥∥₁_elim run (λ x y. absurd x) (λ legal. ∥∥₁_elim finished (λ x y. absurd x) (λ ends. (complete c is journal legal ends).fates packet below inside))
+      ∥∥₁_elim run (λ x y. absurd x)
+      (λ legal. ∥∥₁_elim finished (λ x y. absurd x)
+      (λ ends. (complete c is journal legal ends).fates packet below inside))

@@ -23,24 +23,32 @@ module _ (c : Setting) (journal : List Event) where
 
   not_other : (report : List ℕ) (place : ℕ) → IsOtherReport c journal report place → IsReport c journal report → ⊥
   not_other report place differs is =
-      none_differs differs.front (report_of c journal []) place differs.differs (one_front report differs.front is.front differs.without_taps is.without_taps ∙ is.same)
+      none_differs differs.front (report_of c journal []) place differs.differs
+      (one_front report differs.front is.front differs.without_taps is.without_taps ∙ is.same)
 
-  one_other : (report : List ℕ) (place other : ℕ) → IsOtherReport c journal report place → IsOtherReport c journal report other → place ≡ other
+  one_other : (report : List ℕ) (place other : ℕ) → IsOtherReport c journal report place →
+      IsOtherReport c journal report other → place ≡ other
   one_other report place other differs also =
       let same = one_front report also.front differs.front also.without_taps differs.without_taps in
-      one_place differs.front (report_of c journal []) place other differs.differs (subst (λ (front : List ℕ). IsFirstDifference front (report_of c journal []) other) same also.differs)
+      one_place differs.front (report_of c journal []) place other differs.differs
+      (subst (λ (front : List ℕ). IsFirstDifference front (report_of c journal []) other) same also.differs)
 
   module _ (capture : Capture) (out : List ℕ) where
-    not_wrong : (place : ℕ) → IsOutWrong c capture out journal place → (end : State) → IsWhole c journal end → out ≡ out_bytes capture end.released → ⊥
+    not_wrong : (place : ℕ) → IsOutWrong c capture out journal place → (end : State) → IsWhole c journal end →
+        out ≡ out_bytes capture end.released → ⊥
     not_wrong place wrong end whole same =
-        none_differs out (out_bytes capture wrong.end.released) place wrong.differs (same ∙ ap (λ (e : State). out_bytes capture e.released) (one_end end wrong.end whole wrong.whole))
+        none_differs out (out_bytes capture wrong.end.released) place wrong.differs
+        (same ∙ ap (λ (e : State). out_bytes capture e.released) (one_end end wrong.end whole wrong.whole))
 
-    one_wrong : (place other : ℕ) → IsOutWrong c capture out journal place → IsOutWrong c capture out journal other → place ≡ other
+    one_wrong : (place other : ℕ) → IsOutWrong c capture out journal place → IsOutWrong c capture out journal other →
+        place ≡ other
     one_wrong place other wrong also =
         one_place out (out_bytes capture wrong.end.released) place other wrong.differs
-        (subst (λ (e : State). IsFirstDifference out (out_bytes capture e.released) other) (one_end also.end wrong.end also.whole wrong.whole) also.differs)
+        (subst (λ (e : State). IsFirstDifference out (out_bytes capture e.released) other)
+        (one_end also.end wrong.end also.whole wrong.whole) also.differs)
 
-    pub one : (report : List ℕ) (verdict other : Checked) → IsVerdict c capture out journal report verdict → IsVerdict c capture out journal report other → verdict ≡ other
+    pub one : (report : List ℕ) (verdict other : Checked) → IsVerdict c capture out journal report verdict →
+        IsVerdict c capture out journal report other → verdict ≡ other
     one report (NotRun event) (NotRun other) a b = ap NotRun (one_illegal c journal event other a b)
     one report (NotRun event) Unfinished a b = absurd (none_illegal c journal event a b.run)
     one report (NotRun event) (OutDiffers place) a b = absurd (none_illegal c journal event a b.whole.run)
@@ -59,7 +67,8 @@ module _ (c : Setting) (journal : List Event) where
     one report (ReportDiffers place) (NotRun event) a b = absurd (none_illegal c journal event b a.whole.run)
     one report (ReportDiffers place) Unfinished a b = absurd (not_over b a.end a.whole)
     one report (ReportDiffers place) (OutDiffers other) a b = absurd (not_wrong other b a.end a.whole a.out_is)
-    one report (ReportDiffers place) (ReportDiffers other) a b = ap ReportDiffers (one_other report place other a.report_is b.report_is)
+    one report (ReportDiffers place) (ReportDiffers other) a b =
+        ap ReportDiffers (one_other report place other a.report_is b.report_is)
     one report (ReportDiffers place) Yes a b = absurd (not_other report place a.report_is b.report_is)
     one report Yes (NotRun event) a b = absurd (none_illegal c journal event b a.whole.run)
     one report Yes Unfinished a b = absurd (not_over b a.end a.whole)

@@ -27,4 +27,5 @@ module _ (c : Setting) (capture : Capture) (journal : List Event) (end : State) 
   pub only : (verdict : Checked) → AllByRecursion HasNoFeed lines → IsWhole c journal end →
       IsVerdict c capture (out_bytes capture end.released) journal (report_of c journal lines) verdict → verdict ≡ Yes
   only verdict plain whole is =
-      one c journal capture (out_bytes capture end.released) (report_of c journal lines) verdict Yes is (right plain whole)
+      one c journal capture (out_bytes capture end.released) (report_of c journal lines) verdict Yes is
+      (right plain whole)

@@ -19,7 +19,8 @@ use Rattle.ftc_check.specs.Verdict.{IsWhole, IsVerdict}
 use Rattle.ftc_protocol.specs.Whole.{ReleasedVisited}
 
 abbrev pub DifferencesAreOne : Type 0
-DifferencesAreOne = (a b : List ℕ) (place other : ℕ) → IsFirstDifference a b place → IsFirstDifference a b other → place ≡ other
+DifferencesAreOne = (a b : List ℕ) (place other : ℕ) → IsFirstDifference a b place → IsFirstDifference a b other →
+    place ≡ other
 
 abbrev pub FrontsAreOne : Type 0
 FrontsAreOne = (text front other : List ℕ) → IsWithoutTaps text front → IsWithoutTaps text other → front ≡ other
@@ -59,4 +60,5 @@ RightRunsAreVisited =
 abbrev pub RightRunsAreSettled : Type 0
 RightRunsAreSettled =
     (c : Setting) → IsSetting c → (capture : Capture) (out : List ℕ) (journal : List Event) (report : List ℕ)
-    → IsVerdict c capture out journal report Yes → (packet : ℕ) → packet < count c → (state_after c (opening c) journal).fate packet ≢ became.Inside
+    → IsVerdict c capture out journal report Yes → (packet : ℕ) → packet < count c →
+    (state_after c (opening c) journal).fate packet ≢ became.Inside

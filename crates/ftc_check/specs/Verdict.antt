@@ -45,14 +45,16 @@ pub record IsReport (c : Setting) (journal : List Event) (report : List ℕ) : T
   pub same : front ≡ report_of c journal []
 
 -- OUT is right, and the report is not
-pub record IsReportWrong (c : Setting) (capture : Capture) (out : List ℕ) (journal : List Event) (report : List ℕ) (place : ℕ) : Type 0 where
+pub record IsReportWrong (c : Setting) (capture : Capture) (out : List ℕ) (journal : List Event) (report : List ℕ)
+    (place : ℕ) : Type 0 where
   pub end : State
   pub whole : IsWhole c journal end
   pub out_is : out ≡ out_bytes capture end.released
   pub report_is : IsOtherReport c journal report place
 
 -- both are right
-pub record IsRight (c : Setting) (capture : Capture) (out : List ℕ) (journal : List Event) (report : List ℕ) : Type 0 where
+pub record IsRight (c : Setting) (capture : Capture) (out : List ℕ) (journal : List Event)
+    (report : List ℕ) : Type 0 where
   pub end : State
   pub whole : IsWhole c journal end
   pub out_is : out ≡ out_bytes capture end.released

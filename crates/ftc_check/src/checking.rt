@@ -33,8 +33,10 @@ fn out_difference(
     out: &[u8],
 ) -> Result<Option<u64>, NoMemory>
     requires { AreWritable capture.now.packets (serial_state serial.now).released }
-    ensures same { IfOk result (λ found. IsNone found → out.now ≡ out_bytes capture.now (serial_state serial.now).released) }
-    ensures differs { IfOk result (λ found. IfSome found (IsFirstDifference out.now (out_bytes capture.now (serial_state serial.now).released))) }
+    ensures same { IfOk result (λ found. IsNone found →
+        out.now ≡ out_bytes capture.now (serial_state serial.now).released) }
+    ensures differs { IfOk result
+        (λ found. IfSome found (IsFirstDifference out.now (out_bytes capture.now (serial_state serial.now).released))) }
 {
     let expected = out_of(alloc, capture, serial.released())?;
     Ok(first_difference(out, expected.as_slice()))
@@ -48,9 +50,12 @@ fn report_difference(
     report: &[u8],
 ) -> Result<Option<u64>, NoMemory>
     requires rules { rules_of serial.now ≡ machine.now.chain.rules }
-    requires state { serial_run machine.now.chain.rules (serial_opening machine.now.packets) (trace_of machine.now.journal) ≡ Some (serial_state serial.now) }
-    ensures same { IfOk result (λ found. IsNone found → IsReport (setting_in machine.now) machine.now.journal report.now) }
-    ensures differs { IfOk result (λ found. IfSome found (IsOtherReport (setting_in machine.now) machine.now.journal report.now)) }
+    requires state { serial_run machine.now.chain.rules (serial_opening machine.now.packets)
+        (trace_of machine.now.journal) ≡ Some (serial_state serial.now) }
+    ensures same { IfOk result (λ found. IsNone found →
+        IsReport (setting_in machine.now) machine.now.journal report.now) }
+    ensures differs { IfOk result
+        (λ found. IfSome found (IsOtherReport (setting_in machine.now) machine.now.journal report.now)) }
 {
     let fates = machine.fates()?;
     let expected = print(alloc, &fates, serial, &Lines::new(alloc))?;
@@ -68,7 +73,8 @@ fn compare(
 ) -> Result<Checked, NoMemory>
     requires chain { machine.now.chain ≡ spec.now }
     requires packets { machine.now.packets ≡ bytes_of_packets capture.now.packets }
-    ensures { IfOk result (λ verdict. IsVerdict (setting_in machine.now) capture.now out.now machine.now.journal report.now verdict) }
+    ensures { IfOk result (λ verdict. IsVerdict
+        (setting_in machine.now) capture.now out.now machine.now.journal report.now verdict) }
 {
     let journal = machine.journal();
     if !machine.finished() {
@@ -102,7 +108,9 @@ pub fn check(
 ) -> Result<Checked, NoMemory>
     requires ring { script.now.ring ≡ record { servers = length spec.now.rules; failures = spec.now.failures } }
     requires packets { script.now.packets ≡ length capture.now.packets }
-    ensures { IfOk result (λ verdict. IsVerdict (setting_of spec.now (bytes_of_packets capture.now.packets) script.now) capture.now out.now journal.now.items report.now verdict) }
+    ensures { IfOk result (λ verdict. IsVerdict
+        (setting_of spec.now (bytes_of_packets capture.now.packets) script.now) capture.now out.now journal.now.items
+        report.now verdict) }
 {
     match replay(alloc, spec, &capture.packets, script, journal) {
         Ok(machine) => compare(alloc, spec, capture, &machine, out, report),

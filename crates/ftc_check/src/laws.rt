@@ -1,6 +1,8 @@
 //! What holds of the definitions.
 
-ghost use Rattle.ftc_check.specs.Laws.{DifferencesAreOne, FrontsAreOne, VerdictsAreOne, OwnReportsStay, WholeRunsAreRight, WholeRunsAreOnlyRight, RightRunsAreVisited, RightRunsAreSettled};
+ghost use Rattle.ftc_check.specs.Laws.{DifferencesAreOne, FrontsAreOne, VerdictsAreOne, OwnReportsStay};
+ghost use Rattle.ftc_check.specs.Laws.{WholeRunsAreRight, WholeRunsAreOnlyRight, RightRunsAreVisited};
+ghost use Rattle.ftc_check.specs.Laws.{RightRunsAreSettled};
 
 use ftc_protocol::{finished_run, released_for_good};
 

@@ -1,5 +1,6 @@
 -- Texts of printed words: their lines, words and parts are found again.
-use Rattle.std.proofs.Common.{◌≡◌, ◌≤◌, ℕ, ◌+◌, true, false, List, [], ◌∷◌, ◌++◌, length, take, drop, refl, ap, ◌∙◌, arith, add-one}
+use Rattle.std.proofs.Common.{◌≡◌, ◌≤◌, ℕ, ◌+◌, true, false, List, [], ◌∷◌, ◌++◌, length, take, drop, refl, ap, ◌∙◌}
+use Rattle.std.proofs.Common.{arith, add-one}
 use Rattle.std.specs.Prelude.{◌==◌}
 use Rattle.std.specs.List.{AllByRecursion, list_all, join_with_byte, onto_first, position_or_len}
 use Rattle.std.proofs.lemmas.Bool.Decides.{nat_tests}
@@ -18,9 +19,11 @@ are_text [] all = refl
 are_text (b ∷ bs) all = rw (line_byte-text b all.0, are_text bs all.1) refl
 
 -- a word at its first separator
-position-part : (separator : ℕ) (part rest : List ℕ) → (separator == separator) ≡ true → Without separator part → position_or_len (λ b. b == separator) (part ++ separator ∷ rest) ≡ length part
+position-part : (separator : ℕ) (part rest : List ℕ) → (separator == separator) ≡ true → Without separator part →
+    position_or_len (λ b. b == separator) (part ++ separator ∷ rest) ≡ length part
 position-part separator [] rest same all = rw same refl
-position-part separator (b ∷ bs) rest same all = let later = position-part separator bs rest same all.1 in rw (all.0, later) (omega arith)
+position-part separator (b ∷ bs) rest same all = let later = position-part separator bs rest same all.1 in
+    rw (all.0, later) (omega arith)
 
 take-front : (part rest : List ℕ) → take (length part) (part ++ rest) ≡ part
 take-front [] rest = refl
@@ -30,12 +33,17 @@ drop-front : (part rest : List ℕ) (b : ℕ) → drop (length part + 1) (part +
 drop-front [] rest b = refl
 drop-front (x ∷ xs) rest b = let later = rw add-one at (drop-front xs rest b) in rw add-one later
 
-pub part_before-part : (separator : ℕ) (part rest : List ℕ) → (separator == separator) ≡ true → Without separator part → part_before separator (part ++ separator ∷ rest) ≡ part
-part_before-part separator part rest same all = rw (position-part separator part rest same all) (take-front part (separator ∷ rest))
+pub part_before-part : (separator : ℕ) (part rest : List ℕ) → (separator == separator) ≡ true → Without separator part →
+    part_before separator (part ++ separator ∷ rest) ≡ part
+part_before-part separator part rest same all =
+    rw (position-part separator part rest same all) (take-front part (separator ∷ rest))
 
-pub part_behind-part : (separator : ℕ) (part rest : List ℕ) → (separator == separator) ≡ true → Without separator part → part_behind separator (part ++ separator ∷ rest) ≡ rest
-part_behind-part separator part rest same all = rw (position-part separator part rest same all) (drop-front part rest separator)
+pub part_behind-part : (separator : ℕ) (part rest : List ℕ) → (separator == separator) ≡ true → Without separator part →
+    part_behind separator (part ++ separator ∷ rest) ≡ rest
+part_behind-part separator part rest same all =
+    rw (position-part separator part rest same all) (drop-front part rest separator)
 
-pub has_byte-part : (separator : ℕ) (part rest : List ℕ) → (separator == separator) ≡ true → Without separator part → has_byte separator (part ++ separator ∷ rest) ≡ true
+pub has_byte-part : (separator : ℕ) (part rest : List ℕ) → (separator == separator) ≡ true → Without separator part →
+    has_byte separator (part ++ separator ∷ rest) ≡ true
 has_byte-part separator [] rest same all = rw same refl
 has_byte-part separator (b ∷ bs) rest same all = rw (all.0, has_byte-part separator bs rest same all.1) refl

@@ -45,7 +45,8 @@ with_spare draft = record (with_server draft rule.Pass) { spares = draft.spares 
 -- the draft with what the line at that place says
 abbrev pub with_statement : Draft → ℕ → Statement → Draft
 with_statement draft place said.Nothing = draft
-with_statement draft place (said.Failures number) = record draft { failures = Some (record { number = number; line = place }) }
+with_statement draft place (said.Failures number) =
+    record draft { failures = Some (record { number = number; line = place }) }
 with_statement draft place (said.Partitions number) = record draft { partitions = Some number }
 with_statement draft place (said.Middlebox server) = with_server draft server
 with_statement draft place said.Firewall = with_firewall draft

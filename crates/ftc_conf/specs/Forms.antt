@@ -1,5 +1,6 @@
 -- The forms of lines, each with its tests from left to right.
-use Rattle.std.specs.Prelude.{ℕ, Bool, not, nat_le, List, [], ◌∷◌, ◌++◌, length, Option, Some, None, Result, Ok, Err, if◌then◌else◌, codes}
+use Rattle.std.specs.Prelude.{ℕ, Bool, not, nat_le, List, [], ◌∷◌, ◌++◌, length, Option, Some, None, Result, Ok, Err}
+use Rattle.std.specs.Prelude.{if◌then◌else◌, codes}
 use Rattle.std.specs.Str.{bytes_eq}
 use Rattle.ftc_base.specs.Endpoint.{parts_of, contains}
 use Rattle.ftc_base.specs.declared.limits.TheConstants.{MOST_PARTITIONS, MOST_MONITOR_GROUPS, MOST_BACKENDS}
@@ -10,7 +11,8 @@ use Rattle.ftc_conf.specs.declared.limits.TheConstants.{MOST_FAILURES, MOST_PORT
 use Rattle.ftc_conf.specs.declared.fault.ChainCause.{ChainCause}
 use Rattle.ftc_conf.specs.declared.fault.ChainCause.TheVariants.{UnknownWord, WordCount, BadRange, TooManyItems}
 use Rattle.ftc_base.specs.Reading.{◌>>=◌, ◌>>◌, unless}
-use Rattle.ftc_conf.specs.Words.{fixed, number_from_to, address_word, net_word, part_before, part_behind, dashed_ports, ports_word}
+use Rattle.ftc_conf.specs.Words.{fixed, number_from_to, address_word, net_word, part_before, part_behind, dashed_ports}
+use Rattle.ftc_conf.specs.Words.{ports_word}
 
 -- each form speaks of the words behind the first word of its line
 
@@ -61,7 +63,14 @@ fire_line_of allow (protocol_word ∷ source_word ∷ destination_word ∷ ports
   source ← net_word source_word
   destination ← net_word destination_word
   range ← ports_word ports
-  Ok (record { allow = allow; protocol = protocol; source = source; destination = destination; low = range.first; high = range.last })
+  Ok (record {
+    allow = allow;
+    protocol = protocol;
+    source = source;
+    destination = destination;
+    low = range.first;
+    high = range.last;
+  })
 fire_line_of allow words = Err WordCount
 
 -- one more address of the list of backends

@@ -1,5 +1,6 @@
 -- Which chain a text spells, or the first fault of a text that spells none.
-use Rattle.std.specs.Prelude.{ℕ, ◌+◌, Bool, true, false, not, ◌||◌, ◌==◌, nat_le, nat_lt, List, [], ◌∷◌, length, Option, Some, None, Result, Ok, Err, if◌then◌else◌, codes}
+use Rattle.std.specs.Prelude.{ℕ, ◌+◌, Bool, true, false, not, ◌||◌, ◌==◌, nat_le, nat_lt, List, [], ◌∷◌, length, Option}
+use Rattle.std.specs.Prelude.{Some, None, Result, Ok, Err, if◌then◌else◌, codes}
 use Rattle.std.specs.List.{list_all}
 use Rattle.std.specs.Str.{bytes_eq}
 use Rattle.ftc_base.specs.Text.{words_of, lines_of}
@@ -9,7 +10,9 @@ use Rattle.ftc_mbox.specs.Chain.{Chain}
 use Rattle.ftc_mbox.specs.declared.rule.Rule.TheVariants as rule
 use Rattle.ftc_conf.specs.declared.limits.TheConstants.{MOST_FAILURES}
 use Rattle.ftc_conf.specs.declared.fault.ChainCause.{ChainCause}
-use Rattle.ftc_conf.specs.declared.fault.ChainCause.TheVariants.{NotText, NoFailures, NoPartitions, UnknownWord, TooManyServers, TooManyItems, Replicas, Empty, SpareOrder}
+use Rattle.ftc_conf.specs.declared.fault.ChainCause.TheVariants.{NotText, NoFailures, NoPartitions, UnknownWord}
+use Rattle.ftc_conf.specs.declared.fault.ChainCause.TheVariants.{TooManyServers, TooManyItems, Replicas, Empty}
+use Rattle.ftc_conf.specs.declared.fault.ChainCause.TheVariants.{SpareOrder}
 use Rattle.ftc_conf.specs.declared.fault.ChainFault.{ChainFault}
 use Rattle.ftc_conf.specs.declared.statement.Form.{Form}
 use Rattle.ftc_conf.specs.declared.statement.Form.TheVariants as form
@@ -78,7 +81,8 @@ failures_line first words =
 
 abbrev pub partitions_line : List ℕ → List (List ℕ) → Result Statement ChainCause
 partitions_line first words =
-    if bytes_eq first (codes "partitions") then (partitions_of words >>= λ number. Ok (said.Partitions number)) else Err NoPartitions
+    if bytes_eq first (codes "partitions") then (partitions_of words >>= λ number. Ok (said.Partitions number))
+    else Err NoPartitions
 
 -- the first line with words is the failures line, the second the partitions line, and the others are the middleboxes
 abbrev pub words_in : Option Failures → Option ℕ → Draft → List ℕ → List (List ℕ) → Result Statement ChainCause
@@ -108,7 +112,8 @@ fault_at line cause = Err (record { line = line; cause = cause })
 abbrev pub complete_chain : ℕ → Failures → ℕ → Draft → ℕ → Result Chain ChainFault
 complete_chain most failures partitions draft place =
     if nat_le (length (servers draft)) draft.spares then fault_at place Empty else
-    if nat_le (length (servers draft)) failures.number || nat_lt most failures.number then fault_at failures.line Replicas else
+    if nat_le (length (servers draft)) failures.number || nat_lt most failures.number then
+    fault_at failures.line Replicas else
     Ok (record { failures = failures.number; partitions = partitions; rules = servers draft })
 
 -- the chain where no line is left; the place is behind the last line
@@ -129,7 +134,8 @@ placed line (Err cause) = fault_at line cause
 abbrev pub chain_from : ℕ → Result Draft ChainFault → ℕ → List (List ℕ) → Result Chain ChainFault
 chain_from most (Err fault) place lines = Err fault
 chain_from most (Ok draft) place [] = finish most draft place
-chain_from most (Ok draft) place (line ∷ lines) = chain_from most (placed place (line_step draft place line)) (place + 1) lines
+chain_from most (Ok draft) place (line ∷ lines) =
+    chain_from most (placed place (line_step draft place line)) (place + 1) lines
 
 -- the chain that a text spells, of whose servers at most so many may be down at once, or its first fault
 abbrev pub chain_within : ℕ → List ℕ → Result Chain ChainFault

@@ -1,5 +1,6 @@
 -- A plain text of each chain.
-use Rattle.std.specs.Prelude.{ℕ, ◌/◌, ◌%◌, Bool, ◌==◌, List, [], ◌∷◌, ◌++◌, map, Option, Some, None, if◌then◌else◌, codes, decimal}
+use Rattle.std.specs.Prelude.{ℕ, ◌/◌, ◌%◌, Bool, ◌==◌, List, [], ◌∷◌, ◌++◌, map, Option, Some, None, if◌then◌else◌}
+use Rattle.std.specs.Prelude.{codes, decimal}
 use Rattle.std.specs.List.{join_with_byte, flat_map}
 use Rattle.ftc_base.specs.declared.network.Net.{Net}
 use Rattle.ftc_nat.specs.declared.rule.NatRule.{NatRule}
@@ -11,7 +12,8 @@ use Rattle.ftc_mbox.specs.declared.rule.Rule.TheVariants.{Pass, Monitor, Nat, Fi
 
 -- the four bytes of an address, from the highest on, with dots between them
 abbrev pub address_text : ℕ → List ℕ
-address_text address = join_with_byte 46 (decimal (address / 16777216) ∷ decimal (address / 65536 % 256) ∷ decimal (address / 256 % 256) ∷ decimal (address % 256) ∷ [])
+address_text address = join_with_byte 46 (decimal (address / 16777216) ∷ decimal (address / 65536 % 256)
+    ∷ decimal (address / 256 % 256) ∷ decimal (address % 256) ∷ [])
 
 abbrev pub net_text : Net → List ℕ
 net_text net = address_text net.base ++ 47 ∷ decimal net.length
@@ -24,16 +26,19 @@ protocol_text None = codes "any"
 protocol_text (Some number) = if number == 6 then codes "tcp" else codes "udp"
 
 abbrev pub nat_words : NatRule → List (List ℕ)
-nat_words rule = codes "nat" ∷ codes "inside" ∷ net_text rule.inside ∷ codes "outside" ∷ address_text rule.outside ∷ codes "ports" ∷ ports_text rule.first rule.last ∷ []
+nat_words rule = codes "nat" ∷ codes "inside" ∷ net_text rule.inside ∷ codes "outside" ∷ address_text rule.outside
+    ∷ codes "ports" ∷ ports_text rule.first rule.last ∷ []
 
 abbrev pub decision_text : Bool → List ℕ
 decision_text allow = if allow then codes "allow" else codes "deny"
 
 abbrev pub fire_line_words : FireLine → List (List ℕ)
-fire_line_words line = decision_text line.allow ∷ protocol_text line.protocol ∷ net_text line.source ∷ net_text line.destination ∷ ports_text line.low line.high ∷ []
+fire_line_words line = decision_text line.allow ∷ protocol_text line.protocol ∷ net_text line.source
+    ∷ net_text line.destination ∷ ports_text line.low line.high ∷ []
 
 abbrev pub balance_words : BalanceRule → List (List ℕ)
-balance_words rule = codes "balance" ∷ (address_text rule.address ++ 58 ∷ decimal rule.port) ∷ codes "to" ∷ join_with_byte 44 (map address_text rule.backends) ∷ []
+balance_words rule = codes "balance" ∷ (address_text rule.address ++ 58 ∷ decimal rule.port) ∷ codes "to"
+    ∷ join_with_byte 44 (map address_text rule.backends) ∷ []
 
 -- the lines of a rule, as words: a firewall's lines stand below it
 abbrev pub rule_lines : Rule → List (List (List ℕ))
@@ -44,7 +49,8 @@ rule_lines (Firewall rule) = (codes "firewall" ∷ []) ∷ map fire_line_words r
 rule_lines (Balance rule) = balance_words rule ∷ []
 
 abbrev pub chain_lines : Chain → List (List (List ℕ))
-chain_lines chain = (codes "f" ∷ decimal chain.failures ∷ []) ∷ (codes "partitions" ∷ decimal chain.partitions ∷ []) ∷ flat_map rule_lines chain.rules
+chain_lines chain = (codes "f" ∷ decimal chain.failures ∷ []) ∷ (codes "partitions" ∷ decimal chain.partitions ∷ [])
+    ∷ flat_map rule_lines chain.rules
 
 -- lines of words with one space between them, each with a line feed behind it
 abbrev pub text_of_lines : List (List (List ℕ)) → List ℕ

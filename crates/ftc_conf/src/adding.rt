@@ -5,7 +5,8 @@ ghost use Rattle.ftc_base.specs.declared.limits.TheConstants.{MOST_SERVERS};
 ghost use Rattle.ftc_firewall.specs.Bounds.{IsFireLine};
 ghost use Rattle.ftc_mbox.specs.Bounds.{IsRule};
 ghost use Rattle.ftc_conf.specs.declared.statement.Statement.TheVariants as said;
-ghost use Rattle.ftc_conf.specs.Draft.{no_lines, servers, last_firewall, with_server, with_firewall, with_fire_line, with_statement, IsDraft, IsStatement, HasRoom};
+ghost use Rattle.ftc_conf.specs.Draft.{no_lines, servers, last_firewall, with_server, with_firewall, with_fire_line};
+ghost use Rattle.ftc_conf.specs.Draft.{with_statement, IsDraft, IsStatement, HasRoom};
 
 use crate::draft::{Draft, Failures};
 use crate::statement::Statement;

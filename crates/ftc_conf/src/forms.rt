@@ -3,7 +3,8 @@
 ghost use Rattle.std.specs.Prelude.{◌≡◌, ◌≤◌, length};
 ghost use Rattle.ftc_base.specs.declared.limits.TheConstants.{MOST_SERVERS};
 ghost use Rattle.ftc_conf.specs.Draft.{servers};
-ghost use Rattle.ftc_conf.specs.Grammar.{fire_line_form, form_of, server_room, fire_line_room, middlebox_room, room_for};
+ghost use Rattle.ftc_conf.specs.Grammar.{fire_line_form, form_of, server_room, fire_line_room, middlebox_room};
+ghost use Rattle.ftc_conf.specs.Grammar.{room_for};
 
 use crate::adding::count_of_servers;
 use crate::draft::Draft;

@@ -8,8 +8,10 @@ ghost use Rattle.ftc_conf.specs.Grammar.{chain_within, chain_of};
 
 /// An accepted chain has no more servers than a chain may have, and more than may be down at once.
 pub fn fits()
-    ensures servers { (most : ℕ) (text : List ℕ) (chain : Chain) → chain_within most text ≡ Ok chain → length chain.rules ≤ MOST_SERVERS }
-    ensures failures { (most : ℕ) (text : List ℕ) (chain : Chain) → chain_within most text ≡ Ok chain → chain.failures < length chain.rules }
+    ensures servers { (most : ℕ) (text : List ℕ) (chain : Chain) → chain_within most text ≡ Ok chain →
+        length chain.rules ≤ MOST_SERVERS }
+    ensures failures { (most : ℕ) (text : List ℕ) (chain : Chain) → chain_within most text ≡ Ok chain →
+        chain.failures < length chain.rules }
 {}
 
 /// An accepted chain keeps the bound.

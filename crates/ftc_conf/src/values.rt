@@ -3,7 +3,8 @@
 ghost use Rattle.std.specs.Prelude.{◌≡◌, ◌≤◌, ◌==◌, length, IfOk};
 ghost use Rattle.std.specs.List.{position_or_len};
 ghost use Rattle.ftc_base.specs.Endpoint.{IsNet};
-ghost use Rattle.ftc_conf.specs.Words.{number_word, number_from_to, address_word, net_word, part_before, part_behind, has_byte};
+ghost use Rattle.ftc_conf.specs.Words.{number_word, number_from_to, address_word, net_word, part_before, part_behind};
+ghost use Rattle.ftc_conf.specs.Words.{has_byte};
 
 use crate::fault::ChainCause;
 use crate::limits::MOST_NUMBER;

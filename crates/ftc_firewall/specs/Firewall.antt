@@ -1,5 +1,6 @@
 -- The rule of a firewall.
-use Rattle.std.specs.Prelude.{ℕ, Bool, ◌==◌, ◌&&◌, ◌||◌, nat_le, nat_lt, List, [], ◌∷◌, ◌++◌, Option, Some, None, if◌then◌else◌, codes, true, false}
+use Rattle.std.specs.Prelude.{ℕ, Bool, ◌==◌, ◌&&◌, ◌||◌, nat_le, nat_lt, List, [], ◌∷◌, ◌++◌, Option, Some, None}
+use Rattle.std.specs.Prelude.{if◌then◌else◌, codes, true, false}
 use Rattle.ftc_base.specs.declared.ask.Answer.{Answer}
 use Rattle.ftc_base.specs.declared.ask.Ask.{Ask}
 use Rattle.ftc_base.specs.declared.ask.Ask.TheVariants.{Read}
@@ -12,7 +13,8 @@ use Rattle.ftc_firewall.specs.declared.rule.FirewallRule.{FirewallRule}
 -- The source is the smaller end, by address and then port.
 abbrev pub source_is_smaller : Flow → Bool
 source_is_smaller flow =
-    nat_lt flow.source flow.destination || (flow.source == flow.destination && nat_le flow.source_port flow.destination_port)
+    nat_lt flow.source flow.destination
+    || (flow.source == flow.destination && nat_le flow.source_port flow.destination_port)
 
 -- `w`, the protocol and both ends, the smaller first: the key of a connection, in both directions.
 abbrev pub connection_key : Flow → List ℕ

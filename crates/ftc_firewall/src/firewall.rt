@@ -1,7 +1,8 @@
 //! What a firewall asks.
 
 ghost use Rattle.std.specs.Prelude.{◌≡◌};
-ghost use Rattle.ftc_firewall.specs.Firewall.{source_is_smaller, connection_key, is_of_protocol, matches, is_allowed, first_packet, firewall_ask};
+ghost use Rattle.ftc_firewall.specs.Firewall.{source_is_smaller, connection_key, is_of_protocol, matches, is_allowed};
+ghost use Rattle.ftc_firewall.specs.Firewall.{first_packet, firewall_ask};
 
 use crate::rule::{FireLine, FirewallRule};
 use ftc_base::{Answers, Ask, Change, Finish, Key, Value, Verdict, Write, Writes};

@@ -1,5 +1,6 @@
 -- The sums of the words of a generated packet.
-use Rattle.std.proofs.Common.{◌≡◌, ◌≢◌, ◌≤◌, ◌<◌, ◌+◌, ◌-◌, ◌%◌, ◌==◌, ◌++◌, ◌∙◌, ℕ, suc, List, true, false, sum, arith, refl, sym, ap, append_assoc, add-one, eqb-true}
+use Rattle.std.proofs.Common.{◌≡◌, ◌≢◌, ◌≤◌, ◌<◌, ◌+◌, ◌-◌, ◌%◌, ◌==◌, ◌++◌, ◌∙◌, ℕ, suc, List, true, false, sum, arith}
+use Rattle.std.proofs.Common.{refl, sym, ap, append_assoc, add-one, eqb-true}
 use Rattle.std.specs.Prelude.{if◌then◌else◌}
 use Rattle.ftc_packet.specs.Sum.{words, ones_complement, checksum_of}
 use Rattle.ftc_gen.specs.Packet.{ipv4, udp, pseudo_header, right_checksum, shown_checksum, ipv4_checksum}
@@ -14,7 +15,8 @@ unfolding ones_complement
 some_sum total some = grind (arith)
 
 pub ipv4_sum : (identification host : ℕ) → identification ≤ 65535
-    → sum (words (ipv4 identification host 0)) ≡ 0x4500 + 28 + identification + 0x4011 + (0x0a00 + host + 0xc633 + 0x640a)
+    → sum (words (ipv4 identification host 0)) ≡ 0x4500 + 28 + identification + 0x4011
+    + (0x0a00 + host + 0xc633 + 0x640a)
 unfolding words
 ipv4_sum identification host few = omega arith
 
@@ -32,8 +34,10 @@ pub some_checksum : (total : ℕ) → 0 < total → 0xffff - ((total - 1) % 0xff
 some_checksum total some = ap (λ (s : ℕ). 0xffff - s) (sym (some_sum total some))
 
 pub ipv4_right : (identification host total : ℕ) → identification ≤ 65535
-    → total ≡ 0x4500 + 28 + identification + 0x4011 + (0x0a00 + host + 0xc633 + 0x640a) → checksum_of total ≡ ipv4_checksum identification host
-ipv4_right identification host total few is = ap (λ (t : ℕ). checksum_of t) (is ∙ sym (ipv4_sum identification host few))
+    → total ≡ 0x4500 + 28 + identification + 0x4011 + (0x0a00 + host + 0xc633 + 0x640a) →
+    checksum_of total ≡ ipv4_checksum identification host
+ipv4_right identification host total few is =
+    ap (λ (t : ℕ). checksum_of t) (is ∙ sym (ipv4_sum identification host few))
 
 pub udp_right : (host port total : ℕ) → port ≤ 65535
     → total ≡ (0x0a00 + host + 0xc633 + 0x640a) + 17 + 8 + 5000 + port + 8
@@ -51,9 +55,11 @@ shown_as_it_is checksum right same some =
     ] refl)
 
 -- one record more
-pub one_more : (seed place : ℕ) (before after : List ℕ) → before ≡ header ++ records seed place → after ≡ before ++ record_of seed place
+pub one_more : (seed place : ℕ) (before after : List ℕ) → before ≡ header ++ records seed place →
+    after ≡ before ++ record_of seed place
     → after ≡ header ++ records seed (place + 1)
 one_more seed place before after sofar grown =
     let more : after ≡ header ++ records seed (suc place) =
-    grown ∙ (ap (λ (bytes : List ℕ). bytes ++ record_of seed place) sofar ∙ append_assoc header (records seed place) (record_of seed place)) in
+    grown ∙ (ap (λ (bytes : List ℕ). bytes ++ record_of seed place) sofar ∙ append_assoc header (records seed place)
+    (record_of seed place)) in
     rw add-one more

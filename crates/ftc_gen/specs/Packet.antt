@@ -22,7 +22,8 @@ addresses host = 10 ∷ 0 ∷ 0 ∷ host ∷ 198 ∷ 51 ∷ 100 ∷ 10 ∷ []
 -- version 4 with five words, 28 bytes in all, an identification, no fragment, 64 hops and UDP; and a checksum
 abbrev pub ipv4 : ℕ → ℕ → ℕ → List ℕ
 ipv4 identification host checksum =
-    0x45 ∷ 0 ∷ 0 ∷ 28 ∷ (to_be_bytes w16 identification ++ (0 ∷ 0 ∷ 64 ∷ 17 ∷ (to_be_bytes w16 checksum ++ addresses host)))
+    0x45 ∷ 0 ∷ 0 ∷ 28 ∷ (to_be_bytes w16 identification
+    ++ (0 ∷ 0 ∷ 64 ∷ 17 ∷ (to_be_bytes w16 checksum ++ addresses host)))
 
 -- from port 5000, 8 bytes in all; and a checksum
 abbrev pub udp : ℕ → ℕ → List ℕ

@@ -1,5 +1,7 @@
 -- Lists of jobs that are legal and that no slot runs, one behind another.
-use Rattle.std.proofs.Common.{◌≡◌, ◌≢◌, ◌↔◌, Result, Ok, Err, OnOk, Option, Some, None, ◌∙◌, ◌++◌, ◌⊎◌, ◌+◌, ◌<◌, ℕ, zero, suc, Bool, true, false, List, [], ◌∷◌, inl, inr, refl, sym, ap, subst, arith, append_assoc, append-nil, if◌then◌else◌, length, take, drop, get_or}
+use Rattle.std.proofs.Common.{◌≡◌, ◌≢◌, ◌↔◌, Result, Ok, Err, OnOk, Option, Some, None, ◌∙◌, ◌++◌, ◌⊎◌, ◌+◌, ◌<◌, ℕ}
+use Rattle.std.proofs.Common.{zero, suc, Bool, true, false, List, [], ◌∷◌, inl, inr, refl, sym, ap, subst, arith}
+use Rattle.std.proofs.Common.{append_assoc, append-nil, if◌then◌else◌, length, take, drop, get_or}
 use Rattle.std.specs.List.{AllByRecursion}
 use Rattle.std.proofs.lemmas.Bool.{cases_eq}
 use Rattle.std.proofs.lemmas.Option.{none-some, same_Some}
@@ -13,7 +15,8 @@ use Rattle.ftc_jobs.specs.All.{HasJobsOf, IsUntaken}
 
 -- ---- results
 
-pub on_ok : {A E : Type 0} (result : Result A E) (Fact Other : Type 0) → (Fact → Other) → OnOk result Fact → OnOk result Other
+pub on_ok : {A E : Type 0} (result : Result A E) (Fact Other : Type 0) → (Fact → Other) → OnOk result Fact →
+    OnOk result Other
 on_ok (Ok value) Fact Other from fact = from fact
 on_ok (Err fault) Fact Other from fact = tt
 
@@ -28,7 +31,8 @@ pub any_other : {A : Type 0} (P : A → Type 0) (one other : List A) → AnyOf P
 any_other P [] other any = any
 any_other P (x ∷ one) other any = inr (any_other P one other any)
 
-pub any_either : {A : Type 0} (P : A → Type 0) (one other : List A) → AnyOf P (one ++ other) → AnyOf P one ⊎ AnyOf P other
+pub any_either : {A : Type 0} (P : A → Type 0) (one other : List A) → AnyOf P (one ++ other) →
+    AnyOf P one ⊎ AnyOf P other
 any_either P [] other any = inr any
 any_either P (x ∷ one) other (inl here) = inl (inl here)
 any_either P (x ∷ one) other (inr there) = elim (any_either P one other there) [
@@ -63,13 +67,15 @@ some_of P (x ∷ items) (inr there) =
     }
 
 -- one item more
-pub one_taken : {A : Type 0} (items : List A) (place : ℕ) (item : A) → place < length items → item ≡ get_or items place item →
+pub one_taken : {A : Type 0} (items : List A) (place : ℕ) (item : A) → place < length items →
+    item ≡ get_or items place item →
     take (place + 1) items ≡ take place items ++ item ∷ []
 one_taken items place item below is =
     let one : suc place ≡ place + 1 = omega arith in
     subst (λ (n : ℕ). take n items ≡ take place items ++ item ∷ []) one (taken items place item below is)
   where
-    taken : {A : Type 0} (items : List A) (place : ℕ) (item : A) → place < length items → item ≡ get_or items place item →
+    taken : {A : Type 0} (items : List A) (place : ℕ) (item : A) → place < length items →
+        item ≡ get_or items place item →
         take (suc place) items ≡ take place items ++ item ∷ []
     taken [] place item below is = absurd (omega arith)
     taken (first ∷ items) zero item below is = ap (λ x. x ∷ []) (sym is)
@@ -228,7 +234,8 @@ module _ (runs : ℕ → ℕ → Bool) (setting : Setting) (state : ChainState) 
   -- of no number that is as great a job is legal
   pub adds_every : (Of : ℕ → Job → Type 0) (number : ℕ) →
       ((place : ℕ) (job : Job) → Legal job → Of place job → place < number) → (old new : List Job) →
-      Adds (λ job. (place : ℕ) × (place < number) × Of place job) old new → Adds (λ job. (place : ℕ) × Of place job) old new
+      Adds (λ job. (place : ℕ) × (place < number) × Of place job) old new →
+      Adds (λ job. (place : ℕ) × Of place job) old new
   adds_every Of number bound old new = adds_as (λ job. (place : ℕ) × (place < number) × Of place job)
       (λ job. (place : ℕ) × Of place job) old new (λ job legal of. (of.0, of.2))
       (λ job legal of. (of.0, bound of.0 job legal of.1, of.1))

@@ -1,5 +1,6 @@
 -- The test of whether a log may be applied says that its apply may happen.
-use Rattle.std.proofs.Common.{◌≡◌, ◌∙◌, ◌<◌, ◌==◌, ◌&&◌, ◌||◌, ◌∷◌, ℕ, Bool, true, false, not, List, [], Option, Some, None, length, refl, sym, ap, subst, lt-ltb, arith}
+use Rattle.std.proofs.Common.{◌≡◌, ◌∙◌, ◌<◌, ◌==◌, ◌&&◌, ◌||◌, ◌∷◌, ℕ, Bool, true, false, not, List, [], Option, Some}
+use Rattle.std.proofs.Common.{None, length, refl, sym, ap, subst, lt-ltb, arith}
 use Rattle.std.specs.Prelude.{nat_lt}
 use Rattle.std.specs.List.{find}
 use Rattle.std.specs.Option.{option_map}
@@ -57,7 +58,8 @@ pub record IsApplicable (old : Server) (origin group packet : ℕ) : Type 0 wher
   pub may : may_apply_to (replica_at old.others.items log.group) log ≡ true
   pub smaller : smaller_had old.others.items group packet held.message.logs ≡ true
 
-written : (o : Option Logged) → has_writes o ≡ true → (log : Logged) × (o ≡ Some log) × (not (length log.writes == 0) ≡ true)
+written : (o : Option Logged) → has_writes o ≡ true → (log : Logged) × (o ≡ Some log)
+    × (not (length log.writes == 0) ≡ true)
 written None is = absurd cc
 written (Some log) is = (log, refl, is)
 
@@ -69,7 +71,8 @@ module _ (old : Server) (origin group packet : ℕ) where
   applicable_of (Some held) there is =
       let halves = both (writes_some group packet held.message)
       (may_apply_in old origin group packet && smaller_had old.others.items group packet held.message.logs) is in
-      let rest = both (may_apply_in old origin group packet) (smaller_had old.others.items group packet held.message.logs)
+      let rest = both (may_apply_in old origin group packet)
+      (smaller_had old.others.items group packet held.message.logs)
       halves.1 in
       let log = written (find (is_log_of packet group) held.message.logs) halves.0 in
       record {
@@ -79,7 +82,8 @@ module _ (old : Server) (origin group packet : ℕ) where
         log_is = log.1;
         writes = log.2;
         may = ap (may_apply_one old.others.items) (sym log.1)
-            ∙ (ap (λ (o : Option HeldMessage). may_apply_one old.others.items (log_of group packet o)) (sym there) ∙ rest.0);
+            ∙ (ap (λ (o : Option HeldMessage). may_apply_one old.others.items (log_of group packet o))
+            (sym there) ∙ rest.0);
         smaller = rest.1;
       }
 
@@ -91,12 +95,14 @@ module _ (old : Server) (origin group packet : ℕ) where
       may_apply_in old origin group packet ≡ true → smaller_had old.others.items group packet held.message.logs ≡ true →
       may_apply_now old origin group packet ≡ true
   is_applied held log there log_is writes may smaller =
-      ap (λ (o : Option HeldMessage). may_apply_of old origin group packet (option_map (λ (h : HeldMessage). h.message) o))
+      ap (λ (o : Option HeldMessage). may_apply_of old origin group packet
+      (option_map (λ (h : HeldMessage). h.message) o))
       there
       ∙ from_both (writes_some group packet held.message)
       (may_apply_in old origin group packet && smaller_had old.others.items group packet held.message.logs)
       (ap has_writes log_is ∙ writes)
-      (from_both (may_apply_in old origin group packet) (smaller_had old.others.items group packet held.message.logs) may
+      (from_both (may_apply_in old origin group packet)
+      (smaller_had old.others.items group packet held.message.logs) may
       smaller)
 
 -- ---- tests of one log
@@ -131,9 +137,11 @@ is_less a b is = grind (arith, nat_tests, is)
 -- ---- the laws
 
 module _ (setting : Setting) (state : ChainState) (server origin group packet : ℕ) (old : Server)
-    (order : IsOrderly setting state) (trace : IsTrace setting.partitions state.trace) (is : IsServerAt setting state server old)
+    (order : IsOrderly setting state) (trace : IsTrace setting.partitions state.trace)
+    (is : IsServerAt setting state server old)
     (say : VectorsSay setting state server) (ready : ReadySays setting state server) (tests : TestsSay) where
-  pub may_happen : IsApplicable old origin group packet → MayHappen setting state (event.Apply server origin group packet)
+  pub may_happen : IsApplicable old origin group packet →
+      MayHappen setting state (event.Apply server origin group packet)
   may_happen can =
       let others = old.others.items in
       let held = can.held in
@@ -143,14 +151,16 @@ module _ (setting : Setting) (state : ChainState) (server origin group packet : 
       let message = in_state.message in
       let place = in_state.stands.place in
       let are = in_state.stands.as_sent.logs in
-      let of_log = found_is (IsLogIn setting.partitions state.trace) (is_log_of packet group) logs log are.each can.log_is in
+      let of_log = found_is (IsLogIn setting.partitions state.trace)
+      (is_log_of packet group) logs log are.each can.log_is in
       let names = log_names packet group log of_log.1 in
       let named = found_is (λ (l : Logged). names_log logs l.group l.origin ≡ true) (is_log_of packet group) logs log
       (each_named logs) can.log_is in
       let rides : In message.logs log.group log.origin = sym (are.names log.group log.origin) ∙ named.0 in
       let takes = taker (replica_at others log.group) log can.may in
       let slot = subst (IsReplicaSlot setting state server old.known log.group) takes.1
-      (is.stands.replicas.others log.group (rides_below setting state server origin held.visited held.by_ring message old
+      (is.stands.replicas.others log.group
+      (rides_below setting state server origin held.visited held.by_ring message old
       order is in_state.there place log.group log.origin rides)) in
       let changing = stands_map (λ (other : Outcome). other ≡ of_log.0.outcome)
       (λ (other : Outcome). is_changing setting.partitions other ≡ true)
@@ -172,9 +182,11 @@ module _ (setting : Setting) (state : ChainState) (server origin group packet : 
       let origin_is = eqb-true one.0.origin packet its_names.1 in
       let its : In message.logs one.0.group one.0.origin =
       ap (λ g. message.logs g one.0.origin) group_is ∙ (ap (message.logs smaller) origin_is ∙ carried) in
-      let alike = had_alike setting state server origin held.visited held.by_ring message old order is in_state.there place
+      let alike = had_alike setting state server origin held.visited held.by_ring message old order is in_state.there
+      place
       say one.0 one.2.0 its in
-      let stands = rides_stands setting state server origin held.visited held.by_ring message old order is in_state.there
+      let stands = rides_stands setting state server origin held.visited held.by_ring message old order is
+      in_state.there
       place one.0.group one.0.origin its in
       let had = had_where (one.0.origin == packet) (nat_lt one.0.group group) (is_had others one.0) one.2.1 its_names.1
       (lt-ltb one.0.group group (subst (λ g. g < group) (sym group_is) less)) in
@@ -183,8 +195,10 @@ module _ (setting : Setting) (state : ChainState) (server origin group packet : 
       (subst (λ o. ServerHas setting state server one.0.group o) origin_is has) in
       subst (λ p. (message.logs group p ≡ true → ((smaller : ℕ) → smaller < group → In message.logs smaller p →
       ServerHas setting state server smaller p) → MayHappen setting state (event.Apply server origin group p))) names.0
-      (subst (λ g. (message.logs g log.origin ≡ true → ((smaller : ℕ) → smaller < g → In message.logs smaller log.origin →
-      ServerHas setting state server smaller log.origin) → MayHappen setting state (event.Apply server origin g log.origin)))
+      (subst (λ g. (message.logs g log.origin ≡ true →
+      ((smaller : ℕ) → smaller < g → In message.logs smaller log.origin →
+      ServerHas setting state server smaller log.origin) →
+      MayHappen setting state (event.Apply server origin g log.origin)))
       names.1
       (λ rides lower. (
         message,
@@ -209,7 +223,8 @@ module _ (setting : Setting) (state : ChainState) (server origin group packet : 
       let are = there_as.stands.as_sent.logs in
       let named = named_log group packet logs (are.names group packet ∙ legal.2) in
       let log = named.0 in
-      let of_log = found_is (IsLogIn setting.partitions state.trace) (is_log_of packet group) logs log are.each named.1 in
+      let of_log = found_is (IsLogIn setting.partitions state.trace)
+      (is_log_of packet group) logs log are.each named.1 in
       let names = log_names packet group log of_log.1 in
       let changing : IsChanging setting.partitions state.trace log.group log.origin =
       subst (λ g. IsChanging setting.partitions state.trace g log.origin) (sym names.1)
@@ -221,13 +236,15 @@ module _ (setting : Setting) (state : ChainState) (server origin group packet : 
       let had = all_mapped_of (IsLogIn setting.partitions state.trace)
       (λ (l : Logged). names_log logs l.group l.origin ≡ true)
       (λ (l : Logged). had_if_smaller others group packet l ≡ true)
-      (λ l of_l its_name. where_had (l.origin == packet) (nat_lt l.group group) (is_had others l) (λ origin_test less_test.
+      (λ l of_l its_name. where_had (l.origin == packet) (nat_lt l.group group) (is_had others l)
+      (λ origin_test less_test.
       let origin_is = eqb-true l.origin packet origin_test in
       let its : In message.logs l.group l.origin = sym (are.names l.group l.origin) ∙ its_name in
       let has = subst (ServerHas setting state server l.group) (sym origin_is)
       (legal.6 l.group (is_less l.group group less_test) (subst (In message.logs l.group) origin_is its)) in
       let alike = had_alike setting state server origin at.1 at.2 message old order is at.0 at.3 say l of_l its in
-      let stands = rides_stands setting state server origin at.1 at.2 message old order is at.0 at.3 l.group l.origin its in
+      let stands = rides_stands setting state server origin at.1 at.2 message old order is at.0 at.3 l.group l.origin
+      its in
       alike ∙ (say l (replica_for old l.group) of_l stands).1 has))
       logs are.each (each_named logs) in
       is_applied old origin group packet held log there_as.there named.1 writes may

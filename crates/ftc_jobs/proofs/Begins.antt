@@ -1,5 +1,6 @@
 -- The test of whether a message may begin without a packet says that it may.
-use Rattle.std.proofs.Common.{◌≡◌, ◌∙◌, ◌<◌, ◌-◌, ◌+◌, ◌&&◌, ◌==◌, ℕ, true, false, not, [], Option, Some, None, length, refl, sym, ap, subst, inl, inr, arith}
+use Rattle.std.proofs.Common.{◌≡◌, ◌∙◌, ◌<◌, ◌-◌, ◌+◌, ◌&&◌, ◌==◌, ℕ, true, false, not, [], Option, Some, None, length}
+use Rattle.std.proofs.Common.{refl, sym, ap, subst, inl, inr, arith}
 use Rattle.std.specs.Prelude.{is_some, nat_lt}
 use Rattle.ftc_link.specs.Queue.{Queue}
 use Rattle.ftc_protocol.specs.Setting.{Setting, servers, count}
@@ -10,10 +11,12 @@ use Rattle.ftc_refinement.specs.Slots.{AreSlots, AreStalled, IsServerSlot, IsToP
 use Rattle.ftc_network.specs.declared.network.Network.{Network}
 use Rattle.ftc_network.specs.Parts.{buffer_of, link_in, server_in, withheld_in}
 use Rattle.ftc_network.specs.Stand.{IsSlot}
-use Rattle.ftc_jobs.specs.Quiet.{all_clear, all_up, came_by_ring, has_forwarded, holds_nothing, is_clear, is_wanted, may_begin, none_held}
+use Rattle.ftc_jobs.specs.Quiet.{all_clear, all_up, came_by_ring, has_forwarded, holds_nothing, is_clear, is_wanted}
+use Rattle.ftc_jobs.specs.Quiet.{may_begin, none_held}
 use Rattle.ftc_jobs.specs.Rest.{IsResting}
 use Rattle.ftc_jobs.proofs.Sizes.{size_of}
-use Rattle.ftc_jobs.proofs.TwoParts.{all_of, all_so, both, each_of, first_part, from_both, length_none, length_some, negated, none_in, second_part, so_of_all, some_in, some_part}
+use Rattle.ftc_jobs.proofs.TwoParts.{all_of, all_so, both, each_of, first_part, from_both, length_none, length_some}
+use Rattle.ftc_jobs.proofs.TwoParts.{negated, none_in, second_part, so_of_all, some_in, some_part}
 
 -- ---- one server
 
@@ -60,7 +63,8 @@ module _ (setting : Setting) (state : ChainState) (network : Network) (rest : Is
 
   pub slots_stand : AreSlots setting state slots queues
   slots_stand = record {
-    servers_are = λ number below. slot_stands setting state number (slots number) (rest.stands.servers_are number below);
+    servers_are = λ number below. slot_stands setting state number (slots number)
+        (rest.stands.servers_are number below);
     links_are = rest.stands.links_are;
   }
 

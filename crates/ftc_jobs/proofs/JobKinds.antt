@@ -1,11 +1,14 @@
 -- Which jobs are of which kind, and where a legal job of a message is.
-use Rattle.std.proofs.Common.{◌≡◌, ◌↔◌, length, get_or, if◌then◌else◌, ◌∙◌, ◌++◌, ◌⊎◌, ◌+◌, ◌<◌, ◌≤◌, ◌==◌, ◌&&◌, ℕ, suc, Bool, true, false, List, [], ◌∷◌, Option, Some, None, inl, inr, refl, sym, ap, subst, arith, take, drop, eqb-true, ltb-true, cond, append_assoc}
+use Rattle.std.proofs.Common.{◌≡◌, ◌↔◌, length, get_or, if◌then◌else◌, ◌∙◌, ◌++◌, ◌⊎◌, ◌+◌, ◌<◌, ◌≤◌, ◌==◌, ◌&&◌, ℕ}
+use Rattle.std.proofs.Common.{suc, Bool, true, false, List, [], ◌∷◌, Option, Some, None, inl, inr, refl, sym, ap, subst}
+use Rattle.std.proofs.Common.{arith, take, drop, eqb-true, ltb-true, cond, append_assoc}
 use Rattle.std.specs.Prelude.{nat_lt}
 use Rattle.std.specs.List.{AllByRecursion, find}
 use Rattle.std.specs.Option.{option_map}
 use Rattle.std.proofs.lemmas.Bool.{cases_lt}
 use Rattle.ftc_journal.specs.declared.job.Job.{Job}
-use Rattle.ftc_journal.specs.declared.job.Job.TheVariants.{Enter, Take, Apply, Visit, Pass, Lose, Carry, Crash, Recover, Pull, Propagate}
+use Rattle.ftc_journal.specs.declared.job.Job.TheVariants.{Enter, Take, Apply, Visit, Pass, Lose, Carry, Crash, Recover}
+use Rattle.ftc_journal.specs.declared.job.Job.TheVariants.{Pull, Propagate}
 use Rattle.ftc_message.specs.declared.message.Message.{Message as SentMessage}
 use Rattle.ftc_message.specs.Logged.{Logged, log_follows, logs_rise}
 use Rattle.ftc_message.specs.Ordered.{is_log_of}
@@ -20,8 +23,10 @@ use Rattle.ftc_server.specs.Holding.{found, is_of}
 use Rattle.ftc_server.specs.Looks.{message_in}
 use Rattle.ftc_standing.proofs.Arriving.{all_mapped, in_front}
 use Rattle.ftc_jobs.specs.Applies.{may_apply_now}
-use Rattle.ftc_jobs.specs.All.{AreJobs, HasJobsOf, IsOfLink, IsOfLinks, IsOfLogs, IsOfMessage, IsOfMessages, IsOfServer, IsOfServers, IsEnter, IsPropagate}
-use Rattle.ftc_jobs.proofs.AllJobs.{any_one, any_other, any_either, any_mapped, some_of, one_taken, items_around, adds_if, adds_then, adds_as}
+use Rattle.ftc_jobs.specs.All.{AreJobs, HasJobsOf, IsOfLink, IsOfLinks, IsOfLogs, IsOfMessage, IsOfMessages, IsOfServer}
+use Rattle.ftc_jobs.specs.All.{IsOfServers, IsEnter, IsPropagate}
+use Rattle.ftc_jobs.proofs.AllJobs.{any_one, any_other, any_either, any_mapped, some_of, one_taken, items_around}
+use Rattle.ftc_jobs.proofs.AllJobs.{adds_if, adds_then, adds_as}
 use Rattle.ftc_jobs.proofs.ApplyNow.{applicable}
 use Rattle.ftc_jobs.proofs.TwoParts.{both, some_part}
 
@@ -56,7 +61,8 @@ all_behind origin group (log ∷ logs) rise =
     (logs_rise (Some (log.origin, log.group)) logs) rise in
     let first = follows origin group log parts.0 in (
       first,
-      all_mapped (IsBehind log.origin log.group) (IsBehind origin group) (λ other more. further origin group log other first more)
+      all_mapped (IsBehind log.origin log.group) (IsBehind origin group)
+          (λ other more. further origin group log other first more)
           logs (all_behind log.origin log.group logs parts.1),
     )
 
@@ -74,11 +80,13 @@ pub none_before : (logs before after : List Logged) (log : Logged) → logs_rise
 none_before logs before after log rise parts any =
     let some = some_of (λ (other : Logged). (other.origin ≡ log.origin) × (other.group ≡ log.group)) before any in
     let order = in_front (λ (one other : Logged). IsBehind one.origin one.group other) before log after
-    (subst (EachLater (λ (one other : Logged). IsBehind one.origin one.group other)) parts (each_behind None logs rise)) in
+    (subst (EachLater (λ (one other : Logged). IsBehind one.origin one.group other)) parts
+    (each_behind None logs rise)) in
     let order_there = subst (AllByRecursion (λ (one : Logged). IsBehind one.origin one.group log)) some.parts order in
     not_behind some.item log some.is.0 some.is.1 (at_item some.before some.item some.after order_there)
   where
-    not_behind : (one log : Logged) → one.origin ≡ log.origin → one.group ≡ log.group → IsBehind one.origin one.group log → ⊥
+    not_behind : (one log : Logged) → one.origin ≡ log.origin → one.group ≡ log.group →
+        IsBehind one.origin one.group log → ⊥
     not_behind one log origin group (inl less) = omega (arith, origin, less)
     not_behind one log origin group (inr same) = let less = same.1 in omega (arith, group, less)
 
@@ -105,7 +113,8 @@ same_apply server origin one other same = (ap packet_in same, ap group_in same)
 -- ---- kinds
 
 -- the origin of a job of a message
-pub same_origin : (server other one another : ℕ) (job : Job) → IsOfMessage server one job → IsOfMessage other another job →
+pub same_origin : (server other one another : ℕ) (job : Job) → IsOfMessage server one job →
+    IsOfMessage other another job →
     (server ≡ other) × (one ≡ another)
 same_origin server other one another (Apply at own group packet) is also = (sym is.0 ∙ also.0, sym is.1 ∙ also.1)
 same_origin server other one another (Visit at packet) is also = (sym is.0 ∙ also.0, sym is.1 ∙ also.1)
@@ -218,7 +227,8 @@ module _ (setting : Setting) (state : ChainState) where
         let at_is : at ≡ server = is.0 in
         let own_is : own ≡ origin = is.1 in
         let same : Apply server origin group packet ≡ Apply at own group packet =
-        ap (λ (s : ℕ). Apply s origin group packet) (sym at_is) ∙ ap (λ (o : ℕ). Apply at o group packet) (sym own_is) in
+        ap (λ (s : ℕ). Apply s origin group packet) (sym at_is) ∙ ap (λ (o : ℕ). Apply at o group packet)
+        (sym own_is) in
         inl (inl (inl (inl (subst (IsOfLogs server origin logs) same
         (applies group packet (subst (IsLegalJob setting state) (sym same) legal))))))
     from_message applies (Visit at packet) legal is =
@@ -270,7 +280,8 @@ module _ (setting : Setting) (state : ChainState) where
         early job (inl of) = let is = (apply_of_logs job of).1 in omega (arith, is)
         early job (inr same) = let is = kind_is (Visit server origin) job 1 same refl in omega (arith, is)
 
-        earlier : (job : Job) → (IsOfLogs server origin logs job ⊎ (Visit server origin ≡ job)) ⊎ (Pass server origin ≡ job) →
+        earlier : (job : Job) → (IsOfLogs server origin logs job ⊎ (Visit server origin ≡ job))
+            ⊎ (Pass server origin ≡ job) →
             kind_of job ≤ 2
         earlier job (inl (inl of)) = let is = (apply_of_logs job of).1 in omega (arith, is)
         earlier job (inl (inr same)) = let is = kind_is (Visit server origin) job 1 same refl in omega (arith, is)
@@ -311,7 +322,8 @@ apply_of_message old server origin group packet message there may =
     (λ (other : Logged). Apply server origin group packet ≡ Apply server origin other.group other.origin)
     (λ other names. ap (λ (g : ℕ). Apply server origin g packet) (sym names.1)
     ∙ ap (λ (p : ℕ). Apply server origin other.group p) (sym names.0)) message.logs
-    (subst (λ (m : SentMessage). AnyOf (λ (other : Logged). (other.origin ≡ packet) × (other.group ≡ group)) m.logs) same
+    (subst (λ (m : SentMessage). AnyOf (λ (other : Logged). (other.origin ≡ packet)
+    × (other.group ≡ group)) m.logs) same
     (log_there packet group is.held.message.logs is.log is.log_is))
 
 -- ---- held messages
@@ -361,11 +373,13 @@ module _ (setting : Setting) (state : ChainState) where
       ((server : ℕ) → IsLegalJob setting state (Recover server) → server < size) →
       ((server origin : ℕ) (message : Message) → IsHeld state server origin message → server < size) →
       (server : ℕ) (job : Job) → IsLegalJob setting state job → IsOfServer server job → server < size
-  server_below size crashes recoveries held server (Crash at) legal is = subst (λ (s : ℕ). s < size) is (crashes at legal)
+  server_below size crashes recoveries held server (Crash at) legal is =
+      subst (λ (s : ℕ). s < size) is (crashes at legal)
   server_below size crashes recoveries held server (Recover at) legal is =
       subst (λ (s : ℕ). s < size) is (recoveries at legal)
   server_below size crashes recoveries held server (Apply at own group packet) legal is =
-      let there = held_where setting state server is.0 (Apply at own group packet) is.1 legal in held server is.0 there.0 there.1
+      let there = held_where setting state server is.0 (Apply at own group packet) is.1 legal in
+      held server is.0 there.0 there.1
   server_below size crashes recoveries held server (Visit at packet) legal is =
       let there = held_where setting state server is.0 (Visit at packet) is.1 legal in held server is.0 there.0 there.1
   server_below size crashes recoveries held server (Pass at own) legal is =
@@ -413,22 +427,26 @@ module _ (runs : ℕ → ℕ → Bool) (setting : Setting) (state : ChainState) 
 
   -- ---- logs
 
-  pub one_log : (server origin : ℕ) (logs : List Logged) (place : ℕ) (log : Logged) (old mid new : List Job) (test : Bool)
+  pub one_log : (server origin : ℕ) (logs : List Logged) (place : ℕ) (log : Logged) (old mid new : List Job)
+      (test : Bool)
       (group packet : ℕ) → logs_rise None logs ≡ true → place < length logs → log ≡ get_or logs place log →
       group ≡ log.group → packet ≡ log.origin →
       (test ≡ true) ↔ IsLegalJob setting state (Apply server origin group packet) →
       new ≡ mid ++ (if test then Apply server origin group packet ∷ [] else []) →
-      Adds (IsOfLogs server origin (take place logs)) old mid → Adds (IsOfLogs server origin (take (place + 1) logs)) old new
+      Adds (IsOfLogs server origin (take place logs)) old mid →
+      Adds (IsOfLogs server origin (take (place + 1) logs)) old new
   one_log server origin logs place log old mid new test group packet rise below is group_is packet_is says grown first =
       let one : Job = Apply server origin group packet in
       let here : one ≡ Apply server origin log.group log.origin =
-      ap (λ (g : ℕ). Apply server origin g packet) group_is ∙ ap (λ (p : ℕ). Apply server origin log.group p) packet_is in
+      ap (λ (g : ℕ). Apply server origin g packet) group_is ∙ ap
+      (λ (p : ℕ). Apply server origin log.group p) packet_is in
       let second : Adds (λ job. job ≡ Apply server origin log.group log.origin) mid new =
       adds_if runs setting state (λ job. job ≡ Apply server origin log.group log.origin) mid new test one grown
       (λ so. (here, (says.0 so, tt)))
       (λ job of legal.
       let same : one ≡ job = here ∙ sym of in (same, says.1 (subst (IsLegalJob setting state) (sym same) legal.0))) in
-      subst (λ (list : List Logged). Adds (IsOfLogs server origin list) old new) (sym (one_taken logs place log below is))
+      subst (λ (list : List Logged). Adds (IsOfLogs server origin list) old new)
+      (sym (one_taken logs place log below is))
       (adds_as runs setting state
       (λ job. IsOfLogs server origin (take place logs) job ⊎ (job ≡ Apply server origin log.group log.origin))
       (IsOfLogs server origin (take place logs ++ log ∷ [])) old new (λ job legal. to job) (λ job legal. from job)
@@ -438,7 +456,8 @@ module _ (runs : ℕ → ℕ → Bool) (setting : Setting) (state : ChainState) 
       (λ (other : Logged). (other.origin ≡ log.origin) × (other.group ≡ log.group))
       (λ other also. same_apply server origin other log (sym also ∙ same)) (take place logs) of))))
     where
-      to : (job : Job) → IsOfLogs server origin (take place logs) job ⊎ (job ≡ Apply server origin log.group log.origin) →
+      to : (job : Job) → IsOfLogs server origin (take place logs) job
+          ⊎ (job ≡ Apply server origin log.group log.origin) →
           IsOfLogs server origin (take place logs ++ log ∷ []) job
       to job (inl of) = any_one _ (take place logs) (log ∷ []) of
       to job (inr same) = any_other _ (take place logs) (log ∷ []) (inl same)
@@ -459,7 +478,8 @@ module _ (runs : ℕ → ℕ → Bool) (setting : Setting) (state : ChainState) 
       Adds (IsOfHeld server (take place items)) old mid → Adds (IsOfMessage server held.message.origin) mid new →
       Adds (IsOfHeld server (take (place + 1) items)) old new
   one_message server items place held old mid new below is apart first second =
-      subst (λ (list : List HeldMessage). Adds (IsOfHeld server list) old new) (sym (one_taken items place held below is))
+      subst (λ (list : List HeldMessage). Adds (IsOfHeld server list) old new)
+      (sym (one_taken items place held below is))
       (adds_as runs setting state
       (λ job. IsOfHeld server (take place items) job ⊎ IsOfMessage server held.message.origin job)
       (IsOfHeld server (take place items ++ held ∷ [])) old new (λ job legal. to job) (λ job legal. from job)
@@ -542,12 +562,14 @@ module _ (runs : ℕ → ℕ → Bool) (setting : Setting) (state : ChainState) 
       of_messages (Pull link) of = of
       of_messages (Propagate origin) of = of
 
-      to : (job : Job) → ((Crash server ≡ job) ⊎ (Recover server ≡ job)) ⊎ IsOfMessages server job → IsOfServer server job
+      to : (job : Job) → ((Crash server ≡ job) ⊎ (Recover server ≡ job)) ⊎ IsOfMessages server job →
+          IsOfServer server job
       to job (inl (inl is)) = subst (IsOfServer server) is refl
       to job (inl (inr is)) = subst (IsOfServer server) is refl
       to job (inr of) = of_messages job of
 
-      from : (job : Job) → IsOfServer server job → ((Crash server ≡ job) ⊎ (Recover server ≡ job)) ⊎ IsOfMessages server job
+      from : (job : Job) → IsOfServer server job → ((Crash server ≡ job) ⊎ (Recover server ≡ job))
+          ⊎ IsOfMessages server job
       from (Crash at) is = inl (inl (ap (λ (s : ℕ). Crash s) (sym is)))
       from (Recover at) is = inl (inr (ap (λ (s : ℕ). Recover s) (sym is)))
       from (Apply at own group packet) of = inr of
@@ -619,8 +641,10 @@ module _ (runs : ℕ → ℕ → Bool) (setting : Setting) (state : ChainState) 
       (adds_then runs setting state _ _ old two three
       (adds_then runs setting state _ _ old one two links servers (λ job is also.
       let first = link_group job is in let second = server_group job also in omega (arith, first, second)))
-      enter (λ job is also. let first = early job is in let second = ap group_of also.1 in omega (arith, first, second)))
-      propagate (λ job is also. let first = earlier job is in let second = ap group_of also.1 in omega (arith, first, second)) in
+      enter (λ job is also. let first = early job is in let second = ap group_of also.1 in
+      omega (arith, first, second)))
+      propagate (λ job is also. let first = earlier job is in let second = ap group_of also.1 in
+      omega (arith, first, second)) in
       let same : new ≡ all.more = all.grown ∙ ap (λ (list : List Job). list ++ all.more) none in
       subst (AreJobs runs setting state) (sym same) (record {
         each = λ job. (
@@ -667,5 +691,6 @@ held_apart state server items place order held before after parts any =
     let one = place some.item some.before (some.after ++ held ∷ after) all in
     let other = place held before after parts in
     let less = order some.item held one.0 other.0 some.before some.after after all (one.1).0 (other.1).0 in
-    let same = same_message state some.item.message.origin held.message.origin one.0 other.0 (one.1).0 (other.1).0 some.is in
+    let same = same_message state some.item.message.origin held.message.origin one.0 other.0 (one.1).0
+    (other.1).0 some.is in
     omega (arith, less, same)

@@ -18,7 +18,8 @@ AreFrom entered [] = Unit {0}
 AreFrom entered (line ∷ lines) = (entered ≤ at_of line) × AreFrom (at_of line) lines
 
 one_more : (lines : List ScriptLine) (entered packet : ℕ) → packet ≡ entered →
-    AllByRecursion (λ (line : ScriptLine). at_of line ≢ packet) lines → AreFrom entered lines → AreFrom (entered + 1) lines
+    AllByRecursion (λ (line : ScriptLine). at_of line ≢ packet) lines → AreFrom entered lines →
+    AreFrom (entered + 1) lines
 one_more [] entered packet same others order = tt
 one_more (line ∷ lines) entered packet same others order =
     let first : entered ≤ at_of line = order.0 in
@@ -59,7 +60,8 @@ steps_from ring most last live (Crash at server ∷ lines) all =
 steps_from ring most last live (Recover at server ∷ lines) all =
     (all.0.0.ordered, steps_from ring most at (live_after live (Recover at server)) lines all.1)
 
-along : (setting : Setting) (journal : List Event) (state : ChainState) → AreLegal setting state journal → AreLeft state →
+along : (setting : Setting) (journal : List Event) (state : ChainState) → AreLegal setting state journal →
+    AreLeft state →
     AreLeft (state_after setting state journal)
 along setting [] state legal order = order
 along setting (event ∷ journal) state legal order =

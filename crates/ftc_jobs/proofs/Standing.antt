@@ -15,14 +15,17 @@ within_of [] number live is = absurd cc
 within_of (slot ∷ items) zero live is = omega arith
 within_of (slot ∷ items) (suc number) live is = let below = within_of items number live is in omega (arith, below)
 
-module _ (setting : Setting) (state : ChainState) (network : Network) (rest : IsResting setting state network) (server : ℕ)
+module _ (setting : Setting) (state : ChainState) (network : Network) (rest : IsResting setting state network)
+    (server : ℕ)
   where
-    pub is_up_there : (live : Server) → server_in network.servers.items server ≡ Some live → IsUp setting state server live
+    pub is_up_there : (live : Server) → server_in network.servers.items server ≡ Some live →
+        IsUp setting state server live
     is_up_there live slot =
         let size = size_of setting state network rest in
         let below = within_of network.servers.items server live slot in
         subst (IsSlot setting state server) slot
         (rest.stands.servers_are server (omega (arith, size, below, network.each_server)))
 
-    pub is_down_there : server < servers setting → server_in network.servers.items server ≡ None → state.up server ≡ false
+    pub is_down_there : server < servers setting → server_in network.servers.items server ≡ None →
+        state.up server ≡ false
     is_down_there below slot = subst (IsSlot setting state server) slot (rest.stands.servers_are server below)

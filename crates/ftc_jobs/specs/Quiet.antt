@@ -40,7 +40,8 @@ all_up network = list_all (λ (slot : Option Server). is_some slot) network.serv
 -- the forwarder has logs, or nothing moves any more while a packet is withheld
 abbrev pub is_wanted : Network → Bool
 is_wanted network =
-    has_forwarded (server_in network.servers.items 0) || (nat_lt 0 (withheld_in network) && (none_held network && all_clear network))
+    has_forwarded (server_in network.servers.items 0)
+    || (nat_lt 0 (withheld_in network) && (none_held network && all_clear network))
 
 abbrev pub may_begin : Network → Bool
 may_begin network = came_by_ring (server_in network.servers.items 0) && (all_up network && is_wanted network)

@@ -1,6 +1,7 @@
 //! All legal jobs but the visits that slots run.
 
-ghost use Rattle.std.specs.Prelude.{◌≡◌, ◌↔◌, ◌<◌, ◌++◌, ◌∷◌, [], ℕ, true, false, Some, None, OnOk, IfOk, if◌then◌else◌};
+ghost use Rattle.std.specs.Prelude.{◌≡◌, ◌↔◌, ◌<◌, ◌++◌, ◌∷◌, [], ℕ, true, false, Some, None, OnOk, IfOk};
+ghost use Rattle.std.specs.Prelude.{if◌then◌else◌};
 ghost use Rattle.ftc_journal.specs.declared.job.Job.TheVariants as kind;
 ghost use Rattle.ftc_message.specs.Logged.{logs_rise};
 ghost use Rattle.ftc_protocol.specs.Setting.{Setting};
@@ -10,7 +11,8 @@ ghost use Rattle.ftc_server.specs.declared.server.Server.{Server as AServer};
 ghost use Rattle.ftc_server.specs.Looks.{message_in};
 ghost use Rattle.ftc_network.specs.Parts.{server_in};
 ghost use Rattle.ftc_jobs.specs.Rest.{IsResting, IsAtRest};
-ghost use Rattle.ftc_jobs.specs.All.{is_running_by, AreJobs, HasJobsOf, IsOfLink, IsOfLinks, IsOfLogs, IsOfMessage, IsOfMessages, IsOfServer, IsOfServers, IsEnter, IsPropagate};
+ghost use Rattle.ftc_jobs.specs.All.{is_running_by, AreJobs, HasJobsOf, IsOfLink, IsOfLinks, IsOfLogs, IsOfMessage};
+ghost use Rattle.ftc_jobs.specs.All.{IsOfMessages, IsOfServer, IsOfServers, IsEnter, IsPropagate};
 
 use crate::applies::{may_apply, which_applies};
 use crate::legal::{may_crash, may_recover};

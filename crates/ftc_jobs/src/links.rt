@@ -17,7 +17,8 @@ use ftc_refinement::{what_a_link_offers, which_pulls};
 /// Whether a server is up.
 fn is_up(network: &Network, server: ServerId) -> bool
     requires { server < network.now.ring.servers }
-    ensures { (setting : Setting) (state : ChainState) → IsNetwork setting state network.now → result ≡ state.up server }
+    ensures { (setting : Setting) (state : ChainState) → IsNetwork setting state network.now →
+        result ≡ state.up server }
 {
     server_at(network, server).is_some()
 }
@@ -35,7 +36,8 @@ pub fn may_pull(network: &Network, link: ServerId) -> bool
 
 /// The pull of the first link that may be made.
 pub fn first_pull(network: &Network) -> Option<Job>
-    ensures some { IfSome result (λ job. (setting : Setting) (state : ChainState) → IsResting setting state network.now →
+    ensures some { IfSome result (λ job. (setting : Setting) (state : ChainState) →
+        IsResting setting state network.now →
         IsInTurn setting state job) }
     ensures none { IsNone result → (setting : Setting) (state : ChainState) → IsResting setting state network.now →
         IsNoPull setting state }
@@ -62,7 +64,8 @@ pub fn oldest_at(network: &Network, link: ServerId) -> Option<PacketNo>
 
 /// The take of the first link on which something is queued.
 pub fn first_take(network: &Network) -> Option<Job>
-    ensures some { IfSome result (λ job. (setting : Setting) (state : ChainState) → IsResting setting state network.now →
+    ensures some { IfSome result (λ job. (setting : Setting) (state : ChainState) →
+        IsResting setting state network.now →
         IsNoPull setting state → AreIdle setting state → IsInTurn setting state job) }
     ensures none { IsNone result → (setting : Setting) (state : ChainState) → IsResting setting state network.now →
         IsNoTake setting state }

@@ -8,7 +8,8 @@ ghost use Rattle.ftc_protocol.specs.Jobs.{IsLegalJob, IsInTurn, IsNoPull, AreIdl
 ghost use Rattle.ftc_script.specs.Script.{ScriptShape};
 ghost use Rattle.ftc_network.specs.Parts.{server_in};
 ghost use Rattle.ftc_jobs.specs.Rest.{IsAtRest};
-ghost use Rattle.ftc_jobs.specs.Quiet.{all_by_ring, came_by_ring, has_forwarded, holds_nothing, is_clear, none_held, all_clear, all_up, is_wanted, may_begin};
+ghost use Rattle.ftc_jobs.specs.Quiet.{all_by_ring, came_by_ring, has_forwarded, holds_nothing, is_clear, none_held};
+ghost use Rattle.ftc_jobs.specs.Quiet.{all_clear, all_up, is_wanted, may_begin};
 
 use ftc_base::PacketNo;
 use ftc_journal::Job;

@@ -1,5 +1,6 @@
 -- Words of printed lines, and the bytes that don't stand in them.
-use Rattle.std.proofs.Common.{◌≡◌, ◌≤◌, ◌<◌, ℕ, zero, suc, Bool, true, false, List, [], ◌∷◌, ◌++◌, length, get_or, ◌⊎◌, if◌then◌else◌, refl, sym, ap, ◌∙◌, arith, rules, Ok, Err, Option, Some, None, Result}
+use Rattle.std.proofs.Common.{◌≡◌, ◌≤◌, ◌<◌, ℕ, zero, suc, Bool, true, false, List, [], ◌∷◌, ◌++◌, length, get_or, ◌⊎◌}
+use Rattle.std.proofs.Common.{if◌then◌else◌, refl, sym, ap, ◌∙◌, arith, rules, Ok, Err, Option, Some, None, Result}
 use Rattle.std.specs.Prelude.{◌==◌, ◌&&◌, nat_le, nat_lt, not, decimal}
 use Rattle.std.specs.List.{AllByRecursion, list_all, join_with_byte, onto_first}
 use Rattle.std.proofs.lemmas.Bool.Decides.{nat_tests}
@@ -25,7 +26,8 @@ figure_number (Err TooLarge) n e = absurd cc
 figure_number (Err NotAddress) n e = absurd cc
 
 pub figure_spelled : (word : List ℕ) (n : ℕ) → figure_of word ≡ Ok (Some n) → (word ≡ decimal n) × (n ≤ MOST_NUMBER)
-figure_spelled word n e = number_spelled word n MOST_NUMBER (omega arith) (figure_number (number_of word MOST_NUMBER) n e)
+figure_spelled word n e = number_spelled word n MOST_NUMBER (omega arith)
+    (figure_number (number_of word MOST_NUMBER) n e)
 
 number_some : (a : Option ℕ) (n : ℕ) → number_in a ≡ Ok n → a ≡ Some n
 number_some None n e = absurd cc
@@ -33,15 +35,19 @@ number_some (Some m) n e = let same : m ≡ n = cc in ap Some same
 
 below_some : (bound : ℕ) (a : Option ℕ) (n : ℕ) → below bound a ≡ Ok n → (a ≡ Some n) × (n < bound)
 below_some bound None n e = absurd cc
-below_some bound (Some m) n e = elim (nat_lt m bound) as (λ t. nat_lt m bound ≡ t → (if t then Ok m else Err Range) ≡ Ok n → (Some m ≡ Some n) × (n < bound)) [
-  | true ↦ λ is told. let same : m ≡ n = cc in (ap Some same, grind (arith, nat_tests))
-  | false ↦ λ is told. absurd cc
-] refl e
+below_some bound (Some m) n e =
+    elim (nat_lt m bound) as (λ t. nat_lt m bound ≡ t → (if t then Ok m else Err Range) ≡ Ok n →
+    (Some m ≡ Some n) × (n < bound)) [
+      | true ↦ λ is told. let same : m ≡ n = cc in (ap Some same, grind (arith, nat_tests))
+      | false ↦ λ is told. absurd cc
+    ] refl e
 
-pub number_word : (word : List ℕ) (a : Option ℕ) (n : ℕ) → figure_of word ≡ Ok a → number_in a ≡ Ok n → (word ≡ decimal n) × (n ≤ MOST_NUMBER)
+pub number_word : (word : List ℕ) (a : Option ℕ) (n : ℕ) → figure_of word ≡ Ok a → number_in a ≡ Ok n →
+    (word ≡ decimal n) × (n ≤ MOST_NUMBER)
 number_word word a n read is = figure_spelled word n (read ∙ ap Ok (number_some a n is))
 
-pub below_word : (word : List ℕ) (a : Option ℕ) (bound n : ℕ) → figure_of word ≡ Ok a → below bound a ≡ Ok n → (word ≡ decimal n) × (n < bound)
+pub below_word : (word : List ℕ) (a : Option ℕ) (bound n : ℕ) → figure_of word ≡ Ok a → below bound a ≡ Ok n →
+    (word ≡ decimal n) × (n < bound)
 below_word word a bound n read is =
     let some = below_some bound a n is in
     ((figure_spelled word n (read ∙ ap Ok some.0)).0, some.1)

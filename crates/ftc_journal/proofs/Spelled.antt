@@ -1,5 +1,6 @@
 -- A text that is accepted is a spelling of what was read.
-use Rattle.std.proofs.Common.{◌≡◌, ◌≤◌, ◌<◌, ℕ, ◌+◌, true, false, List, [], ◌∷◌, ◌++◌, refl, sym, ap, subst, ◌∙◌, rules, Ok, Err, Option, Some, None, Result, ◌⊎◌, inl, inr, append_assoc, if◌then◌else◌}
+use Rattle.std.proofs.Common.{◌≡◌, ◌≤◌, ◌<◌, ℕ, ◌+◌, true, false, List, [], ◌∷◌, ◌++◌, refl, sym, ap, subst, ◌∙◌, rules}
+use Rattle.std.proofs.Common.{Ok, Err, Option, Some, None, Result, ◌⊎◌, inl, inr, append_assoc, if◌then◌else◌}
 use Rattle.std.specs.Prelude.{codes, decimal, map}
 use Rattle.std.specs.Str.{bytes_eq}
 use Rattle.std.specs.List.{AllByRecursion, join_with_byte, flat_map}
@@ -23,13 +24,18 @@ use Rattle.ftc_journal.specs.declared.form.Form.{Form}
 use Rattle.ftc_journal.specs.declared.form.Form.TheVariants as form
 use Rattle.ftc_journal.specs.Text.{words_of, line_of}
 use Rattle.ftc_base.specs.Reading.{◌>>=◌}
-use Rattle.ftc_journal.specs.Reading.{header_of, servers_of, version_of, figure_of, figures_of, name_of, names_of, number_in, server_in, slot_in, name_in, undone_in, form_of, single_in, double_event, single_of, double_of, visit_of, apply_of, recovery, recover_of, said_in, said_by, event_of, placed, ended, events_from, lines_behind, journal_from, journal_of}
+use Rattle.ftc_journal.specs.Reading.{header_of, servers_of, version_of, figure_of, figures_of, name_of, names_of}
+use Rattle.ftc_journal.specs.Reading.{number_in, server_in, slot_in, name_in, undone_in, form_of, single_in}
+use Rattle.ftc_journal.specs.Reading.{double_event, single_of, double_of, visit_of, apply_of, recovery, recover_of}
+use Rattle.ftc_journal.specs.Reading.{said_in, said_by, event_of, placed, ended, events_from, lines_behind}
+use Rattle.ftc_journal.specs.Reading.{journal_from, journal_of}
 use Rattle.ftc_journal.specs.Spelling.{IsEvent, IsVisitName, IsSpelling}
 use Rattle.ftc_journal.proofs.Letters.{number_word, below_word}
 use Rattle.ftc_journal.proofs.Words.{name_text, word_list, words_joined}
 
 -- where two readings went well, each did
-went : {A B F : Type 0} (first : Result A F) (next : A → Result B F) (b : B) → (first >>= next) ≡ Ok b → (a : A) × (first ≡ Ok a) × (next a ≡ Ok b)
+went : {A B F : Type 0} (first : Result A F) (next : A → Result B F) (b : B) → (first >>= next) ≡ Ok b →
+    (a : A) × (first ≡ Ok a) × (next a ≡ Ok b)
 went (Ok a) next b e = (a, refl, e)
 went (Err cause) next b e = absurd cc
 
@@ -45,7 +51,9 @@ figures_none (word ∷ words) e =
     let two = went (figures_of words) (λ figures. Ok (one.0 ∷ figures)) [] one.2 in
     absurd (let bad = two.2 in cc)
 
-figures_some : (words : List (List ℕ)) (a : Option ℕ) (more : List (Option ℕ)) → figures_of words ≡ Ok (a ∷ more) → (word : List ℕ) × (rest : List (List ℕ)) × (words ≡ word ∷ rest) × (figure_of word ≡ Ok a) × (figures_of rest ≡ Ok more)
+figures_some : (words : List (List ℕ)) (a : Option ℕ) (more : List (Option ℕ)) → figures_of words ≡ Ok (a ∷ more) →
+    (word : List ℕ) × (rest : List (List ℕ)) × (words ≡ word ∷ rest) × (figure_of word ≡ Ok a)
+    × (figures_of rest ≡ Ok more)
 figures_some [] a more e = absurd cc
 figures_some (word ∷ words) a more e =
     let one = went (figure_of word) (λ figure. figures_of words >>= λ figures. Ok (figure ∷ figures)) (a ∷ more) e in
@@ -59,7 +67,8 @@ figures_some (word ∷ words) a more e =
 abbrev tail_list : Event → List (List ℕ)
 tail_list (event.Enter packet) = decimal packet ∷ []
 tail_list (event.Take link origin) = decimal link ∷ decimal origin ∷ []
-tail_list (event.Apply server origin group packet) = decimal server ∷ decimal origin ∷ decimal group ∷ decimal packet ∷ []
+tail_list (event.Apply server origin group packet) =
+    decimal server ∷ decimal origin ∷ decimal group ∷ decimal packet ∷ []
 tail_list (event.Visit server packet worker) = decimal server ∷ decimal packet ∷ decimal worker ∷ []
 tail_list (event.Pass server origin) = decimal server ∷ decimal origin ∷ []
 tail_list (event.Lose server origin) = decimal server ∷ decimal origin ∷ []
@@ -90,57 +99,95 @@ record IsSaid (v : Version) (f : Form) (words : List (List ℕ)) (e : Event) : T
   pub spelled : form_word f ∷ words ≡ word_list e
   pub bounds : IsEvent v e
 
-said_same : (v : Version) (f : Form) (words : List (List ℕ)) (a b : Event) → IsSaid v f words a → read_as a ≡ Ok b → IsSaid v f words b
+said_same : (v : Version) (f : Form) (words : List (List ℕ)) (a b : Event) → IsSaid v f words a → read_as a ≡ Ok b →
+    IsSaid v f words b
 said_same v f words a b is e = let same : a ≡ b = cc in subst (IsSaid v f words) same is
 
 -- one number
-one_word : (w : List ℕ) (words rest : List (List ℕ)) (n : ℕ) → words ≡ w ∷ rest → rest ≡ [] → w ≡ decimal n → words ≡ decimal n ∷ []
+one_word : (w : List ℕ) (words rest : List (List ℕ)) (n : ℕ) → words ≡ w ∷ rest → rest ≡ [] → w ≡ decimal n →
+    words ≡ decimal n ∷ []
 one_word w words rest n e none is = e ∙ ap (λ (ws : List (List ℕ)). w ∷ ws) none ∙ ap (λ (x : List ℕ). x ∷ []) is
 
-single_said : (v : Version) (kind : Single) (words : List (List ℕ)) (w : List ℕ) (a : Option ℕ) (e : Event) → words ≡ w ∷ [] → figure_of w ≡ Ok a → single_in v kind a ≡ Ok e → IsSaid v (form.Single kind) words e
+single_said : (v : Version) (kind : Single) (words : List (List ℕ)) (w : List ℕ) (a : Option ℕ) (e : Event) →
+    words ≡ w ∷ [] → figure_of w ≡ Ok a → single_in v kind a ≡ Ok e → IsSaid v (form.Single kind) words e
 single_said v single.Enter words w a e is read said =
     let n = went (number_in a) (λ packet. Ok (event.Enter packet)) e said in
     let word = number_word w a n.0 read n.1 in
-    said_same v (form.Single single.Enter) words (event.Enter n.0) e (record { spelled = ap (λ (ws : List (List ℕ)). codes "enter" ∷ ws) (one_word w words [] n.0 is refl word.0); bounds = word.1 }) n.2
+    said_same v (form.Single single.Enter) words (event.Enter n.0) e
+    (record {
+      spelled = ap (λ (ws : List (List ℕ)). codes "enter" ∷ ws) (one_word w words [] n.0 is refl word.0);
+      bounds = word.1;
+    }) n.2
 single_said v single.Carry words w a e is read said =
     let n = went (number_in a) (λ origin. Ok (event.Carry origin)) e said in
     let word = number_word w a n.0 read n.1 in
-    said_same v (form.Single single.Carry) words (event.Carry n.0) e (record { spelled = ap (λ (ws : List (List ℕ)). codes "carry" ∷ ws) (one_word w words [] n.0 is refl word.0); bounds = word.1 }) n.2
+    said_same v (form.Single single.Carry) words (event.Carry n.0) e
+    (record {
+      spelled = ap (λ (ws : List (List ℕ)). codes "carry" ∷ ws) (one_word w words [] n.0 is refl word.0);
+      bounds = word.1;
+    }) n.2
 single_said v single.Crash words w a e is read said =
     let n = went (server_in v a) (λ server. Ok (event.Crash server)) e said in
     let word = below_word w a (servers_of v) n.0 read n.1 in
-    said_same v (form.Single single.Crash) words (event.Crash n.0) e (record { spelled = ap (λ (ws : List (List ℕ)). codes "crash" ∷ ws) (one_word w words [] n.0 is refl word.0); bounds = word.1 }) n.2
+    said_same v (form.Single single.Crash) words (event.Crash n.0) e
+    (record {
+      spelled = ap (λ (ws : List (List ℕ)). codes "crash" ∷ ws) (one_word w words [] n.0 is refl word.0);
+      bounds = word.1;
+    }) n.2
 single_said v single.Pull words w a e is read said =
     let n = went (server_in v a) (λ link. Ok (event.Pull link)) e said in
     let word = below_word w a (servers_of v) n.0 read n.1 in
-    said_same v (form.Single single.Pull) words (event.Pull n.0) e (record { spelled = ap (λ (ws : List (List ℕ)). codes "pull" ∷ ws) (one_word w words [] n.0 is refl word.0); bounds = word.1 }) n.2
+    said_same v (form.Single single.Pull) words (event.Pull n.0) e
+    (record {
+      spelled = ap (λ (ws : List (List ℕ)). codes "pull" ∷ ws) (one_word w words [] n.0 is refl word.0);
+      bounds = word.1;
+    }) n.2
 single_said v single.Propagate words w a e is read said =
     let n = went (number_in a) (λ origin. Ok (event.Propagate origin)) e said in
     let word = number_word w a n.0 read n.1 in
-    said_same v (form.Single single.Propagate) words (event.Propagate n.0) e (record { spelled = ap (λ (ws : List (List ℕ)). codes "propagate" ∷ ws) (one_word w words [] n.0 is refl word.0); bounds = word.1 }) n.2
+    said_same v (form.Single single.Propagate) words (event.Propagate n.0) e
+    (record {
+      spelled = ap (λ (ws : List (List ℕ)). codes "propagate"
+          ∷ ws) (one_word w words [] n.0 is refl word.0);
+      bounds = word.1;
+    }) n.2
 single_said v single.Release words w a e is read said =
     let n = went (number_in a) (λ packet. Ok (event.Release packet)) e said in
     let word = number_word w a n.0 read n.1 in
-    said_same v (form.Single single.Release) words (event.Release n.0) e (record { spelled = ap (λ (ws : List (List ℕ)). codes "release" ∷ ws) (one_word w words [] n.0 is refl word.0); bounds = word.1 }) n.2
+    said_same v (form.Single single.Release) words (event.Release n.0) e
+    (record {
+      spelled = ap (λ (ws : List (List ℕ)). codes "release" ∷ ws) (one_word w words [] n.0 is refl word.0);
+      bounds = word.1;
+    }) n.2
 
-single_figures : (v : Version) (kind : Single) (words : List (List ℕ)) (figures : List (Option ℕ)) (e : Event) → figures_of words ≡ Ok figures → single_of v kind figures ≡ Ok e → IsSaid v (form.Single kind) words e
+single_figures : (v : Version) (kind : Single) (words : List (List ℕ)) (figures : List (Option ℕ)) (e : Event) →
+    figures_of words ≡ Ok figures → single_of v kind figures ≡ Ok e → IsSaid v (form.Single kind) words e
 single_figures v kind words [] e read said = absurd cc
 single_figures v kind words (a ∷ []) e read said =
     let first = figures_some words a [] read in
-    single_said v kind words first.0 a e (first.2 ∙ ap (λ (ws : List (List ℕ)). first.0 ∷ ws) (figures_none first.1 first.4)) first.3 said
+    single_said v kind words first.0 a e
+    (first.2 ∙ ap (λ (ws : List (List ℕ)). first.0 ∷ ws) (figures_none first.1 first.4)) first.3 said
 single_figures v kind words (a ∷ b ∷ more) e read said = absurd cc
 
 -- a server and an origin
-double_pair : (v : Version) (kind : Double) (words : List (List ℕ)) (server origin : ℕ) → words ≡ decimal server ∷ decimal origin ∷ [] → server < servers_of v → origin ≤ MOST_NUMBER → IsSaid v (form.Double kind) words (double_event kind server origin)
-double_pair v double.Take words server origin is within small = record { spelled = ap (λ (ws : List (List ℕ)). codes "take" ∷ ws) is; bounds = (within, small) }
-double_pair v double.Pass words server origin is within small = record { spelled = ap (λ (ws : List (List ℕ)). codes "pass" ∷ ws) is; bounds = (within, small) }
-double_pair v double.Lose words server origin is within small = record { spelled = ap (λ (ws : List (List ℕ)). codes "lose" ∷ ws) is; bounds = (within, small) }
+double_pair : (v : Version) (kind : Double) (words : List (List ℕ)) (server origin : ℕ) →
+    words ≡ decimal server ∷ decimal origin ∷ [] → server < servers_of v → origin ≤ MOST_NUMBER →
+    IsSaid v (form.Double kind) words (double_event kind server origin)
+double_pair v double.Take words server origin is within small =
+    record { spelled = ap (λ (ws : List (List ℕ)). codes "take" ∷ ws) is; bounds = (within, small) }
+double_pair v double.Pass words server origin is within small =
+    record { spelled = ap (λ (ws : List (List ℕ)). codes "pass" ∷ ws) is; bounds = (within, small) }
+double_pair v double.Lose words server origin is within small =
+    record { spelled = ap (λ (ws : List (List ℕ)). codes "lose" ∷ ws) is; bounds = (within, small) }
 
 -- words one after the other
-more_words : (words rest : List (List ℕ)) (w x : List ℕ) (more : List (List ℕ)) → words ≡ w ∷ rest → w ≡ x → rest ≡ more → words ≡ x ∷ more
-more_words words rest w x more is same later = is ∙ ap (λ (ws : List (List ℕ)). w ∷ ws) later ∙ ap (λ (y : List ℕ). y ∷ more) same
+more_words : (words rest : List (List ℕ)) (w x : List ℕ) (more : List (List ℕ)) → words ≡ w ∷ rest → w ≡ x →
+    rest ≡ more → words ≡ x ∷ more
+more_words words rest w x more is same later =
+    is ∙ ap (λ (ws : List (List ℕ)). w ∷ ws) later ∙ ap (λ (y : List ℕ). y ∷ more) same
 
-double_figures : (v : Version) (kind : Double) (words : List (List ℕ)) (figures : List (Option ℕ)) (e : Event) → figures_of words ≡ Ok figures → double_of v kind figures ≡ Ok e → IsSaid v (form.Double kind) words e
+double_figures : (v : Version) (kind : Double) (words : List (List ℕ)) (figures : List (Option ℕ)) (e : Event) →
+    figures_of words ≡ Ok figures → double_of v kind figures ≡ Ok e → IsSaid v (form.Double kind) words e
 double_figures v kind words [] e read said = absurd cc
 double_figures v kind words (a ∷ []) e read said = absurd cc
 double_figures v kind words (a ∷ b ∷ []) e read said =
@@ -151,10 +198,13 @@ double_figures v kind words (a ∷ b ∷ []) e read said =
     let s = below_word first.0 a (servers_of v) server.0 first.3 server.1 in
     let o = number_word second.0 b origin.0 second.3 origin.1 in
     said_same v (form.Double kind) words (double_event kind server.0 origin.0) e
-    (double_pair v kind words server.0 origin.0 (more_words words first.1 first.0 (decimal server.0) (decimal origin.0 ∷ []) first.2 s.0 (more_words first.1 second.1 second.0 (decimal origin.0) [] second.2 o.0 (figures_none second.1 second.4))) s.1 o.1) origin.2
+    (double_pair v kind words server.0 origin.0 (more_words words first.1 first.0 (decimal server.0) (decimal origin.0
+    ∷ []) first.2 s.0 (more_words first.1 second.1 second.0 (decimal origin.0) [] second.2 o.0
+    (figures_none second.1 second.4))) s.1 o.1) origin.2
 double_figures v kind words (a ∷ b ∷ c ∷ more) e read said = absurd cc
 
-visit_figures : (v : Version) (words : List (List ℕ)) (figures : List (Option ℕ)) (e : Event) → figures_of words ≡ Ok figures → visit_of v figures ≡ Ok e → IsSaid v form.Visit words e
+visit_figures : (v : Version) (words : List (List ℕ)) (figures : List (Option ℕ)) (e : Event) →
+    figures_of words ≡ Ok figures → visit_of v figures ≡ Ok e → IsSaid v form.Visit words e
 visit_figures v words [] e read said = absurd cc
 visit_figures v words (a ∷ []) e read said = absurd cc
 visit_figures v words (a ∷ b ∷ []) e read said = absurd cc
@@ -170,11 +220,14 @@ visit_figures v words (a ∷ b ∷ c ∷ []) e read said =
     let w = below_word third.0 c MOST_SLOTS worker.0 third.3 worker.1 in
     let tail = more_words second.1 third.1 third.0 (decimal worker.0) [] third.2 w.0 (figures_none third.1 third.4) in
     let middle = more_words first.1 second.1 second.0 (decimal packet.0) (decimal worker.0 ∷ []) second.2 p.0 tail in
-    let whole = more_words words first.1 first.0 (decimal server.0) (decimal packet.0 ∷ decimal worker.0 ∷ []) first.2 s.0 middle in
-    said_same v form.Visit words (event.Visit server.0 packet.0 worker.0) e (record { spelled = ap (λ (ws : List (List ℕ)). codes "visit" ∷ ws) whole; bounds = (s.1, p.1, w.1) }) worker.2
+    let whole = more_words words first.1 first.0 (decimal server.0) (decimal packet.0 ∷ decimal worker.0
+    ∷ []) first.2 s.0 middle in
+    said_same v form.Visit words (event.Visit server.0 packet.0 worker.0) e
+    (record { spelled = ap (λ (ws : List (List ℕ)). codes "visit" ∷ ws) whole; bounds = (s.1, p.1, w.1) }) worker.2
 visit_figures v words (a ∷ b ∷ c ∷ d ∷ more) e read said = absurd cc
 
-apply_figures : (v : Version) (words : List (List ℕ)) (figures : List (Option ℕ)) (e : Event) → figures_of words ≡ Ok figures → apply_of v figures ≡ Ok e → IsSaid v form.Apply words e
+apply_figures : (v : Version) (words : List (List ℕ)) (figures : List (Option ℕ)) (e : Event) →
+    figures_of words ≡ Ok figures → apply_of v figures ≡ Ok e → IsSaid v form.Apply words e
 apply_figures v words [] e read said = absurd cc
 apply_figures v words (a ∷ []) e read said = absurd cc
 apply_figures v words (a ∷ b ∷ []) e read said = absurd cc
@@ -184,19 +237,28 @@ apply_figures v words (a ∷ b ∷ c ∷ d ∷ []) e read said =
     let second = figures_some first.1 b (c ∷ d ∷ []) first.4 in
     let third = figures_some second.1 c (d ∷ []) second.4 in
     let fourth = figures_some third.1 d [] third.4 in
-    let server = went (server_in v a) (λ s. number_in b >>= λ o. server_in v c >>= λ g. number_in d >>= λ p. Ok (event.Apply s o g p)) e said in
-    let origin = went (number_in b) (λ o. server_in v c >>= λ g. number_in d >>= λ p. Ok (event.Apply server.0 o g p)) e server.2 in
+    let server = went (server_in v a) (λ s. number_in b >>= λ o. server_in v c >>= λ g. number_in d >>= λ p.
+    Ok (event.Apply s o g p)) e said in
+    let origin = went (number_in b) (λ o. server_in v c >>= λ g. number_in d >>= λ p.
+    Ok (event.Apply server.0 o g p)) e server.2 in
     let group = went (server_in v c) (λ g. number_in d >>= λ p. Ok (event.Apply server.0 origin.0 g p)) e origin.2 in
     let packet = went (number_in d) (λ p. Ok (event.Apply server.0 origin.0 group.0 p)) e group.2 in
     let s = below_word first.0 a (servers_of v) server.0 first.3 server.1 in
     let o = number_word second.0 b origin.0 second.3 origin.1 in
     let g = below_word third.0 c (servers_of v) group.0 third.3 group.1 in
     let p = number_word fourth.0 d packet.0 fourth.3 packet.1 in
-    let last = more_words third.1 fourth.1 fourth.0 (decimal packet.0) [] fourth.2 p.0 (figures_none fourth.1 fourth.4) in
+    let last = more_words third.1 fourth.1 fourth.0 (decimal packet.0) [] fourth.2 p.0
+    (figures_none fourth.1 fourth.4) in
     let tail = more_words second.1 third.1 third.0 (decimal group.0) (decimal packet.0 ∷ []) third.2 g.0 last in
-    let middle = more_words first.1 second.1 second.0 (decimal origin.0) (decimal group.0 ∷ decimal packet.0 ∷ []) second.2 o.0 tail in
-    let whole = more_words words first.1 first.0 (decimal server.0) (decimal origin.0 ∷ decimal group.0 ∷ decimal packet.0 ∷ []) first.2 s.0 middle in
-    said_same v form.Apply words (event.Apply server.0 origin.0 group.0 packet.0) e (record { spelled = ap (λ (ws : List (List ℕ)). codes "apply" ∷ ws) whole; bounds = (s.1, o.1, g.1, p.1) }) packet.2
+    let middle = more_words first.1 second.1 second.0 (decimal origin.0) (decimal group.0 ∷ decimal packet.0
+    ∷ []) second.2 o.0 tail in
+    let whole = more_words words first.1 first.0 (decimal server.0) (decimal origin.0 ∷ decimal group.0
+    ∷ decimal packet.0 ∷ []) first.2 s.0 middle in
+    said_same v form.Apply words (event.Apply server.0 origin.0 group.0 packet.0) e
+    (record {
+      spelled = ap (λ (ws : List (List ℕ)). codes "apply" ∷ ws) whole;
+      bounds = (s.1, o.1, g.1, p.1);
+    }) packet.2
 apply_figures v words (a ∷ b ∷ c ∷ d ∷ f ∷ more) e read said = absurd cc
 
 -- undone visits
@@ -204,7 +266,8 @@ record IsNamed (v : Version) (words : List (List ℕ)) (undone : List VisitName)
   pub spelled : words ≡ map name_text undone
   pub bounds : AllByRecursion (IsVisitName v) undone
 
-name_parts : (parts : List (List ℕ)) (name : NameFigures) → name_of parts ≡ Ok name → (j : List ℕ) × (p : List ℕ) × (parts ≡ j ∷ p ∷ []) × (figure_of j ≡ Ok name.server) × (figure_of p ≡ Ok name.packet)
+name_parts : (parts : List (List ℕ)) (name : NameFigures) → name_of parts ≡ Ok name →
+    (j : List ℕ) × (p : List ℕ) × (parts ≡ j ∷ p ∷ []) × (figure_of j ≡ Ok name.server) × (figure_of p ≡ Ok name.packet)
 name_parts [] name e = absurd cc
 name_parts (j ∷ []) name e = absurd cc
 name_parts (j ∷ p ∷ []) name e =
@@ -215,20 +278,25 @@ name_parts (j ∷ p ∷ []) name e =
     (j, p, refl, one.1 ∙ ap (λ (n : NameFigures). Ok n.server) same, two.1 ∙ ap (λ (n : NameFigures). Ok n.packet) same)
 name_parts (j ∷ p ∷ q ∷ more) name e = absurd cc
 
-name_spelled : (v : Version) (word : List ℕ) (name : NameFigures) (visit : VisitName) → name_of (parts_of 58 word) ≡ Ok name → name_in v name ≡ Ok visit → (word ≡ name_text visit) × IsVisitName v visit
+name_spelled : (v : Version) (word : List ℕ) (name : NameFigures) (visit : VisitName) →
+    name_of (parts_of 58 word) ≡ Ok name → name_in v name ≡ Ok visit → (word ≡ name_text visit) × IsVisitName v visit
 name_spelled v word name visit read said =
     let parts = name_parts (parts_of 58 word) name read in
-    let one = went (server_in v name.server) (λ s. number_in name.packet >>= λ p. Ok (record { server = s; packet = p })) visit said in
+    let one = went (server_in v name.server) (λ s. number_in name.packet >>= λ p.
+    Ok (record { server = s; packet = p })) visit said in
     let two = went (number_in name.packet) (λ p. Ok (record { server = one.0; packet = p })) visit one.2 in
     let made = two.2 in
     let same : record { server = one.0; packet = two.0 } ≡ visit = cc in
     let s = below_word parts.0 name.server (servers_of v) one.0 parts.3 one.1 in
     let p = number_word parts.1 name.packet two.0 parts.4 two.1 in
-    let joined : word ≡ parts.0 ++ 58 ∷ parts.1 = sym (join_with_byte-slice_split 58 word) ∙ ap (join_with_byte 58) parts.2 in
-    let spelled : word ≡ name_text (record { server = one.0; packet = two.0 }) = joined ∙ ap (λ (x : List ℕ). x ++ 58 ∷ parts.1) s.0 ∙ ap (λ (x : List ℕ). decimal one.0 ++ 58 ∷ x) p.0 in
+    let joined : word ≡ parts.0 ++ 58 ∷ parts.1 =
+    sym (join_with_byte-slice_split 58 word) ∙ ap (join_with_byte 58) parts.2 in
+    let spelled : word ≡ name_text (record { server = one.0; packet = two.0 }) =
+    joined ∙ ap (λ (x : List ℕ). x ++ 58 ∷ parts.1) s.0 ∙ ap (λ (x : List ℕ). decimal one.0 ++ 58 ∷ x) p.0 in
     subst (λ (x : VisitName). (word ≡ name_text x) × IsVisitName v x) same (spelled, (s.1, p.1))
 
-names_spelled : (v : Version) (words : List (List ℕ)) (names : List NameFigures) (undone : List VisitName) → names_of words ≡ Ok names → undone_in v names ≡ Ok undone → IsNamed v words undone
+names_spelled : (v : Version) (words : List (List ℕ)) (names : List NameFigures) (undone : List VisitName) →
+    names_of words ≡ Ok names → undone_in v names ≡ Ok undone → IsNamed v words undone
 names_spelled v [] names undone read said =
     let none : [] ≡ names = cc in
     let e : undone_in v [] ≡ Ok undone = ap (undone_in v) none ∙ said in
@@ -247,11 +315,13 @@ names_spelled v (word ∷ words) names undone read said =
     let name = name_spelled v word one.0 first.0 one.1 first.1 in
     let later = names_spelled v words two.0 rest.0 two.1 rest.1 in
     subst (IsNamed v (word ∷ words)) whole (record {
-      spelled = ap (λ (w : List ℕ). w ∷ words) name.0 ∙ ap (λ (ws : List (List ℕ)). name_text first.0 ∷ ws) later.spelled;
+      spelled = ap (λ (w : List ℕ). w ∷ words) name.0 ∙ ap (λ (ws : List (List ℕ)). name_text first.0
+          ∷ ws) later.spelled;
       bounds = (name.1, later.bounds);
     })
 
-recover_said : (v : Version) (words : List (List ℕ)) (e : Event) → recover_of v words ≡ Ok e → IsSaid v form.Recover words e
+recover_said : (v : Version) (words : List (List ℕ)) (e : Event) → recover_of v words ≡ Ok e →
+    IsSaid v form.Recover words e
 recover_said v [] e said = absurd cc
 recover_said v (word ∷ words) e said =
     let one = went (figure_of word) (λ s. names_of words >>= λ ns. recovery v s ns) e said in
@@ -261,26 +331,37 @@ recover_said v (word ∷ words) e said =
     let s = below_word word one.0 (servers_of v) three.0 one.1 three.1 in
     let names = names_spelled v words two.0 four.0 two.1 four.1 in
     said_same v form.Recover (word ∷ words) (event.Recover three.0 four.0) e (record {
-      spelled = ap (λ (w : List ℕ). codes "recover" ∷ w ∷ words) s.0 ∙ ap (λ (ws : List (List ℕ)). codes "recover" ∷ decimal three.0 ∷ ws) names.spelled;
+      spelled = ap (λ (w : List ℕ). codes "recover" ∷ w ∷ words) s.0 ∙ ap (λ (ws : List (List ℕ)). codes "recover"
+          ∷ decimal three.0 ∷ ws) names.spelled;
       bounds = (s.1, names.bounds);
     }) four.2
 
-said_spelled : (v : Version) (f : Form) (words : List (List ℕ)) (e : Event) → said_in v f words ≡ Ok e → IsSaid v f words e
-said_spelled v (form.Single kind) words e said = let one = went (figures_of words) (λ figures. single_of v kind figures) e said in single_figures v kind words one.0 e one.1 one.2
-said_spelled v (form.Double kind) words e said = let one = went (figures_of words) (λ figures. double_of v kind figures) e said in double_figures v kind words one.0 e one.1 one.2
-said_spelled v form.Visit words e said = let one = went (figures_of words) (λ figures. visit_of v figures) e said in visit_figures v words one.0 e one.1 one.2
-said_spelled v form.Apply words e said = let one = went (figures_of words) (λ figures. apply_of v figures) e said in apply_figures v words one.0 e one.1 one.2
+said_spelled : (v : Version) (f : Form) (words : List (List ℕ)) (e : Event) → said_in v f words ≡ Ok e →
+    IsSaid v f words e
+said_spelled v (form.Single kind) words e said = let one =
+    went (figures_of words) (λ figures. single_of v kind figures) e said in
+    single_figures v kind words one.0 e one.1 one.2
+said_spelled v (form.Double kind) words e said = let one =
+    went (figures_of words) (λ figures. double_of v kind figures) e said in
+    double_figures v kind words one.0 e one.1 one.2
+said_spelled v form.Visit words e said = let one = went (figures_of words) (λ figures. visit_of v figures) e said in
+    visit_figures v words one.0 e one.1 one.2
+said_spelled v form.Apply words e said = let one = went (figures_of words) (λ figures. apply_of v figures) e said in
+    apply_figures v words one.0 e one.1 one.2
 said_spelled v form.Recover words e said = recover_said v words e said
 
 -- a word that is the text of a test
 is_word : (first word : List ℕ) → bytes_eq first word ≡ true → first ≡ word
 is_word first word e = search (rules, bytes_eq-Decides)
 
-tested : {A : Type 0} (first word : List ℕ) (a b : A) (rest : Option A) → (if bytes_eq first word then Some a else rest) ≡ Some b → ((first ≡ word) × (a ≡ b)) ⊎ (rest ≡ Some b)
-tested first word a b rest e = elim (bytes_eq first word) as (λ t. bytes_eq first word ≡ t → (if t then Some a else rest) ≡ Some b → ((first ≡ word) × (a ≡ b)) ⊎ (rest ≡ Some b)) [
-  | true ↦ λ is told. inl (is_word first word is, cc)
-  | false ↦ λ is told. inr told
-] refl e
+tested : {A : Type 0} (first word : List ℕ) (a b : A) (rest : Option A) →
+    (if bytes_eq first word then Some a else rest) ≡ Some b → ((first ≡ word) × (a ≡ b)) ⊎ (rest ≡ Some b)
+tested first word a b rest e =
+    elim (bytes_eq first word) as (λ t. bytes_eq first word ≡ t → (if t then Some a else rest) ≡ Some b →
+    ((first ≡ word) × (a ≡ b)) ⊎ (rest ≡ Some b)) [
+      | true ↦ λ is told. inl (is_word first word is, cc)
+      | false ↦ λ is told. inr told
+    ] refl e
 
 form_same : (first : List ℕ) (a b : Form) → (first ≡ form_word a) × (a ≡ b) → first ≡ form_word b
 form_same first a b is = is.0 ∙ ap form_word is.1
@@ -314,13 +395,22 @@ form_known first f e =
                                                     elim (tested first (codes "recover") form.Recover f _ e8) [
                                                       | inl is ↦ form_same first form.Recover f is
                                                       | inr e9 ↦
-                                                          elim (tested first (codes "pull") (form.Single single.Pull) f _ e9) [
+                                                          elim (tested first (codes "pull")
+                                                          (form.Single single.Pull) f _ e9) [
                                                             | inl is ↦ form_same first (form.Single single.Pull) f is
                                                             | inr e10 ↦
-                                                                elim (tested first (codes "propagate") (form.Single single.Propagate) f _ e10) [
-                                                                  | inl is ↦ form_same first (form.Single single.Propagate) f is
+                                                                elim (tested first (codes "propagate")
+                                                                (form.Single single.Propagate) f _ e10) [
+                                                                  | inl is ↦ form_same first
+                                                                      (form.Single single.Propagate) f is
                                                                   | inr e11 ↦
-                                                                      elim (tested first (codes "release") (form.Single single.Release) f None e11) [ inl is ↦ form_same first (form.Single single.Release) f is | inr e12 ↦ absurd cc ]
+                                                                      elim (tested first (codes "release")
+                                                                      (form.Single single.Release) f None e11) [
+                                                                        | inl is ↦ form_same first
+                                                                            (form.Single single.Release) f is
+                                                                        | inr e12 ↦
+                                                                            absurd cc
+                                                                      ]
                                                                 ]
                                                           ]
                                                     ]
@@ -333,18 +423,22 @@ form_known first f e =
           ]
     ]
 
-by_form : (v : Version) (first : List ℕ) (words : List (List ℕ)) (r : Option Form) (e : Event) → ((f : Form) → r ≡ Some f → first ≡ form_word f) → said_by v r words ≡ Ok e → (first ∷ words ≡ word_list e) × IsEvent v e
+by_form : (v : Version) (first : List ℕ) (words : List (List ℕ)) (r : Option Form) (e : Event) →
+    ((f : Form) → r ≡ Some f → first ≡ form_word f) → said_by v r words ≡ Ok e →
+    (first ∷ words ≡ word_list e) × IsEvent v e
 by_form v first words None e known said = absurd cc
 by_form v first words (Some f) e known said =
     let is = said_spelled v f words e said in
     (ap (λ (w : List ℕ). w ∷ words) (known f refl) ∙ is.spelled, is.bounds)
 
-event_spelled : (v : Version) (words : List (List ℕ)) (e : Event) → event_of v words ≡ Ok e → (words ≡ word_list e) × IsEvent v e
+event_spelled : (v : Version) (words : List (List ℕ)) (e : Event) → event_of v words ≡ Ok e →
+    (words ≡ word_list e) × IsEvent v e
 event_spelled v [] e said = absurd cc
 event_spelled v (first ∷ words) e said = by_form v first words (form_of first) e (form_known first) said
 
 -- a line that says an event is the event's line
-pub line_spelled : (v : Version) (line : List ℕ) (e : Event) → event_of v (parts_of 32 line) ≡ Ok e → (line ≡ words_of e) × IsEvent v e
+pub line_spelled : (v : Version) (line : List ℕ) (e : Event) → event_of v (parts_of 32 line) ≡ Ok e →
+    (line ≡ words_of e) × IsEvent v e
 line_spelled v line e said =
     let is = event_spelled v (parts_of 32 line) e said in
     (sym (join_with_byte-slice_split 32 line) ∙ ap (join_with_byte 32) is.0 ∙ sym (words_joined e), is.1)
@@ -358,22 +452,29 @@ record AreLines (v : Version) (lines : List (List ℕ)) (events : List Event) : 
   pub spelled : join_with_byte 10 lines ≡ flat_map line_of events
   pub bounds : AllByRecursion (IsEvent v) events
 
-ended_spelled : (v : Version) (place : ℕ) (last : List ℕ) (events : List Event) → ended place last ≡ Ok events → AreLines v (last ∷ []) events
-ended_spelled v place [] events e = let empty : [] ≡ events = cc in subst (AreLines v ([] ∷ [])) empty (record { spelled = refl; bounds = tt })
+ended_spelled : (v : Version) (place : ℕ) (last : List ℕ) (events : List Event) → ended place last ≡ Ok events →
+    AreLines v (last ∷ []) events
+ended_spelled v place [] events e = let empty : [] ≡ events =
+    cc in subst (AreLines v ([] ∷ [])) empty (record { spelled = refl; bounds = tt })
 ended_spelled v place (byte ∷ bytes) events e = absurd cc
 
-lines_spelled : (v : Version) (place : ℕ) (lines : List (List ℕ)) (events : List Event) → events_from v place lines ≡ Ok events → AreLines v lines events
-lines_spelled v place [] events e = let empty : [] ≡ events = cc in subst (AreLines v []) empty (record { spelled = refl; bounds = tt })
+lines_spelled : (v : Version) (place : ℕ) (lines : List (List ℕ)) (events : List Event) →
+    events_from v place lines ≡ Ok events → AreLines v lines events
+lines_spelled v place [] events e = let empty : [] ≡ events =
+    cc in subst (AreLines v []) empty (record { spelled = refl; bounds = tt })
 lines_spelled v place (last ∷ []) events e = ended_spelled v place last events e
 lines_spelled v place (line ∷ next ∷ lines) events e =
-    let one = went (placed place (event_of v (parts_of 32 line))) (λ x. events_from v (place + 1) (next ∷ lines) >>= λ xs. Ok (x ∷ xs)) events e in
+    let one = went (placed place (event_of v (parts_of 32 line)))
+    (λ x. events_from v (place + 1) (next ∷ lines) >>= λ xs. Ok (x ∷ xs)) events e in
     let two = went (events_from v (place + 1) (next ∷ lines)) (λ xs. Ok (one.0 ∷ xs)) events one.2 in
     let made = two.2 in
     let whole : one.0 ∷ two.0 ≡ events = cc in
     let first = line_spelled v line one.0 (placed_ok place (event_of v (parts_of 32 line)) one.0 one.1) in
     let later = lines_spelled v (place + 1) (next ∷ lines) two.0 two.1 in
     subst (AreLines v (line ∷ next ∷ lines)) whole (record {
-      spelled = ap (λ (l : List ℕ). l ++ 10 ∷ join_with_byte 10 (next ∷ lines)) first.0 ∙ ap (λ (rest : List ℕ). words_of one.0 ++ 10 ∷ rest) later.spelled ∙ sym (append_assoc (words_of one.0) (10 ∷ []) (flat_map line_of two.0));
+      spelled = ap (λ (l : List ℕ). l ++ 10 ∷ join_with_byte 10 (next ∷ lines)) first.0 ∙ ap
+          (λ (rest : List ℕ). words_of one.0
+          ++ 10 ∷ rest) later.spelled ∙ sym (append_assoc (words_of one.0) (10 ∷ []) (flat_map line_of two.0));
       bounds = (first.1, later.bounds);
     })
 
@@ -382,23 +483,32 @@ header_is header v e =
     elim (tested header (codes "ftc-journal 1") version.First v _ e) [
       | inl is ↦ is.0 ∙ ap header_of is.1
       | inr e1 ↦
-          elim (tested header (codes "ftc-journal 2") version.Second v None e1) [ inl is ↦ is.0 ∙ ap header_of is.1 | inr e2 ↦ absurd cc ]
+          elim (tested header (codes "ftc-journal 2") version.Second v None e1) [
+            | inl is ↦
+                is.0 ∙ ap header_of is.1
+            | inr e2 ↦ absurd cc
+          ]
     ]
 
-behind_spelled : (header : List ℕ) (r : Option Version) (next : List ℕ) (lines : List (List ℕ)) (events : List Event) → ((v : Version) → r ≡ Some v → header ≡ header_of v) → lines_behind r (next ∷ lines) ≡ Ok events → (text : List ℕ) → text ≡ join_with_byte 10 (header ∷ next ∷ lines) → IsSpelling events text
+behind_spelled : (header : List ℕ) (r : Option Version) (next : List ℕ) (lines : List (List ℕ)) (events : List Event) →
+    ((v : Version) → r ≡ Some v → header ≡ header_of v) → lines_behind r (next ∷ lines) ≡ Ok events → (text : List ℕ) →
+    text ≡ join_with_byte 10 (header ∷ next ∷ lines) → IsSpelling events text
 behind_spelled header None next lines events known e text is = absurd cc
 behind_spelled header (Some v) next lines events known e text is =
     let all = lines_spelled v 2 (next ∷ lines) events e in
     record {
       version = v;
       bounds = all.bounds;
-      spelled = is ∙ ap (λ (h : List ℕ). h ++ 10 ∷ join_with_byte 10 (next ∷ lines)) (known v refl) ∙ ap (λ (rest : List ℕ). header_of v ++ 10 ∷ rest) all.spelled;
+      spelled = is ∙ ap (λ (h : List ℕ). h ++ 10 ∷ join_with_byte 10 (next ∷ lines)) (known v refl) ∙ ap
+          (λ (rest : List ℕ). header_of v ++ 10 ∷ rest) all.spelled;
     }
 
-parts_spelled : (parts : List (List ℕ)) (events : List Event) (text : List ℕ) → journal_from parts ≡ Ok events → text ≡ join_with_byte 10 parts → IsSpelling events text
+parts_spelled : (parts : List (List ℕ)) (events : List Event) (text : List ℕ) → journal_from parts ≡ Ok events →
+    text ≡ join_with_byte 10 parts → IsSpelling events text
 parts_spelled [] events text e is = absurd cc
 parts_spelled (header ∷ []) events text e is = absurd cc
-parts_spelled (header ∷ next ∷ lines) events text e is = behind_spelled header (version_of header) next lines events (header_is header) e text is
+parts_spelled (header ∷ next ∷ lines) events text e is =
+    behind_spelled header (version_of header) next lines events (header_is header) e text is
 
 pub accepted : (text : List ℕ) (events : List Event) → journal_of text ≡ Ok events → IsSpelling events text
 accepted text events e = parts_spelled (parts_of 10 text) events text e (sym (join_with_byte-slice_split 10 text))

@@ -1,10 +1,12 @@
 -- The words of an event's line.
-use Rattle.std.proofs.Common.{◌≡◌, ◌≤◌, ◌<◌, ℕ, true, false, nat_lt, List, [], ◌∷◌, ◌++◌, refl, sym, ap, subst, ◌∙◌, arith, rules, Ok, Some, ◌⊎◌, inl, inr, append_assoc, append-nil}
+use Rattle.std.proofs.Common.{◌≡◌, ◌≤◌, ◌<◌, ℕ, true, false, nat_lt, List, [], ◌∷◌, ◌++◌, refl, sym, ap, subst, ◌∙◌}
+use Rattle.std.proofs.Common.{arith, rules, Ok, Some, ◌⊎◌, inl, inr, append_assoc, append-nil}
 use Rattle.std.specs.Prelude.{◌==◌, codes, decimal, map}
 use Rattle.std.specs.List.{AllByRecursion, join_with_byte, flat_map}
 use Rattle.ftc_base.specs.Endpoint.{parts_of}
 use Rattle.ftc_base.specs.declared.limits.TheConstants.{MOST_SLOTS}
-use Rattle.ftc_base.proofs.Separated.{Without, without-append, written, parts_of-part, parts_of-last, parts_of-join, without-join}
+use Rattle.ftc_base.proofs.Separated.{Without, without-append, written, parts_of-part, parts_of-last, parts_of-join}
+use Rattle.ftc_base.proofs.Separated.{without-join}
 use Rattle.ftc_base.proofs.Decimals.{without_decimal}
 use Rattle.ftc_journal.specs.declared.event.Event.{Event}
 use Rattle.ftc_journal.specs.declared.event.Event.TheVariants as event
@@ -24,7 +26,8 @@ name_text name = decimal name.server ++ 58 ∷ decimal name.packet
 abbrev pub word_list : Event → List (List ℕ)
 word_list (event.Enter packet) = codes "enter" ∷ decimal packet ∷ []
 word_list (event.Take link origin) = codes "take" ∷ decimal link ∷ decimal origin ∷ []
-word_list (event.Apply server origin group packet) = codes "apply" ∷ decimal server ∷ decimal origin ∷ decimal group ∷ decimal packet ∷ []
+word_list (event.Apply server origin group packet) =
+    codes "apply" ∷ decimal server ∷ decimal origin ∷ decimal group ∷ decimal packet ∷ []
 word_list (event.Visit server packet worker) = codes "visit" ∷ decimal server ∷ decimal packet ∷ decimal worker ∷ []
 word_list (event.Pass server origin) = codes "pass" ∷ decimal server ∷ decimal origin ∷ []
 word_list (event.Lose server origin) = codes "lose" ∷ decimal server ∷ decimal origin ∷ []
@@ -35,17 +38,21 @@ word_list (event.Pull link) = codes "pull" ∷ decimal link ∷ []
 word_list (event.Propagate origin) = codes "propagate" ∷ decimal origin ∷ []
 word_list (event.Release packet) = codes "release" ∷ decimal packet ∷ []
 
-names_joined : (first : List ℕ) (undone : List VisitName) → first ++ flat_map spaced_name undone ≡ join_with_byte 32 (first ∷ map name_text undone)
+names_joined : (first : List ℕ) (undone : List VisitName) →
+    first ++ flat_map spaced_name undone ≡ join_with_byte 32 (first ∷ map name_text undone)
 names_joined first [] = append-nil first
 names_joined first (name ∷ names) =
-    let front : spaced_name name ≡ 32 ∷ name_text name = append_assoc (32 ∷ decimal name.server) (58 ∷ []) (decimal name.packet) in
+    let front : spaced_name name ≡ 32 ∷ name_text name =
+    append_assoc (32 ∷ decimal name.server) (58 ∷ []) (decimal name.packet) in
     let later = names_joined (name_text name) names in
-    ap (λ (more : List ℕ). first ++ (more ++ flat_map spaced_name names)) front ∙ ap (λ (more : List ℕ). first ++ 32 ∷ more) later
+    ap (λ (more : List ℕ). first ++ (more ++ flat_map spaced_name names)) front ∙ ap (λ (more : List ℕ). first
+    ++ 32 ∷ more) later
 
 three : (w a b c : List ℕ) → ((w ++ 32 ∷ a) ++ 32 ∷ b) ++ 32 ∷ c ≡ w ++ 32 ∷ (a ++ 32 ∷ (b ++ 32 ∷ c))
 three w a b c = append_assoc (w ++ 32 ∷ a) (32 ∷ b) (32 ∷ c) ∙ append_assoc w (32 ∷ a) (32 ∷ (b ++ 32 ∷ c))
 
-four : (w a b c d : List ℕ) → (((w ++ 32 ∷ a) ++ 32 ∷ b) ++ 32 ∷ c) ++ 32 ∷ d ≡ w ++ 32 ∷ (a ++ 32 ∷ (b ++ 32 ∷ (c ++ 32 ∷ d)))
+four : (w a b c d : List ℕ) → (((w ++ 32 ∷ a) ++ 32 ∷ b) ++ 32 ∷ c) ++ 32 ∷ d ≡ w
+    ++ 32 ∷ (a ++ 32 ∷ (b ++ 32 ∷ (c ++ 32 ∷ d)))
 four w a b c d = append_assoc ((w ++ 32 ∷ a) ++ 32 ∷ b) (32 ∷ c) (32 ∷ d) ∙ three w a b (c ++ 32 ∷ d)
 
 -- a line is its words with one space between them
@@ -53,14 +60,17 @@ pub words_joined : (e : Event) → words_of e ≡ join_with_byte 32 (word_list e
 unfolding words_of
 words_joined (event.Enter packet) = refl
 words_joined (event.Take link origin) = append_assoc (codes "take") (spaced link) (spaced origin)
-words_joined (event.Apply server origin group packet) = four (codes "apply") (decimal server) (decimal origin) (decimal group) (decimal packet)
-words_joined (event.Visit server packet worker) = three (codes "visit") (decimal server) (decimal packet) (decimal worker)
+words_joined (event.Apply server origin group packet) =
+    four (codes "apply") (decimal server) (decimal origin) (decimal group) (decimal packet)
+words_joined (event.Visit server packet worker) =
+    three (codes "visit") (decimal server) (decimal packet) (decimal worker)
 words_joined (event.Pass server origin) = append_assoc (codes "pass") (spaced server) (spaced origin)
 words_joined (event.Lose server origin) = append_assoc (codes "lose") (spaced server) (spaced origin)
 words_joined (event.Carry origin) = refl
 words_joined (event.Crash server) = refl
 words_joined (event.Recover server undone) =
-    append_assoc (codes "recover") (spaced server) (flat_map spaced_name undone) ∙ ap (λ (more : List ℕ). codes "recover" ++ 32 ∷ more) (names_joined (decimal server) undone)
+    append_assoc (codes "recover") (spaced server) (flat_map spaced_name undone) ∙ ap
+    (λ (more : List ℕ). codes "recover" ++ 32 ∷ more) (names_joined (decimal server) undone)
 words_joined (event.Pull link) = refl
 words_joined (event.Propagate origin) = refl
 words_joined (event.Release packet) = refl
@@ -74,13 +84,20 @@ few_servers : (v : Version) (n : ℕ) → n < servers_of v → n ≤ 4294967295
 few_servers version.First n less = omega arith
 few_servers version.Second n less = omega arith
 
-without_name : (v : Version) (separator : ℕ) (name : VisitName) → IsSeparator separator → IsVisitName v name → Without separator (name_text name)
+without_name : (v : Version) (separator : ℕ) (name : VisitName) → IsSeparator separator → IsVisitName v name →
+    Without separator (name_text name)
 without_name v separator name sep is =
-    without-append separator (decimal name.server) (58 ∷ decimal name.packet) (without_decimal separator name.server sep.apart (few_servers v name.server is.0)) (sep.colon, without_decimal separator name.packet sep.apart is.1)
+    without-append separator (decimal name.server) (58 ∷ decimal name.packet)
+    (without_decimal separator name.server sep.apart (few_servers v name.server is.0)) (
+      sep.colon,
+      without_decimal separator name.packet sep.apart is.1,
+    )
 
-without_names : (v : Version) (separator : ℕ) (undone : List VisitName) → IsSeparator separator → AllByRecursion (IsVisitName v) undone → AllByRecursion (Without separator) (map name_text undone)
+without_names : (v : Version) (separator : ℕ) (undone : List VisitName) → IsSeparator separator →
+    AllByRecursion (IsVisitName v) undone → AllByRecursion (Without separator) (map name_text undone)
 without_names v separator [] sep all = tt
-without_names v separator (name ∷ names) sep all = (without_name v separator name sep all.0, without_names v separator names sep all.1)
+without_names v separator (name ∷ names) sep all =
+    (without_name v separator name sep all.0, without_names v separator names sep all.1)
 
 -- first words
 abbrev pub first_word : Event → List ℕ
@@ -97,23 +114,72 @@ first_word (event.Pull link) = codes "pull"
 first_word (event.Propagate origin) = codes "propagate"
 first_word (event.Release packet) = codes "release"
 
-pub without_words : (v : Version) (separator : ℕ) (e : Event) → IsSeparator separator → Without separator (first_word e) → IsEvent v e → AllByRecursion (Without separator) (word_list e)
-without_words v separator (event.Enter packet) sep first is = (first, (without_decimal separator packet sep.apart is, tt))
-without_words v separator (event.Take link origin) sep first is = (first, (without_decimal separator link sep.apart (few_servers v link is.0), (without_decimal separator origin sep.apart is.1, tt)))
-without_words v separator (event.Apply server origin group packet) sep first is =
-    (first, (without_decimal separator server sep.apart (few_servers v server is.0), (without_decimal separator origin sep.apart is.1, (without_decimal separator group sep.apart (few_servers v group is.2), (without_decimal separator packet sep.apart is.3, tt)))))
+pub without_words : (v : Version) (separator : ℕ) (e : Event) → IsSeparator separator →
+    Without separator (first_word e) → IsEvent v e → AllByRecursion (Without separator) (word_list e)
+without_words v separator (event.Enter packet) sep first is =
+    (first, (without_decimal separator packet sep.apart is, tt))
+without_words v separator (event.Take link origin) sep first is = (
+  first,
+  (
+    without_decimal separator link sep.apart (few_servers v link is.0),
+    (without_decimal separator origin sep.apart is.1, tt),
+  ),
+)
+without_words v separator (event.Apply server origin group packet) sep first is = (
+  first,
+  (
+    without_decimal separator server sep.apart (few_servers v server is.0),
+    (
+      without_decimal separator origin sep.apart is.1,
+      (
+        without_decimal separator group sep.apart (few_servers v group is.2),
+        (without_decimal separator packet sep.apart is.3, tt),
+      ),
+    ),
+  ),
+)
 without_words v separator (event.Visit server packet worker) sep first is =
-    let slot = is.2 in
-    (first, (without_decimal separator server sep.apart (few_servers v server is.0), (without_decimal separator packet sep.apart is.1, (without_decimal separator worker sep.apart (omega arith), tt))))
-without_words v separator (event.Pass server origin) sep first is = (first, (without_decimal separator server sep.apart (few_servers v server is.0), (without_decimal separator origin sep.apart is.1, tt)))
-without_words v separator (event.Lose server origin) sep first is = (first, (without_decimal separator server sep.apart (few_servers v server is.0), (without_decimal separator origin sep.apart is.1, tt)))
-without_words v separator (event.Carry origin) sep first is = (first, (without_decimal separator origin sep.apart is, tt))
-without_words v separator (event.Crash server) sep first is = (first, (without_decimal separator server sep.apart (few_servers v server is), tt))
-without_words v separator (event.Recover server undone) sep first is =
-    (first, (without_decimal separator server sep.apart (few_servers v server is.0), without_names v separator undone sep is.1))
-without_words v separator (event.Pull link) sep first is = (first, (without_decimal separator link sep.apart (few_servers v link is), tt))
-without_words v separator (event.Propagate origin) sep first is = (first, (without_decimal separator origin sep.apart is, tt))
-without_words v separator (event.Release packet) sep first is = (first, (without_decimal separator packet sep.apart is, tt))
+    let slot = is.2 in (
+      first,
+      (
+        without_decimal separator server sep.apart (few_servers v server is.0),
+        (
+          without_decimal separator packet sep.apart is.1,
+          (without_decimal separator worker sep.apart (omega arith), tt),
+        ),
+      ),
+    )
+without_words v separator (event.Pass server origin) sep first is = (
+  first,
+  (
+    without_decimal separator server sep.apart (few_servers v server is.0),
+    (without_decimal separator origin sep.apart is.1, tt),
+  ),
+)
+without_words v separator (event.Lose server origin) sep first is = (
+  first,
+  (
+    without_decimal separator server sep.apart (few_servers v server is.0),
+    (without_decimal separator origin sep.apart is.1, tt),
+  ),
+)
+without_words v separator (event.Carry origin) sep first is =
+    (first, (without_decimal separator origin sep.apart is, tt))
+without_words v separator (event.Crash server) sep first is =
+    (first, (without_decimal separator server sep.apart (few_servers v server is), tt))
+without_words v separator (event.Recover server undone) sep first is = (
+  first,
+  (
+    without_decimal separator server sep.apart (few_servers v server is.0),
+    without_names v separator undone sep is.1,
+  ),
+)
+without_words v separator (event.Pull link) sep first is =
+    (first, (without_decimal separator link sep.apart (few_servers v link is), tt))
+without_words v separator (event.Propagate origin) sep first is =
+    (first, (without_decimal separator origin sep.apart is, tt))
+without_words v separator (event.Release packet) sep first is =
+    (first, (without_decimal separator packet sep.apart is, tt))
 
 space : IsSeparator 32
 space = record { apart = inl (omega arith); colon = refl }
@@ -150,13 +216,15 @@ first_without_feed (event.Propagate origin) = written 10 (codes "propagate") ref
 first_without_feed (event.Release packet) = written 10 (codes "release") refl
 
 pub without_feed : (v : Version) (e : Event) → IsEvent v e → Without 10 (words_of e)
-without_feed v e is = rw (words_joined e) (without-join 10 32 (word_list e) refl (without_words v 10 e feed (first_without_feed e) is))
+without_feed v e is = rw (words_joined e)
+    (without-join 10 32 (word_list e) refl (without_words v 10 e feed (first_without_feed e) is))
 
 -- the words are some
 parted : (e : Event) → (tail : List (List ℕ)) × (word_list e ≡ first_word e ∷ tail)
 parted (event.Enter packet) = (decimal packet ∷ [], refl)
 parted (event.Take link origin) = (decimal link ∷ decimal origin ∷ [], refl)
-parted (event.Apply server origin group packet) = (decimal server ∷ decimal origin ∷ decimal group ∷ decimal packet ∷ [], refl)
+parted (event.Apply server origin group packet) =
+    (decimal server ∷ decimal origin ∷ decimal group ∷ decimal packet ∷ [], refl)
 parted (event.Visit server packet worker) = (decimal server ∷ decimal packet ∷ decimal worker ∷ [], refl)
 parted (event.Pass server origin) = (decimal server ∷ decimal origin ∷ [], refl)
 parted (event.Lose server origin) = (decimal server ∷ decimal origin ∷ [], refl)
@@ -167,14 +235,17 @@ parted (event.Pull link) = (decimal link ∷ [], refl)
 parted (event.Propagate origin) = (decimal origin ∷ [], refl)
 parted (event.Release packet) = (decimal packet ∷ [], refl)
 
-parts_again : (words : List (List ℕ)) (first : List ℕ) (tail : List (List ℕ)) → words ≡ first ∷ tail → AllByRecursion (Without 32) words → parts_of 32 (join_with_byte 32 words) ≡ words
+parts_again : (words : List (List ℕ)) (first : List ℕ) (tail : List (List ℕ)) → words ≡ first ∷ tail →
+    AllByRecursion (Without 32) words → parts_of 32 (join_with_byte 32 words) ≡ words
 parts_again words first tail e all =
-    subst (λ (ws : List (List ℕ)). AllByRecursion (Without 32) ws → parts_of 32 (join_with_byte 32 ws) ≡ ws) (sym e) (parts_of-join 32 first tail refl) all
+    subst (λ (ws : List (List ℕ)). AllByRecursion (Without 32) ws →
+    parts_of 32 (join_with_byte 32 ws) ≡ ws) (sym e) (parts_of-join 32 first tail refl) all
 
 pub words_found : (v : Version) (e : Event) → IsEvent v e → parts_of 32 (words_of e) ≡ word_list e
 words_found v e is =
     let parts = parted e in
-    ap (parts_of 32) (words_joined e) ∙ parts_again (word_list e) (first_word e) parts.0 parts.1 (without_words v 32 e space (first_without_space e) is)
+    ap (parts_of 32) (words_joined e) ∙ parts_again (word_list e) (first_word e) parts.0 parts.1
+    (without_words v 32 e space (first_without_space e) is)
 
 -- names are read again
 abbrev figures_in : VisitName → NameFigures
@@ -183,39 +254,79 @@ figures_in name = record { server = Some name.server; packet = Some name.packet 
 colon_apart : (48 ≤ 58) × ((57 < 58))
 colon_apart = (omega arith, omega arith)
 
-name_again : (v : Version) (name : VisitName) → IsVisitName v name → name_of (parts_of 58 (name_text name)) ≡ Ok (figures_in name)
+name_again : (v : Version) (name : VisitName) → IsVisitName v name →
+    name_of (parts_of 58 (name_text name)) ≡ Ok (figures_in name)
 name_again v name is =
     let small = few_servers v name.server is.0 in
     let parts : parts_of 58 (name_text name) ≡ decimal name.server ∷ decimal name.packet ∷ [] =
-    parts_of-part 58 (decimal name.server) (decimal name.packet) refl (without_decimal 58 name.server (inr colon_apart.1) small) ∙ ap (λ (ps : List (List ℕ)). decimal name.server ∷ ps) (parts_of-last 58 (decimal name.packet) (without_decimal 58 name.packet (inr colon_apart.1) is.1)) in
+    parts_of-part 58 (decimal name.server) (decimal name.packet) refl
+    (without_decimal 58 name.server (inr colon_apart.1) small) ∙ ap (λ (ps : List (List ℕ)). decimal name.server
+    ∷ ps) (parts_of-last 58 (decimal name.packet) (without_decimal 58 name.packet (inr colon_apart.1) is.1)) in
     rw (parts, figure_of-decimal name.server small, figure_of-decimal name.packet is.1) refl
 
-names_again : (v : Version) (undone : List VisitName) → AllByRecursion (IsVisitName v) undone → names_of (map name_text undone) ≡ Ok (map figures_in undone)
+names_again : (v : Version) (undone : List VisitName) → AllByRecursion (IsVisitName v) undone →
+    names_of (map name_text undone) ≡ Ok (map figures_in undone)
 names_again v [] all = refl
 names_again v (name ∷ names) all = rw (name_again v name all.0, names_again v names all.1) refl
 
 pub below_again : (bound n : ℕ) → n < bound → below bound (Some n) ≡ Ok n
 below_again bound n less = let within : nat_lt n bound ≡ true = search rules in rw within refl
 
-undone_again : (v : Version) (undone : List VisitName) → AllByRecursion (IsVisitName v) undone → undone_in v (map figures_in undone) ≡ Ok undone
+undone_again : (v : Version) (undone : List VisitName) → AllByRecursion (IsVisitName v) undone →
+    undone_in v (map figures_in undone) ≡ Ok undone
 undone_again v [] all = refl
 undone_again v (name ∷ names) all = rw (below_again (servers_of v) name.server all.0.0, undone_again v names all.1) refl
 
 -- the words of a line say its event
 pub event_again : (v : Version) (e : Event) → IsEvent v e → event_of v (word_list e) ≡ Ok e
 event_again v (event.Enter packet) is = rw (figure_of-decimal packet is) refl
-event_again v (event.Take link origin) is = rw (figure_of-decimal link (few_servers v link is.0), figure_of-decimal origin is.1, below_again (servers_of v) link is.0) refl
+event_again v (event.Take link origin) is =
+    rw (
+      figure_of-decimal link (few_servers v link is.0),
+      figure_of-decimal origin is.1,
+      below_again (servers_of v) link is.0,
+    ) refl
 event_again v (event.Apply server origin group packet) is =
-    rw (figure_of-decimal server (few_servers v server is.0), figure_of-decimal origin is.1, figure_of-decimal group (few_servers v group is.2), figure_of-decimal packet is.3, below_again (servers_of v) server is.0, below_again (servers_of v) group is.2) refl
+    rw (
+      figure_of-decimal server (few_servers v server is.0),
+      figure_of-decimal origin is.1,
+      figure_of-decimal group (few_servers v group is.2),
+      figure_of-decimal packet is.3,
+      below_again (servers_of v) server is.0,
+      below_again (servers_of v) group is.2,
+    ) refl
 event_again v (event.Visit server packet worker) is =
     let slot = is.2 in
-    rw (figure_of-decimal server (few_servers v server is.0), figure_of-decimal packet is.1, figure_of-decimal worker (omega arith), below_again (servers_of v) server is.0, below_again MOST_SLOTS worker is.2) refl
-event_again v (event.Pass server origin) is = rw (figure_of-decimal server (few_servers v server is.0), figure_of-decimal origin is.1, below_again (servers_of v) server is.0) refl
-event_again v (event.Lose server origin) is = rw (figure_of-decimal server (few_servers v server is.0), figure_of-decimal origin is.1, below_again (servers_of v) server is.0) refl
+    rw (
+      figure_of-decimal server (few_servers v server is.0),
+      figure_of-decimal packet is.1,
+      figure_of-decimal worker (omega arith),
+      below_again (servers_of v) server is.0,
+      below_again MOST_SLOTS worker is.2,
+    ) refl
+event_again v (event.Pass server origin) is =
+    rw (
+      figure_of-decimal server (few_servers v server is.0),
+      figure_of-decimal origin is.1,
+      below_again (servers_of v) server is.0,
+    ) refl
+event_again v (event.Lose server origin) is =
+    rw (
+      figure_of-decimal server (few_servers v server is.0),
+      figure_of-decimal origin is.1,
+      below_again (servers_of v) server is.0,
+    ) refl
 event_again v (event.Carry origin) is = rw (figure_of-decimal origin is) refl
-event_again v (event.Crash server) is = rw (figure_of-decimal server (few_servers v server is), below_again (servers_of v) server is) refl
+event_again v (event.Crash server) is =
+    rw (figure_of-decimal server (few_servers v server is), below_again (servers_of v) server is) refl
 event_again v (event.Recover server undone) is =
-    rw (figure_of-decimal server (few_servers v server is.0), names_again v undone is.1, below_again (servers_of v) server is.0, undone_again v undone is.1) refl
-event_again v (event.Pull link) is = rw (figure_of-decimal link (few_servers v link is), below_again (servers_of v) link is) refl
+    rw (
+      figure_of-decimal server (few_servers v server is.0),
+      names_again v undone is.1,
+      below_again (servers_of v) server is.0,
+      undone_again v undone is.1,
+    ) refl
+event_again v (event.Pull link) is =
+    rw (figure_of-decimal link (few_servers v link is), below_again (servers_of v) link is) refl
 event_again v (event.Propagate origin) is = rw (figure_of-decimal origin is) refl
 event_again v (event.Release packet) is = rw (figure_of-decimal packet is) refl

@@ -55,7 +55,8 @@ figures_of (word ∷ words) = figure_of word >>= λ figure. figures_of words >>=
 
 -- a visit, as `J:P`
 abbrev pub name_of : List (List ℕ) → Result NameFigures JournalCause
-name_of (server ∷ packet ∷ []) = figure_of server >>= λ j. figure_of packet >>= λ p. Ok (record { server = j; packet = p })
+name_of (server ∷ packet ∷ []) = figure_of server >>= λ j. figure_of packet >>= λ p.
+    Ok (record { server = j; packet = p })
 name_of parts = Err Word
 
 abbrev pub names_of : List (List ℕ) → Result (List NameFigures) JournalCause
@@ -78,11 +79,13 @@ abbrev pub slot_in : Option ℕ → Result ℕ JournalCause
 slot_in figure = below MOST_SLOTS figure
 
 abbrev pub name_in : Version → NameFigures → Result VisitName JournalCause
-name_in version name = server_in version name.server >>= λ server. number_in name.packet >>= λ packet. Ok (record { server = server; packet = packet })
+name_in version name = server_in version name.server >>= λ server. number_in name.packet >>= λ packet.
+    Ok (record { server = server; packet = packet })
 
 abbrev pub undone_in : Version → List NameFigures → Result (List VisitName) JournalCause
 undone_in version [] = Ok []
-undone_in version (name ∷ names) = name_in version name >>= λ visit. undone_in version names >>= λ visits. Ok (visit ∷ visits)
+undone_in version (name ∷ names) = name_in version name >>= λ visit. undone_in version names >>= λ visits.
+    Ok (visit ∷ visits)
 
 -- which event the first word of a line tells
 abbrev pub form_of : List ℕ → Option Form
@@ -115,15 +118,18 @@ double_event double.Pass server origin = event.Pass server origin
 double_event double.Lose server origin = event.Lose server origin
 
 abbrev pub double_in : Version → Double → Option ℕ → Option ℕ → Result Event JournalCause
-double_in version kind first second = server_in version first >>= λ server. number_in second >>= λ origin. Ok (double_event kind server origin)
+double_in version kind first second = server_in version first >>= λ server. number_in second >>= λ origin.
+    Ok (double_event kind server origin)
 
 abbrev pub visit_in : Version → Option ℕ → Option ℕ → Option ℕ → Result Event JournalCause
 visit_in version first second third =
-    server_in version first >>= λ server. number_in second >>= λ packet. slot_in third >>= λ worker. Ok (event.Visit server packet worker)
+    server_in version first >>= λ server. number_in second >>= λ packet. slot_in third >>= λ worker.
+    Ok (event.Visit server packet worker)
 
 abbrev pub apply_in : Version → Option ℕ → Option ℕ → Option ℕ → Option ℕ → Result Event JournalCause
 apply_in version first second third fourth =
-    server_in version first >>= λ server. number_in second >>= λ origin. server_in version third >>= λ group. number_in fourth >>= λ packet. Ok (event.Apply server origin group packet)
+    server_in version first >>= λ server. number_in second >>= λ origin. server_in version third >>= λ group.
+    number_in fourth >>= λ packet. Ok (event.Apply server origin group packet)
 
 -- a form has just so many numbers
 abbrev pub single_of : Version → Single → List (Option ℕ) → Result Event JournalCause
@@ -143,12 +149,14 @@ apply_of version (a ∷ b ∷ c ∷ d ∷ []) = apply_in version a b c d
 apply_of version figures = Err Word
 
 abbrev pub recovery : Version → Option ℕ → List NameFigures → Result Event JournalCause
-recovery version figure names = server_in version figure >>= λ server. undone_in version names >>= λ undone. Ok (event.Recover server undone)
+recovery version figure names = server_in version figure >>= λ server. undone_in version names >>= λ undone.
+    Ok (event.Recover server undone)
 
 -- a server, and then each undone visit
 abbrev pub recover_of : Version → List (List ℕ) → Result Event JournalCause
 recover_of version [] = Err Word
-recover_of version (server ∷ names) = figure_of server >>= λ figure. names_of names >>= λ undone. recovery version figure undone
+recover_of version (server ∷ names) = figure_of server >>= λ figure. names_of names >>= λ undone.
+    recovery version figure undone
 
 -- all words are tested before any bound
 abbrev pub said_in : Version → Form → List (List ℕ) → Result Event JournalCause
@@ -184,7 +192,8 @@ abbrev pub events_from : Version → ℕ → List (List ℕ) → Result (List Ev
 events_from version place [] = Ok []
 events_from version place (last ∷ []) = ended place last
 events_from version place (line ∷ next ∷ lines) =
-    placed place (event_of version (parts_of 32 line)) >>= λ event. events_from version (place + 1) (next ∷ lines) >>= λ events. Ok (event ∷ events)
+    placed place (event_of version (parts_of 32 line)) >>= λ event.
+    events_from version (place + 1) (next ∷ lines) >>= λ events. Ok (event ∷ events)
 
 -- the lines behind the header
 abbrev pub lines_behind : Option Version → List (List ℕ) → Result (List Event) JournalFault

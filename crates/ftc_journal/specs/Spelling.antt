@@ -4,7 +4,8 @@ use Rattle.std.specs.List.{AllByRecursion, flat_map}
 use Rattle.ftc_base.specs.declared.limits.TheConstants.{MOST_SLOTS}
 use Rattle.ftc_journal.specs.declared.limits.TheConstants.{MOST_NUMBER}
 use Rattle.ftc_journal.specs.declared.event.Event.{Event}
-use Rattle.ftc_journal.specs.declared.event.Event.TheVariants.{Enter, Take, Apply, Visit, Pass, Lose, Carry, Crash, Recover, Pull, Propagate, Release}
+use Rattle.ftc_journal.specs.declared.event.Event.TheVariants.{Enter, Take, Apply, Visit, Pass, Lose, Carry, Crash}
+use Rattle.ftc_journal.specs.declared.event.Event.TheVariants.{Recover, Pull, Propagate, Release}
 use Rattle.ftc_journal.specs.declared.event.VisitName.{VisitName}
 use Rattle.ftc_journal.specs.declared.form.Version.{Version}
 use Rattle.ftc_journal.specs.Text.{line_of}
@@ -17,8 +18,10 @@ IsVisitName version name = (name.server < servers_of version) × (name.packet �
 abbrev pub IsEvent : Version → Event → Type 0
 IsEvent version (Enter packet) = packet ≤ MOST_NUMBER
 IsEvent version (Take link origin) = (link < servers_of version) × (origin ≤ MOST_NUMBER)
-IsEvent version (Apply server origin group packet) = (server < servers_of version) × (origin ≤ MOST_NUMBER) × (group < servers_of version) × (packet ≤ MOST_NUMBER)
-IsEvent version (Visit server packet worker) = (server < servers_of version) × (packet ≤ MOST_NUMBER) × (worker < MOST_SLOTS)
+IsEvent version (Apply server origin group packet) =
+    (server < servers_of version) × (origin ≤ MOST_NUMBER) × (group < servers_of version) × (packet ≤ MOST_NUMBER)
+IsEvent version (Visit server packet worker) =
+    (server < servers_of version) × (packet ≤ MOST_NUMBER) × (worker < MOST_SLOTS)
 IsEvent version (Pass server origin) = (server < servers_of version) × (origin ≤ MOST_NUMBER)
 IsEvent version (Lose server origin) = (server < servers_of version) × (origin ≤ MOST_NUMBER)
 IsEvent version (Carry origin) = origin ≤ MOST_NUMBER

@@ -2,7 +2,8 @@
 use Rattle.std.specs.Prelude.{ℕ, List, ◌++◌, decimal, codes}
 use Rattle.std.specs.List.{flat_map}
 use Rattle.ftc_journal.specs.declared.event.Event.{Event}
-use Rattle.ftc_journal.specs.declared.event.Event.TheVariants.{Enter, Take, Apply, Visit, Pass, Lose, Carry, Crash, Recover, Pull, Propagate, Release}
+use Rattle.ftc_journal.specs.declared.event.Event.TheVariants.{Enter, Take, Apply, Visit, Pass, Lose, Carry, Crash}
+use Rattle.ftc_journal.specs.declared.event.Event.TheVariants.{Recover, Pull, Propagate, Release}
 use Rattle.ftc_journal.specs.declared.event.VisitName.{VisitName}
 
 abbrev pub header : List ℕ
@@ -20,7 +21,8 @@ spaced_name name = codes " " ++ decimal name.server ++ codes ":" ++ decimal name
 unfoldable pub words_of : Event → List ℕ
 words_of (Enter packet) = codes "enter" ++ spaced packet
 words_of (Take link origin) = codes "take" ++ spaced link ++ spaced origin
-words_of (Apply server origin group packet) = codes "apply" ++ spaced server ++ spaced origin ++ spaced group ++ spaced packet
+words_of (Apply server origin group packet) =
+    codes "apply" ++ spaced server ++ spaced origin ++ spaced group ++ spaced packet
 words_of (Visit server packet worker) = codes "visit" ++ spaced server ++ spaced packet ++ spaced worker
 words_of (Pass server origin) = codes "pass" ++ spaced server ++ spaced origin
 words_of (Lose server origin) = codes "lose" ++ spaced server ++ spaced origin

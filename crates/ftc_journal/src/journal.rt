@@ -1,6 +1,7 @@
 //! The list of a run's events.
 
-ghost use Rattle.std.specs.Prelude.{◌≡◌, ◌≤◌, ◌<◌, ◌+◌, ◌++◌, ◌==◌, [], ◌∷◌, length, OnOk, OnErr, IsOk, slice_get, Some};
+ghost use Rattle.std.specs.Prelude.{◌≡◌, ◌≤◌, ◌<◌, ◌+◌, ◌++◌, ◌==◌, [], ◌∷◌, length, OnOk, OnErr, IsOk, slice_get};
+ghost use Rattle.std.specs.Prelude.{Some};
 
 use crate::event::Event;
 use ftc_base::NoMemory;
@@ -19,7 +20,10 @@ impl Model for Journal {
 
     ghost Value = { EventList };
 
-    ghost view = { λ journal. record { items = journal.events.items; spare = vec_capacity journal.events - vec_len journal.events } };
+    ghost view = { λ journal. record {
+      items = journal.events.items;
+      spare = vec_capacity journal.events - vec_len journal.events;
+    } };
 }
 
 impl Journal {

@@ -3,7 +3,8 @@
 ghost use Rattle.std.specs.Prelude.{◌≡◌};
 ghost use Rattle.ftc_base.specs.Refused.{IsReading};
 ghost use Rattle.ftc_base.specs.Endpoint.{parts_of};
-ghost use Rattle.ftc_journal.specs.Reading.{single_in, double_event, single_of, double_of, visit_of, apply_of, recovery, recover_of, said_in, event_of};
+ghost use Rattle.ftc_journal.specs.Reading.{single_in, double_event, single_of, double_of, visit_of, apply_of};
+ghost use Rattle.ftc_journal.specs.Reading.{recovery, recover_of, said_in, event_of};
 
 use crate::bounds::{number_in, server_in, slot_in, undone_in};
 use crate::event::Event;

@@ -31,6 +31,7 @@ is_queued queued message spelled sound origin logs =
     }
 
 -- what is read from a frame is its message
-pub read_message : (queued : Queued) (message : Message) → message_of queued.frame ≡ Ok message → message ≡ message_in queued
+pub read_message : (queued : Queued) (message : Message) → message_of queued.frame ≡ Ok message →
+    message ≡ message_in queued
 unfolding message_in
 read_message queued message told = sym (ap message_read told)

@@ -1,5 +1,6 @@
 -- Which worker holds which partition, shared or exclusive, and with which age.
-use Rattle.std.specs.Prelude.{◌≡◌, ◌≢◌, ◌<◌, ◌≤◌, ◌==◌, ◌&&◌, ◌||◌, not, ℕ, Bool, true, false, List, length, slice_index}
+use Rattle.std.specs.Prelude.{◌≡◌, ◌≢◌, ◌<◌, ◌≤◌, ◌==◌, ◌&&◌, ◌||◌, not, ℕ, Bool, true, false, List, length}
+use Rattle.std.specs.Prelude.{slice_index}
 use Rattle.ftc_base.specs.Sets.{has}
 use Rattle.ftc_base.specs.declared.limits.TheConstants.{MOST_PARTITIONS, MOST_SLOTS}
 
@@ -23,8 +24,8 @@ holds_exclusively locks worker partition = has (slice_index locks.exclusive work
 abbrev pub age_of : Locks → ℕ → ℕ
 age_of locks worker = slice_index locks.ages worker
 
--- a worker's request for a partition conflicts with another's exclusive holding and, where the request is exclusive, with
--- every holding of another
+-- a worker's request for a partition conflicts with another's exclusive holding and, where the request is exclusive,
+-- with every holding of another
 abbrev pub conflicts : Locks → ℕ → ℕ → Bool → ℕ → Bool
 conflicts locks worker partition change other =
     not (other == worker) && (holds_exclusively locks other partition || (change && holds locks other partition))
@@ -48,10 +49,11 @@ pub record HoldsNothing (locks : Locks) (worker : ℕ) : Type 0 where
 pub record IsOldestInTheWay (locks : Locks) (worker age partition : ℕ) (change : Bool) (holder : ℕ) : Type 0 where
   pub in_the_way : conflicts locks worker partition change holder ≡ true
   pub older : age_of locks holder < age
-  pub oldest : (other : ℕ) → conflicts locks worker partition change other ≡ true → age_of locks holder ≤ age_of locks other
+  pub oldest : (other : ℕ) → conflicts locks worker partition change other ≡ true →
+      age_of locks holder ≤ age_of locks other
 
--- every holding is of a worker and of a partition of the table, an exclusive holder is the only one, and two holders have
--- different ages
+-- every holding is of a worker and of a partition of the table, an exclusive holder is the only one, and two holders
+-- have different ages
 pub record IsLockTable (locks : Locks) : Type 0 where
   pub some : 1 ≤ locks.partitions
   pub within : locks.partitions ≤ MOST_PARTITIONS
@@ -59,6 +61,9 @@ pub record IsLockTable (locks : Locks) : Type 0 where
   pub exclusive_size : length locks.exclusive ≡ MOST_SLOTS
   pub ages_size : length locks.ages ≡ MOST_SLOTS
   pub partitions : (worker partition : ℕ) → holds locks worker partition ≡ true → partition < locks.partitions
-  pub held : (worker partition : ℕ) → holds_exclusively locks worker partition ≡ true → holds locks worker partition ≡ true
-  pub alone : (worker other partition : ℕ) → holds_exclusively locks worker partition ≡ true → holds locks other partition ≡ true → other ≡ worker
-  pub ages : (worker other p q : ℕ) → worker ≢ other → holds locks worker p ≡ true → holds locks other q ≡ true → age_of locks worker ≢ age_of locks other
+  pub held : (worker partition : ℕ) → holds_exclusively locks worker partition ≡ true →
+      holds locks worker partition ≡ true
+  pub alone : (worker other partition : ℕ) → holds_exclusively locks worker partition ≡ true →
+      holds locks other partition ≡ true → other ≡ worker
+  pub ages : (worker other p q : ℕ) → worker ≢ other → holds locks worker p ≡ true → holds locks other q ≡ true →
+      age_of locks worker ≢ age_of locks other

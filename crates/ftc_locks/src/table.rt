@@ -2,7 +2,8 @@
 
 ghost use Rattle.std.specs.Prelude.{◌≡◌, ◌≢◌, ◌<◌, ◌≤◌, ◌↔◌, ◌||◌, ◌&&◌, not, ℕ, true, false, IsTrue, IfSome, IfNone};
 ghost use Rattle.ftc_base.specs.Sets.{has};
-ghost use Rattle.ftc_locks.specs.Locks.{holds, holds_exclusively, age_of, conflicts, SameHolding, SameHoldings, HoldsNothing, IsOldestInTheWay, IsLockTable};
+ghost use Rattle.ftc_locks.specs.Locks.{holds, holds_exclusively, age_of, conflicts, SameHolding, SameHoldings};
+ghost use Rattle.ftc_locks.specs.Locks.{HoldsNothing, IsOldestInTheWay, IsLockTable};
 ghost use Rattle.ftc_locks.specs.Acquired.{IfGranted, OnGranted, IfBlocked};
 
 use crate::acquired::Acquired;
@@ -28,9 +29,19 @@ impl Model for LockTable {
 
     ghost Value = { Locks };
 
-    ghost view = { λ table. record { partitions = table.partitions; held = table.held; exclusive = table.exclusive; ages = table.ages } };
+    ghost view = { λ table. record {
+      partitions = table.partitions;
+      held = table.held;
+      exclusive = table.exclusive;
+      ages = table.ages;
+    } };
 
-    ghost invariant = { λ table. IsLockTable (record { partitions = table.partitions; held = table.held; exclusive = table.exclusive; ages = table.ages }) };
+    ghost invariant = { λ table. IsLockTable (record {
+      partitions = table.partitions;
+      held = table.held;
+      exclusive = table.exclusive;
+      ages = table.ages;
+    }) };
 }
 
 impl LockTable {
@@ -148,9 +159,11 @@ impl LockTable {
     fn grant(&mut self, worker: WorkerId, age: u64, partition: u8, change: bool)
         requires within { partition < self.old.partitions }
         requires free { (other : ℕ) → conflicts self.old worker partition change other ≡ false }
-        requires age_differs { (other p : ℕ) → other ≢ worker → holds self.old other p ≡ true → age_of self.old other ≢ age }
+        requires age_differs { (other p : ℕ) → other ≢ worker → holds self.old other p ≡ true →
+            age_of self.old other ≢ age }
         ensures held { holds self.new worker partition ≡ true }
-        ensures exclusive { holds_exclusively self.new worker partition ≡ (change || holds_exclusively self.old worker partition) }
+        ensures exclusive { holds_exclusively self.new worker partition
+            ≡ (change || holds_exclusively self.old worker partition) }
         ensures age { age_of self.new worker ≡ age }
         ensures own { (p : ℕ) → p ≢ partition → SameHolding self.old self.new worker p }
         ensures others { (other : ℕ) → other ≢ worker → SameHoldings self.old self.new other }
@@ -168,7 +181,8 @@ impl LockTable {
     /// the way blocks it; those that are younger and in the way give way.
     pub fn acquire(&mut self, worker: WorkerId, age: u64, partition: u8, change: bool) -> Acquired
         requires within { partition < self.old.partitions }
-        requires age_differs { (other p : ℕ) → other ≢ worker → holds self.old other p ≡ true → age_of self.old other ≢ age }
+        requires age_differs { (other p : ℕ) → other ≢ worker → holds self.old other p ≡ true →
+            age_of self.old other ≢ age }
         requires age_stays { (p : ℕ) → holds self.old worker p ≡ true → age_of self.old worker ≡ age }
 
         ensures blocked { IfBlocked result (IsOldestInTheWay self.old worker age partition change) }

@@ -1,5 +1,6 @@
 -- A run has ended where what is kept says so.
-use Rattle.std.proofs.Common.{◌≡◌, ℕ, ◌<◌, ◌≤◌, ◌==◌, ◌&&◌, nat_le, not, Bool, true, false, List, [], ◌∷◌, length, drop, Some, None, refl, sym, ap, ◌∙◌, arith, eqb-true, eq-eqb, leb-true, le-leb}
+use Rattle.std.proofs.Common.{◌≡◌, ℕ, ◌<◌, ◌≤◌, ◌==◌, ◌&&◌, nat_le, not, Bool, true, false, List, [], ◌∷◌, length, drop}
+use Rattle.std.proofs.Common.{Some, None, refl, sym, ap, ◌∙◌, arith, eqb-true, eq-eqb, leb-true, le-leb}
 use Rattle.std.specs.List.{list_any}
 use Rattle.std.proofs.lemmas.Bool.{true≢false, and_parts, and_from}
 use Rattle.std.proofs.lemmas.Option.{none-some}
@@ -25,15 +26,19 @@ use Rattle.ftc_machine.proofs.SlotTests.{any_item, item_any, names_here, untrue,
 use Rattle.ftc_machine.proofs.RepresentedMessages.{said_message}
 use Rattle.ftc_machine.proofs.ScriptTests.{none_said, no_gap, below_each, kept_withheld, said_withheld}
 
-no_names : (visits : List VisitName) → length visits == 0 ≡ true → (server packet : ℕ) → names visits server packet ≡ false
+no_names : (visits : List VisitName) → length visits == 0 ≡ true → (server packet : ℕ) →
+    names visits server packet ≡ false
 no_names [] is server packet = refl
-no_names (name ∷ visits) is server packet = absurd (let wrong : length (name ∷ visits) ≡ 0 = eqb-true (length (name ∷ visits)) 0 is in omega arith)
+no_names (name ∷ visits) is server packet =
+    absurd (let wrong : length (name ∷ visits) ≡ 0 = eqb-true (length (name ∷ visits)) 0 is in omega arith)
 
-names_none : (visits : List VisitName) → ((server packet : ℕ) → names visits server packet ≡ false) → length visits == 0 ≡ true
+names_none : (visits : List VisitName) → ((server packet : ℕ) → names visits server packet ≡ false) →
+    length visits == 0 ≡ true
 names_none [] each = refl
 names_none (name ∷ visits) each = absurd (true≢false (sym (names_here name visits) ∙ each name.server name.packet))
 
-module _ (c : Setting) (is : IsSetting c) (s : ChainState) (r : IsLawful c s) (k : MachineState) (h : Represents c s k) (script : ScriptShape) (packets : ℕ) (given : AreInputs c script packets) where
+module _ (c : Setting) (is : IsSetting c) (s : ChainState) (r : IsLawful c s) (k : MachineState) (h : Represents c s k)
+    (script : ScriptShape) (packets : ℕ) (given : AreInputs c script packets) where
   abbrev some_message : Bool
   some_message = list_any (has_such (λ (m : MessageOfMachine). true)) k.messages
 
@@ -61,25 +66,33 @@ module _ (c : Setting) (is : IsSetting c) (s : ChainState) (r : IsLawful c s) (k
 
   pub done_finished : is_done k script packets ≡ true → IsFinished c s
   done_finished test =
-      let p5 = and_parts (nat_le (length script.steps) k.done && k.entered == packets && not some_message && length k.forwarder == 0 && whole) (not some_withheld) test in
-      let p4 = and_parts (nat_le (length script.steps) k.done && k.entered == packets && not some_message && length k.forwarder == 0) whole p5.0 in
-      let p3 = and_parts (nat_le (length script.steps) k.done && k.entered == packets && not some_message) (length k.forwarder == 0) p4.0 in
+      let p5 = and_parts (nat_le (length script.steps) k.done && k.entered == packets && not some_message
+      && length k.forwarder == 0 && whole) (not some_withheld) test in
+      let p4 = and_parts (nat_le (length script.steps) k.done && k.entered == packets && not some_message
+      && length k.forwarder == 0) whole p5.0 in
+      let p3 = and_parts (nat_le (length script.steps) k.done && k.entered == packets
+      && not some_message) (length k.forwarder == 0) p4.0 in
       let p2 = and_parts (nat_le (length script.steps) k.done && k.entered == packets) (not some_message) p3.0 in
       let p1 = and_parts (nat_le (length script.steps) k.done) (k.entered == packets) p2.0 in
       let all_in : k.entered ≡ packets = eqb-true k.entered packets p1.1 in
-      nothing_left c s (lines_done p1.0) (sym h.entered ∙ (all_in ∙ sym given.counted)) (none_said c is s r k h script packets given p2.1)
+      nothing_left c s (lines_done p1.0) (sym h.entered ∙ (all_in ∙ sym given.counted))
+      (none_said c is s r k h script packets given p2.1)
       (λ group packet. sym (h.forwarder group packet) ∙ no_names k.forwarder p3.1 group packet)
       (no_gap c is s r k h script packets given p4.1) (none_withheld p5.1) (λ server up. r.order.inside server up)
 
   pub complete_done : IsComplete c s → is_done k script packets ≡ true
   complete_done complete =
-      and_from (nat_le (length script.steps) k.done && k.entered == packets && not some_message && length k.forwarder == 0 && whole) (not some_withheld)
-      (and_from (nat_le (length script.steps) k.done && k.entered == packets && not some_message && length k.forwarder == 0) whole
-      (and_from (nat_le (length script.steps) k.done && k.entered == packets && not some_message) (length k.forwarder == 0)
+      and_from (nat_le (length script.steps) k.done && k.entered == packets && not some_message
+      && length k.forwarder == 0 && whole) (not some_withheld)
+      (and_from (nat_le (length script.steps) k.done && k.entered == packets && not some_message
+      && length k.forwarder == 0) whole
+      (and_from (nat_le (length script.steps) k.done && k.entered == packets
+      && not some_message) (length k.forwarder == 0)
       (and_from (nat_le (length script.steps) k.done && k.entered == packets) (not some_message)
       (and_from (nat_le (length script.steps) k.done) (k.entered == packets)
       (le-leb (length script.steps) k.done
-      (let none_left : drop k.done script.steps ≡ [] = sym (ap (drop k.done) given.lines) ∙ (sym h.lines ∙ complete.lines) in
+      (let none_left : drop k.done script.steps
+      ≡ [] = sym (ap (drop k.done) given.lines) ∙ (sym h.lines ∙ complete.lines) in
       let long = length-drop k.done script.steps in
       let none_long : length (drop k.done script.steps) ≡ 0 = ap length none_left in omega arith))
       (eq-eqb k.entered packets (h.entered ∙ (complete.entered ∙ given.counted))))
@@ -89,8 +102,10 @@ module _ (c : Setting) (is : IsSetting c) (s : ChainState) (r : IsLawful c s) (k
       none-some said.0 (sym (complete.message found.0) ∙ said.1))))
       (names_none k.forwarder (λ server packet. h.forwarder server packet ∙ complete.forwarder server packet)))
       (below_each k.ring.servers (λ link. not (has k.gaps link)) (λ link below.
-      let less : link < servers c = (let n = servers_are in omega arith) in ap not (h.gaps link less ∙ complete.gap link less))))
+      let less : link < servers c = (let n = servers_are in omega arith) in
+      ap not (h.gaps link less ∙ complete.gap link less))))
       (untrue some_withheld (λ any.
       let found = any_item (λ (w : WithheldOfMachine). true) k.buffer any in
-      let said = said_withheld found.0 (s.withheld found.0) (slot_at k.buffer found.0) found.1 (h.buffer found.0) found.2 in
+      let said = said_withheld found.0 (s.withheld found.0) (slot_at k.buffer found.0) found.1
+      (h.buffer found.0) found.2 in
       none-some said.0 (sym (complete.withheld found.0) ∙ said.1)))

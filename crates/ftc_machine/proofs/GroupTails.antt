@@ -1,5 +1,6 @@
 -- The groups' tails: which group a server ends, and how far reaches what it knows.
-use Rattle.std.proofs.Common.{◌≡◌, ℕ, ◌+◌, ◌-◌, ◌<◌, ◌≤◌, ◌==◌, ◌&&◌, ◌⊎◌, Bool, true, false, nat_le, if◌then◌else◌, inl, inr, refl, sym, ap, subst, arith, eqb-true, eq-eqb, leb-true, leb-false}
+use Rattle.std.proofs.Common.{◌≡◌, ℕ, ◌+◌, ◌-◌, ◌<◌, ◌≤◌, ◌==◌, ◌&&◌, ◌⊎◌, Bool, true, false, nat_le, if◌then◌else◌}
+use Rattle.std.proofs.Common.{inl, inr, refl, sym, ap, subst, arith, eqb-true, eq-eqb, leb-true, leb-false}
 use Rattle.ftc_journal.specs.declared.event.Event.{Event}
 use Rattle.ftc_ring.specs.Ring.{RingShape, apart}
 use Rattle.ftc_machine.specs.declared.state.MachineState.{MachineState}
@@ -23,43 +24,65 @@ same_test false true there back = back refl
 same_test false false there back = refl
 
 -- the server ends that group alone
-pub ends : (n f group server : ℕ) → group < n → server < n → f < n → (apart n group server == f) ≡ (group == group_ending (record { servers = n; failures = f }) server)
+pub ends : (n f group server : ℕ) → group < n → server < n → f < n →
+    (apart n group server == f) ≡ (group == group_ending (record { servers = n; failures = f }) server)
 ends n f group server below within small =
     let far = apart_cases n group server below within in
-    let ending : ((f ≤ server) × (group_ending (record { servers = n; failures = f }) server ≡ server - f)) ⊎ ((server < f) × (group_ending (record { servers = n; failures = f }) server ≡ server + n - f)) =
-    elim (nat_le f server) as (λ b. nat_le f server ≡ b → ((f ≤ server) × ((if b then server - f else server + n - f) ≡ server - f)) ⊎ ((server < f) × ((if b then server - f else server + n - f) ≡ server + n - f))) [
+    let ending : ((f ≤ server) × (group_ending (record { servers = n; failures = f }) server ≡ server - f))
+    ⊎ ((server < f) × (group_ending (record { servers = n; failures = f }) server ≡ server + n - f)) =
+    elim (nat_le f server) as (λ b. nat_le f server ≡ b →
+    ((f ≤ server) × ((if b then server - f else server + n - f) ≡ server - f))
+    ⊎ ((server < f) × ((if b then server - f else server + n - f) ≡ server + n - f))) [
       | true ↦ λ is. inl (leb-true f server is, refl)
       | false ↦ λ is. inr (leb-false f server is, refl)
     ] refl in
     same_test (apart n group server == f) (group == group_ending (record { servers = n; failures = f }) server)
-    (λ is. let at : apart n group server ≡ f = eqb-true (apart n group server) f is in eq-eqb group (group_ending (record { servers = n; failures = f }) server) (omega arith))
-    (λ is. let at : group ≡ group_ending (record { servers = n; failures = f }) server = eqb-true group (group_ending (record { servers = n; failures = f }) server) is in eq-eqb (apart n group server) f (omega arith))
+    (λ is. let at : apart n group server ≡ f = eqb-true (apart n group server) f is in
+    eq-eqb group (group_ending (record { servers = n; failures = f }) server) (omega arith))
+    (λ is. let at : group ≡ group_ending (record { servers = n; failures = f }) server = eqb-true group
+    (group_ending (record { servers = n; failures = f }) server) is in
+    eq-eqb (apart n group server) f (omega arith))
 
-module _ (c : Setting) (setting : IsSetting c) (s : ChainState) (r : IsLawful c s) (k : MachineState) (is : Represents c s k) where
+module _ (c : Setting) (setting : IsSetting c) (s : ChainState) (r : IsLawful c s) (k : MachineState)
+    (is : Represents c s k) where
   -- of a group of the chain
-  pub reached_ends : (group server : ℕ) → group < servers c → server < servers c → is_tail c group server ≡ (group == group_ending k.ring server)
+  pub reached_ends : (group server : ℕ) → group < servers c → server < servers c →
+      is_tail c group server ≡ (group == group_ending k.ring server)
   reached_ends group server below within =
-      subst (λ (ring : RingShape). is_tail c group server ≡ (group == group_ending ring server)) (sym is.ring) (ends (servers c) c.failures group server below within setting.ring.failures)
+      subst (λ (ring : RingShape). is_tail c group server ≡ (group == group_ending ring server)) (sym is.ring)
+      (ends (servers c) c.failures group server below within setting.ring.failures)
 
   -- what a server knows
-  pub reached_knows : (server : ℕ) → server < servers c → AreFrontiers c.partitions s.trace (numbers_of (footprints_in k.visits.items)) (knows c s server) (known_at k server)
+  pub reached_knows : (server : ℕ) → server < servers c →
+      AreFrontiers c.partitions s.trace (numbers_of (footprints_in k.visits.items)) (knows c s server)
+      (known_at k server)
   reached_knows server below =
       let few = reached_within c setting s r k is in
       let numbers = numbers_of (footprints_in k.visits.items) in
       let own : Visits = λ group packet. is_tail c group server && s.lists server group packet in
       let ending = group_ending k.ring server in
       let list = frontiers_of k.lists.items server in
-      let part = part_reaches c.partitions s.trace numbers few (s.events + 1) is.sets.rising (λ group. group == ending) (s.lists server) list (is.sets.lists server below) in
-      merged_reaches c.partitions s.trace numbers few (s.known server) own (frontiers_of k.known.items server) (part_of (λ group. group == ending) list) (is.sets.known server below)
+      let part = part_reaches c.partitions s.trace numbers few (s.events + 1) is.sets.rising (λ group. group == ending)
+      (s.lists server) list (is.sets.lists server below) in
+      merged_reaches c.partitions s.trace numbers few (s.known server) own (frontiers_of k.known.items server)
+      (part_of (λ group. group == ending) list) (is.sets.known server below)
       (λ group.
-      reach_moves c.partitions s.trace numbers group (λ packet. (group == ending) && s.lists server group packet) (own group)
-      (frontier_at (part_of (λ other. other == ending) list) group) (frontier_at (part_of (λ other. other == ending) list) group)
-      (λ packet partition changes. ap (λ test. test && s.lists server group packet) (sym (reached_ends group server (reached_below c setting s r group packet partition changes) below)))
+      reach_moves c.partitions s.trace numbers group (λ packet. (group == ending)
+      && s.lists server group packet) (own group)
+      (frontier_at (part_of (λ other. other == ending) list) group)
+      (frontier_at (part_of (λ other. other == ending) list) group)
+      (λ packet partition changes. ap (λ test. test
+      && s.lists server group packet)
+      (sym (reached_ends group server (reached_below c setting s r group packet partition changes) below)))
       (λ packet partition changes. refl) (λ partition some. refl) (part group))
 
-module _ (c : Setting) (s : ChainState) (event : Event) (may : FollowsRun c s event) (k : MachineState) (is : Represents c s k) where
-  pub ends_here : (group server : ℕ) → group < servers c → server < servers c → is_tail c group server ≡ (group == group_ending k.ring server)
+module _ (c : Setting) (s : ChainState) (event : Event) (may : FollowsRun c s event) (k : MachineState)
+    (is : Represents c s k) where
+  pub ends_here : (group server : ℕ) → group < servers c → server < servers c →
+      is_tail c group server ≡ (group == group_ending k.ring server)
   ends_here = reached_ends c may.supposed s (reached_before c s event may) k is
 
-  pub knows_reaches : (server : ℕ) → server < servers c → AreFrontiers c.partitions s.trace (numbers_of (footprints_in k.visits.items)) (knows c s server) (known_at k server)
+  pub knows_reaches : (server : ℕ) → server < servers c →
+      AreFrontiers c.partitions s.trace (numbers_of (footprints_in k.visits.items)) (knows c s server)
+      (known_at k server)
   knows_reaches = reached_knows c may.supposed s (reached_before c s event may) k is

@@ -19,5 +19,7 @@ pub vector_of-past : (f : ℕ → List ℕ) (group : ℕ) → MOST_SERVERS ≤ g
 vector_of-past f group past = get_or_past (by_group f) group [] (omega (arith, length-by_group f))
 
 -- functions that agree on the groups give the same
-pub by_group-same : (f g : ℕ → List ℕ) → ((group : ℕ) → group < MOST_SERVERS → f group ≡ g group) → by_group f ≡ by_group g
-by_group-same f g alike = by_group-from g (by_group f) [] (length-by_group f) (λ group less. rw (vector_of-by_group f group less) (alike group less))
+pub by_group-same : (f g : ℕ → List ℕ) → ((group : ℕ) → group < MOST_SERVERS → f group ≡ g group) →
+    by_group f ≡ by_group g
+by_group-same f g alike = by_group-from g (by_group f) [] (length-by_group f)
+    (λ group less. rw (vector_of-by_group f group less) (alike group less))

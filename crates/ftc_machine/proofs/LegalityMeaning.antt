@@ -1,5 +1,6 @@
 -- What the test for an event says of the state that is kept: that the event may happen there.
-use Rattle.std.proofs.Common.{◌≡◌, ℕ, ◌<◌, ◌&&◌, ◌↔◌, nat_lt, Bool, true, false, List, refl, sym, ap, subst, ◌∙◌, lt-ltb}
+use Rattle.std.proofs.Common.{◌≡◌, ℕ, ◌<◌, ◌&&◌, ◌↔◌, nat_lt, Bool, true, false, List, refl, sym, ap, subst, ◌∙◌}
+use Rattle.std.proofs.Common.{lt-ltb}
 use Rattle.std.proofs.lemmas.Bool.{true≢false, and_parts, and_from, ltb-true}
 use Rattle.ftc_journal.specs.declared.event.Event.{Event}
 use Rattle.ftc_journal.specs.declared.event.Event.TheVariants as kind
@@ -17,7 +18,8 @@ use Rattle.ftc_machine.specs.Represents.{AreInputs, RepresentsRun}
 use Rattle.ftc_machine.specs.Legality.{is_placed, is_in_order, may_happen}
 use Rattle.ftc_machine.proofs.RepresentedRuns.{reached_by}
 use Rattle.ftc_machine.proofs.DueMeanings.{right_release, any_due, due_any}
-use Rattle.ftc_machine.proofs.MessageTests.{right_take, right_apply, right_visit, right_pass, right_lose, right_carry, take_below, apply_below, visit_below, leave_below}
+use Rattle.ftc_machine.proofs.MessageTests.{right_take, right_apply, right_visit, right_pass, right_lose, right_carry}
+use Rattle.ftc_machine.proofs.MessageTests.{take_below, apply_below, visit_below, leave_below}
 use Rattle.ftc_machine.proofs.ScriptTests.{right_enter, right_crash, right_recover, right_pull, right_propagate}
 use Rattle.ftc_machine.proofs.LastServer.{known_reaches, needed_by}
 use Rattle.ftc_machine.proofs.LinesLeft.{crash_below, recovery_below}
@@ -44,34 +46,47 @@ module _ (setting : Setting) (state : ChainState) (kept : MachineState) (stands 
   expected_placed (kind.Take link origin) may =
       placed link (take_below setting stands.supposed state (reached_by stands) kept stands.kept link origin may)
   expected_placed (kind.Apply server origin group packet) may =
-      placed server (apply_below setting stands.supposed state (reached_by stands) kept stands.kept server origin group packet may)
+      placed server (apply_below setting stands.supposed state
+      (reached_by stands) kept stands.kept server origin group packet may)
   expected_placed (kind.Visit server packet worker) may =
-      placed server (visit_below setting stands.supposed state (reached_by stands) kept stands.kept server packet worker may)
+      placed server (visit_below setting stands.supposed state
+      (reached_by stands) kept stands.kept server packet worker may)
   expected_placed (kind.Pass server origin) may =
-      placed server (leave_below setting stands.supposed state (reached_by stands) kept stands.kept server origin may.0 may.1)
+      placed server (leave_below setting stands.supposed state
+      (reached_by stands) kept stands.kept server origin may.0 may.1)
   expected_placed (kind.Lose server origin) may =
-      placed server (leave_below setting stands.supposed state (reached_by stands) kept stands.kept server origin may.0 may.1)
+      placed server (leave_below setting stands.supposed state
+      (reached_by stands) kept stands.kept server origin may.0 may.1)
   expected_placed (kind.Carry origin) may = refl
   expected_placed (kind.Crash server) may = placed server (crash_below setting state (reached_by stands) server may)
-  expected_placed (kind.Recover server undone) may = placed server (recovery_below setting state (reached_by stands) server may)
+  expected_placed (kind.Recover server undone) may =
+      placed server (recovery_below setting state (reached_by stands) server may)
   expected_placed (kind.Pull link) may = refl
   expected_placed (kind.Propagate origin) may = refl
   expected_placed (kind.Release packet) may = refl
 
   in_order : (event : Event) → is_placed kept.ring.servers event ≡ true
       → (is_in_order kept script count event ≡ true) ↔ IsExpected setting state event
-  in_order (kind.Enter packet) is = right_enter setting stands.supposed state (reached_by stands) kept stands.kept script count given packet
-  in_order (kind.Take link origin) is = right_take setting stands.supposed state (reached_by stands) kept stands.kept link origin
+  in_order (kind.Enter packet) is =
+      right_enter setting stands.supposed state (reached_by stands) kept stands.kept script count given packet
+  in_order (kind.Take link origin) is =
+      right_take setting stands.supposed state (reached_by stands) kept stands.kept link origin
   in_order (kind.Apply server origin group packet) is =
-      right_apply setting stands.supposed state (reached_by stands) kept stands.kept server (below server is) origin group packet
+      right_apply setting stands.supposed state (reached_by stands) kept stands.kept server
+      (below server is) origin group packet
   in_order (kind.Visit server packet worker) is =
-      right_visit setting stands.supposed state (reached_by stands) kept stands.kept server (below server is) packet worker
+      right_visit setting stands.supposed state (reached_by stands) kept stands.kept server
+      (below server is) packet worker
   in_order (kind.Pass server origin) is =
-      right_pass setting stands.supposed state (reached_by stands) kept stands.kept script count given server (below server is) origin
+      right_pass setting stands.supposed state (reached_by stands) kept stands.kept script count given server
+      (below server is) origin
   in_order (kind.Lose server origin) is =
-      right_lose setting stands.supposed state (reached_by stands) kept stands.kept script count given server (below server is) origin
-  in_order (kind.Carry origin) is = right_carry setting stands.supposed state (reached_by stands) kept stands.kept origin
-  in_order (kind.Crash server) is = right_crash setting stands.supposed state (reached_by stands) kept stands.kept script count given server
+      right_lose setting stands.supposed state (reached_by stands) kept stands.kept script count given server
+      (below server is) origin
+  in_order (kind.Carry origin) is =
+      right_carry setting stands.supposed state (reached_by stands) kept stands.kept origin
+  in_order (kind.Crash server) is =
+      right_crash setting stands.supposed state (reached_by stands) kept stands.kept script count given server
   in_order (kind.Recover server undone) is =
       right_recover setting stands.supposed state (reached_by stands) kept stands.kept script count given server
   in_order (kind.Pull link) is = right_pull setting stands.supposed state (reached_by stands) kept stands.kept link
@@ -144,7 +159,8 @@ module _ (setting : Setting) (state : ChainState) (kept : MachineState) (stands 
   none_due : is_any_due kept ≡ false → (packet : ℕ) (withheld : Withheld) → IsDue setting state packet withheld → ⊥
   none_due isnt packet withheld due =
       true≢false (sym (due_any setting stands.supposed state (reached_by stands) kept stands.kept
-      (known_reaches setting stands.supposed state (reached_by stands) kept stands.kept) (needed_by stands) packet withheld due) ∙ isnt)
+      (known_reaches setting stands.supposed state (reached_by stands) kept stands.kept)
+      (needed_by stands) packet withheld due) ∙ isnt)
 
   legal_where : (event : Event) (said : Bool) → (is_release event ≡ false → is_any_due kept ≡ false)
       → (said ≡ true) ↔ MayHappen setting state event → (said ≡ true) ↔ IsLegal setting state event

@@ -1,5 +1,6 @@
 -- What is so of a run whose state is kept.
-use Rattle.std.proofs.Common.{◌≡◌, ℕ, zero, suc, ◌+◌, ◌↔◌, ◌++◌, Bool, true, false, List, [], ◌∷◌, length, map, Result, Ok, Err, refl, sym, ap, subst, ◌∙◌, arith}
+use Rattle.std.proofs.Common.{◌≡◌, ℕ, zero, suc, ◌+◌, ◌↔◌, ◌++◌, Bool, true, false, List, [], ◌∷◌, length, map, Result}
+use Rattle.std.proofs.Common.{Ok, Err, refl, sym, ap, subst, ◌∙◌, arith}
 use Rattle.std.specs.Result.{IfOk}
 use Rattle.std.specs.List.{range_with_len}
 use Rattle.std.proofs.Math.Logic.{∥∥₁_map, ∥∥₁_elim}
@@ -31,37 +32,61 @@ use Rattle.ftc_machine.proofs.EndOfRun.{done_finished, complete_done}
 
 module _ (c : Setting) (journal : List Event) (k : MachineState) where
   pub stands : IsRunSoFar c journal k → RepresentsRun c (state_after c (opening c) journal) k
-  stands played = record { supposed = played.right; journal = journal; run = played.run; leads = refl; laws = played.laws; kept = played.kept_for }
+  stands played = record {
+    supposed = played.right;
+    journal = journal;
+    run = played.run;
+    leads = refl;
+    laws = played.laws;
+    kept = played.kept_for;
+  }
 
   lawful : IsRunSoFar c journal k → IsLawful c (state_after c (opening c) journal)
-  lawful p = p.laws (state_after c (opening c) journal) (record { right = p.right; journal = journal; run = p.run; reaches = refl })
+  lawful p = p.laws (state_after c (opening c) journal) (record {
+    right = p.right;
+    journal = journal;
+    run = p.run;
+    reaches = refl;
+  })
 
   module _ (script : ScriptShape) (packets : ℕ) (given : AreInputs c script packets) where
-    pub over : is_done k script packets ≡ true → ∥ IsRunSoFar c journal k ∥₁ → ∥ IsFinished c (state_after c (opening c) journal) ∥₁
-    over is played = ∥∥₁_map played (λ p. done_finished c p.right (state_after c (opening c) journal) (lawful p) k p.kept_for script packets given is)
+    pub over : is_done k script packets ≡ true → ∥ IsRunSoFar c journal k ∥₁ →
+        ∥ IsFinished c (state_after c (opening c) journal) ∥₁
+    over is played = ∥∥₁_map played
+        (λ p. done_finished c p.right (state_after c (opening c) journal)
+        (lawful p) k p.kept_for script packets given is)
 
-    pub not_over : ((setting : Setting) → IsSetting setting → (events : List Event) → IsRun setting events → IsFinished setting (state_after setting (opening setting) events) → IsComplete setting (state_after setting (opening setting) events))
-        → is_done k script packets ≡ false → ∥ IsRunSoFar c journal k ∥₁ → IsFinished c (state_after c (opening c) journal) → ⊥
+    pub not_over : ((setting : Setting) → IsSetting setting → (events : List Event) → IsRun setting events →
+        IsFinished setting (state_after setting (opening setting) events) →
+        IsComplete setting (state_after setting (opening setting) events))
+        → is_done k script packets ≡ false → ∥ IsRunSoFar c journal k ∥₁ →
+        IsFinished c (state_after c (opening c) journal) → ⊥
     not_over complete isnt played finished = ∥∥₁_elim played (λ x y. absurd x) (λ p.
-        true≢false (sym (complete_done c p.right (state_after c (opening c) journal) (lawful p) k p.kept_for script packets given (complete c p.right journal p.run finished)) ∙ isnt))
+        true≢false (sym (complete_done c p.right (state_after c (opening c) journal)
+        (lawful p) k p.kept_for script packets given (complete c p.right journal p.run finished)) ∙ isnt))
 
-  same_fates : (start more : ℕ) (s : ChainState) → ((packet : ℕ) → fate_in k.fates packet ≡ s.fate packet) → map (fate_in k.fates) (range_with_len start more) ≡ map s.fate (range_with_len start more)
+  same_fates : (start more : ℕ) (s : ChainState) → ((packet : ℕ) → fate_in k.fates packet ≡ s.fate packet) →
+      map (fate_in k.fates) (range_with_len start more) ≡ map s.fate (range_with_len start more)
   same_fates start zero s each = refl
   same_fates start (suc more) s each =
       ap (λ (fate : Fate). fate ∷ map (fate_in k.fates) (range_with_len (start + 1) more)) (each start)
       ∙ ap (λ (fates : List Fate). s.fate start ∷ fates) (same_fates (start + 1) more s each)
 
-  pub fates_are : (packets : ℕ) → count c ≡ packets → ∥ IsRunSoFar c journal k ∥₁ → map (fate_in k.fates) (range_with_len 0 packets) ≡ fates_in c (state_after c (opening c) journal)
+  pub fates_are : (packets : ℕ) → count c ≡ packets → ∥ IsRunSoFar c journal k ∥₁ →
+      map (fate_in k.fates) (range_with_len 0 packets) ≡ fates_in c (state_after c (opening c) journal)
   fates_are packets same played = ∥∥₁_elim played (Coded-set (coded_list contract.the_row.coded) _ _) (λ p.
-      ap (λ n. map (fate_in k.fates) (range_with_len 0 n)) (sym same) ∙ same_fates 0 (count c) (state_after c (opening c) journal) p.kept_for.fates)
+      ap (λ n. map (fate_in k.fates) (range_with_len 0 n)) (sym same) ∙ same_fates 0 (count c)
+      (state_after c (opening c) journal) p.kept_for.fates)
 
 -- what is kept is of as many servers as the setting has rules
-pub servers_of : (c : Setting) (journal : List Event) (k : MachineState) → ∥ IsRunSoFar c journal k ∥₁ → length c.rules ≡ k.ring.servers
+pub servers_of : (c : Setting) (journal : List Event) (k : MachineState) → ∥ IsRunSoFar c journal k ∥₁ →
+    length c.rules ≡ k.ring.servers
 servers_of c journal k played =
     ∥∥₁_elim played (Coded-set coded_ℕ _ _) (λ p. sym (ap (λ (ring : RingShape). ring.servers) p.kept_for.ring))
 
 -- each event is counted
-events_on : (c : Setting) (events : List Event) (s : ChainState) → (state_after c s events).events ≡ s.events + length events
+events_on : (c : Setting) (events : List Event) (s : ChainState) →
+    (state_after c s events).events ≡ s.events + length events
 events_on c [] s = omega arith
 events_on c (event ∷ events) s = let more = events_on c events (next c s event) in omega arith
 

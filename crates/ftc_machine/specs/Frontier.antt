@@ -1,7 +1,8 @@
 -- How far sets of visits reach. The visits of the trace are numbered in its order. Of a set of visits that has each
 -- visit that is before one of its own, it is enough to know, for each group and partition, the number of its last visit
 -- that changes the partition.
-use Rattle.std.specs.Prelude.{ℕ, ◌≡◌, ◌<◌, ◌≤◌, ◌↔◌, Bool, true, not, nat_le, ◌||◌, List, [], ◌∷◌, map, Option, Some, if◌then◌else◌}
+use Rattle.std.specs.Prelude.{ℕ, ◌≡◌, ◌<◌, ◌≤◌, ◌↔◌, Bool, true, not, nat_le, ◌||◌, List, [], ◌∷◌, map, Option, Some}
+use Rattle.std.specs.Prelude.{if◌then◌else◌}
 use Rattle.std.specs.Option.{option_map_or}
 use Rattle.std.specs.List.{AllByRecursion, list_all}
 use Rattle.ftc_base.specs.Partition.{partition_of}
@@ -74,7 +75,8 @@ pub record IsFootprint (partitions : ℕ) (older : List Entry) (numbers : Number
   pub changed : AllByRecursion (λ (touched : Touched). (touched.changed ≡ true)
       ↔ Changes partitions outcome touched.partition) footprint.touched.items
   pub before : AllByRecursion
-      (λ (touched : Touched). IsLast partitions older numbers server touched.partition touched.before) footprint.touched.items
+      (λ (touched : Touched). IsLast partitions older numbers server touched.partition touched.before)
+      footprint.touched.items
   pub writes : footprint.writes.items ≡ outcome.writes
   pub reads : (partition : ℕ) → Changes partitions outcome partition → Touches partitions outcome partition
 

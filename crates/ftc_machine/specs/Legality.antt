@@ -5,7 +5,8 @@ use Rattle.ftc_journal.specs.declared.event.Event.TheVariants as event
 use Rattle.ftc_script.specs.Script.{ScriptShape}
 use Rattle.ftc_machine.specs.declared.state.MachineState.{MachineState}
 use Rattle.ftc_machine.specs.DueTests.{may_release}
-use Rattle.ftc_machine.specs.LegalityTests.{may_apply, may_carry, may_crash, may_enter, may_lose, may_pass, may_propagate, may_pull, may_recover, may_take, may_visit}
+use Rattle.ftc_machine.specs.LegalityTests.{may_apply, may_carry, may_crash, may_enter, may_lose, may_pass}
+use Rattle.ftc_machine.specs.LegalityTests.{may_propagate, may_pull, may_recover, may_take, may_visit}
 
 -- the event's server, or its link, is one of so many
 abbrev pub is_placed : ℕ → Event → Bool

@@ -1,5 +1,6 @@
 -- What the machine keeps, and the state for which it stands.
-use Rattle.std.specs.Prelude.{ℕ, ◌≡◌, ◌<◌, ◌+◌, true, List, [], ◌∷◌, ◌++◌, drop, slice_index_or, Option, Some, None, is_some}
+use Rattle.std.specs.Prelude.{ℕ, ◌≡◌, ◌<◌, ◌+◌, true, List, [], ◌∷◌, ◌++◌, drop, slice_index_or, Option, Some, None}
+use Rattle.std.specs.Prelude.{is_some}
 use Rattle.std.specs.Option.{option_map_or}
 use Rattle.ftc_base.specs.Sets.{has}
 use Rattle.ftc_journal.specs.declared.event.VisitName.{VisitName}

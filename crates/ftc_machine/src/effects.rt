@@ -50,7 +50,8 @@ impl MachineState {
         requires tested { may_happen self.old script.now (length packets.now) event.now ≡ true }
         requires time { now < u64.MAX }
         ensures ok { OnOk result ((state : ChainState) → now ≡ state.events →
-            SimulatesEvent (setting_of spec.now (bytes_of_packets packets.now) script.now) state event.now self.old self.new) }
+            SimulatesEvent (setting_of spec.now
+            (bytes_of_packets packets.now) script.now) state event.now self.old self.new) }
         ensures err { OnErr result (RepresentsSame self.old self.new) }
     {
         match event {

@@ -1,5 +1,6 @@
 -- What a rule asks after answers in turn.
-use Rattle.std.proofs.Common.{◌≡◌, ◌≢◌, ◌<◌, ◌+◌, ℕ, zero, suc, Bool, true, false, if◌then◌else◌, List, [], ◌∷◌, ◌++◌, length, ◌⊎◌, inl, inr, Option, Some, None, refl, sym, ap, subst, ◌∙◌, arith}
+use Rattle.std.proofs.Common.{◌≡◌, ◌≢◌, ◌<◌, ◌+◌, ℕ, zero, suc, Bool, true, false, if◌then◌else◌, List, [], ◌∷◌, ◌++◌}
+use Rattle.std.proofs.Common.{length, ◌⊎◌, inl, inr, Option, Some, None, refl, sym, ap, subst, ◌∙◌, arith}
 use Rattle.std.specs.Prelude.{⊤, ◌==◌, ◌&&◌, nat_lt, take, drop, unwrap_or}
 use Rattle.std.specs.List.{AllByRecursion, Contains, list_any}
 use Rattle.std.specs.Int.{w16, w32, from_be_bytes}
@@ -42,7 +43,8 @@ monitor_rises : (groups : ℕ) (flow : Flow) (answers : List Answer) → EndsRis
 monitor_rises groups flow [] = tt
 monitor_rises groups flow (answer ∷ answers) = refl
 
-drawing_rises : (rule : NatRule) (flow : Flow) (port : ℕ) (answers : List Answer) → EndsRising (nat.drawing rule flow port answers)
+drawing_rises : (rule : NatRule) (flow : Flow) (port : ℕ) (answers : List Answer) →
+    EndsRising (nat.drawing rule flow port answers)
 drawing_rises rule flow port [] = tt
 drawing_rises rule flow port (reverse ∷ answers) = refl
 
@@ -75,15 +77,18 @@ nat_rises rule flow answers =
     choose (nat.leaves rule flow) (nat.outgoing rule flow answers) _ (outgoing_rises rule flow answers)
     (choose (flow.destination == rule.outside) (nat.incoming flow answers) _ (incoming_rises flow answers) refl)
 
-connection_rises : (rule : FirewallRule) (flow : Flow) (value : Option (List ℕ)) → EndsRising (firewall.known_or_not rule flow value)
+connection_rises : (rule : FirewallRule) (flow : Flow) (value : Option (List ℕ)) →
+    EndsRising (firewall.known_or_not rule flow value)
 connection_rises rule flow (Some value) = refl
 connection_rises rule flow None = choose (firewall.is_allowed rule.lines flow) _ _ refl refl
 
-firewall_rises : (rule : FirewallRule) (flow : Flow) (answers : List Answer) → EndsRising (firewall.firewall_ask rule flow answers)
+firewall_rises : (rule : FirewallRule) (flow : Flow) (answers : List Answer) →
+    EndsRising (firewall.firewall_ask rule flow answers)
 firewall_rises rule flow [] = tt
 firewall_rises rule flow (answer ∷ answers) = connection_rises rule flow answer.value
 
-new_client_rises : (rule : BalanceRule) (flow : Flow) (answers : List Answer) → EndsRising (balance.new_client rule flow answers)
+new_client_rises : (rule : BalanceRule) (flow : Flow) (answers : List Answer) →
+    EndsRising (balance.new_client rule flow answers)
 new_client_rises rule flow [] = tt
 new_client_rises rule flow (turn ∷ answers) = refl
 
@@ -92,7 +97,8 @@ client_rises : (rule : BalanceRule) (flow : Flow) (known : Option ℕ) (answers 
 client_rises rule flow (Some backend) answers = refl
 client_rises rule flow None answers = new_client_rises rule flow answers
 
-from_client_rises : (rule : BalanceRule) (flow : Flow) (answers : List Answer) → EndsRising (balance.from_client rule flow answers)
+from_client_rises : (rule : BalanceRule) (flow : Flow) (answers : List Answer) →
+    EndsRising (balance.from_client rule flow answers)
 from_client_rises rule flow [] = tt
 from_client_rises rule flow (backend ∷ answers) = client_rises rule flow (number_in w32 backend.value) answers
 
@@ -100,13 +106,16 @@ replied_rises : (rule : BalanceRule) (flow : Flow) (known : Option ℕ) → Ends
 replied_rises rule flow None = refl
 replied_rises rule flow (Some backend) = choose (backend == flow.source) _ _ refl refl
 
-from_backend_rises : (rule : BalanceRule) (flow : Flow) (answers : List Answer) → EndsRising (balance.from_backend rule flow answers)
+from_backend_rises : (rule : BalanceRule) (flow : Flow) (answers : List Answer) →
+    EndsRising (balance.from_backend rule flow answers)
 from_backend_rises rule flow [] = tt
 from_backend_rises rule flow (backend ∷ answers) = replied_rises rule flow (number_in w32 backend.value)
 
-balance_rises : (rule : BalanceRule) (flow : Flow) (answers : List Answer) → EndsRising (balance.balance_ask rule flow answers)
+balance_rises : (rule : BalanceRule) (flow : Flow) (answers : List Answer) →
+    EndsRising (balance.balance_ask rule flow answers)
 balance_rises rule flow answers =
-    choose (flow.destination == rule.address && flow.destination_port == rule.port) (balance.from_client rule flow answers) _
+    choose (flow.destination == rule.address
+    && flow.destination_port == rule.port) (balance.from_client rule flow answers) _
     (from_client_rises rule flow answers)
     (choose (list_any (λ backend. backend == flow.source) rule.backends && flow.source_port == rule.port)
     (balance.from_backend rule flow answers) _ (from_backend_rises rule flow answers) refl)
@@ -134,7 +143,8 @@ MayWrite leave asks answers key = Contains leave key ⊎ IsLent asks answers key
 
 abbrev Next : ℕ → List (List ℕ) → List (List ℕ) → (List Answer → Ask) → List Answer → Ask → Type 0
 Next left read leave asks answers (Read key change) =
-    (length answers < left) × AllByRecursion (λ (answer : Answer). key ≢ answer.key) answers × AllByRecursion (λ earlier. key ≢ earlier) read
+    (length answers < left) × AllByRecursion (λ (answer : Answer). key ≢ answer.key) answers
+    × AllByRecursion (λ earlier. key ≢ earlier) read
 Next left read leave asks answers (Finish end) =
     AllByRecursion (λ (write : Write). MayWrite leave asks answers write.key) end.writes.items
 
@@ -142,7 +152,9 @@ Next left read leave asks answers (Finish end) =
 abbrev First : ℕ → List (List ℕ) → List (List ℕ) → (List Answer → Ask) → Ask → Type 0
 First left read leave asks (Read key change) =
     AllByRecursion (λ earlier. key ≢ earlier) read
-    × ((value : Option (List ℕ)) → ReadsAndWrites left (key ∷ read) (if change then key ∷ leave else leave) (λ answers. asks (record { key = key; value = value } ∷ answers)))
+    × ((value : Option (List ℕ)) →
+    ReadsAndWrites left (key ∷ read) (if change then key ∷ leave
+    else leave) (λ answers. asks (record { key = key; value = value } ∷ answers)))
 First left read leave asks (Finish end) = WritesAt leave end.writes.items
 
 -- the same where nothing more may be read
@@ -153,13 +165,16 @@ Last leave (Finish end) = WritesAt leave end.writes.items
 from_before : (leave : List (List ℕ)) (asks : List Answer → Ask) (answers : List Answer) (writes : List Write)
     → WritesAt leave writes → AllByRecursion (λ (write : Write). MayWrite leave asks answers write.key) writes
 from_before leave asks answers writes all =
-    all-weaker (λ (write : Write). Contains leave write.key) (λ (write : Write). MayWrite leave asks answers write.key) writes (λ write at. inl at) all
+    all-weaker (λ (write : Write). Contains leave write.key)
+    (λ (write : Write). MayWrite leave asks answers write.key) writes (λ write at. inl at) all
 
-last_next : (leave read : List (List ℕ)) (asks : List Answer → Ask) (asked : Ask) → Last leave asked → Next 0 read leave asks [] asked
+last_next : (leave read : List (List ℕ)) (asks : List Answer → Ask) (asked : Ask) → Last leave asked →
+    Next 0 read leave asks [] asked
 last_next leave read asks (Read key change) never = absurd never
 last_next leave read asks (Finish end) at = from_before leave asks [] end.writes.items at
 
-first_next : (left : ℕ) (leave read : List (List ℕ)) (asks : List Answer → Ask) (asked : Ask) → First left read leave asks asked
+first_next : (left : ℕ) (leave read : List (List ℕ)) (asks : List Answer → Ask) (asked : Ask) →
+    First left read leave asks asked
     → Next (suc left) read leave asks [] asked
 first_next left leave read asks (Read key change) bounded = (omega arith, tt, bounded.0)
 first_next left leave read asks (Finish end) at = from_before leave asks [] end.writes.items at
@@ -175,15 +190,19 @@ lent_later asks answer answers key lent = record {
   lent = lent.lent;
 }
 
-lent_first : (asks : List Answer → Ask) (answer : Answer) (answers : List Answer) (key : List ℕ) → asks [] ≡ Read key true
+lent_first : (asks : List Answer → Ask) (answer : Answer) (answers : List Answer) (key : List ℕ) →
+    asks [] ≡ Read key true
     → IsLent asks (answer ∷ answers) key
-lent_first asks answer answers key lent = record { earlier = []; answer = answer; later = answers; whole = refl; lent = lent }
+lent_first asks answer answers key lent =
+    record { earlier = []; answer = answer; later = answers; whole = refl; lent = lent }
 
-first_or_before : (key other : List ℕ) (leave : List (List ℕ)) → Contains (key ∷ leave) other → (other ≡ key) ⊎ Contains leave other
+first_or_before : (key other : List ℕ) (leave : List (List ℕ)) → Contains (key ∷ leave) other →
+    (other ≡ key) ⊎ Contains leave other
 first_or_before key other leave (zero, less, is) = inl (sym is)
 first_or_before key other leave (suc i, less, is) = inr (i, grind (arith), is)
 
-may_write : (leave : List (List ℕ)) (asks : List Answer → Ask) (answer : Answer) (answers : List Answer) (key : List ℕ) (change : Bool)
+may_write : (leave : List (List ℕ)) (asks : List Answer →
+    Ask) (answer : Answer) (answers : List Answer) (key : List ℕ) (change : Bool)
     (other : List ℕ) → asks [] ≡ Read key change
     → MayWrite (if change then key ∷ leave else leave) (λ more. asks (answer ∷ more)) answers other
     → MayWrite leave asks (answer ∷ answers) other
@@ -195,14 +214,16 @@ may_write leave asks answer answers key true other asked (inl at) =
     ]
 may_write leave asks answer answers key false other asked (inl at) = inl at
 
-one_more : (left : ℕ) (read leave : List (List ℕ)) (asks : List Answer → Ask) (answer : Answer) (answers : List Answer) (key : List ℕ)
+one_more : (left : ℕ) (read leave : List (List ℕ)) (asks : List Answer →
+    Ask) (answer : Answer) (answers : List Answer) (key : List ℕ)
     (change : Bool) (next : Ask) → asks [] ≡ Read key change → key ≡ answer.key
     → Next left (key ∷ read) (if change then key ∷ leave else leave) (λ more. asks (answer ∷ more)) answers next
     → Next (suc left) read leave asks (answer ∷ answers) next
 one_more left read leave asks answer answers key change (Read other leave_to) asked same holds =
     (omega arith, ((λ clash. holds.2.0 (clash ∙ sym same)), holds.1), holds.2.1)
 one_more left read leave asks answer answers key change (Finish end) asked same holds =
-    all-weaker (λ (write : Write). MayWrite (if change then key ∷ leave else leave) (λ more. asks (answer ∷ more)) answers write.key)
+    all-weaker (λ (write : Write). MayWrite (if change then key ∷ leave
+    else leave) (λ more. asks (answer ∷ more)) answers write.key)
     (λ (write : Write). MayWrite leave asks (answer ∷ answers) write.key) end.writes.items
     (λ write may. may_write leave asks answer answers key change write.key asked may) holds
 
@@ -211,29 +232,37 @@ next_from : (left : ℕ) (read leave : List (List ℕ)) (asks : List Answer → 
 next_from zero read leave asks [] bounded turn = last_next leave read asks (asks []) bounded
 next_from (suc left) read leave asks [] bounded turn = first_next left leave read asks (asks []) bounded
 next_from zero read leave asks (answer ∷ answers) bounded turn =
-    elim (asks []) as (λ asked. Last leave asked → Asks answer.key asked → Next 0 read leave asks (answer ∷ answers) (asks (answer ∷ answers))) [
+    elim (asks []) as (λ asked. Last leave asked → Asks answer.key asked →
+    Next 0 read leave asks (answer ∷ answers) (asks (answer ∷ answers))) [
       | Read key change ↦ λ never is. absurd never
       | Finish end ↦ λ at never. absurd never
     ] bounded turn.0
 next_from (suc left) read leave asks (answer ∷ answers) bounded turn =
-    elim (asks []) as (λ asked. asks [] ≡ asked → First left read leave asks asked → Asks answer.key asked → Next (suc left) read leave asks (answer ∷ answers) (asks (answer ∷ answers))) [
+    elim (asks []) as (λ asked. asks [] ≡ asked → First left read leave asks asked → Asks answer.key asked →
+    Next (suc left) read leave asks (answer ∷ answers) (asks (answer ∷ answers))) [
       | Read key change ↦ λ asked holds same.
-          let later : ReadsAndWrites left (key ∷ read) (if change then key ∷ leave else leave) (λ more. asks (answer ∷ more)) =
-          subst (λ (k : List ℕ). ReadsAndWrites left (key ∷ read) (if change then key ∷ leave else leave) (λ more. asks (record { key = k; value = answer.value } ∷ more))) same (holds.1 answer.value) in
+          let later : ReadsAndWrites left (key ∷ read) (if change then key ∷ leave
+          else leave) (λ more. asks (answer ∷ more)) =
+          subst (λ (k : List ℕ). ReadsAndWrites left (key ∷ read) (if change then key ∷ leave
+          else leave) (λ more. asks (record { key = k; value = answer.value } ∷ more))) same
+          (holds.1 answer.value) in
           one_more left read leave asks answer answers key change (asks (answer ∷ answers)) asked same
-          (next_from left (key ∷ read) (if change then key ∷ leave else leave) (λ more. asks (answer ∷ more)) answers later turn.1)
+          (next_from left (key ∷ read) (if change then key ∷ leave
+          else leave) (λ more. asks (answer ∷ more)) answers later turn.1)
       | Finish end ↦ λ asked at never. absurd never
     ] refl bounded turn.0
 
 none_with_leave : (key : List ℕ) → Contains [] key → ⊥
 none_with_leave key (i, less, is) = omega arith
 
-comes_next : (asks : List Answer → Ask) (answers : List Answer) (asked : Ask) → Next 8 [] [] asks answers asked → EndsRising asked
+comes_next : (asks : List Answer → Ask) (answers : List Answer) (asked : Ask) → Next 8 [] [] asks answers asked →
+    EndsRising asked
     → ComesNext asks answers asked
 comes_next asks answers (Read key change) holds rising = (holds.0, holds.1)
 comes_next asks answers (Finish end) holds rising = (
   rising,
-  all-weaker (λ (write : Write). MayWrite [] asks answers write.key) (λ (write : Write). IsLent asks answers write.key) end.writes.items
+  all-weaker (λ (write : Write). MayWrite [] asks answers write.key)
+      (λ (write : Write). IsLent asks answers write.key) end.writes.items
       (λ write may. elim may [ inl at ↦ absurd (none_with_leave write.key at) | inr lent ↦ lent ]) holds,
 )
 

@@ -1,5 +1,6 @@
 -- Every rule reads few keys, none twice, and writes only at keys that it read with leave.
-use Rattle.std.specs.Prelude.{ℕ, ◌≢◌, ◌==◌, nat_lt, Bool, true, false, List, [], ◌∷◌, length, Option, Some, None, if◌then◌else◌, refl, unwrap_or, ◌&&◌, take, drop}
+use Rattle.std.specs.Prelude.{ℕ, ◌≢◌, ◌==◌, nat_lt, Bool, true, false, List, [], ◌∷◌, length, Option, Some, None}
+use Rattle.std.specs.Prelude.{if◌then◌else◌, refl, unwrap_or, ◌&&◌, take, drop}
 use Rattle.std.specs.List.{Contains, list_any}
 use Rattle.std.specs.Int.{w16, w32, from_be_bytes}
 use Rattle.std.proofs.Common.{arith}
@@ -48,14 +49,16 @@ abbrev outside_key : Flow → List ℕ
 outside_key flow = nat.outside_port_key flow.protocol flow.source flow.source_port
 
 of_drawing : (rule : NatRule) (flow : Flow) (port : ℕ)
-    → ReadsAndWrites 6 (nat.next_port_key ∷ outside_key flow ∷ []) (nat.next_port_key ∷ outside_key flow ∷ []) (nat.drawing rule flow port)
+    → ReadsAndWrites 6 (nat.next_port_key ∷ outside_key flow ∷ []) (nat.next_port_key ∷ outside_key flow
+    ∷ []) (nat.drawing rule flow port)
 of_drawing rule flow port = (
   (apart 114 110 _ _ (grind (arith)), (apart 114 102 _ _ (grind (arith)), tt)),
   λ value.
       (third _ _ _ [], (second _ _ (outside_key flow ∷ []), (first _ (nat.next_port_key ∷ outside_key flow ∷ []), tt))),
 )
 
-of_unknown : (rule : NatRule) (flow : Flow) → ReadsAndWrites 7 (outside_key flow ∷ []) (outside_key flow ∷ []) (nat.unknown rule flow)
+of_unknown : (rule : NatRule) (flow : Flow) →
+    ReadsAndWrites 7 (outside_key flow ∷ []) (outside_key flow ∷ []) (nat.unknown rule flow)
 of_unknown rule flow = (
   (apart 110 102 _ _ (grind (arith)), tt),
   λ value.
@@ -88,13 +91,16 @@ of_nat rule flow =
     either 8 [] [] (nat.leaves rule flow) (nat.outgoing rule flow)
     (λ answers. if flow.destination == rule.outside then nat.incoming flow answers else forward [])
     (of_outgoing rule flow)
-    (either 8 [] [] (flow.destination == rule.outside) (nat.incoming flow) (λ answers. forward []) (of_incoming flow) tt)
+    (either 8 [] [] (flow.destination == rule.outside) (nat.incoming flow) (λ answers. forward [])
+    (of_incoming flow) tt)
 
 of_connection : (rule : FirewallRule) (flow : Flow) (value : Option (List ℕ))
-    → ReadsAndWrites 7 (firewall.connection_key flow ∷ []) (firewall.connection_key flow ∷ []) (λ answers. firewall.known_or_not rule flow value)
+    → ReadsAndWrites 7 (firewall.connection_key flow ∷ []) (firewall.connection_key flow
+    ∷ []) (λ answers. firewall.known_or_not rule flow value)
 of_connection rule flow (Some value) = tt
 of_connection rule flow None =
-    either 7 (firewall.connection_key flow ∷ []) (firewall.connection_key flow ∷ []) (firewall.is_allowed rule.lines flow)
+    either 7 (firewall.connection_key flow ∷ []) (firewall.connection_key flow
+    ∷ []) (firewall.is_allowed rule.lines flow)
     (λ answers. forward (put (firewall.connection_key flow) [] ∷ [])) (λ answers. filter_out) (first _ [], tt) tt
 
 of_firewall : (rule : FirewallRule) (flow : Flow) → ReadsAndWrites 8 [] [] (firewall.firewall_ask rule flow)
@@ -103,8 +109,12 @@ of_firewall rule flow = (tt, λ value. of_connection rule flow value)
 abbrev own_key : Flow → List ℕ
 own_key flow = balance.client_key flow.protocol flow.source flow.source_port
 
-of_new_client : (rule : BalanceRule) (flow : Flow) → ReadsAndWrites 7 (own_key flow ∷ []) (own_key flow ∷ []) (balance.new_client rule flow)
-of_new_client rule flow = ((apart 116 99 _ _ (grind (arith)), tt), λ value. (second _ _ [], (first _ (own_key flow ∷ []), tt)))
+of_new_client : (rule : BalanceRule) (flow : Flow) →
+    ReadsAndWrites 7 (own_key flow ∷ []) (own_key flow ∷ []) (balance.new_client rule flow)
+of_new_client rule flow = (
+  (apart 116 99 _ _ (grind (arith)), tt),
+  λ value. (second _ _ [], (first _ (own_key flow ∷ []), tt)),
+)
 
 of_client : (rule : BalanceRule) (flow : Flow) (known : Option ℕ)
     → ReadsAndWrites 7 (own_key flow ∷ []) (own_key flow ∷ []) (balance.known_or_not rule flow known)
@@ -122,11 +132,16 @@ of_replied rule flow key (Some backend) =
     (λ answers. forward []) tt tt
 
 of_from_backend : (rule : BalanceRule) (flow : Flow) → ReadsAndWrites 8 [] [] (balance.from_backend rule flow)
-of_from_backend rule flow = (tt, λ value. of_replied rule flow (balance.client_key flow.protocol flow.destination flow.destination_port) (number_in w32 value))
+of_from_backend rule flow = (
+  tt,
+  λ value. of_replied rule flow (balance.client_key flow.protocol flow.destination flow.destination_port)
+      (number_in w32 value),
+)
 
 of_balance : (rule : BalanceRule) (flow : Flow) → ReadsAndWrites 8 [] [] (balance.balance_ask rule flow)
 of_balance rule flow =
-    either 8 [] [] (flow.destination == rule.address && flow.destination_port == rule.port) (balance.from_client rule flow)
+    either 8 [] [] (flow.destination == rule.address
+    && flow.destination_port == rule.port) (balance.from_client rule flow)
     (λ answers.
     if list_any (λ backend. backend == flow.source) rule.backends && flow.source_port == rule.port
     then balance.from_backend rule flow answers

@@ -31,8 +31,8 @@ pub record IsLent (asks : List Answer → Ask) (answers : List Answer) (key : Li
   pub whole : answers ≡ earlier ++ answer ∷ later
   pub lent : asks earlier ≡ Read key true
 
--- what comes after answers in turn: a key that is asked for is new, and there are few answers yet; a visit that ends writes
--- by rising key, and only at keys that were asked for with leave
+-- what comes after answers in turn: a key that is asked for is new, and there are few answers yet; a visit that ends
+-- writes by rising key, and only at keys that were asked for with leave
 abbrev pub ComesNext : (List Answer → Ask) → List Answer → Ask → Type 0
 ComesNext asks answers (Read key change) =
     (length answers < MOST_READS) × AllByRecursion (λ (answer : Answer). key ≢ answer.key) answers

@@ -23,4 +23,5 @@ next_count count = min (count + 1) 18446744073709551615
 abbrev pub monitor_ask : ℕ → Flow → List Answer → Ask
 monitor_ask groups flow [] = Read (group_key (group_of groups flow)) true
 monitor_ask groups flow (answer ∷ answers) =
-    forward (put (group_key (group_of groups flow)) (to_be_bytes w64 (next_count (unwrap_or (number_in w64 answer.value) 0))) ∷ [])
+    forward (put (group_key (group_of groups flow))
+    (to_be_bytes w64 (next_count (unwrap_or (number_in w64 answer.value) 0))) ∷ [])

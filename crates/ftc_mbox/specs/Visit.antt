@@ -13,8 +13,8 @@ use Rattle.ftc_mbox.specs.Ask.{ask}
 abbrev pub WritesAt : List (List ℕ) → List Write → Type 0
 WritesAt keys writes = AllByRecursion (λ write. Contains keys write.key) writes
 
--- Asked in turn, it reads at most so many keys more, none twice and none of those that it has read, and then writes only
--- at keys that it read with leave to write there.
+-- Asked in turn, it reads at most so many keys more, none twice and none of those that it has read, and then writes
+-- only at keys that it read with leave to write there.
 abbrev pub ReadsAndWrites : ℕ → List (List ℕ) → List (List ℕ) → (List Answer → Ask) → Type 0
 ReadsAndWrites zero read leave asks =
     elim (asks []) as (λ asked. Type 0) [

@@ -24,9 +24,19 @@ impl Model for Plan {
 
     ghost Value = { Planned };
 
-    ghost view = { λ plan. record { rule = plan.rule; packet = plan.packet; answers = plan.answers.items; finish = plan.finish } };
+    ghost view = { λ plan. record {
+      rule = plan.rule;
+      packet = plan.packet;
+      answers = plan.answers.items;
+      finish = plan.finish;
+    } };
 
-    ghost invariant = { λ plan. IsPlan (record { rule = plan.rule; packet = plan.packet; answers = plan.answers.items; finish = plan.finish }) };
+    ghost invariant = { λ plan. IsPlan (record {
+      rule = plan.rule;
+      packet = plan.packet;
+      answers = plan.answers.items;
+      finish = plan.finish;
+    }) };
 }
 
 /// Whether two rules of a firewall are the same.

@@ -23,7 +23,11 @@ impl Model for ChainSpec {
 
     ghost view = { λ spec. record { failures = spec.failures; partitions = spec.partitions; rules = spec.rules } };
 
-    ghost invariant = { λ spec. IsChain (record { failures = spec.failures; partitions = spec.partitions; rules = spec.rules }) };
+    ghost invariant = { λ spec. IsChain (record {
+      failures = spec.failures;
+      partitions = spec.partitions;
+      rules = spec.rules;
+    }) };
 }
 
 impl ChainSpec {

@@ -1,5 +1,7 @@
 -- Commits, which are written as needs: what is read is spelled so, and what is spelled so is read.
-use Rattle.std.proofs.Common.{◌≡◌, ◌≢◌, ℕ, zero, suc, ◌+◌, ◌-◌, ◌^◌, ◌<◌, ◌≤◌, ◌==◌, leb, max, Bool, true, false, List, [], ◌∷◌, ◌++◌, length, get_or, drop, Option, Some, None, Result, Ok, Err, refl, sym, ap, subst, ◌∙◌, inl, inr, append_assoc, arith, if◌then◌else◌}
+use Rattle.std.proofs.Common.{◌≡◌, ◌≢◌, ℕ, zero, suc, ◌+◌, ◌-◌, ◌^◌, ◌<◌, ◌≤◌, ◌==◌, leb, max, Bool, true, false, List}
+use Rattle.std.proofs.Common.{[], ◌∷◌, ◌++◌, length, get_or, drop, Option, Some, None, Result, Ok, Err, refl, sym, ap}
+use Rattle.std.proofs.Common.{subst, ◌∙◌, inl, inr, append_assoc, arith, if◌then◌else◌}
 use Rattle.std.specs.Prelude.{not, is_some, slice_set, replicate, unwrap_or}
 use Rattle.std.specs.List.{AllByRecursion, list_all, list_any, flat_map}
 use Rattle.std.proofs.lemmas.Bool.{cases_lt, leb-true, le-leb, and_parts, and_from, eq-eqb, ne_eqb, false_from_ne_true}
@@ -34,7 +36,8 @@ use Rattle.ftc_message.proofs.Steps.{goes_on, ends}
 pub zeros : List ℕ
 zeros = by_partition (λ _. 0)
 
-get_or-not_zero : (vector : List ℕ) (p : ℕ) → get_or (not_zero vector) p None ≡ (if get_or vector p 0 == 0 then None else Some (get_or vector p 0))
+get_or-not_zero : (vector : List ℕ) (p : ℕ) →
+    get_or (not_zero vector) p None ≡ (if get_or vector p 0 == 0 then None else Some (get_or vector p 0))
 get_or-not_zero [] p = refl
 get_or-not_zero (n ∷ vector) zero = refl
 get_or-not_zero (n ∷ vector) (suc p) = get_or-not_zero vector p
@@ -68,10 +71,13 @@ unfolding zeros
 vector_back vector size =
     sym (by_partition-from _ vector 0 size (λ p within.
     let old : number_at (by_partition (λ _. 0)) p ≡ 0 = get_or-by_partition (λ _. 0) p 0 within in
-    let new : number_at (numbers_in (not_zero vector)) p ≡ get_or vector p 0 = get_or-by_partition (λ q. unwrap_or (get_or (not_zero vector) q None) 0) p 0 within ∙ rw (get_or-not_zero vector p) (number_back (get_or vector p 0)) in
+    let new : number_at (numbers_in (not_zero vector)) p ≡ get_or vector p 0 =
+    get_or-by_partition (λ q. unwrap_or (get_or (not_zero vector) q None) 0) p 0 within ∙ rw
+    (get_or-not_zero vector p) (number_back (get_or vector p 0)) in
     omega (arith, old, new)))
 
-at_each : (least : ℕ) (marks : List (Option ℕ)) → AllByRecursion (IsMark least) marks → (p : ℕ) → IsMark least (get_or marks p None)
+at_each : (least : ℕ) (marks : List (Option ℕ)) → AllByRecursion (IsMark least) marks → (p : ℕ) →
+    IsMark least (get_or marks p None)
 at_each least [] each p = tt
 at_each least (mark ∷ marks) each zero = each.0
 at_each least (mark ∷ marks) each (suc p) = at_each least marks each.1 p
@@ -80,12 +86,17 @@ mark_back : (mark : Option ℕ) (n : ℕ) → IsMark 1 mark → n ≡ unwrap_or 
 mark_back None n is same = rw (eq-eqb n 0 same) refl
 mark_back (Some number) n is same = rw (ne_eqb n 0 (λ none. omega (arith, is.0)), same) refl
 
-number_at-known : (marks : List (Option ℕ)) (p : ℕ) → p < MOST_PARTITIONS → number_at (merged zeros (numbers_in marks)) p ≡ unwrap_or (get_or marks p None) 0
+number_at-known : (marks : List (Option ℕ)) (p : ℕ) → p < MOST_PARTITIONS →
+    number_at (merged zeros (numbers_in marks)) p ≡ unwrap_or (get_or marks p None) 0
 unfolding zeros
 number_at-known marks p within =
     let old : number_at (by_partition (λ _. 0)) p ≡ 0 = get_or-by_partition (λ _. 0) p 0 within in
-    let new : number_at (numbers_in marks) p ≡ unwrap_or (get_or marks p None) 0 = get_or-by_partition (λ q. unwrap_or (get_or marks q None) 0) p 0 within in
-    let both : number_at (merged (by_partition (λ _. 0)) (numbers_in marks)) p ≡ max (number_at (by_partition (λ _. 0)) p) (number_at (numbers_in marks) p) = get_or-by_partition (λ q. max (number_at (by_partition (λ _. 0)) q) (number_at (numbers_in marks) q)) p 0 within in
+    let new : number_at (numbers_in marks) p ≡ unwrap_or (get_or marks p None) 0 =
+    get_or-by_partition (λ q. unwrap_or (get_or marks q None) 0) p 0 within in
+    let both : number_at (merged (by_partition (λ _. 0)) (numbers_in marks)) p
+    ≡ max (number_at (by_partition (λ _. 0)) p) (number_at (numbers_in marks) p) =
+    get_or-by_partition (λ q. max (number_at (by_partition (λ _. 0)) q)
+    (number_at (numbers_in marks) q)) p 0 within in
     omega (arith, old, new, both)
 
 length-known : (marks : List (Option ℕ)) → length (merged zeros (numbers_in marks)) ≡ MOST_PARTITIONS
@@ -95,9 +106,11 @@ length-known marks = length-by_partition (λ q. max (number_at zeros q) (number_
 marks_back : (marks : List (Option ℕ)) → AreSpelled 1 marks → not_zero (merged zeros (numbers_in marks)) ≡ marks
 marks_back marks spelled =
     let vector = merged zeros (numbers_in marks) in
-    ext_get_or None (not_zero vector) marks (length-not_zero vector ∙ length-known marks ∙ sym spelled.size) (λ p within.
+    ext_get_or None (not_zero vector) marks (length-not_zero vector ∙ length-known marks ∙ sym spelled.size)
+    (λ p within.
     let inside : p < MOST_PARTITIONS = omega (arith, length-not_zero vector, length-known marks) in
-    get_or-not_zero vector p ∙ mark_back (get_or marks p None) (get_or vector p 0) (at_each 1 marks spelled.each p) (number_at-known marks p inside))
+    get_or-not_zero vector p ∙ mark_back (get_or marks p None) (get_or vector p 0) (at_each 1 marks spelled.each p)
+    (number_at-known marks p inside))
 
 small_number : (mark : Option ℕ) → IsMark 1 mark → unwrap_or mark 0 < 2 ^ 64
 small_number None is = omega arith
@@ -108,8 +121,15 @@ vector_is marks spelled = record {
   size = length-known marks;
   bounds = λ p.
       elim (cases_lt p MOST_PARTITIONS) [
-        | inl within ↦ omega (arith, number_at-known marks p within, small_number (get_or marks p None) (at_each 1 marks spelled.each p))
-        | inr past ↦ omega (arith, get_or_past (merged zeros (numbers_in marks)) p 0 (omega (arith, length-known marks)))
+        | inl within ↦ omega (
+          arith,
+          number_at-known marks p within,
+          small_number (get_or marks p None) (at_each 1 marks spelled.each p),
+        )
+        | inr past ↦ omega (
+          arith,
+          get_or_past (merged zeros (numbers_in marks)) p 0 (omega (arith, length-known marks)),
+        )
       ];
 }
 
@@ -120,7 +140,10 @@ zeros_are = record {
   bounds = λ p.
       elim (cases_lt p MOST_PARTITIONS) [
         | inl within ↦ omega (arith, get_or-by_partition {A = ℕ} (λ _. 0) p 0 within)
-        | inr past ↦ omega (arith, get_or_past {X = ℕ} (by_partition (λ _. 0)) p 0 (omega (arith, length-by_partition {A = ℕ} (λ _. 0))))
+        | inr past ↦ omega (
+          arith,
+          get_or_past {X = ℕ} (by_partition (λ _. 0)) p 0 (omega (arith, length-by_partition {A = ℕ} (λ _. 0))),
+        )
       ];
 }
 
@@ -150,7 +173,8 @@ all_zero (suc n ∷ vector) none p =
     let clash : true ≡ false = sym some ∙ none in
     absurd cc
 
-unknown_zeros : (vector : List ℕ) → length vector ≡ MOST_PARTITIONS → list_any is_some (not_zero vector) ≡ false → vector ≡ zeros
+unknown_zeros : (vector : List ℕ) → length vector ≡ MOST_PARTITIONS → list_any is_some (not_zero vector) ≡ false →
+    vector ≡ zeros
 unfolding zeros
 unknown_zeros vector size none = by_partition-from (λ _. 0) vector 0 size (λ p within. all_zero vector none p)
 
@@ -158,11 +182,18 @@ not_zero_each : (vector : List ℕ) → ((p : ℕ) → get_or vector p 0 < 2 ^ 6
 not_zero_each [] small = tt
 not_zero_each (zero ∷ vector) small = (tt, not_zero_each vector (λ p. small (suc p)))
 not_zero_each (suc n ∷ vector) small =
-    let some : (if suc n == 0 then None else Some (suc n)) ≡ Some (suc n) = rw (ne_eqb (suc n) 0 (λ is. omega arith)) refl in
+    let some : (if suc n == 0 then None else Some (suc n)) ≡ Some (suc n) =
+    rw (ne_eqb (suc n) 0 (λ is. omega arith)) refl in
     (subst (IsMark 1) (sym some) (omega arith, small 0), not_zero_each vector (λ p. small (suc p)))
 
-spelled_vector : (vector : List ℕ) → IsVector vector → list_any is_some (not_zero vector) ≡ true → AreSpelled 1 (not_zero vector)
-spelled_vector vector is any = record { size = length-not_zero vector ∙ is.size; some = some_any (not_zero vector) any; each = not_zero_each vector is.bounds }
+spelled_vector : (vector : List ℕ) → IsVector vector → list_any is_some (not_zero vector) ≡ true →
+    AreSpelled 1 (not_zero vector)
+spelled_vector vector is any =
+    record {
+      size = length-not_zero vector ∙ is.size;
+      some = some_any (not_zero vector) any;
+      each = not_zero_each vector is.bounds;
+    }
 
 -- ---- all groups, as they are written
 
@@ -174,44 +205,66 @@ record KnownSpelled (from group : ℕ) (vectors : List (List ℕ)) : Type 0 wher
   pub each : AllByRecursion (IsNeedSpelled 1) (known_from group vectors)
   pub rising : needs_rise from (known_from group vectors) ≡ true
 
-known_more : (any : Bool) (from group : ℕ) (vector : List ℕ) (vectors : List (List ℕ)) → any ≡ list_any is_some (not_zero vector) → from ≤ group → group < MOST_SERVERS → IsVector vector → KnownSpelled (group + 1) (group + 1) vectors → KnownSpelled from (group + 1) vectors
+known_more : (any : Bool) (from group : ℕ) (vector : List ℕ) (vectors : List (List ℕ)) →
+    any ≡ list_any is_some (not_zero vector) → from ≤ group → group < MOST_SERVERS → IsVector vector →
+    KnownSpelled (group + 1) (group + 1) vectors → KnownSpelled from (group + 1) vectors
     → KnownSpelled from group (vector ∷ vectors)
 known_more true from group vector vectors any low high is rest skipped =
-    let here : known_from group (vector ∷ vectors) ≡ known group vector ∷ known_from (group + 1) vectors = rw (← any) refl in
+    let here : known_from group (vector ∷ vectors) ≡ known group vector ∷ known_from (group + 1) vectors =
+    rw (← any) refl in
     record {
       few = rw here (omega (arith, rest.few));
       each = rw here (record { group = high; marks = spelled_vector vector is (sym any) }, rest.each);
-      rising = rw here (and_from (leb from group) (needs_rise (group + 1) (known_from (group + 1) vectors)) (le-leb from group low) rest.rising);
+      rising = rw here (and_from (leb from group) (needs_rise (group + 1) (known_from (group + 1) vectors))
+          (le-leb from group low) rest.rising);
     }
 known_more false from group vector vectors any low high is rest skipped =
     let here : known_from group (vector ∷ vectors) ≡ known_from (group + 1) vectors = rw (← any) refl in
     record { few = rw here (omega (arith, skipped.few)); each = rw here skipped.each; rising = rw here skipped.rising }
 
-known_spelled : (from group : ℕ) (vectors : List (List ℕ)) → from ≤ group → group + length vectors ≤ MOST_SERVERS → AllByRecursion IsVector vectors → KnownSpelled from group vectors
+known_spelled : (from group : ℕ) (vectors : List (List ℕ)) → from ≤ group → group + length vectors ≤ MOST_SERVERS →
+    AllByRecursion IsVector vectors → KnownSpelled from group vectors
 known_spelled from group [] low high each = record { few = omega arith; each = tt; rising = refl }
 known_spelled from group (vector ∷ vectors) low high each =
-    known_more (list_any is_some (not_zero vector)) from group vector vectors refl low (omega arith) each.0 (known_spelled (group + 1) (group + 1) vectors (omega arith) (omega arith) each.1) (known_spelled from (group + 1) vectors (omega arith) (omega arith) each.1)
+    known_more (list_any is_some (not_zero vector)) from group vector vectors refl low (omega arith) each.0
+    (known_spelled (group + 1) (group + 1) vectors (omega arith) (omega arith) each.1)
+    (known_spelled from (group + 1) vectors (omega arith) (omega arith) each.1)
 
-known_step : (any : Bool) (group : ℕ) (front : List (List ℕ)) (vector : List ℕ) (back : List (List ℕ)) → any ≡ list_any is_some (not_zero vector) → length front ≡ group → IsVector vector
-    → with_known (known_from (group + 1) back) ((front ++ vector ∷ []) ++ replicate (length back) zeros) ≡ (front ++ vector ∷ []) ++ back
-    → with_known (known_from group (vector ∷ back)) (front ++ zeros ∷ replicate (length back) zeros) ≡ front ++ vector ∷ back
+known_step : (any : Bool) (group : ℕ) (front : List (List ℕ)) (vector : List ℕ) (back : List (List ℕ)) →
+    any ≡ list_any is_some (not_zero vector) → length front ≡ group → IsVector vector
+    → with_known (known_from (group + 1) back) ((front ++ vector ∷ []) ++ replicate (length back) zeros)
+    ≡ (front ++ vector ∷ []) ++ back
+    → with_known (known_from group (vector ∷ back)) (front ++ zeros ∷ replicate (length back) zeros) ≡ front
+    ++ vector ∷ back
 known_step true group front vector back any size is rest =
     let here : known_from group (vector ∷ back) ≡ known group vector ∷ known_from (group + 1) back = rw (← any) refl in
     let commits = front ++ zeros ∷ replicate (length back) zeros in
     let old : vector_of commits group ≡ zeros = get_or_at front zeros (replicate (length back) zeros) [] group size in
-    let new : merged (vector_of commits group) (numbers_in (not_zero vector)) ≡ vector = ap (λ (v : List ℕ). merged v (numbers_in (not_zero vector))) old ∙ vector_back vector is.size in
-    let raised : group_raised commits group (numbers_in (not_zero vector)) ≡ (front ++ vector ∷ []) ++ replicate (length back) zeros = ap (λ (v : List ℕ). slice_set commits group v) new ∙ set_at front zeros (replicate (length back) zeros) vector group size ∙ sym (append_assoc front (vector ∷ []) (replicate (length back) zeros)) in
-    ap (λ (ns : List Need). with_known ns commits) here ∙ ap (with_known (known_from (group + 1) back)) raised ∙ rest ∙ append_assoc front (vector ∷ []) back
+    let new : merged (vector_of commits group) (numbers_in (not_zero vector)) ≡ vector =
+    ap (λ (v : List ℕ). merged v (numbers_in (not_zero vector))) old ∙ vector_back vector is.size in
+    let raised : group_raised commits group (numbers_in (not_zero vector)) ≡ (front ++ vector ∷ [])
+    ++ replicate (length back) zeros =
+    ap (λ (v : List ℕ). slice_set commits group v) new ∙ set_at front zeros
+    (replicate (length back) zeros) vector group size ∙ sym
+    (append_assoc front (vector ∷ []) (replicate (length back) zeros)) in
+    ap (λ (ns : List Need). with_known ns commits) here ∙ ap
+    (with_known (known_from (group + 1) back)) raised ∙ rest ∙ append_assoc front (vector ∷ []) back
 known_step false group front vector back any size is rest =
     let here : known_from group (vector ∷ back) ≡ known_from (group + 1) back = rw (← any) refl in
     let zero_is : vector ≡ zeros = unknown_zeros vector is.size (sym any) in
-    let same : front ++ zeros ∷ replicate (length back) zeros ≡ (front ++ vector ∷ []) ++ replicate (length back) zeros = ap (λ (v : List ℕ). front ++ v ∷ replicate (length back) zeros) (sym zero_is) ∙ sym (append_assoc front (vector ∷ []) (replicate (length back) zeros)) in
-    ap (λ (ns : List Need). with_known ns (front ++ zeros ∷ replicate (length back) zeros)) here ∙ ap (with_known (known_from (group + 1) back)) same ∙ rest ∙ append_assoc front (vector ∷ []) back
+    let same : front ++ zeros ∷ replicate (length back) zeros ≡ (front ++ vector ∷ [])
+    ++ replicate (length back) zeros =
+    ap (λ (v : List ℕ). front ++ v ∷ replicate (length back) zeros) (sym zero_is) ∙ sym
+    (append_assoc front (vector ∷ []) (replicate (length back) zeros)) in
+    ap (λ (ns : List Need). with_known ns (front ++ zeros ∷ replicate (length back) zeros)) here ∙ ap
+    (with_known (known_from (group + 1) back)) same ∙ rest ∙ append_assoc front (vector ∷ []) back
 
-known_back : (group : ℕ) (front back : List (List ℕ)) → length front ≡ group → AllByRecursion IsVector back → with_known (known_from group back) (front ++ replicate (length back) zeros) ≡ front ++ back
+known_back : (group : ℕ) (front back : List (List ℕ)) → length front ≡ group → AllByRecursion IsVector back →
+    with_known (known_from group back) (front ++ replicate (length back) zeros) ≡ front ++ back
 known_back group front [] size each = refl
 known_back group front (vector ∷ back) size each =
-    known_step (list_any is_some (not_zero vector)) group front vector back refl size each.0 (known_back (group + 1) (front ++ vector ∷ []) back (omega (arith, length-append front (vector ∷ []))) each.1)
+    known_step (list_any is_some (not_zero vector)) group front vector back refl size each.0
+    (known_back (group + 1) (front ++ vector ∷ []) back (omega (arith, length-append front (vector ∷ []))) each.1)
 
 -- ---- all groups, as they are read
 
@@ -219,15 +272,18 @@ known_from-zeros : (k group : ℕ) → known_from group (replicate k zeros) ≡ 
 known_from-zeros zero group = refl
 known_from-zeros (suc k) group = rw zeros_unknown (known_from-zeros k (group + 1))
 
-known_from-behind : (j from group : ℕ) (vectors : List (List ℕ)) → group ≡ from + j → known_from from (replicate j zeros ++ vectors) ≡ known_from group vectors
+known_from-behind : (j from group : ℕ) (vectors : List (List ℕ)) → group ≡ from + j →
+    known_from from (replicate j zeros ++ vectors) ≡ known_from group vectors
 known_from-behind zero from group vectors is = ap (λ (g : ℕ). known_from g vectors) (omega arith)
-known_from-behind (suc j) from group vectors is = rw zeros_unknown (known_from-behind j (from + 1) group vectors (omega arith))
+known_from-behind (suc j) from group vectors is =
+    rw zeros_unknown (known_from-behind j (from + 1) group vectors (omega arith))
 
 each_zeros : (k : ℕ) → AllByRecursion IsVector (replicate k zeros)
 each_zeros zero = tt
 each_zeros (suc k) = (zeros_are, each_zeros k)
 
-each_behind : (j : ℕ) (vectors : List (List ℕ)) → AllByRecursion IsVector vectors → AllByRecursion IsVector (replicate j zeros ++ vectors)
+each_behind : (j : ℕ) (vectors : List (List ℕ)) → AllByRecursion IsVector vectors →
+    AllByRecursion IsVector (replicate j zeros ++ vectors)
 each_behind zero vectors each = each
 each_behind (suc j) vectors each = (zeros_are, each_behind j vectors each)
 
@@ -238,36 +294,73 @@ record KnownRead (from k : ℕ) (front : List (List ℕ)) (ns : List Need) : Typ
   pub all : known_from from back ≡ ns
   pub each : AllByRecursion IsVector back
 
-one_read : (from k : ℕ) (front : List (List ℕ)) (need : Need) (ns : List Need) → length front ≡ from → from + k ≡ MOST_SERVERS → from ≤ need.group → need.group < MOST_SERVERS → AreSpelled 1 need.marks
-    → KnownRead (need.group + 1) (k - (need.group - from + 1)) (front ++ (replicate (need.group - from) zeros ++ merged zeros (numbers_in need.marks) ∷ [])) ns → KnownRead from k front (need ∷ ns)
+one_read : (from k : ℕ) (front : List (List ℕ)) (need : Need) (ns : List Need) → length front ≡ from →
+    from + k ≡ MOST_SERVERS → from ≤ need.group → need.group < MOST_SERVERS → AreSpelled 1 need.marks
+    → KnownRead (need.group + 1) (k - (need.group - from + 1)) (front
+    ++ (replicate (need.group - from) zeros ++ merged zeros (numbers_in need.marks) ∷ [])) ns →
+    KnownRead from k front (need ∷ ns)
 one_read from k front need ns size within low high spelled rest =
     let group = need.group in
     let vector = merged zeros (numbers_in need.marks) in
     let commits = front ++ replicate k zeros in
-    let old : vector_of commits group ≡ zeros = ap (λ (c : List (List ℕ)). vector_of c group) (split_at zeros front k from group size low (omega arith)) ∙ get_or_at (front ++ replicate (group - from) zeros) zeros (replicate (k - (group - from + 1)) zeros) [] group (length_before zeros front from group size low) in
-    let raised : group_raised commits group (numbers_in need.marks) ≡ (front ++ (replicate (group - from) zeros ++ vector ∷ [])) ++ replicate (k - (group - from + 1)) zeros = ap (λ (v : List ℕ). slice_set commits group (merged v (numbers_in need.marks))) old ∙ replace zeros front k from group vector size low (omega arith) in
-    let regrouped : (front ++ (replicate (group - from) zeros ++ vector ∷ [])) ++ rest.back ≡ front ++ (replicate (group - from) zeros ++ vector ∷ rest.back) = append_assoc front (replicate (group - from) zeros ++ vector ∷ []) rest.back ∙ ap (λ (vs : List (List ℕ)). front ++ vs) (append_assoc (replicate (group - from) zeros) (vector ∷ []) rest.back) in
+    let old : vector_of commits group ≡ zeros =
+    ap (λ (c : List (List ℕ)). vector_of c group)
+    (split_at zeros front k from group size low (omega arith)) ∙ get_or_at (front
+    ++ replicate (group - from) zeros) zeros (replicate (k - (group - from + 1)) zeros) [] group
+    (length_before zeros front from group size low) in
+    let raised : group_raised commits group (numbers_in need.marks)
+    ≡ (front ++ (replicate (group - from) zeros ++ vector ∷ [])) ++ replicate (k - (group - from + 1)) zeros =
+    ap (λ (v : List ℕ). slice_set commits group
+    (merged v (numbers_in need.marks))) old ∙ replace zeros front k from group vector size low (omega arith) in
+    let regrouped : (front ++ (replicate (group - from) zeros ++ vector ∷ [])) ++ rest.back ≡ front
+    ++ (replicate (group - from) zeros ++ vector ∷ rest.back) =
+    append_assoc front (replicate (group - from) zeros ++ vector ∷ []) rest.back ∙ ap (λ (vs : List (List ℕ)). front
+    ++ vs) (append_assoc (replicate (group - from) zeros) (vector ∷ []) rest.back) in
     let same : not_zero vector ≡ need.marks = marks_back need.marks spelled in
-    let any : list_any is_some (not_zero vector) ≡ true = ap (list_any is_some) same ∙ any_some need.marks spelled.some in
-    let here : known_from group (vector ∷ rest.back) ≡ known group vector ∷ known_from (group + 1) rest.back = rw any refl in
+    let any : list_any is_some (not_zero vector) ≡ true =
+    ap (list_any is_some) same ∙ any_some need.marks spelled.some in
+    let here : known_from group (vector ∷ rest.back) ≡ known group vector ∷ known_from (group + 1) rest.back =
+    rw any refl in
     let need_is : known group vector ≡ need = λ i. record { group = group; marks = same i } in
     record {
       back = replicate (group - from) zeros ++ vector ∷ rest.back;
       whole = ap (with_known ns) raised ∙ rest.whole ∙ regrouped;
-      size = omega (arith, length-append (replicate (group - from) zeros) (vector ∷ rest.back), length-replicate (group - from) zeros, rest.size);
-      all = known_from-behind (group - from) from group (vector ∷ rest.back) (omega arith) ∙ here ∙ (λ i. need_is i ∷ rest.all i);
+      size = omega (
+        arith,
+        length-append (replicate (group - from) zeros) (vector ∷ rest.back),
+        length-replicate (group - from) zeros,
+        rest.size,
+      );
+      all = known_from-behind (group - from) from group (vector ∷ rest.back) (omega arith) ∙ here ∙ (λ i. need_is i
+          ∷ rest.all i);
       each = each_behind (group - from) (vector ∷ rest.back) (vector_is need.marks spelled, rest.each);
     }
 
-known_read : (from k : ℕ) (front : List (List ℕ)) (ns : List Need) → length front ≡ from → from + k ≡ MOST_SERVERS → AllByRecursion (IsNeedSpelled 1) ns → needs_rise from ns ≡ true → KnownRead from k front ns
-known_read from k front [] size within each rising = record { back = replicate k zeros; whole = refl; size = length-replicate k zeros; all = known_from-zeros k from; each = each_zeros k }
+known_read : (from k : ℕ) (front : List (List ℕ)) (ns : List Need) → length front ≡ from → from + k ≡ MOST_SERVERS →
+    AllByRecursion (IsNeedSpelled 1) ns → needs_rise from ns ≡ true → KnownRead from k front ns
+known_read from k front [] size within each rising =
+    record {
+      back = replicate k zeros;
+      whole = refl;
+      size = length-replicate k zeros;
+      all = known_from-zeros k from;
+      each = each_zeros k;
+    }
 known_read from k front (need ∷ ns) size within each rising =
     let order = and_parts (leb from need.group) (needs_rise (need.group + 1) ns) rising in
     let low = leb-true from need.group order.0 in
     let vector = merged zeros (numbers_in need.marks) in
     let front' = front ++ (replicate (need.group - from) zeros ++ vector ∷ []) in
-    let long : length front' ≡ need.group + 1 = omega (arith, length-append front (replicate (need.group - from) zeros ++ vector ∷ []), length-append (replicate (need.group - from) zeros) (vector ∷ []), length-replicate (need.group - from) zeros) in
-    one_read from k front need ns size within low each.0.group each.0.marks (known_read (need.group + 1) (k - (need.group - from + 1)) front' ns long (omega (arith, each.0.group)) each.1 order.1)
+    let long : length front' ≡ need.group + 1 =
+    omega (
+      arith,
+      length-append front (replicate (need.group - from) zeros ++ vector ∷ []),
+      length-append (replicate (need.group - from) zeros) (vector ∷ []),
+      length-replicate (need.group - from) zeros,
+    ) in
+    one_read from k front need ns size within low each.0.group each.0.marks
+    (known_read (need.group + 1) (k - (need.group - from + 1)) front' ns long
+    (omega (arith, each.0.group)) each.1 order.1)
 
 -- ---- commits
 
@@ -275,16 +368,20 @@ pub zeros_commits : no_commits ≡ replicate MOST_SERVERS zeros
 unfolding by_group zeros
 zeros_commits = refl
 
-each_vector : (commits : List (List ℕ)) → ((group : ℕ) → group < length commits → IsVector (get_or commits group [])) → AllByRecursion IsVector commits
+each_vector : (commits : List (List ℕ)) → ((group : ℕ) → group < length commits → IsVector (get_or commits group [])) →
+    AllByRecursion IsVector commits
 each_vector [] is = tt
-each_vector (vector ∷ vectors) is = (is 0 (omega arith), each_vector vectors (λ group within. is (suc group) (omega arith)))
+each_vector (vector ∷ vectors) is =
+    (is 0 (omega arith), each_vector vectors (λ group within. is (suc group) (omega arith)))
 
-vector_at : (commits : List (List ℕ)) → AllByRecursion IsVector commits → (group : ℕ) → group < length commits → IsVector (get_or commits group [])
+vector_at : (commits : List (List ℕ)) → AllByRecursion IsVector commits → (group : ℕ) → group < length commits →
+    IsVector (get_or commits group [])
 vector_at [] each group within = absurd (omega arith)
 vector_at (vector ∷ vectors) each zero within = each.0
 vector_at (vector ∷ vectors) each (suc group) within = vector_at vectors each.1 group (omega arith)
 
-pub commits_at_takes : (bytes : List ℕ) (x : List (List ℕ) × List ℕ) → IsBytes bytes → commits_at bytes ≡ Ok x → Takes bytes (commits_bytes x.0) x.1 × AreCommits x.0
+pub commits_at_takes : (bytes : List ℕ) (x : List (List ℕ) × List ℕ) → IsBytes bytes → commits_at bytes ≡ Ok x →
+    Takes bytes (commits_bytes x.0) x.1 × AreCommits x.0
 unfolding commits_at
 commits_at_takes bytes x fits is =
     let ns = bind_ok (needs_at MOST_SERVERS 1 bytes) (λ ns. Ok (with_known ns.0 no_commits, ns.1)) x is in
@@ -292,18 +389,30 @@ commits_at_takes bytes x fits is =
     let read = known_read 0 MOST_SERVERS [] ns.0.0 refl refl found.1.each found.1.rising in
     let whole : with_known ns.0.0 no_commits ≡ read.back = ap (with_known ns.0.0) zeros_commits ∙ read.whole in
     let P : List (List ℕ) × List ℕ → Type 0 = λ y. Takes bytes (commits_bytes y.0) y.1 × AreCommits y.0 in
-    let text : Takes bytes (commits_bytes read.back) ns.0.1 = subst (λ (n : List Need). Takes bytes (needs_bytes n) ns.0.1) (sym read.all) found.0 in
-    let same : (read.back, ns.0.1) ≡ (with_known ns.0.0 no_commits, ns.0.1) = ap (λ (c : List (List ℕ)). (c, ns.0.1)) (sym whole) in
-    subst P (same ∙ ok_is (with_known ns.0.0 no_commits, ns.0.1) x ns.2) (text, record { size = read.size; each = λ group within. vector_at read.back read.each group (omega (arith, read.size)) })
+    let text : Takes bytes (commits_bytes read.back) ns.0.1 =
+    subst (λ (n : List Need). Takes bytes (needs_bytes n) ns.0.1) (sym read.all) found.0 in
+    let same : (read.back, ns.0.1) ≡ (with_known ns.0.0 no_commits, ns.0.1) =
+    ap (λ (c : List (List ℕ)). (c, ns.0.1)) (sym whole) in
+    subst P (same ∙ ok_is (with_known ns.0.0 no_commits, ns.0.1) x ns.2) (
+      text,
+      record {
+        size = read.size;
+        each = λ group within. vector_at read.back read.each group (omega (arith, read.size));
+      },
+    )
 
-pub commits_at_again : (commits : List (List ℕ)) (rest : List ℕ) → AreCommits commits → commits_at (commits_bytes commits ++ rest) ≡ Ok (commits, rest)
+pub commits_at_again : (commits : List (List ℕ)) (rest : List ℕ) → AreCommits commits →
+    commits_at (commits_bytes commits ++ rest) ≡ Ok (commits, rest)
 unfolding commits_at
 commits_at_again commits rest are =
     let each = each_vector commits (λ group within. are.each group (omega (arith, are.size))) in
     let spelled = known_spelled 0 0 commits (omega arith) (omega (arith, are.size)) each in
-    let read = needs_at_again MOST_SERVERS 1 (known_from 0 commits) rest (record { few = omega (arith, spelled.few, are.size); each = spelled.each; rising = spelled.rising }) in
-    let started : no_commits ≡ replicate (length commits) zeros = zeros_commits ∙ ap (λ (k : ℕ). replicate k zeros) (sym are.size) in
-    let back : with_known (known_from 0 commits) no_commits ≡ commits = ap (with_known (known_from 0 commits)) started ∙ known_back 0 [] commits refl each in
+    let read = needs_at_again MOST_SERVERS 1 (known_from 0 commits) rest
+    (record { few = omega (arith, spelled.few, are.size); each = spelled.each; rising = spelled.rising }) in
+    let started : no_commits ≡ replicate (length commits) zeros =
+    zeros_commits ∙ ap (λ (k : ℕ). replicate k zeros) (sym are.size) in
+    let back : with_known (known_from 0 commits) no_commits ≡ commits =
+    ap (with_known (known_from 0 commits)) started ∙ known_back 0 [] commits refl each in
     rw (read, back) refl
 
 -- ---- for the code
@@ -316,7 +425,8 @@ zero_number k =
     ]
 
 -- what was read before stands in front of what is read
-abbrev AreBehind : {T : Type 0} → ℕ → ℕ → List Need → ((ℕ × List Need) × List ℕ → Result T FieldFault) → ℕ → List Need → List ℕ → Type 0
+abbrev AreBehind : {T : Type 0} → ℕ → ℕ → List Need → ((ℕ × List Need) × List ℕ → Result T FieldFault) → ℕ → List Need →
+    List ℕ → Type 0
 AreBehind least n earlier behind from needs bytes =
     (times (with_need least) n (from, earlier ++ needs) bytes >>= behind)
     ≡ (times (with_need least) n (from, needs) bytes >>= λ read. behind ((read.0.0, earlier ++ read.0.1), read.1))
@@ -335,7 +445,8 @@ read_behind : {T : Type 0} (least n : ℕ) (earlier : List Need) (behind : (ℕ 
 unfolding times
 read_behind least zero earlier behind from needs bytes = refl
 read_behind least (suc n) earlier behind from needs bytes =
-    first_read least n earlier behind from needs bytes (need_at least from bytes) (read_behind least n earlier behind) refl
+    first_read least n earlier behind from needs bytes (need_at least from bytes)
+    (read_behind least n earlier behind) refl
 
 -- the commits that the needs which are read say beside these
 abbrev pub known_beside : List (List ℕ) → (ℕ × List Need) × List ℕ → Result (List (List ℕ) × List ℕ) FieldFault
@@ -344,7 +455,10 @@ known_beside commits read = Ok (with_known read.0.1 commits, read.1)
 -- what one more entry says is known before what the others say
 pub one_more_known : (n from : ℕ) (need : Need) (bytes : List ℕ) (commits : List (List ℕ))
     → (times (with_need 1) n (from, need ∷ []) bytes >>= known_beside commits)
-    ≡ (times (with_need 1) n (from, []) bytes >>= known_beside (group_raised commits need.group (numbers_in need.marks)))
+    ≡ (times (with_need 1) n (
+      from,
+      [],
+    ) bytes >>= known_beside (group_raised commits need.group (numbers_in need.marks)))
 one_more_known n from need bytes commits = read_behind 1 n (need ∷ []) (known_beside commits) from [] bytes
 
 -- ---- what is known of one group, as it is read
@@ -453,7 +567,8 @@ all_written commits place end out whole same size is so_far =
     ∙ ap (λ (needs : List Need). out ++ flat_map need_bytes needs) (sym (none_behind commits place end same size is))
     ∙ so_far
 
-known_place : (commits : List (List ℕ)) (group : ℕ) → group < length commits → drop group commits ≡ get_or commits group [] ∷ drop (group + 1) commits
+known_place : (commits : List (List ℕ)) (group : ℕ) → group < length commits →
+    drop group commits ≡ get_or commits group [] ∷ drop (group + 1) commits
 known_place commits group within = drop_more commits group [] within
 
 -- ---- the bytes of one group
@@ -486,7 +601,8 @@ one_added group count vector out more added is some =
 pub known_here : (commits : List (List ℕ)) (group : ℕ) → group < length commits
     → list_any is_some (not_zero (get_or commits group [])) ≡ true
     → known_from group (drop group commits)
-    ≡ record { group = group; marks = not_zero (get_or commits group []) } ∷ known_from (group + 1) (drop (group + 1) commits)
+    ≡ record { group = group; marks = not_zero (get_or commits group []) }
+    ∷ known_from (group + 1) (drop (group + 1) commits)
 known_here commits group within some = ap (known_from group) (known_place commits group within) ∙ rw some refl
 
 pub unknown_here : (commits : List (List ℕ)) (group : ℕ) → group < length commits
@@ -580,4 +696,5 @@ pub numbers_done : (vector : List ℕ) (p left : ℕ) (out whole : List ℕ) →
     → left ≡ marked (drop p (not_zero vector)) → out ++ marks_from p (drop p (not_zero vector)) ≡ whole → out ≡ whole
 numbers_done vector p left out whole none so_far told =
     sym (append-nil out)
-    ∙ ap (λ (rest : List ℕ). out ++ rest) (sym (none_from (drop p (not_zero vector)) p (omega (arith, none, so_far)))) ∙ told
+    ∙ ap (λ (rest : List ℕ). out
+    ++ rest) (sym (none_from (drop p (not_zero vector)) p (omega (arith, none, so_far)))) ∙ told

@@ -20,7 +20,8 @@ pub all-with_item : {A : Type 0} (P : A → Type 0) (is_before : A → A → Boo
     → AllByRecursion P others → AllByRecursion P (with_item is_before item others)
 all-with_item P is_before item [] here all = (here, tt)
 all-with_item P is_before item (other ∷ others) here all =
-    elim (is_before other item) as (λ t. AllByRecursion P (if t then other ∷ with_item is_before item others else item ∷ other ∷ others)) [
+    elim (is_before other item) as (λ t. AllByRecursion P (if t then other ∷ with_item is_before item others
+    else item ∷ other ∷ others)) [
       | true ↦ (all.0, all-with_item P is_before item others here all.1)
       | false ↦ (here, all)
     ]
@@ -41,19 +42,22 @@ with_items-push is_before (first ∷ items) others item =
 place_tail : {A : Type 0} (is_before : A → A → Bool) (item other : A) (others : List A) (t : Bool)
     → is_before other item ≡ t
     → with_item is_before item others
-    ≡ take (prefix_len (λ o. is_before o item) others) others ++ item ∷ drop (prefix_len (λ o. is_before o item) others) others
+    ≡ take (prefix_len (λ o. is_before o item) others) others
+    ++ item ∷ drop (prefix_len (λ o. is_before o item) others) others
     → with_item is_before item (other ∷ others)
     ≡ take (prefix_len (λ o. is_before o item) (other ∷ others)) (other ∷ others)
     ++ item ∷ drop (prefix_len (λ o. is_before o item) (other ∷ others)) (other ∷ others)
 place_tail {A} is_before item other others true e later =
-    let next : 1 + prefix_len (λ o. is_before o item) others ≡ suc (prefix_len (λ o. is_before o item) others) = omega arith in
+    let next : 1 + prefix_len (λ o. is_before o item) others ≡ suc (prefix_len (λ o. is_before o item) others) =
+    omega arith in
     rw (e, next) (ap (λ (more : List A). other ∷ more) later)
 place_tail is_before item other others false e later = rw e refl
 
 -- the item's place is behind all that stand before it
 pub with_item-place : {A : Type 0} (is_before : A → A → Bool) (item : A) (others : List A)
     → with_item is_before item others
-    ≡ take (prefix_len (λ o. is_before o item) others) others ++ item ∷ drop (prefix_len (λ o. is_before o item) others) others
+    ≡ take (prefix_len (λ o. is_before o item) others) others
+    ++ item ∷ drop (prefix_len (λ o. is_before o item) others) others
 with_item-place is_before item [] = refl
 with_item-place is_before item (other ∷ others) =
     place_tail is_before item other others (is_before other item) refl (with_item-place is_before item others)
@@ -78,9 +82,11 @@ count_with_item test is_before item [] = count_cons test item []
 count_with_item test is_before item (other ∷ others) =
     let later = count_with_item test is_before item others in
     let last = count_cons test other others in
-    let moved : count_by test (other ∷ with_item is_before item others) ≡ cond (test item) 1 0 + count_by test (other ∷ others) =
+    let moved : count_by test (other ∷ with_item is_before item others) ≡ cond (test item) 1 0
+    + count_by test (other ∷ others) =
     omega (arith, later, last, count_cons test other (with_item is_before item others)) in
-    elim (is_before other item) as (λ t. count_by test (if t then other ∷ with_item is_before item others else item ∷ other ∷ others) ≡ cond (test item) 1 0 + count_by test (other ∷ others)) [
+    elim (is_before other item) as (λ t. count_by test (if t then other ∷ with_item is_before item others
+    else item ∷ other ∷ others) ≡ cond (test item) 1 0 + count_by test (other ∷ others)) [
       | true ↦ moved
       | false ↦ count_cons test item (other ∷ others)
     ]
@@ -130,8 +136,10 @@ logs_rise-with : (last : Option (ℕ × ℕ)) (log : Logged) (logs : List Logged
     → logs_rise last (with_item is_earlier log logs) ≡ true
 logs_rise-with last log [] follows none rising = and_from (log_follows last log.origin log.group) true follows refl
 logs_rise-with last log (next ∷ logs) follows none rising =
-    let parts = and_parts (log_follows last next.origin next.group) (logs_rise (Some (next.origin, next.group)) logs) rising in
-    elim (is_earlier next log) as (λ t. is_earlier next log ≡ t → logs_rise last (if t then next ∷ with_item is_earlier log logs else log ∷ next ∷ logs) ≡ true) [
+    let parts = and_parts (log_follows last next.origin next.group)
+    (logs_rise (Some (next.origin, next.group)) logs) rising in
+    elim (is_earlier next log) as (λ t. is_earlier next log ≡ t →
+    logs_rise last (if t then next ∷ with_item is_earlier log logs else log ∷ next ∷ logs) ≡ true) [
       | true ↦ λ earlier. and_from (log_follows last next.origin next.group)
           (logs_rise (Some (next.origin, next.group)) (with_item is_earlier log logs)) parts.0
           (logs_rise-with (Some (next.origin, next.group)) log logs earlier none.1 parts.1)
@@ -154,9 +162,11 @@ pub logs_rise-filter : (test : Logged → Bool) (last : Option (ℕ × ℕ)) (lo
     → logs_rise last (filter test logs) ≡ true
 logs_rise-filter test last [] rising = refl
 logs_rise-filter test last (log ∷ logs) rising =
-    let parts = and_parts (log_follows last log.origin log.group) (logs_rise (Some (log.origin, log.group)) logs) rising in
+    let parts = and_parts (log_follows last log.origin log.group)
+    (logs_rise (Some (log.origin, log.group)) logs) rising in
     elim (test log) as (λ t. logs_rise last (cond t (log ∷ filter test logs) (filter test logs)) ≡ true) [
-      | true ↦ and_from (log_follows last log.origin log.group) (logs_rise (Some (log.origin, log.group)) (filter test logs))
+      | true ↦ and_from (log_follows last log.origin log.group)
+          (logs_rise (Some (log.origin, log.group)) (filter test logs))
           parts.0 (logs_rise-filter test (Some (log.origin, log.group)) logs parts.1)
       | false ↦ logs_rise-filter test last logs (logs_rise-behind last log logs parts.0 parts.1)
     ]
@@ -208,8 +218,10 @@ needs_rise-with : (from : ℕ) (need : Need) (needs : List Need) → nat_le from
 needs_rise-with from need [] above none rising = and_from (nat_le from need.group) true above refl
 needs_rise-with from need (next ∷ needs) above none rising =
     let parts = and_parts (nat_le from next.group) (needs_rise (next.group + 1) needs) rising in
-    elim (is_lower next need) as (λ t. is_lower next need ≡ t → needs_rise from (if t then next ∷ with_item is_lower need needs else need ∷ next ∷ needs) ≡ true) [
-      | true ↦ λ lower. and_from (nat_le from next.group) (needs_rise (next.group + 1) (with_item is_lower need needs)) parts.0
+    elim (is_lower next need) as (λ t. is_lower next need ≡ t →
+    needs_rise from (if t then next ∷ with_item is_lower need needs else need ∷ next ∷ needs) ≡ true) [
+      | true ↦ λ lower. and_from (nat_le from next.group)
+          (needs_rise (next.group + 1) (with_item is_lower need needs)) parts.0
           (needs_rise-with (next.group + 1) need needs (grind (arith, nat_tests, lower)) none.1 parts.1)
       | false ↦ λ higher. and_from (nat_le from need.group) (needs_rise (need.group + 1) (next ∷ needs)) above
           (and_from (nat_le (need.group + 1) next.group) (needs_rise (next.group + 1) needs)
@@ -275,15 +287,18 @@ put_next {A} is_before item rest left others now all popped put whole =
     ap (with_items is_before left) put ∙ sym (with_items-push is_before left others item)
     ∙ ap (λ (more : List A). with_items is_before more others) (sym popped) ∙ whole
 
-find_none : {A : Type 0} (test : A → Bool) (items : List A) → find test items ≡ None → AllByRecursion (λ item. test item ≡ false) items
+find_none : {A : Type 0} (test : A → Bool) (items : List A) → find test items ≡ None →
+    AllByRecursion (λ item. test item ≡ false) items
 find_none test [] none = tt
 find_none {A} test (item ∷ items) none =
-    elim (test item) as (λ t. test item ≡ t → cond t (Some item) (find test items) ≡ None → AllByRecursion (λ x. test x ≡ false) (item ∷ items)) [
+    elim (test item) as (λ t. test item ≡ t → cond t (Some item) (find test items) ≡ None →
+    AllByRecursion (λ x. test x ≡ false) (item ∷ items)) [
       | true ↦ λ is found. absurd cc
       | false ↦ λ is later. (is, find_none test items later)
     ] refl none
 
 pub none_found : {A : Type 0} (found : Option (Bor A)) (test : A → Bool) (items : List A) (b : Bool)
-    → option_copied found ≡ find test items → b ≡ is_some found → b ≡ false → AllByRecursion (λ item. test item ≡ false) items
+    → option_copied found ≡ find test items → b ≡ is_some found → b ≡ false →
+    AllByRecursion (λ item. test item ≡ false) items
 none_found None test items b same is isnt = find_none test items (sym same)
 none_found (Some item) test items b same is isnt = absurd (let clash = sym isnt ∙ is in cc)

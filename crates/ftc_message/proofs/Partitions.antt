@@ -6,7 +6,8 @@ use Rattle.ftc_vector.specs.Vector.{IsEnd}
 use Rattle.ftc_message.specs.Spelling.{marked, marks_from, parts_from}
 use Rattle.ftc_message.proofs.MarkLaws.{marked_few}
 
-pub count_small : (marks : List (Option ℕ)) (p count : ℕ) → count + marked (drop p marks) ≡ marked marks → count ≤ length marks
+pub count_small : (marks : List (Option ℕ)) (p count : ℕ) → count + marked (drop p marks) ≡ marked marks →
+    count ≤ length marks
 count_small marks p count so_far = omega (arith, marked_few marks)
 
 -- no partition has a mark
@@ -45,11 +46,13 @@ pub marks_all : (marks : List (Option ℕ)) (end p : ℕ) (out whole : List ℕ)
     → out ++ marks_from p (drop p marks) ≡ whole → out ≡ whole
 marks_all marks end p out whole is past so_far =
     sym (append-nil out)
-    ∙ ap (λ (rest : List ℕ). out ++ rest) (sym (none_marked (drop p marks) p (none_behind marks end p is past))) ∙ so_far
+    ∙ ap (λ (rest : List ℕ). out
+    ++ rest) (sym (none_marked (drop p marks) p (none_behind marks end p is past))) ∙ so_far
 
 pub parts_all : (marks : List (Option ℕ)) (changed end p : ℕ) (out whole : List ℕ) → IsEnd marks end → end ≤ p
     → out ++ parts_from changed p (drop p marks) ≡ whole → out ≡ whole
 parts_all marks changed end p out whole is past so_far =
     sym (append-nil out)
-    ∙ ap (λ (rest : List ℕ). out ++ rest) (sym (none_in_parts (drop p marks) changed p (none_behind marks end p is past)))
+    ∙ ap (λ (rest : List ℕ). out
+    ++ rest) (sym (none_in_parts (drop p marks) changed p (none_behind marks end p is past)))
     ∙ so_far

@@ -30,7 +30,8 @@ within_at least most bytes = do
 
 -- so many bytes
 unfoldable pub taken_at : ℕ → List ℕ → Result (List ℕ × List ℕ) FieldFault
-taken_at count bytes = if nat_lt (length bytes) count then fault_at bytes Cut else Ok (take count bytes, drop count bytes)
+taken_at count bytes = if nat_lt (length bytes) count then fault_at bytes Cut
+    else Ok (take count bytes, drop count bytes)
 
 -- a number of so many bytes
 unfoldable pub number_at : ℕ → List ℕ → Result (ℕ × List ℕ) FieldFault

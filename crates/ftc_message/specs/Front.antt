@@ -11,7 +11,8 @@ IsField (Ok found) told = told ≡ Ok (found.0, found.1.now)
 IsField (Err fault) told = told ≡ Err fault
 
 -- the same, unless memory was refused
-abbrev pub IsFront : {A : Type 0} → Result (A × Bor (List ℕ)) (Refuse FieldFault) → Result (A × List ℕ) FieldFault → Type 0
+abbrev pub IsFront : {A : Type 0} → Result (A × Bor (List ℕ)) (Refuse FieldFault) → Result (A × List ℕ) FieldFault →
+    Type 0
 IsFront (Ok found) told = told ≡ Ok (found.0, found.1.now)
 IsFront (Err (Bad fault)) told = told ≡ Err fault
 IsFront (Err NoMemory) told = ⊤
@@ -22,7 +23,8 @@ IsTaken (Ok found) told = told ≡ Ok (found.0.now, found.1.now)
 IsTaken (Err fault) told = told ≡ Err fault
 
 -- a call that takes no memory answers what the grammar says, its value seen so
-abbrev pub IsFieldBy : {A B : Type 0} → (A → B) → Result (A × Bor (List ℕ)) FieldFault → Result (B × List ℕ) FieldFault → Type 0
+abbrev pub IsFieldBy : {A B : Type 0} → (A → B) → Result (A × Bor (List ℕ)) FieldFault →
+    Result (B × List ℕ) FieldFault → Type 0
 IsFieldBy view (Ok found) told = told ≡ Ok (view found.0, found.1.now)
 IsFieldBy view (Err fault) told = told ≡ Err fault
 

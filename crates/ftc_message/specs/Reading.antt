@@ -1,7 +1,10 @@
 -- Reading from left to right, with the first fault that is met.
-use Rattle.std.specs.Prelude.{ℕ, zero, suc, ◌+◌, ◌-◌, ◌^◌, Bool, ◌==◌, nat_le, List, [], ◌∷◌, ◌++◌, length, slice_index_or, slice_set, bit_or, Option, Some, None, is_some, unwrap_or, Result, Ok, Err, if◌then◌else◌}
+use Rattle.std.specs.Prelude.{ℕ, zero, suc, ◌+◌, ◌-◌, ◌^◌, Bool, ◌==◌, nat_le, List, [], ◌∷◌, ◌++◌, length}
+use Rattle.std.specs.Prelude.{slice_index_or, slice_set, bit_or, Option, Some, None, is_some, unwrap_or, Result, Ok}
+use Rattle.std.specs.Prelude.{Err, if◌then◌else◌}
 use Rattle.std.specs.Str.{bytes_eq}
-use Rattle.ftc_base.specs.declared.limits.TheConstants.{MOST_SERVERS, MOST_PARTITIONS, MOST_KEY_BYTES, MOST_VALUE_BYTES, MOST_WRITES, MOST_CAPTURED}
+use Rattle.ftc_base.specs.declared.limits.TheConstants.{MOST_SERVERS, MOST_PARTITIONS, MOST_KEY_BYTES, MOST_VALUE_BYTES}
+use Rattle.ftc_base.specs.declared.limits.TheConstants.{MOST_WRITES, MOST_CAPTURED}
 use Rattle.ftc_base.specs.declared.ask.Write.{Write}
 use Rattle.ftc_vector.specs.Vector.{by_partition}
 use Rattle.ftc_vector.specs.Commits.{by_group, group_raised}
@@ -18,7 +21,8 @@ use Rattle.ftc_base.specs.Reading.{◌>>=◌, ◌>>◌, unless}
 use Rattle.ftc_message.specs.Fields.{fault_of, within_at, taken_at, number_at, group_at}
 
 -- so many steps, each of which reads from the front and adds to what was read so far
-unfoldable pub times : {S : Type 0} → (S → List ℕ → Result (S × List ℕ) FieldFault) → ℕ → S → List ℕ → Result (S × List ℕ) FieldFault
+unfoldable pub times : {S : Type 0} → (S → List ℕ → Result (S × List ℕ) FieldFault) → ℕ → S → List ℕ →
+    Result (S × List ℕ) FieldFault
 times step zero so_far bytes = Ok (so_far, bytes)
 times step (suc count) so_far bytes = do
   next ← step so_far bytes
@@ -81,7 +85,10 @@ no_parts = record { before = no_marks; changed = 0 }
 
 -- with that partition besides
 abbrev pub plus_part : Part → Parts → Parts
-plus_part part parts = record { before = slice_set parts.before part.partition (Some part.number); changed = changed_by part parts.changed }
+plus_part part parts = record {
+  before = slice_set parts.before part.partition (Some part.number);
+  changed = changed_by part parts.changed;
+}
 
 -- the partition from which on the next one may be, and the partitions so far
 abbrev pub with_part : ℕ × Parts → List ℕ → Result ((ℕ × Parts) × List ℕ) FieldFault
@@ -124,7 +131,8 @@ write_at last bytes = do
   Ok (record { key = key.0; value = value.0 }, value.1)
 
 -- the last key, and the writes so far
-abbrev pub with_write : Option (List ℕ) × List Write → List ℕ → Result ((Option (List ℕ) × List Write) × List ℕ) FieldFault
+abbrev pub with_write : Option (List ℕ) × List Write → List ℕ →
+    Result ((Option (List ℕ) × List Write) × List ℕ) FieldFault
 with_write so_far bytes = do
   write ← write_at so_far.0 bytes
   Ok ((Some write.0.key, so_far.1 ++ write.0 ∷ []), write.1)
@@ -148,10 +156,20 @@ log_at last bytes = do
   head ← head_at last bytes
   parts ← parts_at head.1
   writes ← writes_at parts.1
-  Ok (record { group = head.0.1; origin = head.0.0; before = parts.0.before; changed = parts.0.changed; writes = writes.0 }, writes.1)
+  Ok (
+    record {
+      group = head.0.1;
+      origin = head.0.0;
+      before = parts.0.before;
+      changed = parts.0.changed;
+      writes = writes.0;
+    },
+    writes.1,
+  )
 
 -- the origin and the group of the last log, and the logs so far
-abbrev pub with_log : Option (ℕ × ℕ) × List Logged → List ℕ → Result ((Option (ℕ × ℕ) × List Logged) × List ℕ) FieldFault
+abbrev pub with_log : Option (ℕ × ℕ) × List Logged → List ℕ →
+    Result ((Option (ℕ × ℕ) × List Logged) × List ℕ) FieldFault
 with_log so_far bytes = do
   log ← log_at so_far.0 bytes
   Ok ((Some (log.0.origin, log.0.group), so_far.1 ++ log.0 ∷ []), log.1)

@@ -1,5 +1,6 @@
 -- The bytes of a message.
-use Rattle.std.specs.Prelude.{ℕ, ◌+◌, Bool, ◌==◌, List, [], ◌∷◌, ◌++◌, length, map, Option, Some, None, is_some, if◌then◌else◌, codes}
+use Rattle.std.specs.Prelude.{ℕ, ◌+◌, Bool, ◌==◌, List, [], ◌∷◌, ◌++◌, length, map, Option, Some, None, is_some}
+use Rattle.std.specs.Prelude.{if◌then◌else◌, codes}
 use Rattle.std.specs.List.{flat_map, list_any}
 use Rattle.ftc_base.specs.Sets.{has}
 use Rattle.ftc_base.specs.declared.ask.Write.{Write}
@@ -58,7 +59,8 @@ writes_bytes writes = length writes ∷ flat_map write_bytes writes
 
 -- group 1, origin 4, the partitions, the writes
 abbrev pub log_bytes : Logged → List ℕ
-log_bytes log = log.group ∷ (number_bytes 4 log.origin ++ (parts_bytes log.before log.changed ++ writes_bytes log.writes))
+log_bytes log = log.group
+    ∷ (number_bytes 4 log.origin ++ (parts_bytes log.before log.changed ++ writes_bytes log.writes))
 
 -- count 4, the logs
 abbrev pub logs_bytes : List Logged → List ℕ

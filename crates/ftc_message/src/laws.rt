@@ -1,6 +1,7 @@
 //! What holds of messages and their frames.
 
-ghost use Rattle.std.specs.Prelude.{◌≡◌, ◌↔◌, ◌≤◌, ◌<◌, ◌+◌, ◌^◌, ◌++◌, ℕ, Bool, true, List, [], length, filter, count_by, Option, Ok, Err, slice_index};
+ghost use Rattle.std.specs.Prelude.{◌≡◌, ◌↔◌, ◌≤◌, ◌<◌, ◌+◌, ◌^◌, ◌++◌, ℕ, Bool, true, List, [], length, filter};
+ghost use Rattle.std.specs.Prelude.{count_by, Option, Ok, Err, slice_index};
 ghost use Rattle.std.specs.List.{AllByRecursion};
 ghost use Rattle.ftc_message.specs.Logged.{Logged, log_follows};
 ghost use Rattle.ftc_message.specs.Numbers.{number_bytes, number_of};
@@ -8,7 +9,8 @@ ghost use Rattle.ftc_message.specs.Bounds.{IsLog, AreLogs, IsNeed, AreNeeds, Are
 ghost use Rattle.ftc_message.specs.WellFormed.{IsTyped, IsWellFormed};
 ghost use Rattle.ftc_message.specs.Spelling.{spelling, log_bytes, needs_bytes, commits_bytes};
 ghost use Rattle.ftc_message.specs.Reading.{log_at, needs_at, commits_at, message_of};
-ghost use Rattle.ftc_message.specs.Ordered.{with_item, with_items, is_earlier, HasNone, AreApart, is_lower, HasNoNeed, AreOfOthers};
+ghost use Rattle.ftc_message.specs.Ordered.{with_item, with_items, is_earlier, HasNone, AreApart, is_lower, HasNoNeed};
+ghost use Rattle.ftc_message.specs.Ordered.{AreOfOthers};
 ghost use Rattle.std.specs.Cmp.Lexicographic.{pointwise};
 ghost use Rattle.ftc_message.specs.Same.{same_log, same_need, same_message};
 
@@ -31,9 +33,11 @@ pub fn numbers()
 pub fn one_spelling()
     ensures same { (one other : Message) → IsTyped one → IsWellFormed one → IsTyped other → IsWellFormed other →
         spelling one ≡ spelling other → one ≡ other }
-    ensures front { (one other : Message) (rest : List ℕ) → IsTyped one → IsWellFormed one → IsTyped other → IsWellFormed other →
+    ensures front { (one other : Message) (rest : List ℕ) → IsTyped one → IsWellFormed one → IsTyped other →
+        IsWellFormed other →
         spelling one ++ rest ≡ spelling other → rest ≡ [] }
-    ensures read { (message : Message) → IsTyped message → IsWellFormed message → message_of (spelling message) ≡ Ok message }
+    ensures read { (message : Message) → IsTyped message → IsWellFormed message →
+        message_of (spelling message) ≡ Ok message }
     ensures right { (message : Message) (fault : FrameFault) → IsTyped message → IsWellFormed message →
         message_of (spelling message) ≡ Err fault → ⊥ }
 {}

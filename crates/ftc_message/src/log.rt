@@ -32,9 +32,21 @@ impl Model for Log {
 
     ghost Value = { Logged };
 
-    ghost view = { λ log. record { group = log.group; origin = log.origin; before = log.before; changed = log.changed; writes = log.writes.items } };
+    ghost view = { λ log. record {
+      group = log.group;
+      origin = log.origin;
+      before = log.before;
+      changed = log.changed;
+      writes = log.writes.items;
+    } };
 
-    ghost invariant = { λ log. IsLog (record { group = log.group; origin = log.origin; before = log.before; changed = log.changed; writes = log.writes.items }) };
+    ghost invariant = { λ log. IsLog (record {
+      group = log.group;
+      origin = log.origin;
+      before = log.before;
+      changed = log.changed;
+      writes = log.writes.items;
+    }) };
 }
 
 /// Every write has a key and a value of few bytes.
@@ -69,7 +81,13 @@ impl Log {
     ) -> Log
         requires marked { (partition : ℕ) → has changed partition ≡ true → IsSome (mark_at before partition) }
         requires rising { keys_rise None writes.items ≡ true }
-        ensures { result ≡ record { group = group; origin = origin; before = before; changed = changed; writes = writes.items } }
+        ensures { result ≡ record {
+          group = group;
+          origin = origin;
+          before = before;
+          changed = changed;
+          writes = writes.items;
+        } }
     {
         // The contracts of these calls tell the bounds of the parts.
         let _ = (group.number(), before.at(0));

@@ -1,6 +1,7 @@
 //! Lists of logs.
 
-ghost use Rattle.std.specs.Prelude.{◌≡◌, ◌<◌, ◌≤◌, ◌+◌, ◌++◌, ◌==◌, [], ◌∷◌, true, false, is_some, length, vec_len, vec_capacity, Some, None, slice_get, IfOk, OnOk, OnErr};
+ghost use Rattle.std.specs.Prelude.{◌≡◌, ◌<◌, ◌≤◌, ◌+◌, ◌++◌, ◌==◌, [], ◌∷◌, true, false, is_some, length, vec_len};
+ghost use Rattle.std.specs.Prelude.{vec_capacity, Some, None, slice_get, IfOk, OnOk, OnErr};
 ghost use Rattle.std.specs.List.{AllByRecursion, find, prefix_len};
 ghost use Rattle.std.specs.Option.{option_copied};
 ghost use Rattle.ftc_message.specs.Logged.{logs_rise};
@@ -9,7 +10,8 @@ ghost use Rattle.ftc_message.specs.Same.{same_log};
 ghost use Rattle.ftc_message.specs.SameLaws.{log_list_equivalence};
 ghost use Rattle.std.specs.Cmp.{partial_equiv_from_equiv};
 ghost use Rattle.std.specs.Cmp.Lexicographic.{pointwise};
-ghost use Rattle.ftc_message.specs.Ordered.{with_item, with_items, is_earlier, is_log_of, HasNone, AreApart, logs_without};
+ghost use Rattle.ftc_message.specs.Ordered.{with_item, with_items, is_earlier, is_log_of, HasNone, AreApart};
+ghost use Rattle.ftc_message.specs.Ordered.{logs_without};
 
 use crate::log::Log;
 use ftc_base::{Items, NoMemory, PacketNo, ServerId, ServerSet};

@@ -1,6 +1,7 @@
 //! What has to be known of a tail before a packet may be released.
 
-ghost use Rattle.std.specs.Prelude.{◌≡◌, ◌<◌, ◌≤◌, ◌+◌, ◌++◌, ◌==◌, [], ◌∷◌, true, false, is_some, length, vec_len, vec_capacity, Some, None, slice_get, IfOk, OnOk, OnErr};
+ghost use Rattle.std.specs.Prelude.{◌≡◌, ◌<◌, ◌≤◌, ◌+◌, ◌++◌, ◌==◌, [], ◌∷◌, true, false, is_some, length, vec_len};
+ghost use Rattle.std.specs.Prelude.{vec_capacity, Some, None, slice_get, IfOk, OnOk, OnErr};
 ghost use Rattle.std.specs.List.{AllByRecursion, find, prefix_len};
 ghost use Rattle.std.specs.Option.{option_copied};
 ghost use Rattle.ftc_message.specs.Logged.{needs_rise};
@@ -9,7 +10,8 @@ ghost use Rattle.ftc_message.specs.Same.{same_need};
 ghost use Rattle.ftc_message.specs.SameLaws.{need_list_equivalence};
 ghost use Rattle.std.specs.Cmp.{partial_equiv_from_equiv};
 ghost use Rattle.std.specs.Cmp.Lexicographic.{pointwise};
-ghost use Rattle.ftc_message.specs.Ordered.{with_item, with_items, is_lower, is_need_of, HasNoNeed, AreOfOthers, needs_without};
+ghost use Rattle.ftc_message.specs.Ordered.{with_item, with_items, is_lower, is_need_of, HasNoNeed, AreOfOthers};
+ghost use Rattle.ftc_message.specs.Ordered.{needs_without};
 
 use ftc_base::{NoMemory, ServerId, ServerSet};
 use ftc_vector::Marks;

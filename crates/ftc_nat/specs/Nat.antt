@@ -1,5 +1,6 @@
 -- The rule of a translator.
-use Rattle.std.specs.Prelude.{ℕ, ◌+◌, ◌==◌, ◌&&◌, nat_lt, not, List, [], ◌∷◌, ◌++◌, length, Option, Some, None, if◌then◌else◌, codes, true, false, take, drop, Bool, unwrap_or}
+use Rattle.std.specs.Prelude.{ℕ, ◌+◌, ◌==◌, ◌&&◌, nat_lt, not, List, [], ◌∷◌, ◌++◌, length, Option, Some, None}
+use Rattle.std.specs.Prelude.{if◌then◌else◌, codes, true, false, take, drop, Bool, unwrap_or}
 use Rattle.std.specs.Int.{w16, w32, to_be_bytes, from_be_bytes}
 use Rattle.ftc_base.specs.declared.ask.Answer.{Answer}
 use Rattle.ftc_base.specs.declared.ask.Ask.{Ask}
@@ -26,7 +27,8 @@ inside_key protocol port = codes "r" ++ protocol ∷ to_be_bytes w16 port
 abbrev pub leaves : NatRule → Flow → Bool
 leaves rule flow = contains rule.inside flow.source && not (contains rule.inside flow.destination)
 
--- A port that is drawn for an endpoint: its reverse key is read too, and then the two keys and the next port are written.
+-- A port that is drawn for an endpoint: its reverse key is read too, and then the two keys and the next port are
+-- written.
 abbrev pub drawing : NatRule → Flow → ℕ → List Answer → Ask
 drawing rule flow port [] = Read (inside_key flow.protocol port) true
 drawing rule flow port (reverse ∷ answers) =

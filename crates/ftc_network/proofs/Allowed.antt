@@ -18,7 +18,8 @@ use Rattle.ftc_network.specs.Slots.{IsAtRest}
 use Rattle.ftc_network.specs.Stand.{IsSlot, IsUp}
 
 -- of a server that is up
-pub at_up : (event : Event) (number : ℕ) (slot : Option Server) (server : Server) (test value : Bool) → slot ≡ Some server →
+pub at_up : (event : Event) (number : ℕ) (slot : Option Server) (server : Server) (test value : Bool) →
+    slot ≡ Some server →
     ((setting : Setting) (state : ChainState) → IsRunState setting state → IsLegal setting state event →
     state.events < 2 ^ 64 - 1 → IsUp setting state number server → test ≡ value) →
     ∥ IsAllowedAt event number slot ∥₁ → test ≡ value
@@ -36,7 +37,8 @@ below_servers event network number proves allowed = ltb-true number network.ring
     (lt-ltb number (servers given.setting) (proves given.setting given.state given.run given.legal))))
 
 -- what is allowed with a network is allowed with its server of a number
-pub slot_allowed : (event : Event) (network : Network) (number : ℕ) (slot : Option Server) → number < network.ring.servers →
+pub slot_allowed : (event : Event) (network : Network) (number : ℕ) (slot : Option Server) →
+    number < network.ring.servers →
     slot ≡ server_in network.servers.items number → ∥ IsAllowed event network ∥₁ → ∥ IsAllowedAt event number slot ∥₁
 slot_allowed event network number slot below same allowed = ∥∥₁_map allowed (λ given. record {
   setting = given.setting;

@@ -1,5 +1,6 @@
 -- What a slot that begins a visit runs is ready.
-use Rattle.std.proofs.Common.{◌≡◌, ◌∙◌, ◌<◌, ℕ, true, List, Option, Some, None, length, slice_set, inl, inr, sym, ap, subst, length-set}
+use Rattle.std.proofs.Common.{◌≡◌, ◌∙◌, ◌<◌, ℕ, true, List, Option, Some, None, length, slice_set, inl, inr, sym, ap}
+use Rattle.std.proofs.Common.{subst, length-set}
 use Rattle.std.proofs.lemmas.Bool.{cases_eq, cases_lt}
 use Rattle.std.proofs.lemmas.List.{get_or_past}
 use Rattle.ftc_base.specs.declared.limits.TheConstants.{MOST_SLOTS}

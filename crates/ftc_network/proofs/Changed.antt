@@ -1,5 +1,6 @@
 -- Servers and links of which one is changed.
-use Rattle.std.proofs.Common.{◌≢◌, ◌<◌, ℕ, false, List, [], Option, None, length, slice_set, inl, inr, sym, subst, get_or-set_same, get_or-set_other}
+use Rattle.std.proofs.Common.{◌≢◌, ◌<◌, ℕ, false, List, [], Option, None, length, slice_set, inl, inr, sym, subst}
+use Rattle.std.proofs.Common.{get_or-set_same, get_or-set_other}
 use Rattle.std.proofs.lemmas.Bool.{cases_eq}
 use Rattle.ftc_link.specs.Queue.{Queue}
 use Rattle.ftc_server.specs.declared.server.Server.{Server}

@@ -1,6 +1,8 @@
 -- The receiver of a link gains a visit exactly where the protocol says that there is news.
-use Rattle.std.proofs.Common.{◌≡◌, ◌<◌, ◌==◌, ◌&&◌, ◌∙◌, ℕ, zero, suc, Bool, true, false, not, List, [], ◌∷◌, length, inl, inr, refl, sym, ap, subst, arith, if◌then◌else◌}
-use Rattle.std.proofs.lemmas.Bool.{and_parts, and_from, eqb-true, cases_Bool, cases_eq, true≢false, or_left, or_right, or_cases, not-true}
+use Rattle.std.proofs.Common.{◌≡◌, ◌<◌, ◌==◌, ◌&&◌, ◌∙◌, ℕ, zero, suc, Bool, true, false, not, List, [], ◌∷◌, length}
+use Rattle.std.proofs.Common.{inl, inr, refl, sym, ap, subst, arith, if◌then◌else◌}
+use Rattle.std.proofs.lemmas.Bool.{and_parts, and_from, eqb-true, cases_Bool, cases_eq, true≢false, or_left, or_right}
+use Rattle.std.proofs.lemmas.Bool.{or_cases, not-true}
 use Rattle.std.proofs.lemmas.Bool.Decides.{nat_tests}
 use Rattle.std.specs.List.{list_any}
 use Rattle.ftc_journal.specs.declared.event.Event.TheVariants.{Pull}
@@ -53,7 +55,8 @@ visit_in test Kind group packet each (Visited visited passed outcome ∷ older) 
     (subst (λ g. test (Visited g passed outcome) ≡ true) (sym here.0)
     (subst (λ p. test (Visited group p outcome) ≡ true) (sym here.1) (each outcome)))
 visit_in test Kind group packet each (Visited visited passed outcome ∷ older) (inr later) =
-    or_right (test (Visited visited passed outcome)) (list_any test older) (visit_in test Kind group packet each older later)
+    or_right (test (Visited visited passed outcome)) (list_any test older)
+    (visit_in test Kind group packet each older later)
 visit_in test Kind group packet each (Given released bytes ∷ older) (inl here) = absurd here
 visit_in test Kind group packet each (Given released bytes ∷ older) (inr later) =
     or_right (test (Given released bytes)) (list_any test older) (visit_in test Kind group packet each older later)
@@ -92,7 +95,8 @@ one_lacked partitions group trace set list (log ∷ logs) turn all some = (
 none_lacked : (set list : Packets) (logs : List Logged) → ((q : ℕ) → with_all set logs q ≡ list q) →
     (length logs == 0) ≡ true → (q : ℕ) → list q ≡ set q
 none_lacked set list [] all none q = sym (all q)
-none_lacked set list (log ∷ logs) all none q = absurd (let zero_is = eqb-true (length (log ∷ logs)) 0 none in omega arith)
+none_lacked set list (log ∷ logs) all none q =
+    absurd (let zero_is = eqb-true (length (log ∷ logs)) 0 none in omega arith)
 
 -- the last member of a group, by its number and by the distance
 tail_same : (setting : Setting) (group server : ℕ) → IsRing (shape setting) → group < servers setting →
@@ -101,7 +105,8 @@ tail_same setting group server ring below inside =
     let less = ring.failures in grind (arith, nat_tests)
 
 module _ (c : Setting) (s : ChainState) (h : IsSteadyState c s) (link : ℕ) (legal : IsLegal c s (Pull link))
-    (sender old : Server) (sends : IsServerAt c s link sender) (is : IsServerAt c s (next_of (servers c) link) old) where
+    (sender old : Server) (sends : IsServerAt c s link sender)
+    (is : IsServerAt c s (next_of (servers c) link) old) where
   abbrev receiver : ℕ
   receiver = next_of (servers c) link
 
@@ -125,15 +130,18 @@ module _ (c : Setting) (s : ChainState) (h : IsSteadyState c s) (link : ℕ) (le
       ∙ (ap (λ b. not b && not (is_tail c group receiver)) lacks ∙ ap not isnt))
 
   -- a gain is news
-  gain_is_news : (group : ℕ) → group < servers c → gain_at group ≡ true → list_any (is_news c s link receiver) s.trace ≡ true
+  gain_is_news : (group : ℕ) → group < servers c → gain_at group ≡ true →
+      list_any (is_news c s link receiver) s.trace ≡ true
   gain_is_news group inside gains =
       let parts = and_parts (is_shared c group link receiver)
       (not (length (lacking sender old group) == 0) && not (tail_of (shape c) group == receiver)) gains in
-      let rest = and_parts (not (length (lacking sender old group) == 0)) (not (tail_of (shape c) group == receiver)) parts.1 in
+      let rest = and_parts (not (length (lacking sender old group) == 0))
+      (not (tail_of (shape c) group == receiver)) parts.1 in
       let isnt : is_tail c group receiver ≡ false =
       sym (tail_same c group receiver h.run.right.ring inside (h.tied.order.inside receiver legal.0.1))
       ∙ not-true (tail_of (shape c) group == receiver) rest.1 in
-      let one = one_lacked c.partitions group s.trace (s.lists receiver group) (s.lists link group) (lacking sender old group)
+      let one = one_lacked c.partitions group s.trace (s.lists receiver group) (s.lists link group)
+      (lacking sender old group)
       (turn c s h link legal sender old sends is group inside parts.0)
       (all c s h link legal sender old sends is group inside parts.0)
       (not-true (length (lacking sender old group) == 0) rest.0) in
@@ -141,7 +149,8 @@ module _ (c : Setting) (s : ChainState) (h : IsSteadyState c s) (link : ℕ) (le
       (λ outcome. news_at group one.0 outcome inside parts.0 one.1 one.2 isnt) s.trace one.3
 
   -- news is a gain
-  news_is_gain : list_any (is_news c s link receiver) s.trace ≡ true → any_below (is_gained (shape c) sender old) (servers c) ≡ true
+  news_is_gain : list_any (is_news c s link receiver) s.trace ≡ true →
+      any_below (is_gained (shape c) sender old) (servers c) ≡ true
   news_is_gain news =
       let entry = found_in (is_news c s link receiver) (λ packet bytes. refl) s.trace news in
       let group = entry.0 in
@@ -152,7 +161,8 @@ module _ (c : Setting) (s : ChainState) (h : IsSteadyState c s) (link : ℕ) (le
       let lacks : s.lists receiver group packet ≡ false = not-true (s.lists receiver group packet) both.1 in
       let got = got_so group packet both.0 lacks in
       let inside : group < servers c = (h.tied.order.had link group packet got.1).1 in
-      let some : (length (lacking sender old group) == 0) ≡ false = elim (cases_Bool (length (lacking sender old group) == 0)) [
+      let some : (length (lacking sender old group) == 0) ≡ false =
+      elim (cases_Bool (length (lacking sender old group) == 0)) [
         | inl none ↦ absurd (true≢false (sym got.1
             ∙ (none_lacked (s.lists receiver group) (s.lists link group) (lacking sender old group)
             (all c s h link legal sender old sends is group inside got.0) none packet ∙ lacks)))
@@ -170,7 +180,8 @@ module _ (c : Setting) (s : ChainState) (h : IsSteadyState c s) (link : ℕ) (le
       got_so : (group packet : ℕ) → pulled_list c s link receiver group packet ≡ true →
           s.lists receiver group packet ≡ false →
           (is_shared c group link receiver ≡ true) × (s.lists link group packet ≡ true)
-      got_so group packet there lacks = elim (is_shared c group link receiver) as (λ b. is_shared c group link receiver ≡ b →
+      got_so group packet there lacks =
+          elim (is_shared c group link receiver) as (λ b. is_shared c group link receiver ≡ b →
           (if b then s.lists link group packet else s.lists receiver group packet) ≡ true →
           (is_shared c group link receiver ≡ true) × (s.lists link group packet ≡ true)) [
             | true ↦ λ shared has. (shared, has)

@@ -1,5 +1,6 @@
 -- The replicas that the receiver of a link gets: one of each group that both ends share.
-use Rattle.std.proofs.Common.{◌≡◌, ◌≢◌, ◌<◌, ◌++◌, ◌∷◌, ◌∙◌, ℕ, zero, suc, Bool, true, false, List, [], Option, Some, None, inl, inr, refl, sym, ap, subst, arith, if◌then◌else◌}
+use Rattle.std.proofs.Common.{◌≡◌, ◌≢◌, ◌<◌, ◌++◌, ◌∷◌, ◌∙◌, ℕ, zero, suc, Bool, true, false, List, [], Option, Some}
+use Rattle.std.proofs.Common.{None, inl, inr, refl, sym, ap, subst, arith, if◌then◌else◌}
 use Rattle.std.proofs.lemmas.Bool.{eq-eqb, ne_eqb, cases_eq}
 use Rattle.std.proofs.lemmas.List.Folds.{find-append}
 use Rattle.std.specs.List.{AllByRecursion, find, list_all}
@@ -44,7 +45,8 @@ module _ (is_in : ℕ → Bool) (make : ℕ → GroupReplica) where
   abbrev one_at : ℕ → List GroupReplica
   one_at group = if is_in group then make group ∷ [] else []
 
-  all_one : (P : GroupReplica → Type 0) (group : ℕ) → (is_in group ≡ true → P (make group)) → AllByRecursion P (one_at group)
+  all_one : (P : GroupReplica → Type 0) (group : ℕ) → (is_in group ≡ true → P (make group)) →
+      AllByRecursion P (one_at group)
   all_one P group holds = elim (is_in group) as (λ b. is_in group ≡ b →
       AllByRecursion P (if b then make group ∷ [] else [])) [ true ↦ λ is. (holds is, tt) | false ↦ λ isnt. tt ] refl
 
@@ -60,14 +62,16 @@ module _ (is_in : ℕ → Bool) (make : ℕ → GroupReplica) where
   none_made zero none = refl
   none_made (suc count) none =
       ap (λ b. each_below one_at count ++ (if b then make count ∷ [] else [])) (none count (omega arith))
-      ∙ ap (λ (items : List GroupReplica). items ++ []) (none_made count (λ group less. none group (omega (arith, less))))
+      ∙ ap (λ (items : List GroupReplica). items
+      ++ []) (none_made count (λ group less. none group (omega (arith, less))))
 
   module _ (named : (group : ℕ) → (make group).group ≡ group) where
     below_made : (count : ℕ) → AllByRecursion (λ (new : GroupReplica). new.group < count) (each_below one_at count)
     below_made count = all_made (λ (new : GroupReplica). new.group < count) count
         (λ group less is. subst (λ n. n < count) (sym (named group)) less)
 
-    pub once_made : (count : ℕ) → EachLater (λ (one other : GroupReplica). one.group ≢ other.group) (each_below one_at count)
+    pub once_made : (count : ℕ) →
+        EachLater (λ (one other : GroupReplica). one.group ≢ other.group) (each_below one_at count)
     once_made zero = tt
     once_made (suc count) =
         later_both (λ (one other : GroupReplica). one.group ≢ other.group) (each_below one_at count) (one_at count)
@@ -86,7 +90,8 @@ module _ (is_in : ℕ → Bool) (make : ℕ → GroupReplica) where
         find-append (is_of_group group) (each_below one_at count) (one_at count)
         ∙ elim (cases_eq group count) [
           | inl same ↦
-              subst (λ g. option_or (find (is_of_group g) (each_below one_at count)) (find (is_of_group g) (one_at count))
+              subst (λ g. option_or (find (is_of_group g) (each_below one_at count))
+              (find (is_of_group g) (one_at count))
               ≡ Some (make g)) (sym same)
               (ap (λ o. option_or o (find (is_of_group count) (one_at count)))
               (none_of count (each_below one_at count) (below_made count))
@@ -97,7 +102,8 @@ module _ (is_in : ℕ → Bool) (make : ℕ → GroupReplica) where
         ]
 
 module _ (c : Setting) (s : ChainState) (h : IsSteadyState c s) (link : ℕ) (legal : IsLegal c s (Pull link))
-    (sender old : Server) (sends : IsServerAt c s link sender) (is : IsServerAt c s (next_of (servers c) link) old) where
+    (sender old : Server) (sends : IsServerAt c s link sender)
+    (is : IsServerAt c s (next_of (servers c) link) old) where
   abbrev receiver : ℕ
   receiver = next_of (servers c) link
 
@@ -109,20 +115,23 @@ module _ (c : Setting) (s : ChainState) (h : IsSteadyState c s) (link : ℕ) (le
 
   pub news_same : (ring : RingShape) → ring ≡ shape c → news ring sender old ≡ made
   news_same ring same = ap (λ r. news r sender old) same
-      ∙ (ap (λ n. each_below (λ g. if is_shared c g n old.id then new_of sender old g ∷ [] else []) (servers c)) sends.number_is
-      ∙ ap (λ n. each_below (λ g. if is_shared c g link n then new_of sender old g ∷ [] else []) (servers c)) is.number_is)
+      ∙ (ap (λ n. each_below (λ g. if is_shared c g n old.id then new_of sender old g ∷ []
+      else []) (servers c)) sends.number_is
+      ∙ ap (λ n. each_below (λ g. if is_shared c g link n then new_of sender old g ∷ []
+      else []) (servers c)) is.number_is)
 
   pub are_pulled : ArePulled c link old sender made
   are_pulled = record {
-    each = all_made shared_at (new_of sender old) (IsPulledOf c link old sender) (servers c) (λ group inside shared. record {
-      inside = inside;
-      shared = shared;
-      mine = replica_in old group;
-      theirs = replica_in sender group;
-      mine_is = mine_is c s h link legal sender old sends is group inside shared;
-      theirs_is = theirs_is c s h link legal sender old sends is group inside shared;
-      replica = refl;
-    });
+    each = all_made shared_at (new_of sender old) (IsPulledOf c link old sender) (servers c)
+        (λ group inside shared. record {
+          inside = inside;
+          shared = shared;
+          mine = replica_in old group;
+          theirs = replica_in sender group;
+          mine_is = mine_is c s h link legal sender old sends is group inside shared;
+          theirs_is = theirs_is c s h link legal sender old sends is group inside shared;
+          replica = refl;
+        });
     once = once_made shared_at (new_of sender old) (λ group. refl) (servers c);
     all = λ group inside shared. (
       new_of sender old group,
@@ -134,6 +143,7 @@ module _ (c : Setting) (s : ChainState) (h : IsSteadyState c s) (link : ℕ) (le
   pub are_later : list_all (is_later_of old.others.items) made ≡ true
   are_later = all_pass (λ (new : GroupReplica). is_later_of old.others.items new ≡ true) (is_later_of old.others.items)
       (λ new is. is) made
-      (all_made shared_at (new_of sender old) (λ (new : GroupReplica). is_later_of old.others.items new ≡ true) (servers c)
+      (all_made shared_at (new_of sender old) (λ (new : GroupReplica). is_later_of old.others.items new
+      ≡ true) (servers c)
       (λ group inside shared. ap (λ (o : Option Held). is_some o)
       (mine_is c s h link legal sender old sends is group inside shared)))

@@ -1,5 +1,6 @@
 -- What heads servers have of which one is changed.
-use Rattle.std.proofs.Common.{◌≡◌, ◌<◌, ◌∙◌, ℕ, List, Option, Some, None, Result, Ok, Err, length, slice_set, inl, inr, sym, ap, get_or-set_same, get_or-set_other}
+use Rattle.std.proofs.Common.{◌≡◌, ◌<◌, ◌∙◌, ℕ, List, Option, Some, None, Result, Ok, Err, length, slice_set, inl, inr}
+use Rattle.std.proofs.Common.{sym, ap, get_or-set_same, get_or-set_other}
 use Rattle.std.specs.Prelude.{OnOk, OnErr}
 use Rattle.std.proofs.lemmas.Bool.{cases_eq}
 use Rattle.ftc_server.specs.declared.server.Server.{Server}

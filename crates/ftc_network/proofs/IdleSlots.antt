@@ -1,5 +1,6 @@
 -- Slots that are idle, one by one or all.
-use Rattle.std.proofs.Common.{◌≡◌, ◌≢◌, ◌∙◌, ◌&&◌, ◌||◌, ℕ, suc, Bool, false, true, List, [], ◌∷◌, Option, None, refl, inl, inr, ap, length, slice_set, get_or-set_other, get_or-set_same, length-set}
+use Rattle.std.proofs.Common.{◌≡◌, ◌≢◌, ◌∙◌, ◌&&◌, ◌||◌, ℕ, suc, Bool, false, true, List, [], ◌∷◌, Option, None, refl}
+use Rattle.std.proofs.Common.{inl, inr, ap, length, slice_set, get_or-set_other, get_or-set_same, length-set}
 use Rattle.std.specs.List.{list_all, list_any}
 use Rattle.std.proofs.lemmas.Bool.{cases_eq, cases_lt}
 use Rattle.std.proofs.lemmas.List.{get_or_past}

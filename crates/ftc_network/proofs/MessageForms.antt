@@ -1,5 +1,6 @@
 -- That a message has a frame, and which work is to be done, where it is known only that this is so.
-use Rattle.std.proofs.Common.{◌≡◌, ◌∙◌, ◌&&◌, ◌||◌, ℕ, zero, suc, Bool, true, false, List, [], ◌∷◌, Option, Some, None, refl, ap}
+use Rattle.std.proofs.Common.{◌≡◌, ◌∙◌, ◌&&◌, ◌||◌, ℕ, zero, suc, Bool, true, false, List, [], ◌∷◌, Option, Some, None}
+use Rattle.std.proofs.Common.{refl, ap}
 use Rattle.std.proofs.Math.Bool.{Bool-set, or-true}
 use Rattle.std.proofs.Math.Logic.{∥∥₁_elim}
 use Rattle.std.specs.Prelude.{is_some}
@@ -37,7 +38,8 @@ work_is_send work some from = told_send work (∥∥₁_elim some (Bool-set _ _)
 abbrev is_marked : List (Option ℕ) → Bool
 is_marked marks = list_any (λ (mark : Option ℕ). is_some mark) marks
 
-marked_at : (marks : List (Option ℕ)) (partition : ℕ) → is_some (mark_at marks partition) ≡ true → is_marked marks ≡ true
+marked_at : (marks : List (Option ℕ)) (partition : ℕ) → is_some (mark_at marks partition) ≡ true →
+    is_marked marks ≡ true
 marked_at [] partition is = absurd cc
 marked_at (mark ∷ marks) zero is = ap (λ b. b || is_marked marks) is
 marked_at (mark ∷ marks) (suc partition) is =

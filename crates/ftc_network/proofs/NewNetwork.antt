@@ -1,5 +1,6 @@
 -- The servers and links of a network to which nothing has happened.
-use Rattle.std.proofs.Common.{◌≡◌, ◌∙◌, ◌+◌, ◌<◌, ◌++◌, [], ◌∷◌, ℕ, List, length, Option, Some, None, slice_get, get_or, inl, inr, sym, ap, subst, arith, length-append}
+use Rattle.std.proofs.Common.{◌≡◌, ◌∙◌, ◌+◌, ◌<◌, ◌++◌, [], ◌∷◌, ℕ, List, length, Option, Some, None, slice_get, get_or}
+use Rattle.std.proofs.Common.{inl, inr, sym, ap, subst, arith, length-append}
 use Rattle.std.specs.Prelude.{slice_index_or}
 use Rattle.std.proofs.lemmas.Bool.{cases_eq, lt-ltb}
 use Rattle.std.proofs.lemmas.List.{get_or_append_left}
@@ -57,7 +58,8 @@ is_new_slot chain ring id number rule partitions server ring_is id_is rule_is pa
     (subst (λ (n : ℕ). IsOpening ring id rule n (empty_held n) server) partitions_is is)))
 
 -- it stands for the opening state of a setting of the chain
-pub new_slot_stands : (chain : Chain) (setting : Setting) (number : ℕ) (slot : Option Server) → number < servers setting →
+pub new_slot_stands : (chain : Chain) (setting : Setting) (number : ℕ) (slot : Option Server) →
+    number < servers setting →
     IsOfChain chain setting →
     ((server : Server) → IsOpening (shape setting) number (rule_at setting number) setting.partitions
     (empty_held setting.partitions) server → IsServerAt setting (opening setting) number server) →
@@ -73,7 +75,8 @@ new_slot_stands chain setting number (Some server) below of makes is =
       at = makes server
           (subst (λ (r : RingShape). IsOpening r number (rule_at setting number) setting.partitions
           (empty_held setting.partitions) server) ring
-          (subst (λ (rules : List Rule). IsOpening (ring_of chain) number (slice_index_or rules number Pass) setting.partitions
+          (subst (λ (rules : List Rule). IsOpening (ring_of chain) number
+          (slice_index_or rules number Pass) setting.partitions
           (empty_held setting.partitions) server) rules_is
           (subst (λ (n : ℕ). IsOpening (ring_of chain) number (slice_index_or chain.rules number Pass) n
           (empty_held n) server) (sym of.partitions) is)));

@@ -61,5 +61,6 @@ pub receiver_up : (setting : Setting) (state : ChainState) (parts : NetworkParts
 receiver_up setting state parts are server receiver place slot up is below same there up_is =
     let size : parts.ring.servers ≡ servers setting = ap (λ (ring : RingShape). ring.servers) are.ring in
     let inside : receiver < servers setting = omega (arith, size, below) in
-    up_is ∙ (up_there setting state receiver slot (slot_there setting state parts are receiver place slot same inside there)
+    up_is ∙ (up_there setting state receiver slot
+    (slot_there setting state parts are receiver place slot same inside there)
     ∙ ap state.up (is ∙ ap (λ n. next_of n server) size))

@@ -1,5 +1,6 @@
 -- What a pull wants of the two ends of a link, and what it makes of them.
-use Rattle.std.proofs.Common.{◌≡◌, ◌<◌, ◌≤◌, ◌-◌, ◌^◌, ◌∙◌, ℕ, Bool, true, List, [], ◌∷◌, length, Option, Some, None, sym, ap, subst, arith}
+use Rattle.std.proofs.Common.{◌≡◌, ◌<◌, ◌≤◌, ◌-◌, ◌^◌, ◌∙◌, ℕ, Bool, true, List, [], ◌∷◌, length, Option, Some, None}
+use Rattle.std.proofs.Common.{sym, ap, subst, arith}
 use Rattle.std.proofs.Props.{props}
 use Rattle.std.proofs.Math.Bool.{Bool-set}
 use Rattle.std.proofs.Math.Bridge.{le_prop}
@@ -28,7 +29,8 @@ use Rattle.ftc_standing.proofs.Lasting.{IsFirmState}
 use Rattle.ftc_refinement.specs.Contents.{IsServerAt}
 use Rattle.ftc_refinement.specs.Pulled.{ArePulled}
 use Rattle.ftc_refinement.proofs.Ring.{EndsAsSaid}
-use Rattle.ftc_network.specs.Pulling.{is_shared_by, lacking, gains_some, MayPullOne, MayPullBetween, AreGains, IsOfLater, SlotHasInstalled}
+use Rattle.ftc_network.specs.Pulling.{is_shared_by, lacking, gains_some, MayPullOne, MayPullBetween, AreGains}
+use Rattle.ftc_network.specs.Pulling.{IsOfLater, SlotHasInstalled}
 use Rattle.ftc_network.specs.Stand.{IsSlot, AreReady, RunNothingElse}
 use Rattle.ftc_network.proofs.GainedVisits.{gains_same}
 use Rattle.ftc_network.proofs.GroupNews.{made, news_same, are_later}
@@ -76,7 +78,8 @@ module _ (c : Setting) (s : ChainState) (h : IsSteadyState c s) (link : ℕ) (le
       (subst (λ (t : ChainState). t.events ≡ length h.run.journal) h.run.reaches (counted c h.run.journal)) few
 
   -- a pull may be made between the ends of the link
-  pub may_pull : ((most more : ℕ) (vector : List ℕ) (logs : List Logged) → most ≤ more → AreReadyInTurn most vector logs →
+  pub may_pull : ((most more : ℕ) (vector : List ℕ) (logs : List Logged) → most ≤ more →
+      AreReadyInTurn most vector logs →
       AreReadyInTurn more vector logs) → length s.trace ≤ 2 ^ 64 - 2 → (ring : RingShape) → ring ≡ shape c →
       (one other : Option Server) → IsSlot c s link one → IsSlot c s (next_of (servers c) link) other →
       MayPullBetween ring one other
@@ -111,7 +114,8 @@ module _ (c : Setting) (s : ChainState) (h : IsSteadyState c s) (link : ℕ) (le
 
 -- ---- what comes of it
 
-module _ (c : Setting) (s : ChainState) (f : IsFirmState c s) (ends : EndsAsSaid) (link : ℕ) (legal : IsLegal c s (Pull link)) where
+module _ (c : Setting) (s : ChainState) (f : IsFirmState c s) (ends : EndsAsSaid) (link : ℕ)
+    (legal : IsLegal c s (Pull link)) where
   abbrev receiver : ℕ
   receiver = next_of (servers c) link
 
@@ -124,7 +128,8 @@ module _ (c : Setting) (s : ChainState) (f : IsFirmState c s) (ends : EndsAsSaid
       IsServerAt c (next c s (Pull link)) receiver new) →
       ((old new : Server) → IsServerAt c s receiver old → IsServerAt c (next c s (Pull link)) receiver new →
       RunNothingElse old new → AreReady old → AreReady new) →
-      (ring : RingShape) → ring ≡ shape c → (one other now : Option Server) (replicas : List GroupReplica) (gained : Bool) →
+      (ring : RingShape) → ring ≡ shape c →
+      (one other now : Option Server) (replicas : List GroupReplica) (gained : Bool) →
       IsSlot c s link one → IsSlot c s receiver other → AreGains ring one other replicas gained →
       SlotHasInstalled other now replicas →
       IsSlot c (next c s (Pull link)) receiver now × (gained ≡ list_any (is_news c s link receiver) s.trace)
@@ -132,8 +137,10 @@ module _ (c : Setting) (s : ChainState) (f : IsFirmState c s) (ends : EndsAsSaid
       absurd (let up = legal.0.0 in cc)
   pull_follows installs same_fields keeps ring same (Some sender) None now replicas gained sends down gains done =
       absurd (let up = legal.0.1 in cc)
-  pull_follows installs same_fields keeps ring same (Some sender) (Some old) None replicas gained sends is gains done = absurd done
-  pull_follows installs same_fields keeps ring same (Some sender) (Some old) (Some new) replicas gained sends is gains done =
+  pull_follows installs same_fields keeps ring same (Some sender) (Some old) None replicas gained sends is gains done =
+      absurd done
+  pull_follows installs same_fields keeps ring same (Some sender) (Some old)
+      (Some new) replicas gained sends is gains done =
       let got = made c s f.steady link legal sender old sends.at is.at in
       let done_so : HasInstalled old new got = subst (HasInstalled old new)
       (gains.0 ∙ news_same c s f.steady link legal sender old sends.at is.at ring same) done in

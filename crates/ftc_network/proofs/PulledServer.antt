@@ -1,6 +1,9 @@
 -- What the receiver of a link has after a pull, whether or not servers may fail, and what becomes of the links.
-use Rattle.std.proofs.Common.{◌≡◌, ◌≢◌, ◌<◌, ◌≤◌, ◌+◌, ◌-◌, ◌==◌, ◌&&◌, ◌||◌, ◌∙◌, ℕ, Bool, true, false, not, List, [], Option, Some, None, inl, inr, refl, sym, ap, subst, arith, nat_le, le-leb, leb-true, leb-false, if◌then◌else◌}
-use Rattle.std.proofs.lemmas.Bool.{and_parts, and_from, eq-eqb, eqb-true, ne_eqb, cases_eq, true≢false, false_from_ne_true}
+use Rattle.std.proofs.Common.{◌≡◌, ◌≢◌, ◌<◌, ◌≤◌, ◌+◌, ◌-◌, ◌==◌, ◌&&◌, ◌||◌, ◌∙◌, ℕ, Bool, true, false, not, List, []}
+use Rattle.std.proofs.Common.{Option, Some, None, inl, inr, refl, sym, ap, subst, arith, nat_le, le-leb, leb-true}
+use Rattle.std.proofs.Common.{leb-false, if◌then◌else◌}
+use Rattle.std.proofs.lemmas.Bool.{and_parts, and_from, eq-eqb, eqb-true, ne_eqb, cases_eq, true≢false}
+use Rattle.std.proofs.lemmas.Bool.{false_from_ne_true}
 use Rattle.std.proofs.Math.Bool.{or-true, or-false}
 use Rattle.std.specs.List.{list_any}
 use Rattle.ftc_journal.specs.declared.event.Event.TheVariants.{Pull}
@@ -34,7 +37,8 @@ use Rattle.ftc_network.specs.Pulling.{new_of, gap_after}
 -- the group that ends at a server
 ending_below : (setting : Setting) (server : ℕ) → setting.failures < servers setting → server < servers setting →
     group_ending_at (shape setting) server < servers setting
-ending_below setting server few inside = elim (nat_le setting.failures server) as (λ b. nat_le setting.failures server ≡ b →
+ending_below setting server few inside =
+    elim (nat_le setting.failures server) as (λ b. nat_le setting.failures server ≡ b →
     (if b then server - setting.failures else server + servers setting - setting.failures) < servers setting) [
       | true ↦ λ is. let least : setting.failures ≤ server = leb-true setting.failures server is in omega arith
       | false ↦ λ isnt. let less : server < setting.failures = leb-false setting.failures server isnt in omega arith
@@ -72,7 +76,8 @@ module _ (c : Setting) (s : ChainState) (h : IsSteadyState c s) (link : ℕ) (le
 
     pub tail_shared : (c.failures ≡ 0 → ⊥) → is_shared c tail link receiver ≡ true
     tail_shared some =
-        let far : apart (servers c) tail receiver ≡ c.failures = eqb-true (apart (servers c) tail receiver) c.failures tail_is in
+        let far : apart (servers c) tail receiver ≡ c.failures =
+        eqb-true (apart (servers c) tail receiver) c.failures tail_is in
         let to_receiver = apart_cases (servers c) tail receiver tail_inside there in
         let to_link = apart_cases (servers c) tail link tail_inside here in
         let link_inside : link < servers c = here in
@@ -94,8 +99,10 @@ module _ (c : Setting) (s : ChainState) (h : IsSteadyState c s) (link : ℕ) (le
   none_shared none group inside = false_from_ne_true (is_shared c group link receiver) (λ shared.
       let both = and_parts (is_member c group link) (is_member c group receiver)
       (and_parts (is_member c group link && is_member c group receiver) (not (group == receiver)) shared).0 in
-      let first : apart (servers c) group link ≤ c.failures = leb-true (apart (servers c) group link) c.failures both.0 in
-      let second : apart (servers c) group receiver ≤ c.failures = leb-true (apart (servers c) group receiver) c.failures both.1 in
+      let first : apart (servers c) group link ≤ c.failures =
+      leb-true (apart (servers c) group link) c.failures both.0 in
+      let second : apart (servers c) group receiver ≤ c.failures =
+      leb-true (apart (servers c) group receiver) c.failures both.1 in
       let to_receiver = apart_cases (servers c) group receiver inside there in
       let to_link = apart_cases (servers c) group link inside here in
       let differs = another in
@@ -104,7 +111,8 @@ module _ (c : Setting) (s : ChainState) (h : IsSteadyState c s) (link : ℕ) (le
   -- then lists and knowledge stay as they are
   module _ (none : c.failures ≡ 0) where
     lists_same : (group packet : ℕ) → (next c s (Pull link)).lists receiver group packet ≡ s.lists receiver group packet
-    lists_same group packet = with_at_cases (λ (v : Visits). v group packet ≡ s.lists receiver group packet) s.lists receiver
+    lists_same group packet = with_at_cases (λ (v : Visits). v group packet
+        ≡ s.lists receiver group packet) s.lists receiver
         (pulled_list c s link receiver) receiver (λ _. either (is_shared c group link receiver) refl) (λ ne. refl)
       where
         nothing : (server : ℕ) → is_shared c group link receiver ≡ true → s.lists server group packet ≡ false
@@ -116,7 +124,8 @@ module _ (c : Setting) (s : ChainState) (h : IsSteadyState c s) (link : ℕ) (le
         either true shared = nothing link shared ∙ sym (nothing receiver shared)
         either false apart = refl
 
-    knows_same : (group packet : ℕ) → knows c (next c s (Pull link)) receiver group packet ≡ knows c s receiver group packet
+    knows_same : (group packet : ℕ) →
+        knows c (next c s (Pull link)) receiver group packet ≡ knows c s receiver group packet
     knows_same group packet =
         ap (λ (b : Bool). s.known receiver group packet || (is_tail c group receiver && b)) (lists_same group packet)
 
@@ -155,7 +164,8 @@ module _ (c : Setting) (s : ChainState) (f : IsFirmState c s) (link : ℕ) (lega
     stands = record {
       replicas = replicas_stay c s f.steady link legal none (contents_of old).head (contents_of old).later old.known
           is.stands.replicas;
-      held = held_stay c s f (Pull link) legal (next_of (servers c) link) (λ origin. refl) (λ (item : HeldItem). item.visited)
+      held = held_stay c s f (Pull link) legal (next_of (servers c) link) (λ origin. refl)
+          (λ (item : HeldItem). item.visited)
           (λ (item : HeldItem). item.by_ring) (λ (item : HeldItem). item.message) (contents_of old).held is.stands.held;
       withheld = withheld_stay c s f (Pull link) legal (next_of (servers c) link) (λ packet. refl) old.buffer.items
           is.stands.withheld;
@@ -166,7 +176,8 @@ module _ (c : Setting) (s : ChainState) (f : IsFirmState c s) (link : ℕ) (lega
 
 -- ---- the receiver
 
-module _ (c : Setting) (s : ChainState) (f : IsFirmState c s) (ends : EndsAsSaid) (link : ℕ) (legal : IsLegal c s (Pull link))
+module _ (c : Setting) (s : ChainState) (f : IsFirmState c s) (ends : EndsAsSaid) (link : ℕ)
+    (legal : IsLegal c s (Pull link))
     (sender old new : Server) (sends : IsServerAt c s link sender) (is : IsServerAt c s (next_of (servers c) link) old)
     (done : HasInstalled old new (made c s f.steady link legal sender old sends is)) where
   abbrev Follows : Type 0
@@ -176,7 +187,8 @@ module _ (c : Setting) (s : ChainState) (f : IsFirmState c s) (ends : EndsAsSaid
   module _ (installs : (tail : ℕ) → tail < servers c → is_tail c tail (next_of (servers c) link) ≡ true →
       is_shared c tail link (next_of (servers c) link) ≡ true →
       ArePulled c link old sender (made c s f.steady link legal sender old sends is) → Follows)
-      (same : IsServerAt c (next c s (Pull link)) (next_of (servers c) link) old → fields_of new ≡ fields_of old → Follows) where
+      (same : IsServerAt c (next c s (Pull link)) (next_of (servers c) link) old → fields_of new ≡ fields_of old →
+      Follows) where
     nothing_done : c.failures ≡ 0 → fields_of new ≡ fields_of old
     nothing_done none =
         let empty : made c s f.steady link legal sender old sends is ≡ [] =

@@ -1,5 +1,6 @@
 -- What a slot reads where no other slot runs anything.
-use Rattle.std.proofs.Common.{◌≡◌, ◌∙◌, ◌+◌, ◌++◌, ◌∷◌, ◌&&◌, ◌||◌, not, ℕ, Bool, true, false, List, [], length, Some, inl, inr, refl, sym, ap, length-append}
+use Rattle.std.proofs.Common.{◌≡◌, ◌∙◌, ◌+◌, ◌++◌, ◌∷◌, ◌&&◌, ◌||◌, not, ℕ, Bool, true, false, List, [], length, Some}
+use Rattle.std.proofs.Common.{inl, inr, refl, sym, ap, length-append}
 use Rattle.std.specs.Prelude.{◌==◌}
 use Rattle.std.proofs.lemmas.Bool.{false≢true, eq-eqb, cases_eq}
 use Rattle.ftc_base.specs.declared.ask.Answer.{Answer}
@@ -31,7 +32,8 @@ no_conflict locks worker partition change other nothing =
     none true false = refl
     none false b = refl
 
-own_conflict : (locks : Locks) (worker partition : ℕ) (change : Bool) → conflicts locks worker partition change worker ≡ false
+own_conflict : (locks : Locks) (worker partition : ℕ) (change : Bool) →
+    conflicts locks worker partition change worker ≡ false
 own_conflict locks worker partition change = rw (eq-eqb worker worker refl) refl
 
 module _ (first old new : Server) (worker packet count : ℕ) (key : List ℕ) (change : Bool)
@@ -40,7 +42,8 @@ module _ (first old new : Server) (worker packet count : ℕ) (key : List ℕ) (
     (stays : (answer : ReadAnswer) → Reads old new worker key answer → StandsFor old new) where
   nobody : (partition : ℕ) (leave : Bool) (other : ℕ) → conflicts old.head.locks worker partition leave other ≡ false
   nobody partition leave other = elim (cases_eq other worker) [
-    | inl same ↦ ap (conflicts old.head.locks worker partition leave) same ∙ own_conflict old.head.locks worker partition leave
+    | inl same ↦ ap (conflicts old.head.locks worker partition leave) same ∙ own_conflict old.head.locks worker
+        partition leave
     | inr differs ↦ no_conflict old.head.locks worker partition leave other (head.idle other (is.others other differs))
   ]
 
@@ -50,14 +53,16 @@ module _ (first old new : Server) (worker packet count : ℕ) (key : List ℕ) (
   one_more : (answers : List Answer) (answer : Answer) → length (answers ++ answer ∷ []) ≡ length answers + 1
   one_more answers answer = length-append answers (answer ∷ [])
 
-  pub read_alone : (answer : ReadAnswer) → Reads old new worker key answer → IsUnderWay first new worker packet (count + 1)
+  pub read_alone : (answer : ReadAnswer) → Reads old new worker key answer →
+      IsUnderWay first new worker packet (count + 1)
   read_alone (Value value) reads =
       let running : Running = reads.head.0 in
       let done = reads.head.2 in
       let this : running ≡ is.running = runs_this running reads.head.1.slot in
       let answer : Answer = record { key = key; value = value } in
       record {
-        stands = λ setting state number at. stays (Value value) reads setting state number (is.stands setting state number at);
+        stands = λ setting state number at. stays (Value value) reads setting state number
+            (is.stands setting state number at);
         withheld = ap (λ (s : ServerState). s.buffer.items) reads.rest ∙ is.withheld;
         rise = ap (λ (h : HeadState). may_rise h.vector) done.rest ∙ is.rise;
         running = answered running answer;

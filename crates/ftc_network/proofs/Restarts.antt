@@ -20,7 +20,8 @@ not_both head worker running wounded runs =
 not_idle : (head : HeadState) (worker : ℕ) → is_some (wounded_at head.slots worker) ≡ true →
     slot_at head.slots worker ≡ None → ⊥
 not_idle head worker wounded idle =
-    let both : false ≡ true = ap (λ (slot : Option Running). is_some (wounded_of slot)) (sym idle) ∙ wounded in absurd cc
+    let both : false ≡ true = ap (λ (slot : Option Running). is_some (wounded_of slot)) (sym idle) ∙ wounded in
+    absurd cc
 
 -- a wounded slot is told so by a read, and begins again
 abbrev IsToldSo : Server → Server → ℕ → ReadAnswer → Type 0

@@ -2,11 +2,13 @@
 use Rattle.std.proofs.Common.{◌≡◌, false, Result, Ok, Err, Option, Some, None, refl, sym, subst}
 use Rattle.std.specs.Prelude.{OnOk, OnErr, IfOk, IfSome, option_map, is_some}
 
-pub on_ok : {A E : Type 0} (result : Result A E) (Fact Other : Type 0) → (Fact → Other) → OnOk result Fact → OnOk result Other
+pub on_ok : {A E : Type 0} (result : Result A E) (Fact Other : Type 0) → (Fact → Other) → OnOk result Fact →
+    OnOk result Other
 on_ok (Ok value) Fact Other from fact = from fact
 on_ok (Err fault) Fact Other from fact = tt
 
-pub on_err : {A E : Type 0} (result : Result A E) (Fact Other : Type 0) → (Fact → Other) → OnErr result Fact → OnErr result Other
+pub on_err : {A E : Type 0} (result : Result A E) (Fact Other : Type 0) → (Fact → Other) → OnErr result Fact →
+    OnErr result Other
 on_err (Ok value) Fact Other from fact = tt
 on_err (Err fault) Fact Other from fact = from fact
 
@@ -20,7 +22,8 @@ none_mapped make (Some item) result same none = absurd cc
 pub some_mapped : {A B : Type 0} (Fact : B → Type 0) (make : A → B) (from : Option A) (result : Option B) →
     result ≡ option_map make from → ((item : A) → from ≡ Some item → Fact (make item)) → IfSome result Fact
 some_mapped {B = B} Fact make None result same each = subst (λ (o : Option B). IfSome o Fact) (sym same) tt
-some_mapped {B = B} Fact make (Some item) result same each = subst (λ (o : Option B). IfSome o Fact) (sym same) (each item refl)
+some_mapped {B = B} Fact make (Some item) result same each =
+    subst (λ (o : Option B). IfSome o Fact) (sym same) (each item refl)
 
 pub if_some : {A : Type 0} (Fact Other : A → Type 0) (option : Option A) → ((item : A) → Fact item → Other item) →
     IfSome option Fact → IfSome option Other
@@ -31,7 +34,8 @@ pub as_err : {A E : Type 0} (result : Result A E) (Fact : Type 0) → Fact → O
 as_err (Ok value) Fact fact = tt
 as_err (Err fault) Fact fact = fact
 
-pub on_err_both : {A E : Type 0} (result : Result A E) (One Two Other : Type 0) → (One → Two → Other) → OnErr result One →
+pub on_err_both : {A E : Type 0} (result : Result A E) (One Two Other : Type 0) → (One → Two → Other) →
+    OnErr result One →
     OnErr result Two → OnErr result Other
 on_err_both (Ok value) One Two Other from one two = tt
 on_err_both (Err fault) One Two Other from one two = from one two

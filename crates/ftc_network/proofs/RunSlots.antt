@@ -38,8 +38,12 @@ quit_runs old new worker quits = emptied_runs old new worker quits.head.slots
 wounded_runs : (worker : ℕ) (slot : Option Running) (running : Running) → wounded_by worker slot ≡ Some running →
     (before : Running) × (slot ≡ Some before) × (running.packet ≡ before.packet)
 wounded_runs worker None running is = absurd cc
-wounded_runs worker (Some before) running is =
-    (before, refl, ap (λ (r : Running). r.packet) (sym (some_same (record before { wounded = Some worker }) running is)))
+wounded_runs worker (Some before) running is = (
+  before,
+  refl,
+  ap (λ (r : Running). r.packet)
+      (sym (some_same (record before { wounded = Some worker }) running is)),
+)
 
 -- what a slot that was restarted runs it ran before
 pub restarted_runs : (old new : Server) (worker : ℕ) (before : Running) → slot_at old.head.slots worker ≡ Some before →
@@ -51,7 +55,8 @@ restarted_runs old new worker before was is other running runs =
     ap (λ (h : HeadState). slot_at h.slots other) (sym is) ∙ runs in
     elim (cases_eq other worker) [
       | inl same ↦
-          let this = set_to old.head.slots worker (restarted before) running (ap (slot_at set) (sym same) ∙ runs_there) in
+          let this = set_to old.head.slots worker (restarted before) running
+          (ap (slot_at set) (sym same) ∙ runs_there) in
           (before, ap (slot_at old.head.slots) same ∙ was, ap (λ (r : Running). r.packet) (sym this))
       | inr differs ↦ (
         running,
@@ -85,7 +90,8 @@ read_runs old new worker key NotAsked reads other running runs =
     same_runs old new (ap (λ (s : ServerState). s.head) reads.rest) other running runs
 
 -- the messages and the replicas are as they were
-pub read_fields : (old new : Server) (worker : ℕ) (key : List ℕ) (answer : ReadAnswer) → Reads old new worker key answer →
+pub read_fields : (old new : Server) (worker : ℕ) (key : List ℕ) (answer : ReadAnswer) →
+    Reads old new worker key answer →
     (new.others.items ≡ old.others.items) × (new.held.items ≡ old.held.items)
 read_fields old new worker key (Value value) reads =
     (ap (λ (s : ServerState). s.others) reads.rest, ap (λ (s : ServerState). s.held.items) reads.rest)

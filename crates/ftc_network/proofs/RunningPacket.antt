@@ -1,5 +1,6 @@
 -- Whether some slot runs a packet.
-use Rattle.std.proofs.Common.{◌≡◌, ◌∙◌, ◌<◌, ◌||◌, ℕ, suc, Bool, false, List, [], ◌∷◌, Option, Some, None, refl, inl, inr, ap, arith}
+use Rattle.std.proofs.Common.{◌≡◌, ◌∙◌, ◌<◌, ◌||◌, ℕ, suc, Bool, false, List, [], ◌∷◌, Option, Some, None, refl, inl}
+use Rattle.std.proofs.Common.{inr, ap, arith}
 use Rattle.std.specs.List.{list_any}
 use Rattle.std.proofs.lemmas.Bool.{cases_lt}
 use Rattle.ftc_base.specs.declared.limits.TheConstants.{MOST_SLOTS}

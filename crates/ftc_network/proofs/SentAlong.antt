@@ -1,5 +1,6 @@
 -- The link that a message leaves a server by.
-use Rattle.std.proofs.Common.{◌≡◌, ◌≢◌, ◌<◌, ◌∙◌, ◌+◌, ◌==◌, ◌&&◌, ◌||◌, ◌++◌, ◌∷◌, ℕ, Bool, true, false, not, [], Option, Some, None, refl, sym, ap, cond, arith}
+use Rattle.std.proofs.Common.{◌≡◌, ◌≢◌, ◌<◌, ◌∙◌, ◌+◌, ◌==◌, ◌&&◌, ◌||◌, ◌++◌, ◌∷◌, ℕ, Bool, true, false, not, []}
+use Rattle.std.proofs.Common.{Option, Some, None, refl, sym, ap, cond, arith}
 use Rattle.std.proofs.lemmas.Bool.{eq-eqb}
 use Rattle.std.proofs.lemmas.Bool.Decides.{nat_tests}
 use Rattle.std.specs.Prelude.{nat_lt, is_some}
@@ -31,7 +32,8 @@ use Rattle.ftc_network.proofs.Untold.{is_below}
 
 -- what holds where a message is passed on and where it is lost
 pub either_way : (Fact : Type 0) (setting : Setting) (state : ChainState) (server origin : ℕ) (lost : Bool) →
-    (IsLegal setting state (event.Pass server origin) → Fact) → (IsLegal setting state (event.Lose server origin) → Fact) →
+    (IsLegal setting state (event.Pass server origin) → Fact) →
+    (IsLegal setting state (event.Lose server origin) → Fact) →
     IsLegal setting state (leaving lost server origin) → Fact
 either_way Fact setting state server origin false passed lost legal = passed legal
 either_way Fact setting state server origin true passed lost legal = lost legal
@@ -63,13 +65,15 @@ isnt_silent false old held message is = refl
 some_sent : (last : Bool) (failures : ℕ) → last && (failures == 0) ≡ false → not last || nat_lt 0 failures ≡ true
 some_sent last failures is = grind (arith, nat_tests, is)
 
-pub is_sent_where : (setting : Setting) (state : ChainState) (server origin : ℕ) (old : Server) (message : SentMessage) →
+pub is_sent_where : (setting : Setting) (state : ChainState) (server origin : ℕ) (old : Server)
+    (message : SentMessage) →
     IsServerAt setting state server old → sent_in old origin ≡ Some message → is_sent setting server ≡ true
 is_sent_where setting state server origin old message is sends =
     some_sent (server + 1 == servers setting) setting.failures
     (ap (λ (n : ℕ). is_last (shape setting) n && (setting.failures == 0)) (sym is.number_is)
     ∙ (ap (λ (r : RingShape). is_last r old.id && (r.failures == 0)) (sym is.ring)
-    ∙ isnt_silent (is_last old.ring old.id && (old.ring.failures == 0)) old (found origin old.held.items) message sends))
+    ∙ isnt_silent (is_last old.ring old.id
+    && (old.ring.failures == 0)) old (found origin old.held.items) message sends))
 
 -- the link stands for what is there after it, where each way of leaving is known
 module _ (setting : Setting) (state : ChainState) (server origin : ℕ) (queue : Queue)
@@ -138,7 +142,8 @@ module _ (at_pass : (setting : Setting) (state : ChainState) (server origin : �
     IsLegal setting state (event.Pass server origin) → (server < servers setting) × (state.up server ≡ true))
     (at_loss : (setting : Setting) (state : ChainState) (server origin : ℕ) → IsRunState setting state →
     IsLegal setting state (event.Lose server origin) → (server < servers setting) × (state.up server ≡ true)) where
-  pub leaver_below : (setting : Setting) (state : ChainState) (lost : Bool) (server origin : ℕ) → IsRunState setting state →
+  pub leaver_below : (setting : Setting) (state : ChainState) (lost : Bool) (server origin : ℕ) →
+      IsRunState setting state →
       IsLegal setting state (leaving lost server origin) → server < servers setting
   leaver_below setting state lost server origin run legal =
       either_way (server < servers setting) setting state server origin lost
@@ -149,7 +154,8 @@ module _ (at_pass : (setting : Setting) (state : ChainState) (server origin : �
       ∥ IsAllowed (leaving lost server origin) network ∥₁ → server < network.ring.servers
   leaver_inside network lost server origin some =
       is_below server network.ring.servers some (λ allowed.
-      let size : network.ring.servers ≡ servers allowed.setting = ap (λ (ring : RingShape). ring.servers) allowed.stands.ring in
+      let size : network.ring.servers ≡ servers allowed.setting =
+      ap (λ (ring : RingShape). ring.servers) allowed.stands.ring in
       let below : server < servers allowed.setting =
       leaver_below allowed.setting allowed.state lost server origin allowed.run allowed.legal in
       omega (arith, size, below))

@@ -1,5 +1,6 @@
 -- What the receiver of a link that is pulled lacks of a group that both ends share.
-use Rattle.std.proofs.Common.{◌≡◌, ◌<◌, ◌==◌, ◌&&◌, ◌∙◌, ℕ, true, false, not, List, length, Option, Some, None, refl, sym, ap, subst, arith, if◌then◌else◌}
+use Rattle.std.proofs.Common.{◌≡◌, ◌<◌, ◌==◌, ◌&&◌, ◌∙◌, ℕ, true, false, not, List, length, Option, Some, None, refl}
+use Rattle.std.proofs.Common.{sym, ap, subst, arith, if◌then◌else◌}
 use Rattle.std.proofs.lemmas.Bool.{and_parts, and_from}
 use Rattle.std.specs.Prelude.{is_some}
 use Rattle.ftc_base.specs.declared.limits.TheConstants.{MOST_SERVERS}
@@ -45,7 +46,8 @@ use Rattle.ftc_network.specs.Pulling.{lacking}
 covers_up : (one other : List ℕ) → IsBelow one other → (log : Logged) → covers_log one log ≡ true →
     covers_log other log ≡ true
 covers_up one other less log has = (covered other (need_of log.before log.changed)).1
-    (covered_above one other (need_of log.before log.changed) less ((covered one (need_of log.before log.changed)).0 has))
+    (covered_above one other (need_of log.before log.changed) less
+    ((covered one (need_of log.before log.changed)).0 has))
 
 vector_below : (partitions group : ℕ) (trace : List Entry) (one other : Packets) →
     ((packet : ℕ) → one packet ≡ true → other packet ≡ true) →
@@ -62,7 +64,8 @@ vector_below partitions group trace one other inside = record {
 
 -- ---- the replica that a server has
 
-own_if_none : (server : Server) (o : Option Held) → is_some o ≡ false → replica_or_own server o ≡ replica_or_own server None
+own_if_none : (server : Server) (o : Option Held) → is_some o ≡ false →
+    replica_or_own server o ≡ replica_or_own server None
 own_if_none server None none = refl
 own_if_none server (Some replica) none = absurd cc
 
@@ -159,7 +162,8 @@ module _ (c : Setting) (s : ChainState) (h : IsSteadyState c s) (link : ℕ) (le
   leads : Leads (lacking sender old group)
   leads = subst Leads same_lacking
       (let all = pulls c.partitions h.some h.few group s.trace (traced c s h)
-      (missing (vector_of sender.known group) theirs.kept) (knows c s link group) (s.lists receiver group) (s.lists link group)
+      (missing (vector_of sender.known group) theirs.kept) (knows c s link group) (s.lists receiver group)
+      (s.lists link group)
       mine (list_closed c s h receiver group)
       (λ q known. known_had c s h link receiver group q legal.0.1 both.1 known) has_more theirs_at.turn theirs_at.all
       mine_at.content mine_at.vector in (all.0, all.2, all.3))

@@ -40,5 +40,6 @@ pub work_there : (slot : Option Server) (live : Server) (worker server packet : 
     ∥ IsLegalAt (event.Visit server packet worker) server slot ∥₁ → work_in live packet ≡ Some Visit
 work_there slot live worker server packet is says legal =
     visit_if (work_in live packet) (∥∥₁_elim legal (Bool-set _ _) (λ given.
-    let up : IsUp given.setting given.state server live = subst (IsSlot given.setting given.state server) is given.stands in
+    let up : IsUp given.setting given.state server live =
+    subst (IsSlot given.setting given.state server) is given.stands in
     ap is_visit ((says given.setting given.state given.run up.at).1 given.legal.0) ∙ visit_is))

@@ -47,7 +47,8 @@ pub record AreCounts (setting : Setting) (state : ChainState) (entered done prop
 pub record AreParts (setting : Setting) (state : ChainState) (parts : NetworkParts) : Type 0 where
   pub ring : parts.ring ≡ shape setting
   pub partitions : parts.partitions ≡ setting.partitions
-  pub servers_are : (server : ℕ) → server < servers setting → IsSlot setting state server (server_in parts.servers server)
+  pub servers_are : (server : ℕ) → server < servers setting →
+      IsSlot setting state server (server_in parts.servers server)
   pub links_are : (link : ℕ) → link < servers setting → IsLink setting state link (link_in parts.links link)
   pub counts : AreCounts setting state parts.entered parts.done parts.propagates
   pub visits : AreMade setting state parts.visits

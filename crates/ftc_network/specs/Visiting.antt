@@ -55,7 +55,8 @@ pub record VisitsWhole (old new : Server) (worker packet : ℕ) (answers : List 
 -- A server that stood for a state in which the visit is legal stands for the state after it, and where visits were
 -- those of the trace, they are it with this one.
 abbrev pub SlotFollowsVisit : ℕ → ℕ → ℕ → Option Server → Option Server → MadeVisit → Type 0
-SlotFollowsVisit worker server packet old new visit = (setting : Setting) (state : ChainState) (visits : List MadeVisit) →
+SlotFollowsVisit worker server packet old new visit =
+    (setting : Setting) (state : ChainState) (visits : List MadeVisit) →
     IsRunState setting state → IsLegal setting state (event.Visit server packet worker) →
     IsSlot setting state server old → AreMade setting state visits →
     ∥ IsSlot setting (next setting state (event.Visit server packet worker)) server new

@@ -8,7 +8,8 @@ ghost use Rattle.ftc_server.specs.Holding.{is_held, arrived};
 ghost use Rattle.ftc_server.specs.Slots.{is_open};
 ghost use Rattle.ftc_server.specs.Steps.{HasTaken, HasRoomed};
 ghost use Rattle.ftc_standing.specs.Stand.{IsBegun};
-ghost use Rattle.ftc_network.specs.Events.{IsAllowed, IsAllowedAt, Follows, FollowsIn, SlotFollows, SlotFollowsIn, StandsStill, SlotStandsStill};
+ghost use Rattle.ftc_network.specs.Events.{IsAllowed, IsAllowedAt, Follows, FollowsIn, SlotFollows, SlotFollowsIn};
+ghost use Rattle.ftc_network.specs.Events.{StandsStill, SlotStandsStill};
 ghost use Rattle.ftc_network.specs.Parts.{buffer_of, withheld_in};
 ghost use Rattle.ftc_network.specs.Slots.{head_of, AreSameHeads};
 

@@ -26,7 +26,8 @@ use ftc_standing::{others_as_before, servers_stand_still};
 pub fn slots_stay_ready()
     ensures { (setting : Setting) (state : ChainState) (event : AnEvent) (number : ℕ) (old new : Server) →
         IsRunState setting state → IsLegal setting state event → IsServerAt setting state number old →
-        IsServerAt setting (next setting state event) number new → RunNothingElse old new → AreReady old → AreReady new }
+        IsServerAt setting (next setting state event) number new → RunNothingElse old new → AreReady old →
+        AreReady new }
 {
     what_is_ready();
     ready_messages_stay();

@@ -6,7 +6,9 @@ ghost use Rattle.ftc_ring.specs.Ring.{tail_of};
 ghost use Rattle.ftc_network.specs.Events.{IsAllowed, Follows, StandsStill, SlotStandsStill};
 ghost use Rattle.ftc_network.specs.Parts.{buffer_of, link_in, withheld_in};
 ghost use Rattle.ftc_network.specs.Slots.{head_of, AreSameHeads};
-ghost use Rattle.ftc_network.specs.Pulling.{is_shared_by, lacking, new_of, news_of, news, is_gained, gains_some, MayPullOne, MayPull, MayPullBetween, AreGains, IsOfLater, SlotHasInstalled, marked};
+ghost use Rattle.ftc_network.specs.Pulling.{is_shared_by, lacking, new_of, news_of, news, is_gained, gains_some};
+ghost use Rattle.ftc_network.specs.Pulling.{MayPullOne, MayPull, MayPullBetween, AreGains, IsOfLater, SlotHasInstalled};
+ghost use Rattle.ftc_network.specs.Pulling.{marked};
 
 use crate::laws::{servers_beside, slots_stay_ready};
 use crate::network::Network;

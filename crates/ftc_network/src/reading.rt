@@ -8,7 +8,8 @@ ghost use Rattle.ftc_server.specs.Steps.{HasQuit};
 ghost use Rattle.ftc_network.specs.Events.{StandsStill, SlotStandsStill};
 ghost use Rattle.ftc_network.specs.Parts.{server_in};
 ghost use Rattle.ftc_txn.specs.Slots.{slot_at};
-ghost use Rattle.ftc_network.specs.Slots.{head_at, runs_in, ages_left_in, is_running_in, bytes_run_at, RunWithin, SlotQuits, SlotReads};
+ghost use Rattle.ftc_network.specs.Slots.{head_at, runs_in, ages_left_in, is_running_in, bytes_run_at, RunWithin};
+ghost use Rattle.ftc_network.specs.Slots.{SlotQuits, SlotReads};
 ghost use Rattle.ftc_network.specs.Stand.{IsNetwork};
 
 use crate::network::Network;

@@ -13,7 +13,8 @@ ghost use Rattle.ftc_server.specs.declared.server.Server.{Server as AServer};
 ghost use Rattle.ftc_network.specs.Events.{StandsStill};
 ghost use Rattle.ftc_network.specs.Parts.{server_in, link_in, withheld_in};
 ghost use Rattle.ftc_network.specs.Slots.{head_at, AreSameHeads, AreOtherHeads, IsIdleHead};
-ghost use Rattle.ftc_network.specs.Recovering.{IsRecovering, HasRecovered, is_up, AreNear, emptied, with_gaps, cut_off, may_drop, SlotHasDropped, AreReplaced};
+ghost use Rattle.ftc_network.specs.Recovering.{IsRecovering, HasRecovered, is_up, AreNear, emptied, with_gaps, cut_off};
+ghost use Rattle.ftc_network.specs.Recovering.{may_drop, SlotHasDropped, AreReplaced};
 ghost use Rattle.ftc_network.specs.Reviving.{IsAnew};
 ghost use Rattle.ftc_network.specs.Stand.{IsNetwork};
 

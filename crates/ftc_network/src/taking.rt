@@ -87,8 +87,8 @@ impl Network {
         self.links[place_of(link)].frame()
     }
 
-    /// The receiver of a link takes its oldest message. What was seen of the link's frames is of use only where it is of
-    /// the oldest.
+    /// The receiver of a link takes its oldest message. What was seen of the link's frames is of use only where it is
+    /// of the oldest.
     pub fn take(
         &mut self,
         alloc: Global,

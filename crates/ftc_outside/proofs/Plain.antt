@@ -36,7 +36,8 @@ digits_plain : (most n : ℕ) (behind : List ℕ) → HasNoFeed behind → HasNo
 digits_plain zero n behind plain = plain
 digits_plain (suc most) n behind plain =
     let digit = digit_glyph false (n % 10) in
-    elim (n / 10 == 0) as (λ (t : Bool). HasNoFeed (if t then digit ∷ behind else digits_onto most 10 false (n / 10) (digit ∷ behind))) [
+    elim (n / 10 == 0) as (λ (t : Bool). HasNoFeed (if t then digit ∷ behind
+    else digits_onto most 10 false (n / 10) (digit ∷ behind))) [
       | true ↦ (digit_plain (n % 10), plain)
       | false ↦ digits_plain most (n / 10) (digit ∷ behind) (digit_plain (n % 10), plain)
     ]

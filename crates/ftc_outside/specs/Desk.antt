@@ -37,9 +37,10 @@ counted count = min (count + 1) 18446744073709551615
 abbrev pub Rose : ℕ → ℕ → Type 0
 Rose before now = (before < now) ⊎ (18446744073709551615 ≤ now)
 
--- What a call leaves of a desk: it tells its files and is sound as before, and the count of its faults doesn't fall, rose
--- where the call failed, and is as it was where it didn't.
-pub record HasServed {D : Type 0} (tells sound : D → Type 0) (faults : D → ℕ) (failed : Type 0) (old new : D) : Type 0 where
+-- What a call leaves of a desk: it tells its files and is sound as before, and the count of its faults doesn't fall,
+-- rose where the call failed, and is as it was where it didn't.
+pub record HasServed {D : Type 0} (tells sound : D → Type 0) (faults : D →
+    ℕ) (failed : Type 0) (old new : D) : Type 0 where
   pub tells_on : tells old → tells new
   pub sound_on : sound old → sound new
   pub count : faults old ≤ faults new

@@ -1,4 +1,5 @@
--- What a failing desk shows: the desk below it, the numbers of the calls that are to fail, how many calls were made, how many failed.
+-- What a failing desk shows: the desk below it, the numbers of the calls that are to fail, how many calls were made,
+-- how many failed.
 use Rattle.std.specs.Prelude.{ℕ, ◌≤◌, List, Option, Contains}
 use Rattle.ftc_outside.specs.Memory.{file_of}
 use Rattle.ftc_outside.specs.declared.memory.MemoryDesk.{MemoryDesk}

@@ -1,8 +1,10 @@
 //! Files by name, and a count of faults.
 
-ghost use Rattle.std.specs.Prelude.{◌≡◌, ◌≢◌, ◌≤◌, ◌++◌, [], List, ℕ, Option, Some, None, IfOk, OnOk, OnErr, IsErrOf, codes};
+ghost use Rattle.std.specs.Prelude.{◌≡◌, ◌≢◌, ◌≤◌, ◌++◌, [], List, ℕ, Option, Some, None, IfOk, OnOk, OnErr, IsErrOf};
+ghost use Rattle.std.specs.Prelude.{codes};
 ghost use Rattle.ftc_outside.specs.declared.desk.DeskError.TheVariants as error;
-ghost use Rattle.ftc_outside.specs.Desk.{SameFiles, SameButAt, EmptiedAt, GrewAt, MayHaveEmptiedAt, MayHaveGrownAt, HasServed};
+ghost use Rattle.ftc_outside.specs.Desk.{SameFiles, SameButAt, EmptiedAt, GrewAt, MayHaveEmptiedAt, MayHaveGrownAt};
+ghost use Rattle.ftc_outside.specs.Desk.{HasServed};
 
 use ftc_base::{Bytes, NoMemory};
 use std::alloc::{AllocError, AllocFailed, Global};
@@ -77,8 +79,10 @@ pub trait Desk {
     /// Adds the bytes at the file's end.
     fn append(&mut self, alloc: Global, name: &str, bytes: &[u8]) -> Result<(), DeskError>
         ensures grown { tells self.old → OnOk result (GrewAt name.now bytes.now (file self.old) (file self.new)) }
-        ensures refused { tells self.old → OnErr result (MayHaveGrownAt name.now bytes.now (file self.old) (file self.new)) }
+        ensures refused { tells self.old →
+            OnErr result (MayHaveGrownAt name.now bytes.now (file self.old) (file self.new)) }
         ensures others { tells self.old → SameButAt name.now (file self.old) (file self.new) }
         ensures served { HasServed tells sound faults (IsErrOf result DeskError.Failed) self.old self.new }
-        ensures absent { sound self.old → IsErrOf result DeskError.Failed → (file self.old name.now ≡ None) × (name.now ≢ codes "-") };
+        ensures absent { sound self.old → IsErrOf result DeskError.Failed → (file self.old name.now ≡ None)
+            × (name.now ≢ codes "-") };
 }

@@ -1,7 +1,9 @@
 //! A desk in memory whose listed calls fail.
 
-ghost use Rattle.std.specs.Prelude.{◌≡◌, ◌≤◌, ◌≢◌, ◌↔◌, ⊤, ◌⊎◌, List, ℕ, Option, Some, None, IfOk, OnOk, OnErr, IsErrOf, IsTrue, Contains, codes};
-ghost use Rattle.ftc_outside.specs.Desk.{SameFiles, SameButAt, EmptiedAt, GrewAt, MayHaveEmptiedAt, MayHaveGrownAt, Rose, counted, HasServed};
+ghost use Rattle.std.specs.Prelude.{◌≡◌, ◌≤◌, ◌≢◌, ◌↔◌, ⊤, ◌⊎◌, List, ℕ, Option, Some, None, IfOk, OnOk, OnErr};
+ghost use Rattle.std.specs.Prelude.{IsErrOf, IsTrue, Contains, codes};
+ghost use Rattle.ftc_outside.specs.Desk.{SameFiles, SameButAt, EmptiedAt, GrewAt, MayHaveEmptiedAt, MayHaveGrownAt};
+ghost use Rattle.ftc_outside.specs.Desk.{Rose, counted, HasServed};
 
 use crate::desk::{Desk, DeskError};
 use crate::memory::MemoryDesk;
@@ -94,11 +96,13 @@ impl Desk for FailingDesk {
     fn fetch(&mut self, alloc: Global, name: &str) -> Result<Bytes, DeskError>
         ensures bytes { ⊤ → IfOk result (λ bytes. shown_of self.old name.now ≡ Some bytes) }
         ensures files { ⊤ → SameFiles (shown_of self.old) (shown_of self.new) }
-        ensures served { HasServed (λ _. ⊤) IsSoundDesk failing_faults (IsErrOf result DeskError.Failed) self.old self.new }
+        ensures served { HasServed (λ _. ⊤) IsSoundDesk failing_faults
+            (IsErrOf result DeskError.Failed) self.old self.new }
         ensures absent { IsSoundDesk self.old → IsErrOf result DeskError.Failed → shown_of self.old name.now ≡ None }
 
         // It fails exactly in a listed call and where there is no such file.
-        ensures failed { IsErrOf result DeskError.Failed ↔ (Contains (listed_of self.old) (calls_of self.old) ⊎ (shown_of self.old name.now ≡ None)) }
+        ensures failed { IsErrOf result DeskError.Failed
+            ↔ (Contains (listed_of self.old) (calls_of self.old) ⊎ (shown_of self.old name.now ≡ None)) }
 
         ensures calls { calls_of self.new ≡ counted (calls_of self.old) }
         ensures listed { listed_of self.new ≡ listed_of self.old }
@@ -114,7 +118,8 @@ impl Desk for FailingDesk {
         ensures made { ⊤ → OnOk result (EmptiedAt name.now (shown_of self.new)) }
         ensures refused { ⊤ → OnErr result (MayHaveEmptiedAt name.now (shown_of self.old) (shown_of self.new)) }
         ensures others { ⊤ → SameButAt name.now (shown_of self.old) (shown_of self.new) }
-        ensures served { HasServed (λ _. ⊤) IsSoundDesk failing_faults (IsErrOf result DeskError.Failed) self.old self.new }
+        ensures served { HasServed (λ _. ⊤) IsSoundDesk failing_faults
+            (IsErrOf result DeskError.Failed) self.old self.new }
         ensures absent { IsSoundDesk self.old → IsErrOf result DeskError.Failed → ⊥ }
 
         // It fails exactly in a listed call, which changes nothing.
@@ -135,12 +140,16 @@ impl Desk for FailingDesk {
         ensures grown { ⊤ → OnOk result (GrewAt name.now bytes.now (shown_of self.old) (shown_of self.new)) }
         ensures refused { ⊤ → OnErr result (MayHaveGrownAt name.now bytes.now (shown_of self.old) (shown_of self.new)) }
         ensures others { ⊤ → SameButAt name.now (shown_of self.old) (shown_of self.new) }
-        ensures served { HasServed (λ _. ⊤) IsSoundDesk failing_faults (IsErrOf result DeskError.Failed) self.old self.new }
-        ensures absent { IsSoundDesk self.old → IsErrOf result DeskError.Failed → (shown_of self.old name.now ≡ None) × (name.now ≢ codes "-") }
+        ensures served { HasServed (λ _. ⊤) IsSoundDesk failing_faults
+            (IsErrOf result DeskError.Failed) self.old self.new }
+        ensures absent { IsSoundDesk self.old → IsErrOf result DeskError.Failed → (shown_of self.old name.now ≡ None)
+            × (name.now ≢ codes "-") }
 
         // It fails exactly in a listed call and where there is neither such a file nor the name of
         // standard output, and then changes nothing.
-        ensures failed { IsErrOf result DeskError.Failed ↔ (Contains (listed_of self.old) (calls_of self.old) ⊎ ((shown_of self.old name.now ≡ None) × (name.now ≢ codes "-"))) }
+        ensures failed { IsErrOf result DeskError.Failed
+            ↔ (Contains (listed_of self.old) (calls_of self.old)
+            ⊎ ((shown_of self.old name.now ≡ None) × (name.now ≢ codes "-"))) }
         ensures unchanged { IsErrOf result DeskError.Failed → SameFiles (shown_of self.old) (shown_of self.new) }
 
         ensures calls { calls_of self.new ≡ counted (calls_of self.old) }

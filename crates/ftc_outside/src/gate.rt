@@ -10,8 +10,8 @@ pub trait Gate: Sync {
     /// Holds the visit of a packet at a server for as long as it likes.
     fn pause(&self, server: ServerId, packet: PacketNo);
 
-    /// Whether it holds nobody. A gate that may hold a visit says false, and another worker is woken at each visit to go
-    /// on in its place.
+    /// Whether it holds nobody. A gate that may hold a visit says false, and another worker is woken at each visit to
+    /// go on in its place.
     fn is_open(&self) -> bool {
         false
     }

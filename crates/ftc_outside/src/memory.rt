@@ -1,7 +1,9 @@
 //! A desk in memory.
 
-ghost use Rattle.std.specs.Prelude.{◌≡◌, ◌≤◌, ◌≢◌, ◌↔◌, ◌++◌, [], ⊤, List, ℕ, Option, Some, None, IfOk, OnOk, OnErr, IsErrOf, option_map, IsOkUnless, codes};
-ghost use Rattle.ftc_outside.specs.Desk.{SameFiles, SameButAt, EmptiedAt, GrewAt, MayHaveEmptiedAt, MayHaveGrownAt, HasServed};
+ghost use Rattle.std.specs.Prelude.{◌≡◌, ◌≤◌, ◌≢◌, ◌↔◌, ◌++◌, [], ⊤, List, ℕ, Option, Some, None, IfOk, OnOk, OnErr};
+ghost use Rattle.std.specs.Prelude.{IsErrOf, option_map, IsOkUnless, codes};
+ghost use Rattle.ftc_outside.specs.Desk.{SameFiles, SameButAt, EmptiedAt, GrewAt, MayHaveEmptiedAt, MayHaveGrownAt};
+ghost use Rattle.ftc_outside.specs.Desk.{HasServed};
 
 use crate::desk::{Desk, DeskError};
 use ftc_base::{Bytes, NoMemory};
@@ -105,11 +107,13 @@ impl Desk for MemoryDesk {
         ensures refused { ⊤ → OnErr result (MayHaveGrownAt name.now bytes.now (file_of self.old) (file_of self.new)) }
         ensures others { ⊤ → SameButAt name.now (file_of self.old) (file_of self.new) }
         ensures served { HasServed (λ _. ⊤) (λ _. ⊤) memory_faults (IsErrOf result DeskError.Failed) self.old self.new }
-        ensures absent { ⊤ → IsErrOf result DeskError.Failed → (file_of self.old name.now ≡ None) × (name.now ≢ codes "-") }
+        ensures absent { ⊤ → IsErrOf result DeskError.Failed → (file_of self.old name.now ≡ None)
+            × (name.now ≢ codes "-") }
 
         // It fails exactly where there is neither such a file nor the name of standard output, and then
         // changes nothing.
-        ensures failed { IsErrOf result DeskError.Failed ↔ ((file_of self.old name.now ≡ None) × (name.now ≢ codes "-")) }
+        ensures failed { IsErrOf result DeskError.Failed
+            ↔ ((file_of self.old name.now ≡ None) × (name.now ≢ codes "-")) }
         ensures unchanged { OnErr result (SameFiles (file_of self.old) (file_of self.new)) }
     {
         if let Some(held) = self.files.get_mut(name) {

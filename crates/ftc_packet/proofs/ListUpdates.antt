@@ -6,8 +6,8 @@ use Rattle.ftc_packet.proofs.Numbers.{right_along, three_updates, two_updates}
 use Rattle.ftc_packet.proofs.Weights.{weighted}
 use Rattle.ftc_packet.proofs.WordEdits.{Apart, even-le-weighted, get-with_word_apart, with_two-sum, with_three-sum}
 
--- The words at a and b change, and the checksum at d. A byte at the even place z stays and isn't 0. The sum of the words
--- that stay is that of the same list with the three words put to 0.
+-- The words at a and b change, and the checksum at d. A byte at the even place z stays and isn't 0. The sum of the
+-- words that stay is that of the same list with the three words put to 0.
 pub list_of_two_updates : (xs : List ℕ) (a n₁ b n₂ d z : ℕ) →
     word_at xs d ≤ 65535 → word_at xs a ≤ 65535 → word_at xs b ≤ 65535 →
     a % 2 ≡ 0 → b % 2 ≡ 0 → d % 2 ≡ 0 → z % 2 ≡ 0 →
@@ -33,8 +33,8 @@ list_of_two_updates xs a n₁ b n₂ d z hd ha hb ea eb ed ez ba da db za zb zd 
     (right_along (weighted 0 xs) (rest + c + m₁ + m₂) (omega arith) right) in
     right_along (rest + new + n₁ + n₂) _ (omega arith) updated
 
--- Under a pseudo header two words change, m₁ and m₂, and its others sum to p. In the list behind it the word at a changes,
--- and the checksum at d.
+-- Under a pseudo header two words change, m₁ and m₂, and its others sum to p. In the list behind it the word at a
+-- changes, and the checksum at d.
 pub list_of_three_updates : (xs : List ℕ) (p m₁ n₁ m₂ n₂ a n₃ d : ℕ) → 0 < p →
     word_at xs d ≤ 65535 → m₁ ≤ 65535 → m₂ ≤ 65535 → word_at xs a ≤ 65535 →
     a % 2 ≡ 0 → d % 2 ≡ 0 → Apart d a → a + 1 < length xs → d + 1 < length xs →

@@ -51,7 +51,8 @@ multiple-update rest checksum before after first second k q r hc hb hs whole e f
 
 -- An update where the word really changes.
 changed_update : (rest checksum before after : ℕ) → IsUpdate rest checksum before →
-    ones_complement (rest + (65535 - ones_complement (ones_complement ((65535 - checksum) + (65535 - before)) + after)) + after) ≡ 65535
+    ones_complement (rest + (65535 - ones_complement (ones_complement ((65535 - checksum) + (65535 - before)) + after))
+    + after) ≡ 65535
 changed_update rest checksum before after u =
     let taken = (65535 - checksum) + (65535 - before) in
     let first = ones_complement taken in
@@ -60,7 +61,8 @@ changed_update rest checksum before after u =
     let q = (taken - 1) / 65535 in
     let r = (first + after - 1) / 65535 in
     let multiple = multiple-update rest checksum before after first second k q r u.checksum_fits u.before_fits
-    (ones_complement_most (first + after)) (right_gives _ u.right) (ones_complement-split taken) (ones_complement-split (first + after)) in
+    (ones_complement_most (first + after)) (right_gives _ u.right) (ones_complement-split taken)
+    (ones_complement-split (first + after)) in
     right_from _ (k + q + r) multiple (omega (arith, u.rest_above_zero))
 
 updated_checksum-same : (checksum before after : ℕ) → before ≡ after →
@@ -69,7 +71,8 @@ unfolding updated_checksum
 updated_checksum-same checksum before after e = grind (arith, nat_tests)
 
 updated_checksum-changed : (checksum before after : ℕ) → before ≢ after →
-    updated_checksum checksum before after ≡ 65535 - ones_complement (ones_complement ((65535 - checksum) + (65535 - before)) + after)
+    updated_checksum checksum before after
+    ≡ 65535 - ones_complement (ones_complement ((65535 - checksum) + (65535 - before)) + after)
 unfolding updated_checksum
 updated_checksum-changed checksum before after e = grind (arith, nat_tests)
 
@@ -83,7 +86,8 @@ pub updates_stay_right : (rest checksum before after : ℕ) → IsUpdate rest ch
     ones_complement (rest + updated_checksum checksum before after + after) ≡ 65535
 updates_stay_right rest checksum before after u = elim (cases_eq before after) [
   | inl same ↦ rw (updated_checksum-same checksum before after same, sym same) u.right
-  | inr changed ↦ rw (updated_checksum-changed checksum before after changed) (changed_update rest checksum before after u)
+  | inr changed ↦ rw (updated_checksum-changed checksum before after changed)
+      (changed_update rest checksum before after u)
 ]
 
 -- A right checksum is the complement of the sum of the other words, up to the two zeros.
@@ -102,7 +106,8 @@ updates_recompute rest checksum before after u =
     let new = updated_checksum checksum before after in
     let right = updates_stay_right rest checksum before after u in
     let regrouped : rest + new + after ≡ rest + after + new = omega arith in
-    right_recomputes (rest + after) new (updated_checksum_most checksum before after u.checksum_fits) (rw regrouped at right)
+    right_recomputes (rest + after) new (updated_checksum_most checksum before after u.checksum_fits)
+    (rw regrouped at right)
 
 -- A word is its own sum.
 pub ones_complement-word : (n : ℕ) → n ≤ 65535 → ones_complement n ≡ n
@@ -135,7 +140,8 @@ two_updates rest c m₁ n₁ m₂ n₂ positive hc h₁ h₂ right =
 -- Three updates, one after the other.
 pub three_updates : (rest c m₁ n₁ m₂ n₂ m₃ n₃ : ℕ) → 0 < rest → c ≤ 65535 → m₁ ≤ 65535 → m₂ ≤ 65535 → m₃ ≤ 65535 →
     ones_complement (rest + c + m₁ + m₂ + m₃) ≡ 65535 →
-    ones_complement (rest + updated_checksum (updated_checksum (updated_checksum c m₁ n₁) m₂ n₂) m₃ n₃ + n₁ + n₂ + n₃) ≡ 65535
+    ones_complement (rest + updated_checksum (updated_checksum (updated_checksum c m₁ n₁) m₂ n₂) m₃ n₃ + n₁ + n₂ + n₃)
+    ≡ 65535
 three_updates rest c m₁ n₁ m₂ n₂ m₃ n₃ positive hc h₁ h₂ h₃ right =
     let c₁ = updated_checksum c m₁ n₁ in
     let c₂ = updated_checksum c₁ m₂ n₂ in

@@ -1,12 +1,16 @@
 -- A rewritten flow packet: what it is, what it names, and which bytes stay.
-use Rattle.std.proofs.Common.{◌≡◌, ℕ, ◌+◌, ◌*◌, ◌/◌, ◌%◌, ◌<◌, ◌≤◌, ◌⊎◌, List, length, get_or, arith, inl, inr, subst, ap, ◌∙◌, refl}
+use Rattle.std.proofs.Common.{◌≡◌, ℕ, ◌+◌, ◌*◌, ◌/◌, ◌%◌, ◌<◌, ◌≤◌, ◌⊎◌, List, length, get_or, arith, inl, inr, subst}
+use Rattle.std.proofs.Common.{ap, ◌∙◌, refl}
 use Rattle.ftc_packet.specs.declared.rewrite.End.{End}
 use Rattle.ftc_packet.specs.declared.rewrite.End.TheVariants.{Source, Destination}
 use Rattle.ftc_packet.specs.Layout.{checksum_place, fixed_header, protocol_of, transport_start, word_at}
 use Rattle.ftc_packet.specs.Flow.{IsFlow, flow_in}
 use Rattle.ftc_packet.specs.Check.{IsWhole}
-use Rattle.ftc_packet.specs.Rewrite.{IsBeyondEnd, address_place, new_header_checksum, new_transport_checksum, port_place, with_end}
-use Rattle.ftc_packet.proofs.Rewritten.{rewritten, length-rewritten, get-rewritten_apart, get-rewritten_front, word_at-rewritten_apart, word_at-rewritten_high, word_at-rewritten_low, word_at-rewritten_port}
+use Rattle.ftc_packet.specs.Rewrite.{IsBeyondEnd, address_place, new_header_checksum, new_transport_checksum}
+use Rattle.ftc_packet.specs.Rewrite.{port_place, with_end}
+use Rattle.ftc_packet.proofs.Rewritten.{rewritten, length-rewritten, get-rewritten_apart, get-rewritten_front}
+use Rattle.ftc_packet.proofs.Rewritten.{word_at-rewritten_apart, word_at-rewritten_high, word_at-rewritten_low}
+use Rattle.ftc_packet.proofs.Rewritten.{word_at-rewritten_port}
 
 -- Where an end's address stands in the IPv4 header.
 abbrev pub header_place : End → ℕ
@@ -25,7 +29,8 @@ end_places Destination = inr (refl, refl)
 
 -- The place of the checksum in the two transport headers.
 pub checksum_places : (protocol : ℕ) → (protocol ≡ 6) ⊎ (protocol ≡ 17) →
-    (checksum_place protocol % 2 ≡ 0) × (6 ≤ checksum_place protocol) × (checksum_place protocol + 1 < fixed_header protocol)
+    (checksum_place protocol % 2 ≡ 0) × (6 ≤ checksum_place protocol)
+    × (checksum_place protocol + 1 < fixed_header protocol)
 checksum_places protocol (inl tcp) =
     let place = ap checksum_place tcp in
     let header = ap fixed_header tcp in
@@ -43,7 +48,8 @@ packet bs end n₁ n₂ c n₃ w =
 -- A rewrite writes those words.
 pub with_end-packet : (bs : List ℕ) (end : End) (address port : ℕ) →
     with_end bs end address port
-    ≡ packet bs end (address / 65536) (address % 65536) (new_header_checksum bs end address) port (new_transport_checksum bs end address port)
+    ≡ packet bs end (address / 65536) (address % 65536) (new_header_checksum bs end address) port
+    (new_transport_checksum bs end address port)
 unfolding with_end packet rewritten
 with_end-packet bs Source address port = refl
 with_end-packet bs Destination address port = refl
@@ -55,13 +61,15 @@ transport_start_least bs flow = omega (arith, flow.header_length)
 pub length-packet : (bs : List ℕ) (end : End) (n₁ n₂ c n₃ w : ℕ) → length (packet bs end n₁ n₂ c n₃ w) ≡ length bs
 unfolding packet
 length-packet bs end n₁ n₂ c n₃ w =
-    length-rewritten bs (header_place end) n₁ n₂ c (transport_start bs) (port_place end) n₃ (checksum_place (protocol_of bs)) w
+    length-rewritten bs (header_place end) n₁ n₂ c (transport_start bs) (port_place end) n₃
+    (checksum_place (protocol_of bs)) w
 
 pub get-packet_front : (bs : List ℕ) (end : End) (n₁ n₂ c n₃ w e : ℕ) → IsFlow bs → e < 24 →
     get_or (packet bs end n₁ n₂ c n₃ w) e 0 ≡ get_or bs e 0
 unfolding packet
 get-packet_front bs end n₁ n₂ c n₃ w e flow he =
-    get-rewritten_front bs (header_place end) n₁ n₂ c (transport_start bs) (port_place end) n₃ (checksum_place (protocol_of bs)) w e
+    get-rewritten_front bs (header_place end) n₁ n₂ c (transport_start bs) (port_place end) n₃
+    (checksum_place (protocol_of bs)) w e
     (omega (arith, end_places end)) (transport_start_least bs flow) he
 
 pub word_at-packet_front : (bs : List ℕ) (end : End) (n₁ n₂ c n₃ w e : ℕ) → IsFlow bs → e < 23 →
@@ -120,16 +128,24 @@ pub others_stay : (bs : List ℕ) (end : End) (address port k : ℕ) → IsBeyon
 unfolding packet
 others_stay bs end address port k beyond =
     let place = address_place-header end in
-    let outside : (k < 14 + header_place end) ⊎ (14 + header_place end + 4 ≤ k) = subst (λ (at : ℕ). (k < at) ⊎ (at + 4 ≤ k)) place beyond.address in
+    let outside : (k < 14 + header_place end) ⊎ (14 + header_place end + 4 ≤ k) =
+    subst (λ (at : ℕ). (k < at) ⊎ (at + 4 ≤ k)) place beyond.address in
     ap (λ (xs : List ℕ). get_or xs k 0) (with_end-packet bs end address port)
-    ∙ get-rewritten_apart bs (header_place end) _ _ _ (transport_start bs) (port_place end) _ (checksum_place (protocol_of bs)) _ k
+    ∙ get-rewritten_apart bs (header_place end) _ _ _ (transport_start bs) (port_place end) _
+    (checksum_place (protocol_of bs)) _ k
     outside beyond.header_checksum beyond.port beyond.transport_checksum
 
 -- The fields of a flow, read one by one.
 flow_in-fields : (b : List ℕ) (p h₁ h₂ sp d₁ d₂ dp t : ℕ) → transport_start b ≡ t → get_or b 23 0 ≡ p →
     word_at b 26 ≡ h₁ → word_at b 28 ≡ h₂ → word_at b (t + 0) ≡ sp → word_at b 30 ≡ d₁ → word_at b 32 ≡ d₂ →
     word_at b (t + 2) ≡ dp →
-    flow_in b ≡ record { protocol = p; source = 65536 * h₁ + h₂; source_port = sp; destination = 65536 * d₁ + d₂; destination_port = dp }
+    flow_in b ≡ record {
+      protocol = p;
+      source = 65536 * h₁ + h₂;
+      source_port = sp;
+      destination = 65536 * d₁ + d₂;
+      destination_port = dp;
+    }
 unfolding flow_in
 flow_in-fields b p h₁ h₂ sp d₁ d₂ dp t e₁ e₂ e₃ e₄ e₅ e₆ e₇ e₈ = rw (e₁, e₂, e₃, e₄, e₅, e₆, e₇, e₈) refl
 
@@ -149,20 +165,28 @@ flow_in-with_source bs address port flow =
     let w = new_transport_checksum bs Source address port in
     let least = transport_start_least bs flow in
     let places = checksum_places (protocol_of bs) flow.carries in
-    let all = flow_in-fields (packet bs Source h₁ h₂ c port w) (get_or bs 23 0) h₁ h₂ port (word_at bs 30) (word_at bs 32) (word_at bs (t + 2)) t
+    let all = flow_in-fields (packet bs Source h₁ h₂ c port w) (get_or bs 23 0) h₁ h₂ port (word_at bs 30)
+    (word_at bs 32) (word_at bs (t + 2)) t
     (transport_start-packet bs Source h₁ h₂ c port w flow)
     (get-packet_front bs Source h₁ h₂ c port w 23 flow (omega arith))
     (word_at-rewritten_high bs 12 h₁ h₂ c t 0 port k w least flow.header_captured (omega arith) (omega arith))
     (word_at-rewritten_low bs 12 h₁ h₂ c t 0 port k w least flow.header_captured (omega arith) (omega arith))
-    (word_at-rewritten_port bs 12 h₁ h₂ c t 0 port k w (omega (arith, places.1)) (omega (arith, places.2, flow.transport_captured)))
-    (word_at-rewritten_apart bs 12 h₁ h₂ c t 0 port k w 30 (inr (omega arith)) (inr (omega arith)) (inl (omega arith)) (inl (omega arith)))
-    (word_at-rewritten_apart bs 12 h₁ h₂ c t 0 port k w 32 (inr (omega arith)) (inr (omega arith)) (inl (omega arith)) (inl (omega arith)))
-    (word_at-rewritten_apart bs 12 h₁ h₂ c t 0 port k w (t + 2) (inr (omega arith)) (inr (omega arith)) (inr (omega arith)) (inl (omega (arith, places.1)))) in
+    (word_at-rewritten_port bs 12 h₁ h₂ c t 0 port k w (omega (arith, places.1))
+    (omega (arith, places.2, flow.transport_captured)))
+    (word_at-rewritten_apart bs 12 h₁ h₂ c t 0 port k w 30 (inr (omega arith)) (inr (omega arith)) (inl (omega arith))
+    (inl (omega arith)))
+    (word_at-rewritten_apart bs 12 h₁ h₂ c t 0 port k w 32 (inr (omega arith)) (inr (omega arith)) (inl (omega arith))
+    (inl (omega arith)))
+    (word_at-rewritten_apart bs 12 h₁ h₂ c t 0 port k w (t + 2) (inr (omega arith)) (inr (omega arith))
+    (inr (omega arith)) (inl (omega (arith, places.1)))) in
     ap flow_in (with_end-packet bs Source address port) ∙ rw (address-halves address) at all
 
 -- The flow that is named once the destination is another.
 pub flow_in-with_destination : (bs : List ℕ) (address port : ℕ) → IsFlow bs →
-    flow_in (with_end bs Destination address port) ≡ record (flow_in bs) { destination = address; destination_port = port }
+    flow_in (with_end bs Destination address port) ≡ record (flow_in bs) {
+      destination = address;
+      destination_port = port;
+    }
 unfolding packet flow_in
 flow_in-with_destination bs address port flow =
     let t = transport_start bs in
@@ -173,13 +197,18 @@ flow_in-with_destination bs address port flow =
     let w = new_transport_checksum bs Destination address port in
     let least = transport_start_least bs flow in
     let places = checksum_places (protocol_of bs) flow.carries in
-    let all = flow_in-fields (packet bs Destination h₁ h₂ c port w) (get_or bs 23 0) (word_at bs 26) (word_at bs 28) (word_at bs (t + 0)) h₁ h₂ port t
+    let all = flow_in-fields (packet bs Destination h₁ h₂ c port w) (get_or bs 23 0) (word_at bs 26) (word_at bs 28)
+    (word_at bs (t + 0)) h₁ h₂ port t
     (transport_start-packet bs Destination h₁ h₂ c port w flow)
     (get-packet_front bs Destination h₁ h₂ c port w 23 flow (omega arith))
-    (word_at-rewritten_apart bs 16 h₁ h₂ c t 2 port k w 26 (inl (omega arith)) (inr (omega arith)) (inl (omega arith)) (inl (omega arith)))
-    (word_at-rewritten_apart bs 16 h₁ h₂ c t 2 port k w 28 (inl (omega arith)) (inr (omega arith)) (inl (omega arith)) (inl (omega arith)))
-    (word_at-rewritten_apart bs 16 h₁ h₂ c t 2 port k w (t + 0) (inr (omega arith)) (inr (omega arith)) (inl (omega arith)) (inl (omega (arith, places.1))))
+    (word_at-rewritten_apart bs 16 h₁ h₂ c t 2 port k w 26 (inl (omega arith)) (inr (omega arith)) (inl (omega arith))
+    (inl (omega arith)))
+    (word_at-rewritten_apart bs 16 h₁ h₂ c t 2 port k w 28 (inl (omega arith)) (inr (omega arith)) (inl (omega arith))
+    (inl (omega arith)))
+    (word_at-rewritten_apart bs 16 h₁ h₂ c t 2 port k w (t + 0) (inr (omega arith)) (inr (omega arith))
+    (inl (omega arith)) (inl (omega (arith, places.1))))
     (word_at-rewritten_high bs 16 h₁ h₂ c t 2 port k w least flow.header_captured (omega arith) (omega arith))
     (word_at-rewritten_low bs 16 h₁ h₂ c t 2 port k w least flow.header_captured (omega arith) (omega arith))
-    (word_at-rewritten_port bs 16 h₁ h₂ c t 2 port k w (omega (arith, places.1)) (omega (arith, places.2, flow.transport_captured))) in
+    (word_at-rewritten_port bs 16 h₁ h₂ c t 2 port k w (omega (arith, places.1))
+    (omega (arith, places.2, flow.transport_captured))) in
     ap flow_in (with_end-packet bs Destination address port) ∙ rw (address-halves address) at all

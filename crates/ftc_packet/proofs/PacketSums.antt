@@ -1,5 +1,6 @@
 -- The sums of a packet, as sums of weighted bytes.
-use Rattle.std.proofs.Common.{◌≡◌, ℕ, ◌+◌, ◌-◌, ◌/◌, ◌%◌, ◌≤◌, List, [], ◌∷◌, ◌++◌, sum, length, get_or, arith, sym, ap, ◌∙◌, refl}
+use Rattle.std.proofs.Common.{◌≡◌, ℕ, ◌+◌, ◌-◌, ◌/◌, ◌%◌, ◌≤◌, List, [], ◌∷◌, ◌++◌, sum, length, get_or, arith, sym, ap}
+use Rattle.std.proofs.Common.{◌∙◌, refl}
 use Rattle.std.specs.List.{slice_range}
 use Rattle.std.proofs.lemmas.List.{length-append}
 use Rattle.ftc_packet.specs.Sum.{ones_complement, words}
@@ -15,7 +16,8 @@ pub header_sum-weighted : (xs : List ℕ) (n : ℕ) → transport_start xs ≡ 1
 unfolding header_sum ipv4_header
 header_sum-weighted xs n start =
     let count : transport_start xs - 14 ≡ n = omega arith in
-    ap ones_complement (sum-words (slice_range xs 14 (transport_start xs)) ∙ ap (λ (m : ℕ). weighted 0 (part 14 m xs)) count)
+    ap ones_complement (sum-words (slice_range xs 14 (transport_start xs)) ∙ ap
+    (λ (m : ℕ). weighted 0 (part 14 m xs)) count)
 
 -- The words of the two addresses.
 unfoldable pub addresses : List ℕ → ℕ
@@ -54,18 +56,29 @@ transport_sum-weighted xs t n long start end =
     let of_both : length (front ++ back) ≡ 12 = omega (arith, length-append front back) in
     let whole = sum-words ((front ++ back) ++ behind) ∙ weighted-append 0 (front ++ back) behind in
     let header = weighted-append 0 front back in
-    let back_at : weighted (0 + length front) back ≡ weighted 8 back = weighted_like (0 + length front) 8 back (omega arith) in
+    let back_at : weighted (0 + length front) back ≡ weighted 8 back =
+    weighted_like (0 + length front) 8 back (omega arith) in
     let behind_at : weighted (0 + length (front ++ back)) behind ≡ weighted 0 behind =
     weighted_like (0 + length (front ++ back)) 0 behind (omega arith) in
     let place = ap (λ (k : ℕ). weighted 0 (part (transport_start xs) k xs)) count
     ∙ ap (λ (k : ℕ). weighted 0 (part k n xs)) start in
     let total : sum (words ((front ++ back) ++ behind)) ≡ plain_sum xs t n =
-    omega (arith, whole, header, back_at, behind_at, place, addresses-weighted xs long, pseudo_header_end (get_or xs 23 0) m) in
+    omega (
+      arith,
+      whole,
+      header,
+      back_at,
+      behind_at,
+      place,
+      addresses-weighted xs long,
+      pseudo_header_end (get_or xs 23 0) m,
+    ) in
     ap ones_complement total
 
 -- Sums that go on from one another are the sum of all.
 running_sum : (a p n s : ℕ) →
-    ones_complement (ones_complement (ones_complement (ones_complement (0 + a) + p) + n) + s) ≡ ones_complement (a + p + n + s)
+    ones_complement (ones_complement (ones_complement (ones_complement (0 + a) + p) + n) + s)
+    ≡ ones_complement (a + p + n + s)
 running_sum a p n s =
     let zero-a : 0 + a ≡ a = omega arith in
     ap (λ (x : ℕ). ones_complement (ones_complement (ones_complement (ones_complement x + p) + n) + s)) zero-a
@@ -76,7 +89,8 @@ running_sum a p n s =
 -- The sum of the pseudo header, and from there that of the segment.
 pub transport_sum-running : (xs : List ℕ) (t n : ℕ) → 34 ≤ length xs → transport_start xs ≡ t →
     datagram_end xs ≡ t + n →
-    ones_complement (ones_complement (ones_complement (ones_complement (0 + sum (words (part 26 8 xs))) + get_or xs 23 0) + n)
+    ones_complement (ones_complement (ones_complement (ones_complement (0 + sum (words (part 26 8 xs)))
+    + get_or xs 23 0) + n)
     + sum (words (part t n xs))) ≡ transport_sum xs
 transport_sum-running xs t n long start end =
     let front = sum-words (part 26 8 xs) ∙ addresses-weighted xs long in

@@ -2,7 +2,8 @@
 use Rattle.std.proofs.Common.{◌≡◌, ℕ, ◌+◌, ◌/◌, ◌%◌, ◌<◌, ◌≤◌, ◌⊎◌, List, length, get_or, set, arith, inl, inr, ap, ◌∙◌}
 use Rattle.std.proofs.lemmas.List.{get_or-set_same, get_or-set_other, length-set}
 use Rattle.ftc_packet.specs.Layout.{word_at, with_word}
-use Rattle.ftc_packet.proofs.WordEdits.{part, part-with_word_in, part-with_word_low, part-with_word_high, length-with_word, get-with_word_apart, word_at-with_word_apart}
+use Rattle.ftc_packet.proofs.WordEdits.{part, part-with_word_in, part-with_word_low, part-with_word_high}
+use Rattle.ftc_packet.proofs.WordEdits.{length-with_word, get-with_word_apart, word_at-with_word_apart}
 
 pub word_at-with_word_same : (xs : List ℕ) (a v : ℕ) → a + 1 < length xs → word_at (with_word xs a v) a ≡ v
 unfolding word_at with_word
@@ -12,11 +13,12 @@ word_at-with_word_same xs a v h =
     let low = get_or-set_same (set xs a (v / 256)) (a + 1) (v % 256) 0 (omega (arith, length-set xs a (v / 256))) in
     omega (arith, kept, high, low)
 
--- In the IPv4 header, which begins at 14, the words n₁ and n₂ at its place i and the checksum c; in the transport header,
--- which begins at t, the word n₃ at its place j and the checksum w at its place k.
+-- In the IPv4 header, which begins at 14, the words n₁ and n₂ at its place i and the checksum c; in the transport
+-- header, which begins at t, the word n₃ at its place j and the checksum w at its place k.
 unfoldable pub rewritten : List ℕ → ℕ → ℕ → ℕ → ℕ → ℕ → ℕ → ℕ → ℕ → ℕ → List ℕ
 rewritten bs i n₁ n₂ c t j n₃ k w =
-    with_word (with_word (with_word (with_word (with_word bs (14 + i) n₁) (14 + (i + 2)) n₂) (14 + 10) c) (t + j) n₃) (t + k) w
+    with_word (with_word (with_word (with_word (with_word bs (14 + i) n₁) (14 + (i + 2)) n₂) (14 + 10) c) (t + j) n₃) (t
+    + k) w
 
 pub length-rewritten : (bs : List ℕ) (i n₁ n₂ c t j n₃ k w : ℕ) →
     length (rewritten bs i n₁ n₂ c t j n₃ k w) ≡ length bs
@@ -48,7 +50,8 @@ get-rewritten_front bs i n₁ n₂ c t j n₃ k w e hi ht he =
 
 -- The IPv4 header, which has n bytes.
 pub part-rewritten_header : (bs : List ℕ) (i n₁ n₂ c t j n₃ k w n : ℕ) → t ≡ 14 + n → 20 ≤ n → i ≤ 16 →
-    part 14 n (rewritten bs i n₁ n₂ c t j n₃ k w) ≡ with_word (with_word (with_word (part 14 n bs) i n₁) (i + 2) n₂) 10 c
+    part 14 n (rewritten bs i n₁ n₂ c t j n₃ k w)
+    ≡ with_word (with_word (with_word (part 14 n bs) i n₁) (i + 2) n₂) 10 c
 unfolding rewritten
 part-rewritten_header bs i n₁ n₂ c t j n₃ k w n et hn hi =
     let b₁ = with_word bs (14 + i) n₁ in
@@ -57,7 +60,8 @@ part-rewritten_header bs i n₁ n₂ c t j n₃ k w n et hn hi =
     let b₄ = with_word b₃ (t + j) n₃ in
     let ej : t + j ≡ 14 + (n + j) = omega arith in
     let ek : t + k ≡ 14 + (n + k) = omega arith in
-    let p₅ : part 14 n (with_word b₄ (t + k) w) ≡ part 14 n b₄ = rw ek (part-with_word_high 14 n b₄ (n + k) w (omega arith)) in
+    let p₅ : part 14 n (with_word b₄ (t + k) w) ≡ part 14 n b₄ =
+    rw ek (part-with_word_high 14 n b₄ (n + k) w (omega arith)) in
     let p₄ : part 14 n b₄ ≡ part 14 n b₃ = rw ej (part-with_word_high 14 n b₃ (n + j) n₃ (omega arith)) in
     let p₃ = part-with_word_in 14 n b₂ 10 c (omega arith) in
     let p₂ = part-with_word_in 14 n b₁ (i + 2) n₂ (omega arith) in
@@ -112,7 +116,8 @@ word_at-rewritten_high bs i n₁ n₂ c t j n₃ k w ht hl hi hm =
     let b₃ = with_word b₂ (14 + 10) c in
     let b₄ = with_word b₃ (t + j) n₃ in
     let e = 14 + i in
-    word_at-with_word_apart b₄ (t + k) w e (inl (omega arith)) ∙ word_at-with_word_apart b₃ (t + j) n₃ e (inl (omega arith))
+    word_at-with_word_apart b₄ (t + k) w e (inl (omega arith)) ∙ word_at-with_word_apart b₃ (t
+    + j) n₃ e (inl (omega arith))
     ∙ word_at-with_word_apart b₂ (14 + 10) c e (inr (omega arith))
     ∙ word_at-with_word_apart b₁ (14 + (i + 2)) n₂ e (inl (omega arith)) ∙ word_at-with_word_same bs e n₁ (omega arith)
 
@@ -126,7 +131,8 @@ word_at-rewritten_low bs i n₁ n₂ c t j n₃ k w ht hl hi hm =
     let b₃ = with_word b₂ (14 + 10) c in
     let b₄ = with_word b₃ (t + j) n₃ in
     let e = 14 + (i + 2) in
-    word_at-with_word_apart b₄ (t + k) w e (inl (omega arith)) ∙ word_at-with_word_apart b₃ (t + j) n₃ e (inl (omega arith))
+    word_at-with_word_apart b₄ (t + k) w e (inl (omega arith)) ∙ word_at-with_word_apart b₃ (t
+    + j) n₃ e (inl (omega arith))
     ∙ word_at-with_word_apart b₂ (14 + 10) c e (inr (omega arith))
     ∙ word_at-with_word_same b₁ e n₂ (omega (arith, length-with_word bs (14 + i) n₁))
 
@@ -140,7 +146,8 @@ word_at-rewritten_port bs i n₁ n₂ c t j n₃ k w jk hl =
     let b₃ = with_word b₂ (14 + 10) c in
     let b₄ = with_word b₃ (t + j) n₃ in
     let long : length b₃ ≡ length bs = simp length-with_word in
-    word_at-with_word_apart b₄ (t + k) w (t + j) (inl (omega arith)) ∙ word_at-with_word_same b₃ (t + j) n₃ (omega arith)
+    word_at-with_word_apart b₄ (t + k) w (t + j) (inl (omega arith)) ∙ word_at-with_word_same b₃ (t
+    + j) n₃ (omega arith)
 
 -- The transport checksum.
 pub word_at-rewritten_checksum : (bs : List ℕ) (i n₁ n₂ c t j n₃ k w : ℕ) → t + k + 1 < length bs →

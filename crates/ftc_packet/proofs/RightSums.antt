@@ -1,21 +1,28 @@
 -- Why a rewrite keeps right sums right.
-use Rattle.std.proofs.Common.{◌≡◌, ℕ, ◌+◌, ◌-◌, ◌/◌, ◌%◌, ◌<◌, ◌≤◌, ◌⊎◌, List, length, get_or, drop, arith, inl, inr, sym, ap, ◌∙◌, refl}
+use Rattle.std.proofs.Common.{◌≡◌, ℕ, ◌+◌, ◌-◌, ◌/◌, ◌%◌, ◌<◌, ◌≤◌, ◌⊎◌, List, length, get_or, drop, arith, inl, inr}
+use Rattle.std.proofs.Common.{sym, ap, ◌∙◌, refl}
 use Rattle.std.proofs.lemmas.Bool.Decides.{nat_tests}
 use Rattle.std.proofs.lemmas.List.{get_or-take, get_or-drop}
 use Rattle.ftc_packet.specs.declared.rewrite.End.{End}
 use Rattle.ftc_packet.specs.declared.rewrite.End.TheVariants.{Source, Destination}
 use Rattle.ftc_packet.specs.Sum.{ones_complement, updated_checksum}
-use Rattle.ftc_packet.specs.Layout.{AreBytes, checksum_place, datagram_end, protocol_of, transport_start, word_at, with_word}
+use Rattle.ftc_packet.specs.Layout.{AreBytes, checksum_place, datagram_end, protocol_of, transport_start, word_at}
+use Rattle.ftc_packet.specs.Layout.{with_word}
 use Rattle.ftc_packet.specs.Flow.{IsFlow}
 use Rattle.ftc_packet.specs.Check.{HasNoChecksum, IsRight, IsWhole, header_sum, transport_sum}
-use Rattle.ftc_packet.specs.Rewrite.{new_header_checksum, new_transport_checksum, port_place, with_end, written_checksum}
+use Rattle.ftc_packet.specs.Rewrite.{new_header_checksum, new_transport_checksum, port_place, with_end}
+use Rattle.ftc_packet.specs.Rewrite.{written_checksum}
 use Rattle.ftc_packet.proofs.Numbers.{right_along, right_with_full}
 use Rattle.ftc_packet.proofs.Weights.{weighted}
 use Rattle.ftc_packet.proofs.WordEdits.{part, length-part, word_at-part, length-with_word, with_word-sum}
 use Rattle.ftc_packet.proofs.ListUpdates.{list_of_two_updates, list_of_three_updates}
 use Rattle.ftc_packet.proofs.PacketSums.{addresses, header_sum-weighted, plain_sum, transport_sum-weighted}
-use Rattle.ftc_packet.proofs.Rewritten.{part-rewritten_header, part-rewritten_segment, word_at-rewritten_apart, word_at-rewritten_high, word_at-rewritten_low, word_at-rewritten_checksum}
-use Rattle.ftc_packet.proofs.PacketRewrites.{IsFlow-packet, IsWhole-packet, checksum_places, end_places, get-packet_front, header_place, length-packet, packet, transport_start-packet, transport_start_least, with_end-packet, word_at-packet_front}
+use Rattle.ftc_packet.proofs.Rewritten.{part-rewritten_header, part-rewritten_segment, word_at-rewritten_apart}
+use Rattle.ftc_packet.proofs.Rewritten.{word_at-rewritten_high, word_at-rewritten_low, word_at-rewritten_checksum}
+use Rattle.ftc_packet.proofs.PacketRewrites.{IsFlow-packet, IsWhole-packet, checksum_places, end_places}
+use Rattle.ftc_packet.proofs.PacketRewrites.{get-packet_front, header_place, length-packet, packet}
+use Rattle.ftc_packet.proofs.PacketRewrites.{transport_start-packet, transport_start_least, with_end-packet}
+use Rattle.ftc_packet.proofs.PacketRewrites.{word_at-packet_front}
 
 -- The words that a rewrite changes are words.
 record AreWords (bs : List ℕ) (end : End) : Type 0 where
@@ -42,14 +49,16 @@ AreWords-bytes bs end bytes = record {
 abbrev header_update : List ℕ → End → ℕ → ℕ → ℕ
 header_update bs end n₁ n₂ =
     updated_checksum
-    (updated_checksum (word_at bs 24) (word_at bs (14 + header_place end)) n₁) (word_at bs (14 + (header_place end + 2))) n₂
+    (updated_checksum (word_at bs 24) (word_at bs (14 + header_place end)) n₁)
+    (word_at bs (14 + (header_place end + 2))) n₂
 
 -- The transport checksum, updated for the words n₁, n₂ and n₃, before the rule for UDP.
 abbrev transport_update : List ℕ → End → ℕ → ℕ → ℕ → ℕ
 transport_update bs end n₁ n₂ n₃ =
     updated_checksum
     (updated_checksum
-    (updated_checksum (word_at bs (transport_start bs + checksum_place (protocol_of bs))) (word_at bs (14 + header_place end)) n₁)
+    (updated_checksum (word_at bs (transport_start bs + checksum_place (protocol_of bs)))
+    (word_at bs (14 + header_place end)) n₁)
     (word_at bs (14 + (header_place end + 2))) n₂)
     (word_at bs (transport_start bs + port_place end)) n₃
 
@@ -57,7 +66,9 @@ transport_update bs end n₁ n₂ n₃ =
 header_updates : (bs : List ℕ) (end : End) (n₁ n₂ n : ℕ) → AreWords bs end → 20 ≤ n → 14 + n ≤ length bs →
     0 < get_or bs 14 0 →
     ones_complement (weighted 0 (part 14 n bs)) ≡ 65535 →
-    ones_complement (weighted 0 (with_word (with_word (with_word (part 14 n bs) (header_place end) n₁) (header_place end + 2) n₂) 10 (header_update bs end n₁ n₂))) ≡ 65535
+    ones_complement (weighted 0
+    (with_word (with_word (with_word (part 14 n bs) (header_place end) n₁) (header_place end + 2) n₂) 10
+    (header_update bs end n₁ n₂))) ≡ 65535
 header_updates bs end n₁ n₂ n fit hn hl above right =
     let i = header_place end in
     let places = end_places end in
@@ -69,15 +80,19 @@ header_updates bs end n₁ n₂ n fit hn hl above right =
     let m₂ : word_at h (i + 2) ≡ word_at bs (14 + (i + 2)) = word_at-part 14 n bs (i + 2) (omega arith) in
     let all = list_of_two_updates h i n₁ (i + 2) n₂ 10 0
     (omega (arith, c, fit.header_checksum)) (omega (arith, m₁, fit.high)) (omega (arith, m₂, fit.low))
-    (omega arith) (omega arith) refl refl (inr (omega arith)) (inl (omega arith)) (inl (omega arith)) (inl (omega arith)) (inl (omega arith)) (inl (omega arith))
+    (omega arith) (omega arith) refl refl (inr (omega arith)) (inl (omega arith)) (inl (omega arith))
+    (inl (omega arith)) (inl (omega arith)) (inl (omega arith))
     (omega arith) (omega arith) (omega arith) (omega arith) right in
     rw (c, m₁, m₂) at all
 
 -- The update of the segment, which has n bytes: p is the sum of the pseudo header's words that stay.
 segment_updates : (bs : List ℕ) (end : End) (p n₁ n₂ n₃ n : ℕ) → AreWords bs end → IsFlow bs → 0 < p →
     checksum_place (protocol_of bs) + 1 < n → transport_start bs + n ≤ length bs →
-    ones_complement (p + word_at bs (14 + header_place end) + word_at bs (14 + (header_place end + 2)) + weighted 0 (part (transport_start bs) n bs)) ≡ 65535 →
-    ones_complement (p + n₁ + n₂ + weighted 0 (with_word (with_word (part (transport_start bs) n bs) (port_place end) n₃) (checksum_place (protocol_of bs)) (transport_update bs end n₁ n₂ n₃))) ≡ 65535
+    ones_complement (p + word_at bs (14 + header_place end) + word_at bs (14 + (header_place end + 2))
+    + weighted 0 (part (transport_start bs) n bs)) ≡ 65535 →
+    ones_complement (p + n₁ + n₂
+    + weighted 0 (with_word (with_word (part (transport_start bs) n bs) (port_place end) n₃)
+    (checksum_place (protocol_of bs)) (transport_update bs end n₁ n₂ n₃))) ≡ 65535
 segment_updates bs end p n₁ n₂ n₃ n fit flow above hk hl right =
     let t = transport_start bs in
     let j = port_place end in
@@ -88,7 +103,8 @@ segment_updates bs end p n₁ n₂ n₃ n fit flow above hk hl right =
     let long : length s ≡ n = length-part t n bs hl in
     let c : word_at s k ≡ word_at bs (t + k) = word_at-part t n bs k hk in
     let m₃ : word_at s j ≡ word_at bs (t + j) = word_at-part t n bs j (omega arith) in
-    let all = list_of_three_updates s p (word_at bs (14 + header_place end)) n₁ (word_at bs (14 + (header_place end + 2))) n₂ j n₃ k above
+    let all = list_of_three_updates s p (word_at bs (14 + header_place end)) n₁
+    (word_at bs (14 + (header_place end + 2))) n₂ j n₃ k above
     (omega (arith, c, fit.transport_checksum)) fit.high fit.low (omega (arith, m₃, fit.port))
     (omega arith) of_checksum.0 (inr (omega arith)) (omega arith) (omega arith) right in
     rw (c, m₃) at all
@@ -108,7 +124,8 @@ either_zero xs q k w x ek hk (inr zeros) right =
 written_cases : (protocol before after : ℕ) →
     ((protocol ≡ 17) × (before ≡ 0) × (written_checksum protocol before after ≡ 0))
     ⊎ ((protocol ≡ 17 → before ≡ 0 → ⊥)
-    × ((written_checksum protocol before after ≡ after) ⊎ ((after ≡ 0) × (written_checksum protocol before after ≡ 65535))))
+    × ((written_checksum protocol before after ≡ after)
+    ⊎ ((after ≡ 0) × (written_checksum protocol before after ≡ 65535))))
 written_cases protocol before after = grind (arith, nat_tests)
 
 -- The IPv4 checksum stays right.
@@ -123,9 +140,12 @@ header_stays_right bs end n₁ n₂ c n₃ w fit flow is right =
     let least = transport_start_least bs flow in
     let et : t ≡ 14 + n = omega arith in
     let before = sym (header_sum-weighted bs n et) ∙ right in
-    let after = header_updates bs end n₁ n₂ n fit (omega arith) (omega (arith, flow.header_captured)) (omega (arith, flow.version)) before in
-    let shape = part-rewritten_header bs i n₁ n₂ c t (port_place end) n₃ (checksum_place (protocol_of bs)) w n et (omega arith) (omega (arith, end_places end)) in
-    let sum = header_sum-weighted (packet bs end n₁ n₂ c n₃ w) n (transport_start-packet bs end n₁ n₂ c n₃ w flow ∙ et) in
+    let after = header_updates bs end n₁ n₂ n fit (omega arith) (omega (arith, flow.header_captured))
+    (omega (arith, flow.version)) before in
+    let shape = part-rewritten_header bs i n₁ n₂ c t (port_place end) n₃ (checksum_place (protocol_of bs)) w n et
+    (omega arith) (omega (arith, end_places end)) in
+    let sum = header_sum-weighted (packet bs end n₁ n₂ c n₃ w) n
+    (transport_start-packet bs end n₁ n₂ c n₃ w flow ∙ et) in
     rw (sum, shape, is) after
 
 -- What stays of the addresses' words beside the two that change.
@@ -135,7 +155,8 @@ record StayBeside (bs new : List ℕ) (m₁ m₂ n₁ n₂ : ℕ) : Type 0 where
   after : addresses new ≡ rest + n₁ + n₂
 
 addresses_stay : (bs : List ℕ) (end : End) (n₁ n₂ c n₃ w : ℕ) → IsFlow bs →
-    StayBeside bs (packet bs end n₁ n₂ c n₃ w) (word_at bs (14 + header_place end)) (word_at bs (14 + (header_place end + 2))) n₁ n₂
+    StayBeside bs (packet bs end n₁ n₂ c n₃ w) (word_at bs (14 + header_place end))
+    (word_at bs (14 + (header_place end + 2))) n₁ n₂
 unfolding addresses packet
 addresses_stay bs Source n₁ n₂ c n₃ w flow =
     let t = transport_start bs in
@@ -143,8 +164,10 @@ addresses_stay bs Source n₁ n₂ c n₃ w flow =
     let least = transport_start_least bs flow in
     let a = word_at-rewritten_high bs 12 n₁ n₂ c t 0 n₃ k w least flow.header_captured (omega arith) (omega arith) in
     let b = word_at-rewritten_low bs 12 n₁ n₂ c t 0 n₃ k w least flow.header_captured (omega arith) (omega arith) in
-    let d = word_at-rewritten_apart bs 12 n₁ n₂ c t 0 n₃ k w 30 (inr (omega arith)) (inr (omega arith)) (inl (omega arith)) (inl (omega arith)) in
-    let e = word_at-rewritten_apart bs 12 n₁ n₂ c t 0 n₃ k w 32 (inr (omega arith)) (inr (omega arith)) (inl (omega arith)) (inl (omega arith)) in
+    let d = word_at-rewritten_apart bs 12 n₁ n₂ c t 0 n₃ k w 30 (inr (omega arith)) (inr (omega arith))
+    (inl (omega arith)) (inl (omega arith)) in
+    let e = word_at-rewritten_apart bs 12 n₁ n₂ c t 0 n₃ k w 32 (inr (omega arith)) (inr (omega arith))
+    (inl (omega arith)) (inl (omega arith)) in
     record { rest = word_at bs 30 + word_at bs 32; before = omega arith; after = omega (arith, a, b, d, e) }
 addresses_stay bs Destination n₁ n₂ c n₃ w flow =
     let t = transport_start bs in
@@ -152,8 +175,10 @@ addresses_stay bs Destination n₁ n₂ c n₃ w flow =
     let least = transport_start_least bs flow in
     let a = word_at-rewritten_high bs 16 n₁ n₂ c t 2 n₃ k w least flow.header_captured (omega arith) (omega arith) in
     let b = word_at-rewritten_low bs 16 n₁ n₂ c t 2 n₃ k w least flow.header_captured (omega arith) (omega arith) in
-    let d = word_at-rewritten_apart bs 16 n₁ n₂ c t 2 n₃ k w 26 (inl (omega arith)) (inr (omega arith)) (inl (omega arith)) (inl (omega arith)) in
-    let e = word_at-rewritten_apart bs 16 n₁ n₂ c t 2 n₃ k w 28 (inl (omega arith)) (inr (omega arith)) (inl (omega arith)) (inl (omega arith)) in
+    let d = word_at-rewritten_apart bs 16 n₁ n₂ c t 2 n₃ k w 26 (inl (omega arith)) (inr (omega arith))
+    (inl (omega arith)) (inl (omega arith)) in
+    let e = word_at-rewritten_apart bs 16 n₁ n₂ c t 2 n₃ k w 28 (inl (omega arith)) (inr (omega arith))
+    (inl (omega arith)) (inl (omega arith)) in
     record { rest = word_at bs 26 + word_at bs 28; before = omega arith; after = omega (arith, a, b, d, e) }
 
 -- The transport checksum stays right, where the update's is written, or 65535 for 0.
@@ -181,16 +206,20 @@ transport_stays_right bs end n₁ n₂ c n₃ w fit flow whole how right =
     let stay = addresses_stay bs end n₁ n₂ c n₃ w flow in
     let p = stay.rest + b + n in
     let before : ones_complement (p + m₁ + m₂ + weighted 0 s) ≡ 65535 =
-    right_along (plain_sum bs t n) _ (omega (arith, stay.before)) (sym (transport_sum-weighted bs t n flow.captured refl en) ∙ right) in
+    right_along (plain_sum bs t n) _ (omega (arith, stay.before))
+    (sym (transport_sum-weighted bs t n flow.captured refl en) ∙ right) in
     let plain = segment_updates bs end p n₁ n₂ n₃ n fit flow (omega arith) hk fits before in
     let ys = with_word s j n₃ in
     let long : length ys ≡ n = length-with_word s j n₃ ∙ length-part t n bs fits in
-    let after = either_zero ys (p + n₁ + n₂) k w (transport_update bs end n₁ n₂ n₃) of_checksum.0 (omega arith) how plain in
-    let shape = ap (weighted 0) (part-rewritten_segment bs i n₁ n₂ c t j n₃ k w n least (omega arith) (omega arith) hk) in
+    let after = either_zero ys (p + n₁ + n₂) k w (transport_update bs end n₁ n₂ n₃) of_checksum.0
+    (omega arith) how plain in
+    let shape = ap (weighted 0)
+    (part-rewritten_segment bs i n₁ n₂ c t j n₃ k w n least (omega arith) (omega arith) hk) in
     let start = transport_start-packet bs end n₁ n₂ c n₃ w flow in
     let protocol = get-packet_front bs end n₁ n₂ c n₃ w 23 flow (omega arith) in
     let total = word_at-packet_front bs end n₁ n₂ c n₃ w 16 flow (omega arith) in
-    let sum = transport_sum-weighted new t n (omega (arith, flow.captured, length-packet bs end n₁ n₂ c n₃ w)) start (omega arith) in
+    let sum = transport_sum-weighted new t n (omega (arith, flow.captured, length-packet bs end n₁ n₂ c n₃ w)) start
+    (omega arith) in
     sum ∙ right_along (p + n₁ + n₂ + weighted 0 (with_word ys k w)) _ (omega (arith, shape, protocol, stay.after)) after
 
 -- UDP that has no checksum still has none.
@@ -203,7 +232,8 @@ HasNoChecksum-packet bs end n₁ n₂ c n₃ w flow udp none =
     let k = checksum_place b in
     let ek : k ≡ 6 = ap checksum_place udp in
     let of_checksum = checksum_places b flow.carries in
-    let last = word_at-rewritten_checksum bs (header_place end) n₁ n₂ c t (port_place end) n₃ k w (omega (arith, of_checksum.2, flow.transport_captured)) in
+    let last = word_at-rewritten_checksum bs (header_place end) n₁ n₂ c t (port_place end) n₃ k w
+    (omega (arith, of_checksum.2, flow.transport_captured)) in
     let start = transport_start-packet bs end n₁ n₂ c n₃ w flow in
     let place : transport_start (packet bs end n₁ n₂ c n₃ w) + 6 ≡ t + k = omega (arith, start, ek) in
     record {
@@ -221,7 +251,8 @@ has_checksum bs (inr none) has =
 
 -- Both checksums stay right.
 packet_stays_right : (bs : List ℕ) (end : End) (n₁ n₂ c n₃ w : ℕ) → AreWords bs end → c ≡ header_update bs end n₁ n₂ →
-    w ≡ written_checksum (protocol_of bs) (word_at bs (transport_start bs + checksum_place (protocol_of bs))) (transport_update bs end n₁ n₂ n₃) →
+    w ≡ written_checksum (protocol_of bs) (word_at bs (transport_start bs + checksum_place (protocol_of bs)))
+    (transport_update bs end n₁ n₂ n₃) →
     IsRight bs → IsRight (packet bs end n₁ n₂ c n₃ w)
 packet_stays_right bs end n₁ n₂ c n₃ w fit header transport right =
     let flow = right.flow in
@@ -246,7 +277,10 @@ pub with_end_stays_right : (bs : List ℕ) (end : End) (address port : ℕ) → 
 unfolding new_header_checksum new_transport_checksum
 with_end_stays_right bs Source address port bytes right =
     rw (with_end-packet bs Source address port) (packet_stays_right bs Source (address / 65536) (address % 65536)
-    (new_header_checksum bs Source address) port (new_transport_checksum bs Source address port) (AreWords-bytes bs Source bytes) refl refl right)
+    (new_header_checksum bs Source address) port (new_transport_checksum bs Source address port)
+    (AreWords-bytes bs Source bytes) refl refl right)
 with_end_stays_right bs Destination address port bytes right =
-    rw (with_end-packet bs Destination address port) (packet_stays_right bs Destination (address / 65536) (address % 65536)
-    (new_header_checksum bs Destination address) port (new_transport_checksum bs Destination address port) (AreWords-bytes bs Destination bytes) refl refl right)
+    rw (with_end-packet bs Destination address port)
+    (packet_stays_right bs Destination (address / 65536) (address % 65536)
+    (new_header_checksum bs Destination address) port (new_transport_checksum bs Destination address port)
+    (AreWords-bytes bs Destination bytes) refl refl right)

@@ -1,5 +1,6 @@
 -- The plain sum of the words of a list as a sum over its bytes: a byte at an even place counts 256 times.
-use Rattle.std.proofs.Common.{◌≡◌, ℕ, zero, suc, ◌+◌, ◌*◌, ◌%◌, ◌<◌, ◌≤◌, List, [], ◌∷◌, ◌++◌, sum, length, get_or, set, take, arith, cond, eqb, ap, refl}
+use Rattle.std.proofs.Common.{◌≡◌, ℕ, zero, suc, ◌+◌, ◌*◌, ◌%◌, ◌<◌, ◌≤◌, List, [], ◌∷◌, ◌++◌, sum, length, get_or, set}
+use Rattle.std.proofs.Common.{take, arith, cond, eqb, ap, refl}
 use Rattle.std.proofs.lemmas.Bool.Decides.{nat_tests}
 use Rattle.std.proofs.lemmas.List.{take_more, length-take-le}
 use Rattle.std.proofs.lemmas.List.Sums.{sum_by-cons}

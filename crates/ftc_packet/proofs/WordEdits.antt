@@ -1,9 +1,12 @@
 -- Words put into a list of bytes, and the parts of a list.
-use Rattle.std.proofs.Common.{◌≡◌, ◌≢◌, ℕ, ◌+◌, ◌*◌, ◌/◌, ◌%◌, ◌<◌, ◌≤◌, ◌⊎◌, List, length, get_or, set, take, drop, arith, ap, ◌∙◌, refl}
-use Rattle.std.proofs.lemmas.List.{length-set, length-drop, length-take-le, get_or-set_other, get_or-take, get_or-drop, drop-set-add, drop-set-lt, take-set-le}
+use Rattle.std.proofs.Common.{◌≡◌, ◌≢◌, ℕ, ◌+◌, ◌*◌, ◌/◌, ◌%◌, ◌<◌, ◌≤◌, ◌⊎◌, List, length, get_or, set, take, drop}
+use Rattle.std.proofs.Common.{arith, ap, ◌∙◌, refl}
+use Rattle.std.proofs.lemmas.List.{length-set, length-drop, length-take-le, get_or-set_other, get_or-take, get_or-drop}
+use Rattle.std.proofs.lemmas.List.{drop-set-add, drop-set-lt, take-set-le}
 use Rattle.std.proofs.Math.Seq.{take-set-lt}
 use Rattle.ftc_packet.specs.Layout.{word_at, with_word}
-use Rattle.ftc_packet.proofs.Weights.{weight, weighted, weight_even, weight_odd, weighted-set, weighted_more, get-le-weighted}
+use Rattle.ftc_packet.proofs.Weights.{weight, weighted, weight_even, weight_odd, weighted-set, weighted_more}
+use Rattle.ftc_packet.proofs.Weights.{get-le-weighted}
 
 -- Another byte at an even place, and at an odd one.
 set_even : (xs : List ℕ) (k y : ℕ) → k % 2 ≡ 0 → k < length xs →
@@ -71,7 +74,8 @@ with_two-sum xs a u b v ea eb ab la lb =
 
 pub with_three-sum : (xs : List ℕ) (a u b v d w : ℕ) → a % 2 ≡ 0 → b % 2 ≡ 0 → d % 2 ≡ 0 → Apart b a → Apart d a →
     Apart d b → a + 1 < length xs → b + 1 < length xs → d + 1 < length xs →
-    weighted 0 (with_word (with_word (with_word xs a u) b v) d w) + word_at xs a + word_at xs b + word_at xs d ≡ weighted 0 xs + u + v + w
+    weighted 0 (with_word (with_word (with_word xs a u) b v) d w) + word_at xs a + word_at xs b + word_at xs d
+    ≡ weighted 0 xs + u + v + w
 with_three-sum xs a u b v d w ea eb ed ba da db la lb ld =
     let ys = with_word (with_word xs a u) b v in
     let two = with_two-sum xs a u b v ea eb ba la lb in
@@ -123,12 +127,19 @@ pub word_at-part : (a n : ℕ) (xs : List ℕ) (i : ℕ) → i + 1 < n → word_
 unfolding word_at
 word_at-part a n xs i h =
     let place : a + i + 1 ≡ a + (i + 1) = omega arith in
-    rw (place, get_or-take n (drop a xs) i 0 (omega arith), get_or-take n (drop a xs) (i + 1) 0 h, get_or-drop a xs i 0, get_or-drop a xs (i + 1) 0) refl
+    rw (
+      place,
+      get_or-take n (drop a xs) i 0 (omega arith),
+      get_or-take n (drop a xs) (i + 1) 0 h,
+      get_or-drop a xs i 0,
+      get_or-drop a xs (i + 1) 0,
+    ) refl
 
 weighted-part_more : (a i : ℕ) (xs : List ℕ) → a + i < length xs →
     weighted 0 (part a (i + 1) xs) ≡ weighted 0 (part a i xs) + weight i * get_or xs (a + i) 0
 weighted-part_more a i xs h =
-    weighted_more (drop a xs) i (omega (arith, length-drop a xs)) ∙ ap (λ x. weighted 0 (part a i xs) + weight i * x) (get_or-drop a xs i 0)
+    weighted_more (drop a xs) i (omega (arith, length-drop a xs)) ∙ ap (λ x. weighted 0 (part a i xs)
+    + weight i * x) (get_or-drop a xs i 0)
 
 -- One word more of a part.
 pub weighted-part_word : (a i : ℕ) (xs : List ℕ) → i % 2 ≡ 0 → a + i + 1 < length xs →

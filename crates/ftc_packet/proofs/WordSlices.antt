@@ -1,5 +1,6 @@
 -- Words and addresses as `byteorder` reads and writes them, in the part of a slice from a place on.
-use Rattle.std.proofs.Common.{◌≡◌, ℕ, ◌+◌, ◌-◌, ◌/◌, ◌%◌, ◌<◌, ◌≤◌, List, ◌∷◌, ◌++◌, length, take, drop, get_or, set, arith, refl, ap, ◌∙◌, [], zero, suc}
+use Rattle.std.proofs.Common.{◌≡◌, ℕ, ◌+◌, ◌-◌, ◌/◌, ◌%◌, ◌<◌, ◌≤◌, List, ◌∷◌, ◌++◌, length, take, drop, get_or, set}
+use Rattle.std.proofs.Common.{arith, refl, ap, ◌∙◌, [], zero, suc}
 use Rattle.std.proofs.lemmas.List.{append-nil, drop_all, length-drop, get_or-drop, get_or-take, take_all}
 use borrow.Rule.Slice.PartMut.{put_mid}
 use Rattle.byteorder.specs.Endian.{big_number}

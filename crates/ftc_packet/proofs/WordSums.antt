@@ -1,5 +1,6 @@
 -- Sums that go through the words of a list from its front.
-use Rattle.std.proofs.Common.{◌≡◌, ℕ, ◌+◌, ◌-◌, ◌*◌, ◌≤◌, List, [], ◌∷◌, sum, length, take, drop, get_or, arith, sym, ap, ◌∙◌}
+use Rattle.std.proofs.Common.{◌≡◌, ℕ, ◌+◌, ◌-◌, ◌*◌, ◌≤◌, List, [], ◌∷◌, sum, length, take, drop, get_or, arith, sym}
+use Rattle.std.proofs.Common.{ap, ◌∙◌}
 use Rattle.std.proofs.lemmas.List.{take_all}
 use Rattle.std.proofs.lemmas.List.Sums.{sum_by-cons}
 use Rattle.ftc_packet.specs.Sum.{ones_complement, words}
@@ -22,7 +23,8 @@ pub sum_more : (before after word : ℕ) (xs : List ℕ) → 2 ≤ length xs →
 sum_more before after word xs h is_word is_sum =
     let rest = sum (words (take (length xs - 2) (drop 2 xs))) in
     let all : before + word + rest ≡ before + sum (words xs) = omega (arith, sum-words-first xs h) in
-    ap (λ (n : ℕ). ones_complement (n + rest)) is_sum ∙ ones_complement-add (before + word) rest ∙ ap ones_complement all
+    ap (λ (n : ℕ). ones_complement (n + rest)) is_sum ∙ ones_complement-add (before
+    + word) rest ∙ ap ones_complement all
 
 -- An odd last byte.
 pub sum_last : (before word : ℕ) (xs : List ℕ) → length xs ≡ 1 → word ≡ 256 * get_or xs 0 0 →

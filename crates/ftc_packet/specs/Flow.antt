@@ -1,8 +1,12 @@
 -- Flow packets, and the flow that each names.
-use Rattle.std.specs.Prelude.{◌≡◌, ℕ, ◌+◌, ◌/◌, ◌%◌, ◌≤◌, ◌⊎◌, ◌&&◌, ◌||◌, ◌==◌, nat_le, Bool, Option, Some, None, if◌then◌else◌, List, length}
+use Rattle.std.specs.Prelude.{◌≡◌, ℕ, ◌+◌, ◌/◌, ◌%◌, ◌≤◌, ◌⊎◌, ◌&&◌, ◌||◌, ◌==◌, nat_le, Bool, Option, Some, None}
+use Rattle.std.specs.Prelude.{if◌then◌else◌, List, length}
 use Rattle.ftc_packet.specs.declared.flow.Flow.{Flow}
-use Rattle.ftc_packet.specs.declared.layout.TheConstants.{ETHERTYPE, ETHERTYPE_IPV4, IPV4, IPV4_FRAGMENT, IPV4_HEADER_WORDS, IPV4_OPTIONS, IPV4_SOURCE, IPV4_DESTINATION, TCP, UDP, SOURCE_PORT, DESTINATION_PORT}
-use Rattle.ftc_packet.specs.Layout.{word_at, address_at, version_of, header_words, protocol_of, transport_start, fixed_header}
+use Rattle.ftc_packet.specs.declared.layout.TheConstants.{ETHERTYPE, ETHERTYPE_IPV4, IPV4, IPV4_FRAGMENT}
+use Rattle.ftc_packet.specs.declared.layout.TheConstants.{IPV4_HEADER_WORDS, IPV4_OPTIONS, IPV4_SOURCE}
+use Rattle.ftc_packet.specs.declared.layout.TheConstants.{IPV4_DESTINATION, TCP, UDP, SOURCE_PORT, DESTINATION_PORT}
+use Rattle.ftc_packet.specs.Layout.{word_at, address_at, version_of, header_words, protocol_of, transport_start}
+use Rattle.ftc_packet.specs.Layout.{fixed_header}
 
 -- The flag that more fragments follow: of the 16 bits that hold it, bit 13.
 abbrev pub more_fragments : List ℕ → ℕ

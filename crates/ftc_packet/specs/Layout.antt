@@ -1,6 +1,8 @@
 -- Where the parts of a packet stand: Ethernet II, then IPv4 (RFC 791), then TCP (RFC 9293) or UDP (RFC 768).
 use Rattle.std.specs.Prelude.{ℕ, ◌+◌, ◌*◌, ◌/◌, ◌%◌, ◌<◌, List, if◌then◌else◌, ◌==◌, slice_index, slice_set}
-use Rattle.ftc_packet.specs.declared.layout.TheConstants.{ETHERNET_HEADER, IPV4_VERSION, IPV4_PROTOCOL, IPV4_TOTAL_LENGTH, TCP, TCP_HEADER, UDP_HEADER, TCP_CHECKSUM, UDP_CHECKSUM}
+use Rattle.ftc_packet.specs.declared.layout.TheConstants.{ETHERNET_HEADER, IPV4_VERSION, IPV4_PROTOCOL}
+use Rattle.ftc_packet.specs.declared.layout.TheConstants.{IPV4_TOTAL_LENGTH, TCP, TCP_HEADER, UDP_HEADER, TCP_CHECKSUM}
+use Rattle.ftc_packet.specs.declared.layout.TheConstants.{UDP_CHECKSUM}
 
 -- The items of the list are bytes.
 abbrev pub AreBytes : List ℕ → Type 0

@@ -1,6 +1,7 @@
 -- What a flow packet becomes once one end of its flow has another address and port.
 use Rattle.std.specs.Prelude.{◌≡◌, ℕ, ◌+◌, ◌/◌, ◌%◌, ◌<◌, ◌≤◌, ◌⊎◌, ◌&&◌, ◌==◌, List, if◌then◌else◌, slice_index}
-use Rattle.ftc_packet.specs.declared.layout.TheConstants.{IPV4_CHECKSUM, IPV4_SOURCE, IPV4_DESTINATION, SOURCE_PORT, DESTINATION_PORT, UDP}
+use Rattle.ftc_packet.specs.declared.layout.TheConstants.{IPV4_CHECKSUM, IPV4_SOURCE, IPV4_DESTINATION, SOURCE_PORT}
+use Rattle.ftc_packet.specs.declared.layout.TheConstants.{DESTINATION_PORT, UDP}
 use Rattle.ftc_packet.specs.declared.rewrite.End.{End}
 use Rattle.ftc_packet.specs.declared.rewrite.End.TheVariants.{Source, Destination}
 use Rattle.ftc_packet.specs.Layout.{word_at, with_word, protocol_of, transport_start, checksum_place}

@@ -1,7 +1,8 @@
 // Whether the checksums of a packet are right.
 
 ghost use Rattle.std.specs.Prelude.{◌≡◌, ◌≤◌, ◌⊎◌, ◌↔◌, true, length, MatchOption, IsTrue};
-ghost use Rattle.ftc_packet.specs.Check.{AreSumsRight, HasNoChecksum, IsRight, IsWhole, header_sum, transport_sum as sum_of_transport};
+ghost use Rattle.ftc_packet.specs.Check.{AreSumsRight, HasNoChecksum, IsRight, IsWhole, header_sum};
+ghost use Rattle.ftc_packet.specs.Check.{transport_sum as sum_of_transport};
 ghost use Rattle.ftc_packet.specs.Flow.{IsFlow};
 
 use crate::flow::is_flow;

@@ -1,7 +1,9 @@
 // Where the fields of a packet stand, and its words of 16 bits.
 
 ghost use Rattle.std.specs.Prelude.{◌≡◌, ◌+◌, ◌*◌, ◌<◌, ◌≤◌, length};
-ghost use Rattle.ftc_packet.specs.Layout.{address_at as address_of, checksum_place as place_of_checksum, datagram_end as end_of_datagram, fixed_header as length_of_fixed_header, transport_start as start_of_transport, with_word, word_at as word_of};
+ghost use Rattle.ftc_packet.specs.Layout.{address_at as address_of, checksum_place as place_of_checksum};
+ghost use Rattle.ftc_packet.specs.Layout.{datagram_end as end_of_datagram, fixed_header as length_of_fixed_header};
+ghost use Rattle.ftc_packet.specs.Layout.{transport_start as start_of_transport, with_word, word_at as word_of};
 
 use byteorder::{BigEndian, ByteOrder};
 

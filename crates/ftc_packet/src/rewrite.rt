@@ -4,7 +4,13 @@ ghost use Rattle.std.specs.Prelude.{◌≡◌, ◌+◌, ◌/◌, ◌%◌, ◌<�
 ghost use Rattle.ftc_packet.specs.Check.{IsRight};
 ghost use Rattle.ftc_packet.specs.Flow.{IsFlow, flow_in};
 ghost use Rattle.ftc_packet.specs.Layout.{AreBytes};
-ghost use Rattle.ftc_packet.specs.Rewrite.{ChangesOnlyDestination, ChangesOnlySource, address_place as place_of_address, new_header_checksum as header_checksum_of, new_transport_checksum as transport_checksum_of, port_place as place_of_port, updated_for_address as checksum_for_address, with_address, with_destination, with_end, with_source, written_checksum as checksum_written};
+ghost use Rattle.ftc_packet.specs.Rewrite.{ChangesOnlyDestination, ChangesOnlySource};
+ghost use Rattle.ftc_packet.specs.Rewrite.{address_place as place_of_address};
+ghost use Rattle.ftc_packet.specs.Rewrite.{new_header_checksum as header_checksum_of};
+ghost use Rattle.ftc_packet.specs.Rewrite.{new_transport_checksum as transport_checksum_of};
+ghost use Rattle.ftc_packet.specs.Rewrite.{port_place as place_of_port, updated_for_address as checksum_for_address};
+ghost use Rattle.ftc_packet.specs.Rewrite.{with_address, with_destination, with_end, with_source};
+ghost use Rattle.ftc_packet.specs.Rewrite.{written_checksum as checksum_written};
 
 use crate::layout::{
     DESTINATION_PORT, IPV4_CHECKSUM, IPV4_DESTINATION, IPV4_PROTOCOL, IPV4_SOURCE, SOURCE_PORT,

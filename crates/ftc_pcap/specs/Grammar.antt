@@ -1,6 +1,7 @@
 -- The texts that are captures in libpcap's classic form, and the first fault of a text that is none.
 -- A byte order is a Bool: true is big-endian, false little-endian.
-use Rattle.std.specs.Prelude.{◌≡◌, ◌≤◌, ◌<◌, ◌+◌, ◌^◌, ◌⊎◌, ◌==◌, ◌&&◌, ◌||◌, ℕ, Bool, true, false, not, nat_lt, nat_le, List, ◌++◌, length, take, drop, Option, Some, None, if◌then◌else◌}
+use Rattle.std.specs.Prelude.{◌≡◌, ◌≤◌, ◌<◌, ◌+◌, ◌^◌, ◌⊎◌, ◌==◌, ◌&&◌, ◌||◌, ℕ, Bool, true, false, not, nat_lt, nat_le}
+use Rattle.std.specs.Prelude.{List, ◌++◌, length, take, drop, Option, Some, None, if◌then◌else◌}
 use Rattle.std.specs.List.{flat_map, AllByRecursion}
 use Rattle.byteorder.specs.Endian.{big_bytes, little_bytes, big_number, little_number}
 use Rattle.ftc_base.specs.declared.limits.TheConstants.{MOST_RECORDS, MOST_CAPTURED, MOST_CAPTURE_BYTES}
@@ -9,7 +10,8 @@ use Rattle.ftc_base.specs.declared.refusal.Refuse.TheVariants.{Bad, NoMemory}
 use Rattle.ftc_pcap.specs.declared.packets.Packet.{Packet}
 use Rattle.ftc_pcap.specs.declared.capture.Capture.{Capture}
 use Rattle.ftc_pcap.specs.declared.capture.CaptureCause.{CaptureCause}
-use Rattle.ftc_pcap.specs.declared.capture.CaptureCause.TheVariants.{NotCapture, Version, LinkType, RecordTooLong, Cut, TooMany, TooBig}
+use Rattle.ftc_pcap.specs.declared.capture.CaptureCause.TheVariants.{NotCapture, Version, LinkType, RecordTooLong, Cut}
+use Rattle.ftc_pcap.specs.declared.capture.CaptureCause.TheVariants.{TooMany, TooBig}
 use Rattle.ftc_pcap.specs.declared.capture.CaptureFault.{CaptureFault}
 
 -- the four bytes of a number

@@ -31,7 +31,8 @@ fn split_number(big: bool, bytes: &[u8]) -> (u32, &[u8])
 /// The head at the front, and the bytes after it.
 pub fn split_head(big: bool, bytes: &[u8]) -> (Head, &[u8])
     requires { HEAD_BYTES ≤ length bytes.now }
-    ensures parts { bytes.now ≡ head_bytes big result.0.seconds result.0.fraction result.0.captured result.0.original ++ result.1.now }
+    ensures parts { bytes.now ≡ head_bytes big result.0.seconds result.0.fraction result.0.captured result.0.original
+        ++ result.1.now }
     ensures captured { result.0.captured ≡ captured_length big bytes.now }
     ensures shorter { length bytes.now ≡ length result.1.now + HEAD_BYTES }
 {

@@ -8,7 +8,8 @@ use ftc_base::limits::MOST_CAPTURE_BYTES;
 
 /// The four bytes of a number are that number, whatever follows them.
 pub fn one_number()
-    ensures { (big : Bool) (number : ℕ) (rest : List ℕ) → number < 2 ^ 32 → number_of big (number_bytes big number ++ rest) ≡ number }
+    ensures { (big : Bool) (number : ℕ) (rest : List ℕ) → number < 2 ^ 32 →
+        number_of big (number_bytes big number ++ rest) ≡ number }
 {}
 
 /// A text is at most one capture.
@@ -19,11 +20,14 @@ pub fn one_reading()
 /// A text has at most one first fault, and a text that is a capture has none.
 pub fn one_fault()
     ensures one { (text : List ℕ) (one other : CaptureFault) → IsFault text one → IsFault text other → one ≡ other }
-    ensures none { (text : List ℕ) (capture : Capture) (fault : CaptureFault) → Spells text capture → IsFault text fault → ⊥ }
+    ensures none { (text : List ℕ) (capture : Capture) (fault : CaptureFault) → Spells text capture →
+        IsFault text fault → ⊥ }
 {}
 
 /// The bytes of a right capture are that capture, and no other.
 pub fn round_trip()
-    ensures spelled { (capture : Capture) → IsCapture capture → length (capture_bytes capture) ≤ MOST_CAPTURE_BYTES → Spells (capture_bytes capture) capture }
-    ensures reads_back { (capture read : Capture) → IsCapture capture → Spells (capture_bytes capture) read → read ≡ capture }
+    ensures spelled { (capture : Capture) → IsCapture capture → length (capture_bytes capture) ≤ MOST_CAPTURE_BYTES →
+        Spells (capture_bytes capture) capture }
+    ensures reads_back { (capture read : Capture) → IsCapture capture → Spells (capture_bytes capture) read →
+        read ≡ capture }
 {}

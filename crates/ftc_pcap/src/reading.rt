@@ -1,7 +1,8 @@
 //! Reading a capture.
 
 ghost use Rattle.std.specs.Prelude.{◌≡◌, ◌≤◌, ◌<◌, ◌++◌, length, Some, OnOk, IfOk, IfErr};
-ghost use Rattle.ftc_pcap.specs.Grammar.{record_bytes, capture_bytes, IsPacket, IsCapture, front_cause, Spells, Refuses};
+ghost use Rattle.ftc_pcap.specs.Grammar.{record_bytes, capture_bytes, IsPacket, IsCapture, front_cause, Spells};
+ghost use Rattle.ftc_pcap.specs.Grammar.{Refuses};
 ghost use Rattle.ftc_pcap.specs.Placing.{RefusesRecord, placed_at};
 
 use crate::capture::{Capture, CaptureCause, CaptureFault};

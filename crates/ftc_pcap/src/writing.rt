@@ -28,7 +28,8 @@ pub fn write_packet(
 ) -> Result<(), NoMemory>
     requires known { number < length capture.now.packets }
     requires short { length bytes.now ≤ MOST_CAPTURED }
-    ensures ok { OnOk result (IfSome (slice_get capture.now.packets number) (λ packet. out.new ≡ out.old ++ record_bytes capture.now.big (rewritten packet bytes.now))) }
+    ensures ok { OnOk result (IfSome (slice_get capture.now.packets number) (λ packet. out.new ≡ out.old
+        ++ record_bytes capture.now.big (rewritten packet bytes.now))) }
     ensures err { OnErr result (out.new ≡ out.old) }
 {
     let packet = capture.packets.at(number as usize);

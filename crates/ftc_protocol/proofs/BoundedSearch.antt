@@ -1,5 +1,6 @@
 -- What can be decided: searches below a bound.
-use Rattle.std.proofs.Common.{◌≡◌, ℕ, zero, suc, ◌<◌, ◌≤◌, Bool, true, false, List, [], ◌∷◌, ◌++◌, ◌⊎◌, inl, inr, refl, sym, subst, arith, Option, Some, None}
+use Rattle.std.proofs.Common.{◌≡◌, ℕ, zero, suc, ◌<◌, ◌≤◌, Bool, true, false, List, [], ◌∷◌, ◌++◌, ◌⊎◌, inl, inr, refl}
+use Rattle.std.proofs.Common.{sym, subst, arith, Option, Some, None}
 use Rattle.std.proofs.lemmas.Bool.{true≢false, cases_eq, cases_lt}
 use Rattle.std.proofs.lemmas.Option.{none-some, same_Some}
 use Rattle.std.specs.List.{AllByRecursion}
@@ -16,13 +17,19 @@ both P Q a b = elim a [
 
 -- of three, and of five
 pub three : (P Q R : Type 0) → Decided P → Decided Q → Decided R → Decided (P × Q × R)
-three P Q R a b d = elim (both P (Q × R) a (both Q R b d)) [ inl x ↦ inl (x.0, x.1.0, x.1.1) | inr isnt ↦ inr (λ x. isnt (x.0, (x.1, x.2))) ]
-
-pub five : (P Q R S T : Type 0) → Decided P → Decided Q → Decided R → Decided S → Decided T → Decided (P × Q × R × S × T)
-five P Q R S T a b d e f = elim (both P (Q × (R × (S × T))) a (both Q (R × (S × T)) b (both R (S × T) d (both S T e f)))) [
-  | inl x ↦ inl (x.0, x.1.0, x.1.1.0, x.1.1.1.0, x.1.1.1.1)
-  | inr isnt ↦ inr (λ x. isnt (x.0, (x.1, (x.2, (x.3, x.4)))))
+three P Q R a b d = elim (both P (Q × R) a (both Q R b d)) [
+  | inl x ↦ inl (x.0, x.1.0, x.1.1)
+  | inr isnt ↦
+      inr (λ x. isnt (x.0, (x.1, x.2)))
 ]
+
+pub five : (P Q R S T : Type 0) → Decided P → Decided Q → Decided R → Decided S → Decided T →
+    Decided (P × Q × R × S × T)
+five P Q R S T a b d e f =
+    elim (both P (Q × (R × (S × T))) a (both Q (R × (S × T)) b (both R (S × T) d (both S T e f)))) [
+      | inl x ↦ inl (x.0, x.1.0, x.1.1.0, x.1.1.1.0, x.1.1.1.1)
+      | inr isnt ↦ inr (λ x. isnt (x.0, (x.1, (x.2, (x.3, x.4)))))
+    ]
 
 pub either : (P Q : Type 0) → Decided P → Decided Q → Decided (P ⊎ Q)
 either P Q a b = elim a [
@@ -65,7 +72,8 @@ is_none A None = inl refl
 is_none A (Some a) = inr (λ e. none-some a (sym e))
 
 -- a thing that may be there, with P
-pub there_with : (A : Type 0) (o : Option A) (P : A → Type 0) → ((a : A) → o ≡ Some a → Decided (P a)) → Decided ((a : A) × (o ≡ Some a) × P a)
+pub there_with : (A : Type 0) (o : Option A) (P : A → Type 0) → ((a : A) → o ≡ Some a → Decided (P a)) →
+    Decided ((a : A) × (o ≡ Some a) × P a)
 there_with A None P each = inr (λ x. none-some x.0 x.1)
 there_with A (Some a) P each = elim (each a refl) [
   | inl p ↦ inl (a, refl, p)
@@ -73,7 +81,8 @@ there_with A (Some a) P each = elim (each a refl) [
 ]
 
 -- a thing that is there has P
-pub there_has : (A : Type 0) (o : Option A) (P : A → Type 0) → ((a : A) → o ≡ Some a → Decided (P a)) → Decided ((a : A) → o ≡ Some a → P a)
+pub there_has : (A : Type 0) (o : Option A) (P : A → Type 0) → ((a : A) → o ≡ Some a → Decided (P a)) →
+    Decided ((a : A) → o ≡ Some a → P a)
 there_has A None P each = inl (λ a e. absurd (none-some a e))
 there_has A (Some a) P each = elim (each a refl) [
   | inl p ↦ inl (λ b e. subst P (same_Some a b e) p)
@@ -119,7 +128,8 @@ among A P (x ∷ xs) ys a = elim a [
   | inr behind ↦ inr (among A P xs ys (inr behind))
 ]
 
-pub among_each : (A : Type 0) (P : A → Type 0) (f : ℕ → List A) (n k : ℕ) → k < n → AnyOf P (f k) → AnyOf P (each_below f n)
+pub among_each : (A : Type 0) (P : A → Type 0) (f : ℕ → List A) (n k : ℕ) → k < n → AnyOf P (f k) →
+    AnyOf P (each_below f n)
 among_each A P f zero k l there = absurd (omega arith)
 among_each A P f (suc n) k l there = elim (cases_eq k n) [
   | inl e ↦ among A P (each_below f n) (f n) (inr (subst (λ x. AnyOf P (f x)) e there))

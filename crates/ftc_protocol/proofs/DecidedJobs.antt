@@ -1,5 +1,6 @@
 -- In each state of a run it can be decided which jobs are legal.
-use Rattle.std.proofs.Common.{◌≡◌, ◌≢◌, ℕ, zero, suc, ◌+◌, ◌-◌, ◌<◌, ◌≤◌, ◌==◌, ◌&&◌, Bool, true, false, List, [], ◌∷◌, ◌⊎◌, inl, inr, refl, sym, ap, subst, arith, eqb-true, eq-eqb, Option, Some, None}
+use Rattle.std.proofs.Common.{◌≡◌, ◌≢◌, ℕ, zero, suc, ◌+◌, ◌-◌, ◌<◌, ◌≤◌, ◌==◌, ◌&&◌, Bool, true, false, List, [], ◌∷◌}
+use Rattle.std.proofs.Common.{◌⊎◌, inl, inr, refl, sym, ap, subst, arith, eqb-true, eq-eqb, Option, Some, None}
 use Rattle.std.proofs.lemmas.Bool.{cases_lt, and_parts, and_from}
 use Rattle.std.proofs.lemmas.Option.{none-some}
 use Rattle.std.specs.List.{AllByRecursion}
@@ -30,7 +31,9 @@ use Rattle.ftc_protocol.proofs.Places.{IsSerial}
 use Rattle.ftc_protocol.proofs.TraceLemmas.{before_first}
 use Rattle.ftc_protocol.proofs.VisitsPassed.{some_stands}
 use Rattle.ftc_protocol.proofs.FewPropagates.{IsCounted, most}
-use Rattle.ftc_protocol.proofs.BoundedSearch.{Decided, both, three, five, either, leads, same_as, equal, less, at_most, is_true, is_false, is_none, there_with, there_has, some_below, all_below, any_of, all_of}
+use Rattle.ftc_protocol.proofs.BoundedSearch.{Decided, both, three, five, either, leads, same_as, equal, less, at_most}
+use Rattle.ftc_protocol.proofs.BoundedSearch.{is_true, is_false, is_none, there_with, there_has, some_below, all_below}
+use Rattle.ftc_protocol.proofs.BoundedSearch.{any_of, all_of}
 
 -- ---- places
 
@@ -92,15 +95,18 @@ changing_in part trace j q = any_of Entry (IsVisit (λ o. is_changing part o ≡
   where
     each : (e : Entry) → Decided (IsVisit (λ o. is_changing part o ≡ true) j q e)
     each (Given x bytes) = inr (λ x. x)
-    each (Visited k x o) = three (k ≡ j) (x ≡ q) (is_changing part o ≡ true) (equal k j) (equal x q) (is_true (is_changing part o))
+    each (Visited k x o) = three (k ≡ j) (x ≡ q) (is_changing part o ≡ true) (equal k j) (equal x q)
+        (is_true (is_changing part o))
 
-met_in : (part : ℕ) (later : Outcome) (trace : List Entry) (j q : ℕ) → Decided (IsInTrace (λ earlier. Meets part earlier later) trace j q)
+met_in : (part : ℕ) (later : Outcome) (trace : List Entry) (j q : ℕ) →
+    Decided (IsInTrace (λ earlier. Meets part earlier later) trace j q)
 met_in part later trace j q = any_of Entry (IsVisit (λ earlier. Meets part earlier later) j q) each trace
   where
     each : (e : Entry) → Decided (IsVisit (λ earlier. Meets part earlier later) j q e)
     each (Given x bytes) = inr (λ x. x)
     each (Visited k x o) = three (k ≡ j) (x ≡ q) (Meets part o later) (equal k j) (equal x q)
-        (same_as (meets part o later ≡ true) (Meets part o later) (meets_says part o later) (meets_true part o later) (is_true (meets part o later)))
+        (same_as (meets part o later ≡ true) (Meets part o later) (meets_says part o later) (meets_true part o later)
+        (is_true (meets part o later)))
 
 before_in : (part : ℕ) (trace : List Entry) (j p q : ℕ) → Decided (IsBefore part trace j p q)
 before_in part [] j p q = inr (λ x. x)
@@ -128,20 +134,25 @@ module _ (c : Setting) (is : IsSetting c) (s : ChainState) (n : IsCounted c s) w
       elim (reached.live.numbered p m there) [ inl less ↦ omega arith | inr more ↦ let l1 = more.1 in omega arith ]
 
   pub visited_packet : (P : Outcome → Type 0) (j q : ℕ) → IsInTrace P s.trace j q → q < count c
-  visited_packet P j q there = let low = shaped.visited j q (some_stands P s.trace j q there) in let entered = reached.live.timed.bounded in omega arith
+  visited_packet P j q there = let low = shaped.visited j q (some_stands P s.trace j q there) in let entered =
+      reached.live.timed.bounded in omega arith
 
   -- ---- what a server has
 
   all_had : (set wanted : Visits) → Decided ((j q : ℕ) → In wanted j q → Has c.partitions s.trace set j q)
-  all_had set wanted = same_as (has_each c.partitions s.trace set wanted ≡ true) ((j q : ℕ) → In wanted j q → Has c.partitions s.trace set j q)
+  all_had set wanted = same_as (has_each c.partitions s.trace set wanted ≡ true) ((j q : ℕ) → In wanted j q →
+      Has c.partitions s.trace set j q)
       (λ all j q want. each_had c.partitions set wanted j q want s.trace all)
       (λ each. each_has c set wanted s.trace serial each)
       (is_true (has_each c.partitions s.trace set wanted))
 
   one_had : (set : Visits) (j q : ℕ) → Decided (Has c.partitions s.trace set j q)
-  one_had set j q = same_as ((i x : ℕ) → In (just j q true) i x → Has c.partitions s.trace set i x) (Has c.partitions s.trace set j q)
+  one_had set j q = same_as ((i x : ℕ) → In (just j q true) i x →
+      Has c.partitions s.trace set i x) (Has c.partitions s.trace set j q)
       (λ all. all j q (one_in j q true refl))
-      (λ has i x it. let e = in_one j q true i x it in subst (λ v. Has c.partitions s.trace set v x) e.0 (subst (λ v. Has c.partitions s.trace set j v) (sym e.1) has))
+      (λ has i x it. let e = in_one j q true i x it in
+      subst (λ v. Has c.partitions s.trace set v x) e.0
+      (subst (λ v. Has c.partitions s.trace set j v) (sym e.1) has))
       (all_had set (just j q true))
 
   ready_at : (k : ℕ) (m : Message) → Decided (IsReady c s k m)
@@ -150,110 +161,165 @@ module _ (c : Setting) (is : IsSetting c) (s : ChainState) (n : IsCounted c s) w
   -- ---- releases
 
   is_due : (p : ℕ) (w : Withheld) → s.withheld p ≡ Some w → Decided (IsDue c s p w)
-  is_due p w there = both (s.withheld p ≡ Some w) ((group : ℕ) → w.needs group ≡ true → Has c.partitions s.trace (knows c s (servers c - 1)) group p) (inl there)
-      (same_as ((j q : ℕ) → In (λ group x. (x == p) && w.needs group) j q → Has c.partitions s.trace (knows c s (servers c - 1)) j q)
+  is_due p w there = both (s.withheld p ≡ Some w) ((group : ℕ) → w.needs group ≡ true →
+      Has c.partitions s.trace (knows c s (servers c - 1)) group p) (inl there)
+      (same_as ((j q : ℕ) → In (λ group x. (x == p) && w.needs group) j q →
+      Has c.partitions s.trace (knows c s (servers c - 1)) j q)
       ((group : ℕ) → w.needs group ≡ true → Has c.partitions s.trace (knows c s (servers c - 1)) group p)
       (λ all group need. all group p (and_from (p == p) (w.needs group) (eq-eqb p p refl) need))
-      (λ each j q it. let parts = and_parts (q == p) (w.needs j) it in subst (λ v. Has c.partitions s.trace (knows c s (servers c - 1)) j v) (sym (eqb-true q p parts.0)) (each j parts.1))
+      (λ each j q it. let parts = and_parts (q == p) (w.needs j) it in
+      subst (λ v. Has c.partitions s.trace (knows c s (servers c - 1)) j v) (sym (eqb-true q p parts.0))
+      (each j parts.1))
       (all_had (knows c s (servers c - 1)) (λ group x. (x == p) && w.needs group)))
 
   buffered_below : (p : ℕ) (w : Withheld) → s.withheld p ≡ Some w → p < count c
-  buffered_below p w there = let low = reached.fated.buffered p w there in let entered = reached.live.timed.bounded in omega arith
+  buffered_below p w there = let low = reached.fated.buffered p w there in let entered = reached.live.timed.bounded in
+      omega arith
 
   -- nothing that is due came before
   none_before : (w : Withheld) → Decided ((other : ℕ) (v : Withheld) → IsDue c s other v → w.since ≤ v.since)
-  none_before w = same_as ((other : ℕ) → other < count c → (v : Withheld) → s.withheld other ≡ Some v → IsDue c s other v → w.since ≤ v.since) ((other : ℕ) (v : Withheld) → IsDue c s other v → w.since ≤ v.since)
+  none_before w = same_as ((other : ℕ) → other < count c → (v : Withheld) → s.withheld other ≡ Some v →
+      IsDue c s other v → w.since ≤ v.since) ((other : ℕ) (v : Withheld) → IsDue c s other v → w.since ≤ v.since)
       (λ all other v due. all other (buffered_below other v due.0) v due.0 due)
       (λ all other below v there due. all other v due)
       (all_below (count c) (λ other. (v : Withheld) → s.withheld other ≡ Some v → IsDue c s other v → w.since ≤ v.since)
-      (λ other. there_has Withheld (s.withheld other) (λ v. IsDue c s other v → w.since ≤ v.since) (λ v there. leads (IsDue c s other v) (w.since ≤ v.since) (is_due other v there) (at_most w.since v.since))))
+      (λ other. there_has Withheld (s.withheld other) (λ v. IsDue c s other v →
+      w.since ≤ v.since) (λ v there. leads (IsDue c s other v) (w.since ≤ v.since) (is_due other v there)
+      (at_most w.since v.since))))
 
   releasable : (p : ℕ) → Decided (MayHappen c s (event.Release p))
-  releasable p = same_as ((w : Withheld) × (s.withheld p ≡ Some w) × (IsDue c s p w × ((other : ℕ) (v : Withheld) → IsDue c s other v → w.since ≤ v.since))) (MayHappen c s (event.Release p))
+  releasable p = same_as ((w : Withheld) × (s.withheld p ≡ Some w)
+      × (IsDue c s p w × ((other : ℕ) (v : Withheld) → IsDue c s other v → w.since ≤ v.since)))
+      (MayHappen c s (event.Release p))
       (λ x. (x.0, x.2.0, x.2.1))
       (λ x. (x.0, x.1.0, (x.1, x.2)))
-      (there_with Withheld (s.withheld p) (λ w. IsDue c s p w × ((other : ℕ) (v : Withheld) → IsDue c s other v → w.since ≤ v.since))
-      (λ w there. both (IsDue c s p w) ((other : ℕ) (v : Withheld) → IsDue c s other v → w.since ≤ v.since) (is_due p w there) (none_before w)))
+      (there_with Withheld (s.withheld p) (λ w. IsDue c s p w
+      × ((other : ℕ) (v : Withheld) → IsDue c s other v → w.since ≤ v.since))
+      (λ w there. both (IsDue c s p w) ((other : ℕ) (v : Withheld) → IsDue c s other v →
+      w.since ≤ v.since) (is_due p w there) (none_before w)))
 
   -- where no release is legal none is due
   no_due : ((p : ℕ) → MayHappen c s (event.Release p) → ⊥) → (b p : ℕ) (w : Withheld) → IsDue c s p w → w.since < b → ⊥
   no_due none zero p w due below = absurd (omega arith)
-  no_due none (suc b) p w due below = none p (w, due, λ q v other. elim (cases_lt v.since w.since) [ inl sooner ↦ absurd (no_due none b q v other (omega arith)) | inr more ↦ more ])
+  no_due none (suc b) p w due below =
+      none p (
+        w,
+        due,
+        λ q v other. elim (cases_lt v.since w.since) [
+          | inl sooner ↦
+              absurd (no_due none b q v other (omega arith))
+          | inr more ↦ more
+        ],
+      )
 
   pub release_or_none : ((p : ℕ) × MayHappen c s (event.Release p)) ⊎ IsNoneDue c s
   release_or_none = elim (some_below (count c) (λ p. MayHappen c s (event.Release p)) releasable) [
     | inl x ↦ inl (x.0, x.2)
-    | inr none ↦ inr (λ p w due. no_due (λ q legal. none (q, buffered_below q legal.0 legal.1.0, legal)) (suc w.since) p w due (omega arith))
+    | inr none ↦ inr (λ p w due. no_due (λ q legal. none (q, buffered_below q legal.0 legal.1.0, legal))
+        (suc w.since) p w due (omega arith))
   ]
 
   -- ---- jobs
 
   no_line_at : (p : ℕ) → Decided (AllByRecursion (λ (line : ScriptLine). at_of line ≢ p) s.lines)
-  no_line_at p = all_of ScriptLine (λ line. at_of line ≢ p) (λ line. leads (at_of line ≡ p) ⊥ (equal (at_of line) p) (inr (λ x. x))) s.lines
+  no_line_at p = all_of ScriptLine (λ line. at_of line ≢ p)
+      (λ line. leads (at_of line ≡ p) ⊥ (equal (at_of line) p) (inr (λ x. x))) s.lines
 
-  oldest_on : (l : ℕ) (m : Message) → Decided ((other : ℕ) (queued : Message) → s.message other ≡ Some queued → queued.place ≡ Queued l → m.since ≤ queued.since)
-  oldest_on l m = same_as ((other : ℕ) → other < most_messages c → (queued : Message) → s.message other ≡ Some queued → queued.place ≡ Queued l → m.since ≤ queued.since)
-      ((other : ℕ) (queued : Message) → s.message other ≡ Some queued → queued.place ≡ Queued l → m.since ≤ queued.since)
+  oldest_on : (l : ℕ) (m : Message) →
+      Decided ((other : ℕ) (queued : Message) → s.message other ≡ Some queued → queued.place ≡ Queued l →
+      m.since ≤ queued.since)
+  oldest_on l m = same_as ((other : ℕ) → other < most_messages c → (queued : Message) → s.message other ≡ Some queued →
+      queued.place ≡ Queued l → m.since ≤ queued.since)
+      ((other : ℕ) (queued : Message) → s.message other ≡ Some queued → queued.place ≡ Queued l →
+      m.since ≤ queued.since)
       (λ all other queued there. all other (numbered other queued there) queued there)
       (λ all other below queued there. all other queued there)
-      (all_below (most_messages c) (λ other. (queued : Message) → s.message other ≡ Some queued → queued.place ≡ Queued l → m.since ≤ queued.since)
+      (all_below (most_messages c) (λ other. (queued : Message) → s.message other ≡ Some queued →
+      queued.place ≡ Queued l → m.since ≤ queued.since)
       (λ other. there_has Message (s.message other) (λ queued. queued.place ≡ Queued l → m.since ≤ queued.since)
-      (λ queued there. leads (queued.place ≡ Queued l) (m.since ≤ queued.since) (queued_on queued.place l) (at_most m.since queued.since))))
+      (λ queued there. leads (queued.place ≡ Queued l) (m.since ≤ queued.since) (queued_on queued.place l)
+      (at_most m.since queued.since))))
 
   take_may : (l p : ℕ) → Decided (MayHappen c s (event.Take l p))
-  take_may l p = same_as ((m : Message) × (s.message p ≡ Some m) × ((m.place ≡ Queued l) × ((other : ℕ) (queued : Message) → s.message other ≡ Some queued → queued.place ≡ Queued l → m.since ≤ queued.since)))
+  take_may l p = same_as ((m : Message) × (s.message p ≡ Some m)
+      × ((m.place ≡ Queued l) × ((other : ℕ) (queued : Message) → s.message other ≡ Some queued →
+      queued.place ≡ Queued l → m.since ≤ queued.since)))
       (MayHappen c s (event.Take l p))
       (λ x. (x.0, x.1, x.2.0, x.2.1))
       (λ x. (x.0, x.1, (x.2, x.3)))
-      (there_with Message (s.message p) (λ m. (m.place ≡ Queued l) × ((other : ℕ) (queued : Message) → s.message other ≡ Some queued → queued.place ≡ Queued l → m.since ≤ queued.since))
-      (λ m there. both (m.place ≡ Queued l) ((other : ℕ) (queued : Message) → s.message other ≡ Some queued → queued.place ≡ Queued l → m.since ≤ queued.since) (queued_on m.place l) (oldest_on l m)))
+      (there_with Message (s.message p) (λ m. (m.place ≡ Queued l)
+      × ((other : ℕ) (queued : Message) → s.message other ≡ Some queued → queued.place ≡ Queued l →
+      m.since ≤ queued.since))
+      (λ m there. both (m.place ≡ Queued l) ((other : ℕ) (queued : Message) → s.message other ≡ Some queued →
+      queued.place ≡ Queued l → m.since ≤ queued.since) (queued_on m.place l) (oldest_on l m)))
 
-  earlier_had : (k j q : ℕ) → Decided ((earlier : ℕ) → IsBefore c.partitions s.trace j earlier q → In (s.lists k) j earlier)
-  earlier_had k j q = same_as ((earlier : ℕ) → earlier < count c → IsBefore c.partitions s.trace j earlier q → In (s.lists k) j earlier) ((earlier : ℕ) → IsBefore c.partitions s.trace j earlier q → In (s.lists k) j earlier)
-      (λ all earlier before. all earlier (visited_packet (λ o. is_changing c.partitions o ≡ true) j earlier (before_first c.partitions s.trace j earlier q before)) before)
+  earlier_had : (k j q : ℕ) →
+      Decided ((earlier : ℕ) → IsBefore c.partitions s.trace j earlier q → In (s.lists k) j earlier)
+  earlier_had k j q = same_as ((earlier : ℕ) → earlier < count c → IsBefore c.partitions s.trace j earlier q →
+      In (s.lists k) j earlier) ((earlier : ℕ) → IsBefore c.partitions s.trace j earlier q → In (s.lists k) j earlier)
+      (λ all earlier before. all earlier
+      (visited_packet (λ o. is_changing c.partitions o
+      ≡ true) j earlier (before_first c.partitions s.trace j earlier q before)) before)
       (λ all earlier below before. all earlier before)
       (all_below (count c) (λ earlier. IsBefore c.partitions s.trace j earlier q → In (s.lists k) j earlier)
-      (λ earlier. leads (IsBefore c.partitions s.trace j earlier q) (In (s.lists k) j earlier) (before_in c.partitions s.trace j earlier q) (is_true (s.lists k j earlier))))
+      (λ earlier. leads (IsBefore c.partitions s.trace j earlier q) (In (s.lists k) j earlier)
+      (before_in c.partitions s.trace j earlier q) (is_true (s.lists k j earlier))))
 
-  smaller_had : (k j q : ℕ) (m : Message) → Decided ((smaller : ℕ) → smaller < j → In m.logs smaller q → ServerHas c s k smaller q)
+  smaller_had : (k j q : ℕ) (m : Message) →
+      Decided ((smaller : ℕ) → smaller < j → In m.logs smaller q → ServerHas c s k smaller q)
   smaller_had k j q m = all_below j (λ smaller. In m.logs smaller q → ServerHas c s k smaller q)
-      (λ smaller. leads (In m.logs smaller q) (ServerHas c s k smaller q) (is_true (m.logs smaller q)) (one_had (s.lists k) smaller q))
+      (λ smaller. leads (In m.logs smaller q) (ServerHas c s k smaller q) (is_true (m.logs smaller q))
+      (one_had (s.lists k) smaller q))
 
   apply_may : (k p j q : ℕ) → Decided (MayHappen c s (event.Apply k p j q))
   apply_may k p j q =
-      let Rest : Message → Type 0 = λ m. ((visited : Bool) × (by_ring : Bool) × (m.place ≡ Held k visited by_ring)) × (In m.logs j q × (IsChanging c.partitions s.trace j q × ((s.lists k j q ≡ false)
-      × (((earlier : ℕ) → IsBefore c.partitions s.trace j earlier q → In (s.lists k) j earlier) × ((smaller : ℕ) → smaller < j → In m.logs smaller q → ServerHas c s k smaller q))))) in
+      let Rest : Message → Type 0 = λ m. ((visited : Bool) × (by_ring : Bool) × (m.place ≡ Held k visited by_ring))
+      × (In m.logs j q × (IsChanging c.partitions s.trace j q × ((s.lists k j q ≡ false)
+      × (((earlier : ℕ) → IsBefore c.partitions s.trace j earlier q → In (s.lists k) j earlier)
+      × ((smaller : ℕ) → smaller < j → In m.logs smaller q → ServerHas c s k smaller q))))) in
       same_as ((m : Message) × (s.message p ≡ Some m) × Rest m) (MayHappen c s (event.Apply k p j q))
       (λ x. (x.0, (x.1, x.2.0.0, x.2.0.1, x.2.0.2), x.2.1.0, x.2.1.1.0, x.2.1.1.1.0, x.2.1.1.1.1.0, x.2.1.1.1.1.1))
       (λ x. (x.0, x.1.0, ((x.1.1, x.1.2, x.1.3), (x.2, (x.3, (x.4, (x.5, x.6)))))))
       (there_with Message (s.message p) Rest
-      (λ m there. both _ _ (held_as m.place k) (both _ _ (is_true (m.logs j q)) (both _ _ (changing_in c.partitions s.trace j q) (both _ _ (is_false (s.lists k j q)) (both _ _ (earlier_had k j q) (smaller_had k j q m)))))))
+      (λ m there. both _ _ (held_as m.place k)
+      (both _ _ (is_true (m.logs j q))
+      (both _ _ (changing_in c.partitions s.trace j q)
+      (both _ _ (is_false (s.lists k j q)) (both _ _ (earlier_had k j q) (smaller_had k j q m)))))))
 
   visit_may : (k p w : ℕ) → Decided (MayHappen c s (event.Visit k p w))
   visit_may k p w =
-      let Rest : Message → Type 0 = λ m. ((by_ring : Bool) × (m.place ≡ Held k false by_ring)) × (((bytes : List ℕ) × (m.packet ≡ Some bytes)) × IsReady c s k m) in
+      let Rest : Message → Type 0 =
+      λ m. ((by_ring : Bool) × (m.place ≡ Held k false by_ring))
+      × (((bytes : List ℕ) × (m.packet ≡ Some bytes)) × IsReady c s k m) in
       same_as ((m : Message) × (s.message p ≡ Some m) × Rest m) (MayHappen c s (event.Visit k p w))
       (λ x. (x.0, x.2.1.0.0, x.2.0.0, x.1, x.2.0.1, x.2.1.0.1, x.2.1.1))
       (λ x. (x.0, x.3, ((x.2, x.4), ((x.1, x.5), x.6))))
-      (there_with Message (s.message p) Rest (λ m there. both _ _ (unvisited_at m.place k) (both _ _ (packet_in (List ℕ) m.packet) (ready_at k m))))
+      (there_with Message (s.message p) Rest
+      (λ m there. both _ _ (unvisited_at m.place k) (both _ _ (packet_in (List ℕ) m.packet) (ready_at k m))))
 
   Leaves : ℕ → ℕ → Message → Type 0
-  Leaves k p m = (s.message p ≡ Some m) × (((visited : Bool) × (m.place ≡ Held k visited false) × ((visited ≡ true) ⊎ (m.packet ≡ None))) × IsReady c s k m)
+  Leaves k p m = (s.message p ≡ Some m)
+      × (((visited : Bool) × (m.place ≡ Held k visited false) × ((visited ≡ true) ⊎ (m.packet ≡ None)))
+      × IsReady c s k m)
 
   pass_may : (k p : ℕ) (P : Type 0) → Decided P → Decided ((m : Message) × MayLeave c s k p m × P)
   pass_may k p P decided =
-      let Rest : Message → Type 0 = λ m. ((visited : Bool) × (m.place ≡ Held k visited false) × ((visited ≡ true) ⊎ (m.packet ≡ None))) × (IsReady c s k m × P) in
+      let Rest : Message → Type 0 =
+      λ m. ((visited : Bool) × (m.place ≡ Held k visited false) × ((visited ≡ true) ⊎ (m.packet ≡ None)))
+      × (IsReady c s k m × P) in
       same_as ((m : Message) × (s.message p ≡ Some m) × Rest m) ((m : Message) × MayLeave c s k p m × P)
       (λ x. (x.0, record { there = x.1; visited = x.2.0.0; held = x.2.0.1; ready = x.2.1.0; done = x.2.0.2 }, x.2.1.1))
       (λ x. (x.0, x.1.there, ((x.1.visited, x.1.held, x.1.done), (x.1.ready, x.2))))
       (there_with Message (s.message p) Rest (λ m there. both _ _ (done_at m) (both _ _ (ready_at k m) decided)))
     where
-      done_at : (m : Message) → Decided ((visited : Bool) × (m.place ≡ Held k visited false) × ((visited ≡ true) ⊎ (m.packet ≡ None)))
+      done_at : (m : Message) → Decided ((visited : Bool) × (m.place ≡ Held k visited false)
+          × ((visited ≡ true) ⊎ (m.packet ≡ None)))
       done_at m = elim (held_so m.place k false) [
         | inr isnt ↦ inr (λ x. isnt (x.0, x.1))
         | inl x ↦ elim (either (x.0 ≡ true) (m.packet ≡ None) (is_true x.0) (is_none (List ℕ) m.packet)) [
           | inl done ↦ inl (x.0, x.1, done)
-          | inr isnt ↦ inr (λ y. let a : m.place ≡ Held k x.0 false = x.1 in let b : m.place ≡ Held k y.0 false = y.1 in let e : y.0 ≡ x.0 = cc in
+          | inr isnt ↦ inr (λ y. let a : m.place ≡ Held k x.0 false = x.1 in let b : m.place ≡ Held k y.0 false = y.1 in
+              let e : y.0 ≡ x.0 = cc in
               isnt (subst (λ v. (v ≡ true) ⊎ (m.packet ≡ None)) e y.2))
         ]
       ]
@@ -267,31 +333,45 @@ module _ (c : Setting) (is : IsSetting c) (s : ChainState) (n : IsCounted c s) w
       (there_with Message (s.message p) Rest (λ m there. both _ _ (held_so m.place 0 true) (ready_at 0 m)))
 
   -- no message stands at server 0 but those from the ring
-  none_begun : Decided ((other : ℕ) (m : Message) → s.message other ≡ Some m → (visited : Bool) → m.place ≢ Held 0 visited false)
-  none_begun = same_as ((other : ℕ) → other < most_messages c → (m : Message) → s.message other ≡ Some m → (visited : Bool) → m.place ≢ Held 0 visited false)
+  none_begun : Decided ((other : ℕ) (m : Message) → s.message other ≡ Some m → (visited : Bool) →
+      m.place ≢ Held 0 visited false)
+  none_begun = same_as ((other : ℕ) → other < most_messages c → (m : Message) → s.message other ≡ Some m →
+      (visited : Bool) → m.place ≢ Held 0 visited false)
       ((other : ℕ) (m : Message) → s.message other ≡ Some m → (visited : Bool) → m.place ≢ Held 0 visited false)
       (λ all other m there. all other (numbered other m there) m there)
       (λ all other below m there. all other m there)
-      (all_below (most_messages c) (λ other. (m : Message) → s.message other ≡ Some m → (visited : Bool) → m.place ≢ Held 0 visited false)
+      (all_below (most_messages c) (λ other. (m : Message) → s.message other ≡ Some m → (visited : Bool) →
+      m.place ≢ Held 0 visited false)
       (λ other. there_has Message (s.message other) (λ m. (visited : Bool) → m.place ≢ Held 0 visited false)
-      (λ m there. same_as (((visited : Bool) × (m.place ≡ Held 0 visited false)) → ⊥) ((visited : Bool) → m.place ≢ Held 0 visited false) (λ f visited e. f (visited, e)) (λ f x. f x.0 x.1)
+      (λ m there. same_as (((visited : Bool) × (m.place ≡ Held 0 visited false)) → ⊥) ((visited : Bool) →
+      m.place ≢ Held 0 visited false) (λ f visited e. f (visited, e)) (λ f x. f x.0 x.1)
       (leads ((visited : Bool) × (m.place ≡ Held 0 visited false)) ⊥ (held_so m.place 0 false) (inr (λ x. x))))))
 
   some_forwarded : Decided ((group : ℕ) × (packet : ℕ) × In s.forwarder group packet)
-  some_forwarded = same_as ((group : ℕ) × (group < servers c) × ((packet : ℕ) × (packet < count c) × In s.forwarder group packet)) ((group : ℕ) × (packet : ℕ) × In s.forwarder group packet)
+  some_forwarded = same_as ((group : ℕ) × (group < servers c)
+      × ((packet : ℕ) × (packet < count c) × In s.forwarder group packet)) ((group : ℕ) × (packet : ℕ)
+      × In s.forwarder group packet)
       (λ x. (x.0, x.2.0, x.2.2))
       (λ x. let w = reached.live.inv.forward.member x.0 x.1 x.2 in (x.0, w.0, (x.1, visited_packet _ x.0 x.1 w.2, x.2)))
-      (some_below (servers c) (λ group. (packet : ℕ) × (packet < count c) × In s.forwarder group packet) (λ group. some_below (count c) (λ packet. In s.forwarder group packet) (λ packet. is_true (s.forwarder group packet))))
+      (some_below (servers c) (λ group. (packet : ℕ) × (packet < count c)
+      × In s.forwarder group packet)
+      (λ group. some_below (count c) (λ packet. In s.forwarder group packet)
+      (λ packet. is_true (s.forwarder group packet))))
 
   is_stalled : Decided (IsStalled c s)
-  is_stalled = same_as (((origin : ℕ) → origin < most_messages c → s.message origin ≡ None) × (((link : ℕ) → link < servers c → s.gap link ≡ false) × ((packet : ℕ) × (packet < count c) × (s.withheld packet ≢ None)))) (IsStalled c s)
+  is_stalled = same_as (((origin : ℕ) → origin < most_messages c → s.message origin ≡ None)
+      × (((link : ℕ) → link < servers c → s.gap link ≡ false)
+      × ((packet : ℕ) × (packet < count c) × (s.withheld packet ≢ None)))) (IsStalled c s)
       (λ x. record { messages = nowhere x.0; gaps = x.1.0; packet = x.1.1.0; withheld = x.1.1.2 })
       (λ x. (λ origin below. x.messages origin, (x.gaps, (x.packet, below x.packet x.withheld, x.withheld))))
-      (both _ _ (all_below (most_messages c) (λ origin. s.message origin ≡ None) (λ origin. is_none Message (s.message origin)))
+      (both _ _ (all_below (most_messages c) (λ origin. s.message origin
+      ≡ None) (λ origin. is_none Message (s.message origin)))
       (both _ _ (all_below (servers c) (λ link. s.gap link ≡ false) (λ link. is_false (s.gap link)))
-      (some_below (count c) (λ packet. s.withheld packet ≢ None) (λ packet. leads (s.withheld packet ≡ None) ⊥ (is_none Withheld (s.withheld packet)) (inr (λ x. x))))))
+      (some_below (count c) (λ packet. s.withheld packet ≢ None)
+      (λ packet. leads (s.withheld packet ≡ None) ⊥ (is_none Withheld (s.withheld packet)) (inr (λ x. x))))))
     where
-      nowhere : ((origin : ℕ) → origin < most_messages c → s.message origin ≡ None) → (origin : ℕ) → s.message origin ≡ None
+      nowhere : ((origin : ℕ) → origin < most_messages c → s.message origin ≡ None) → (origin : ℕ) →
+          s.message origin ≡ None
       nowhere low origin = elim (s.message origin) as (λ o. s.message origin ≡ o → s.message origin ≡ None) [
         | None ↦ λ e. e
         | Some m ↦ λ e. low origin (numbered origin m e)
@@ -304,7 +384,9 @@ module _ (c : Setting) (is : IsSetting c) (s : ChainState) (n : IsCounted c s) w
       ] refl
 
   propagate_may : (p : ℕ) → Decided (MayHappen c s (event.Propagate p))
-  propagate_may p = five _ _ _ _ _ (equal s.entered (count c)) (all_below (servers c) (λ k. s.up k ≡ true) (λ k. is_true (s.up k))) none_begun (either _ _ some_forwarded is_stalled) (equal p (count c + s.propagates))
+  propagate_may p = five _ _ _ _ _ (equal s.entered (count c))
+      (all_below (servers c) (λ k. s.up k ≡ true) (λ k. is_true (s.up k))) none_begun
+      (either _ _ some_forwarded is_stalled) (equal p (count c + s.propagates))
 
   pub may : (j : Job) → Decided (MayHappen c s (event_of c s FINISHING_SLOT j))
   may (job.Enter p) = three _ _ _ (equal p s.entered) (less p (count c)) (no_line_at p)
@@ -312,7 +394,9 @@ module _ (c : Setting) (is : IsSetting c) (s : ChainState) (n : IsCounted c s) w
   may (job.Apply k p j q) = apply_may k p j q
   may (job.Visit k p) = visit_may k p FINISHING_SLOT
   may (job.Pass k p) = pass_may k p _ (either _ _ (is_false (c.loses k p)) (is_false (is_sent c k)))
-  may (job.Lose k p) = same_as ((m : Message) × MayLeave c s k p m × ((is_sent c k ≡ true) × (c.loses k p ≡ true))) (MayHappen c s (event.Lose k p)) (λ x. (x.0, x.1, x.2.0, x.2.1)) (λ x. (x.0, x.1, (x.2, x.3))) (pass_may k p _ (both _ _ (is_true (is_sent c k)) (is_true (c.loses k p))))
+  may (job.Lose k p) = same_as ((m : Message) × MayLeave c s k p m
+      × ((is_sent c k ≡ true) × (c.loses k p ≡ true))) (MayHappen c s (event.Lose k p)) (λ x. (x.0, x.1, x.2.0, x.2.1))
+      (λ x. (x.0, x.1, (x.2, x.3))) (pass_may k p _ (both _ _ (is_true (is_sent c k)) (is_true (c.loses k p))))
   may (job.Carry p) = carry_may p
   may (job.Crash k) = crash_next s.lines s.entered k
   may (job.Recover k) = both _ _ (recover_next s.lines s.entered k) (inl refl)
@@ -321,6 +405,7 @@ module _ (c : Setting) (is : IsSetting c) (s : ChainState) (n : IsCounted c s) w
 
   pub is_legal : (j : Job) → Decided (IsLegalJob c s j)
   is_legal j = elim release_or_none [
-    | inl r ↦ inr (λ legal. Rattle.ftc_protocol.proofs.UniqueDrive.job_none_due c s FINISHING_SLOT j legal r.0 r.1.0 r.1.1)
+    | inl r ↦ inr (λ legal. Rattle.ftc_protocol.proofs.UniqueDrive.job_none_due c s FINISHING_SLOT j legal r.0 r.1.0
+        r.1.1)
     | inr none ↦ elim (may j) [ inl can ↦ inl (can, λ not_release. none) | inr cannot ↦ inr (λ legal. cannot legal.0) ]
   ]

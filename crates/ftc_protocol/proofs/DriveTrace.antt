@@ -1,5 +1,6 @@
 -- A drive undoes nothing, so its trace is its visits and releases.
-use Rattle.std.proofs.Common.{◌≡◌, ℕ, zero, suc, ◌+◌, nat_lt, if◌then◌else◌, Bool, true, false, List, [], ◌∷◌, ◌++◌, refl, ap, ◌∙◌, Option, Some, None}
+use Rattle.std.proofs.Common.{◌≡◌, ℕ, zero, suc, ◌+◌, nat_lt, if◌then◌else◌, Bool, true, false, List, [], ◌∷◌, ◌++◌}
+use Rattle.std.proofs.Common.{refl, ap, ◌∙◌, Option, Some, None}
 use Rattle.std.specs.List.{flat_map}
 use Rattle.std.proofs.lemmas.List.Concat.{flat_map-append}
 use Rattle.ftc_base.specs.declared.limits.TheConstants.{FINISHING_SLOT}
@@ -16,13 +17,18 @@ abbrev undone_in : List Event → List VisitName
 undone_in events = flat_map undone_by events
 
 both_undo : (xs ys : List Event) → undone_in xs ≡ [] → undone_in ys ≡ [] → undone_in (xs ++ ys) ≡ []
-both_undo xs ys first second = flat_map-append undone_by xs ys ∙ (ap (λ (l : List VisitName). l ++ undone_in ys) first ∙ second)
+both_undo xs ys first second =
+    flat_map-append undone_by xs ys ∙ (ap (λ (l : List VisitName). l ++ undone_in ys) first ∙ second)
 
-each_undoes : (events : ℕ → List Event) (count : ℕ) → ((k : ℕ) → undone_in (events k) ≡ []) → undone_in (each_below events count) ≡ []
+each_undoes : (events : ℕ → List Event) (count : ℕ) → ((k : ℕ) → undone_in (events k) ≡ []) →
+    undone_in (each_below events count) ≡ []
 each_undoes events zero none_undone = refl
-each_undoes events (suc count) none_undone = both_undo (each_below events count) (events count) (each_undoes events count none_undone) (none_undone count)
+each_undoes events (suc count) none_undone =
+    both_undo (each_below events count) (events count) (each_undoes events count none_undone) (none_undone count)
 
-server_undoes : (k p : ℕ) (visited taken : Bool) → undone_in ((if visited then Visit k p FINISHING_SLOT ∷ [] else []) ++ Pass k p ∷ (if taken then Take k p ∷ [] else [])) ≡ []
+server_undoes : (k p : ℕ) (visited taken : Bool) →
+    undone_in ((if visited then Visit k p FINISHING_SLOT ∷ [] else []) ++ Pass k p ∷ (if taken then Take k p ∷ []
+    else [])) ≡ []
 server_undoes k p true true = refl
 server_undoes k p true false = refl
 server_undoes k p false true = refl
@@ -39,7 +45,10 @@ packet_undoes n p filtered =
     (release_undoes p filtered)
 
 drive_undoes : (n most : ℕ) (place : ℕ → Option Position) → undone_in (drive n most place) ≡ []
-drive_undoes n most place = each_undoes (λ p. packet_events n p (filtered_at (place p))) most (λ p. packet_undoes n p (filtered_at (place p)))
+drive_undoes n most place =
+    each_undoes (λ p. packet_events n p (filtered_at (place p))) most (λ p. packet_undoes n p (filtered_at (place p)))
 
-pub drive_trace : (n most : ℕ) (place : ℕ → Option Position) → trace_of (drive n most place) ≡ steps_with (drive n most place)
-drive_trace n most place = ap (λ (undone : List VisitName). flat_map (steps_of undone) (drive n most place)) (drive_undoes n most place)
+pub drive_trace : (n most : ℕ) (place : ℕ → Option Position) →
+    trace_of (drive n most place) ≡ steps_with (drive n most place)
+drive_trace n most place =
+    ap (λ (undone : List VisitName). flat_map (steps_of undone) (drive n most place)) (drive_undoes n most place)

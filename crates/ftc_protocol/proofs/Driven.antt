@@ -1,5 +1,7 @@
--- Events that lead from states of one kind to states of another, while a serial run that goes with them comes to its end.
-use Rattle.std.proofs.Common.{◌≡◌, ℕ, zero, suc, ◌<◌, List, [], ◌∷◌, ◌++◌, sym, ap, subst, ◌∙◌, arith, Option, Some, append_assoc}
+-- Events that lead from states of one kind to states of another, while a serial run that goes with them comes to its
+-- end.
+use Rattle.std.proofs.Common.{◌≡◌, ℕ, zero, suc, ◌<◌, List, [], ◌∷◌, ◌++◌, sym, ap, subst, ◌∙◌, arith, Option, Some}
+use Rattle.std.proofs.Common.{append_assoc}
 use Rattle.std.specs.Prelude.{option_map, option_and_then}
 use Rattle.std.specs.List.{flat_map}
 use Rattle.std.proofs.lemmas.List.Concat.{flat_map-append}
@@ -28,7 +30,8 @@ abbrev pub IsAhead : Setting → State → ChainState → List Step → Type 0
 IsAhead c end s steps = serial_run c.rules (serial_of c s.trace) steps ≡ Some end
 
 -- the events are legal one after another and lead to such a state, and these steps are left
-pub record Leads (c : Setting) (end : State) (s : ChainState) (events : List Event) (Q : ChainState → Type 0) (rest : List Step) : Type 0 where
+pub record Leads (c : Setting) (end : State) (s : ChainState) (events : List Event) (Q : ChainState →
+    Type 0) (rest : List Step) : Type 0 where
   pub legal : AreLegal c s events
   pub first : AreNext c s events
   pub comes : Q (state_after c s events)
@@ -36,21 +39,34 @@ pub record Leads (c : Setting) (end : State) (s : ChainState) (events : List Eve
 
 -- they do so from each state of that kind
 abbrev pub Drives : Setting → State → (ChainState → Type 0) → List Event → (ChainState → Type 0) → Type 0
-Drives c end P events Q = (s : ChainState) → P s → (rest : List Step) → IsAhead c end s (steps_with events ++ rest) → Leads c end s events Q rest
+Drives c end P events Q = (s : ChainState) → P s → (rest : List Step) → IsAhead c end s (steps_with events ++ rest) →
+    Leads c end s events Q rest
 
 -- a step of the run that is an entry
-pub ahead_of : (c : Setting) (end s : State) (entry : Entry) → IsEntry c s entry → (steps : List Step) → serial_run c.rules s (step_of entry ∷ steps) ≡ Some end → serial_run c.rules (after (servers c) s entry) steps ≡ Some end
+pub ahead_of : (c : Setting) (end s : State) (entry : Entry) → IsEntry c s entry → (steps : List Step) →
+    serial_run c.rules s (step_of entry ∷ steps) ≡ Some end →
+    serial_run c.rules (after (servers c) s entry) steps ≡ Some end
 ahead_of c end s entry is steps run =
-    sym (ap (λ (o : Option Entry). option_and_then (λ next. serial_run c.rules next steps) (option_map (after (servers c) s) o)) (legal_entry c s entry is)) ∙ run
+    sym (ap (λ (o : Option Entry). option_and_then (λ next. serial_run c.rules next steps)
+    (option_map (after (servers c) s) o)) (legal_entry c s entry is)) ∙ run
 
 module _ (c : Setting) (end : State) where
-  pub none_more : (Q : ChainState → Type 0) (s : ChainState) (rest : List Step) → Q s → IsAhead c end s rest → Leads c end s [] Q rest
+  pub none_more : (Q : ChainState → Type 0) (s : ChainState) (rest : List Step) → Q s → IsAhead c end s rest →
+      Leads c end s [] Q rest
   none_more Q s rest there ahead = record { legal = tt; first = tt; comes = there; ahead = ahead }
 
-  pub one_more : (Q : ChainState → Type 0) (s : ChainState) (event : Event) (events : List Event) (rest : List Step) → IsNextEvent c s event → Leads c end (next c s event) events Q rest → Leads c end s (event ∷ events) Q rest
-  one_more Q s event events rest first on = record { legal = (next_legal c s event first, on.legal); first = (first, on.first); comes = on.comes; ahead = on.ahead }
+  pub one_more : (Q : ChainState → Type 0) (s : ChainState) (event : Event) (events : List Event) (rest : List Step) →
+      IsNextEvent c s event → Leads c end (next c s event) events Q rest → Leads c end s (event ∷ events) Q rest
+  one_more Q s event events rest first on =
+      record {
+        legal = (next_legal c s event first, on.legal);
+        first = (first, on.first);
+        comes = on.comes;
+        ahead = on.ahead;
+      }
 
-  both_legal : (xs ys : List Event) (s : ChainState) → AreLegal c s xs → AreLegal c (state_after c s xs) ys → AreLegal c s (xs ++ ys)
+  both_legal : (xs ys : List Event) (s : ChainState) → AreLegal c s xs → AreLegal c (state_after c s xs) ys →
+      AreLegal c s (xs ++ ys)
   both_legal [] ys s first second = second
   both_legal (x ∷ xs) ys s first second = (first.0, both_legal xs ys (next c s x) first.1 second)
 
@@ -66,15 +82,22 @@ module _ (c : Setting) (end : State) where
         ahead = subst (λ t. IsAhead c end t rest) same on.ahead;
       }
 
-  pub steps_apart : (s : ChainState) (xs ys : List Event) (rest : List Step) → IsAhead c end s (steps_with (xs ++ ys) ++ rest) → IsAhead c end s (steps_with xs ++ (steps_with ys ++ rest))
-  steps_apart s xs ys rest = subst (λ steps. IsAhead c end s steps) (ap (λ (steps : List Step). steps ++ rest) (flat_map-append (steps_of []) xs ys) ∙ append_assoc (steps_with xs) (steps_with ys) rest)
+  pub steps_apart : (s : ChainState) (xs ys : List Event) (rest : List Step) →
+      IsAhead c end s (steps_with (xs ++ ys) ++ rest) → IsAhead c end s (steps_with xs ++ (steps_with ys ++ rest))
+  steps_apart s xs ys rest =
+      subst (λ steps. IsAhead c end s steps)
+      (ap (λ (steps : List Step). steps ++ rest) (flat_map-append (steps_of []) xs ys) ∙ append_assoc (steps_with xs)
+      (steps_with ys) rest)
 
-  pub both_drive : (P Q R : ChainState → Type 0) (xs ys : List Event) → Drives c end P xs Q → Drives c end Q ys R → Drives c end P (xs ++ ys) R
+  pub both_drive : (P Q R : ChainState → Type 0) (xs ys : List Event) → Drives c end P xs Q → Drives c end Q ys R →
+      Drives c end P (xs ++ ys) R
   both_drive P Q R xs ys first second s holds rest ahead =
       both_lead Q R s xs ys rest (first s holds (steps_with ys ++ rest) (steps_apart s xs ys rest ahead)) second
 
   -- what each number's events do, one after another
-  pub each_drives : (P : ℕ → ChainState → Type 0) (events : ℕ → List Event) (count : ℕ) → ((k : ℕ) → k < count → Drives c end (P k) (events k) (P (suc k))) → Drives c end (P 0) (each_below events count) (P count)
+  pub each_drives : (P : ℕ → ChainState → Type 0) (events : ℕ → List Event) (count : ℕ) →
+      ((k : ℕ) → k < count → Drives c end (P k) (events k) (P (suc k))) →
+      Drives c end (P 0) (each_below events count) (P count)
   each_drives P events zero drive = λ s holds rest ahead. none_more (P 0) s rest holds ahead
   each_drives P events (suc count) drive =
       both_drive (P 0) (P count) (P (suc count)) (each_below events count) (events count)

@@ -1,5 +1,6 @@
 -- A packet that waits for a middlebox has visited earlier ones alone.
-use Rattle.std.proofs.Common.{◌≡◌, ℕ, ◌+◌, ◌<◌, ◌==◌, true, false, List, [], ◌∷◌, inl, inr, sym, subst, arith, Option, Some, None}
+use Rattle.std.proofs.Common.{◌≡◌, ℕ, ◌+◌, ◌<◌, ◌==◌, true, false, List, [], ◌∷◌, inl, inr, sym, subst, arith, Option}
+use Rattle.std.proofs.Common.{Some, None}
 use Rattle.ftc_serial.specs.Serial.{Entry, Given, Visited}
 use Rattle.ftc_serial.proofs.Functions.{with_at_cases}
 use Rattle.ftc_protocol.specs.Setting.{Setting, servers}

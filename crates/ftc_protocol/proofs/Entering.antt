@@ -17,11 +17,16 @@ use Rattle.ftc_protocol.proofs.Complete.{keeps_reached}
 use Rattle.ftc_protocol.proofs.FaultFree.{keeps_calm}
 use Rattle.ftc_protocol.proofs.Lone.{IsIdle, IsAt, none_due}
 
-module _ (c : Setting) (good : IsGood c) (quiet : IsQuiet c) (s : ChainState) (p : ℕ) (idle : IsIdle c p s) (below : p < count c) where
+module _ (c : Setting) (good : IsGood c) (quiet : IsQuiet c) (s : ChainState) (p : ℕ) (idle : IsIdle c p s)
+    (below : p < count c) where
   open idle.plain use {reached, calm, entered, forwarder}
 
   may_enter : MayHappen c s (Enter p)
-  may_enter = (sym entered, below, subst (λ lines. AllByRecursion (λ (line : ScriptLine). at_of line ≡ p → ⊥) lines) (sym calm.lines) tt)
+  may_enter = (
+    sym entered,
+    below,
+    subst (λ lines. AllByRecursion (λ (line : ScriptLine). at_of line ≡ p → ⊥) lines) (sym calm.lines) tt,
+  )
 
   pub enter_legal : IsLegal c s (Enter p)
   enter_legal = (may_enter, none_due c s idle.withheld false)
@@ -41,7 +46,8 @@ module _ (c : Setting) (good : IsGood c) (quiet : IsQuiet c) (s : ChainState) (p
     withheld = idle.withheld;
     others = λ origin other. other_message s.message p _ origin other ∙ idle.messages origin;
     message = fresh;
-    there = same_message s.message p (if s.up 0 then Some fresh else s.message p) ∙ ap (λ b. if b then Some fresh else s.message p) (calm.up 0 good.some);
+    there = same_message s.message p (if s.up 0 then Some fresh else s.message p) ∙ ap (λ b. if b then Some fresh
+        else s.message p) (calm.up 0 good.some);
     placed = refl;
     told = λ group needed. absurd (true≢false (sym needed));
     gone = λ no_packet. absurd (none-some (packet_at c p) (sym no_packet));

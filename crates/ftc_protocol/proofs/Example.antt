@@ -73,7 +73,12 @@ a_setting = record {
         up = refl;
         admissible = record {
           each = only_two (HasLive (shape two_monitors) (with_at all_live 0 false))
-              (record { server = 1; within = omega arith; member = omega arith; up = refl }) (record { server = 1; within = omega arith; member = omega arith; up = refl });
+              (record { server = 1; within = omega arith; member = omega arith; up = refl }) (record {
+                server = 1;
+                within = omega arith;
+                member = omega arith;
+                up = refl;
+              });
         };
       },
     ),

@@ -1,6 +1,7 @@
--- In each state of a run a release is due, or there is a first job, or the run is finished. So the finish and the drive of each
--- schedule exist.
-use Rattle.std.proofs.Common.{◌≡◌, ℕ, zero, suc, ◌+◌, ◌<◌, ◌≤◌, length, Bool, true, false, List, [], ◌∷◌, ◌++◌, ◌⊎◌, inl, inr, refl, sym, ap, subst, ◌∙◌, arith, if◌then◌else◌, Some, None}
+-- In each state of a run a release is due, or there is a first job, or the run is finished. So the finish and the drive
+-- of each schedule exist.
+use Rattle.std.proofs.Common.{◌≡◌, ℕ, zero, suc, ◌+◌, ◌<◌, ◌≤◌, length, Bool, true, false, List, [], ◌∷◌, ◌++◌, ◌⊎◌}
+use Rattle.std.proofs.Common.{inl, inr, refl, sym, ap, subst, ◌∙◌, arith, if◌then◌else◌, Some, None}
 use Rattle.std.proofs.lemmas.Bool.{true≢false, cases_eq, ne_eqb}
 use Rattle.std.proofs.lemmas.Option.{none-some, same_Some}
 use Rattle.ftc_base.specs.declared.limits.TheConstants.{FINISHING_SLOT}
@@ -20,11 +21,13 @@ use Rattle.ftc_protocol.specs.Next.{next}
 use Rattle.ftc_protocol.specs.Run.{AreLegal, IsRun, IsFinished, state_after}
 use Rattle.ftc_protocol.specs.Measure.{most_messages, work_left}
 use Rattle.ftc_protocol.specs.Jobs.{event_of, slot_of, place_of, IsLegalJob, IsEarlier, IsFirstJob, IsWithin}
-use Rattle.ftc_protocol.specs.Drive.{IsNoneDue, AreReleases, IsNextEvent, AreFinish, IsFinish, IsPassedOver, IsPlay, IsDrive}
+use Rattle.ftc_protocol.specs.Drive.{IsNoneDue, AreReleases, IsNextEvent, AreFinish, IsFinish, IsPassedOver, IsPlay}
+use Rattle.ftc_protocol.specs.Drive.{IsDrive}
 use Rattle.ftc_protocol.proofs.JobOrder.{below_both, ordered}
 use Rattle.ftc_protocol.proofs.BoundedSearch.{among, among_each}
 use Rattle.ftc_protocol.proofs.DecidedJobs.{numbered, visited_packet, is_legal, release_or_none}
-use Rattle.ftc_protocol.proofs.UniqueDrive.{IsDoing, does, any_slot, no_release, next_legal, finish_legal, job_none_due, job_back}
+use Rattle.ftc_protocol.proofs.UniqueDrive.{IsDoing, does, any_slot, no_release, next_legal, finish_legal, job_none_due}
+use Rattle.ftc_protocol.proofs.UniqueDrive.{job_back}
 use Rattle.ftc_protocol.proofs.SmallEvents.{fit_next}
 use Rattle.ftc_protocol.proofs.ListStores.{stands_below}
 use Rattle.ftc_protocol.proofs.LiveHolders.{IsUp}
@@ -35,7 +38,8 @@ use Rattle.ftc_protocol.proofs.MeasureNumber.{work_falls}
 -- ---- all jobs with numbers below a bound
 
 abbrev pub singles : ℕ → List Job
-singles b = each_below (λ x. job.Pull x ∷ job.Enter x ∷ job.Carry x ∷ job.Crash x ∷ job.Recover x ∷ job.Propagate x ∷ []) b
+singles b = each_below (λ x. job.Pull x ∷ job.Enter x ∷ job.Carry x ∷ job.Crash x ∷ job.Recover x ∷ job.Propagate x
+    ∷ []) b
 
 abbrev pub pairs : ℕ → List Job
 pairs b = each_below (λ x. each_below (λ y. job.Take x y ∷ job.Visit x y ∷ job.Pass x y ∷ job.Lose x y ∷ []) b) b
@@ -60,13 +64,18 @@ IsSmall b (job.Pull l) = l < b
 IsSmall b (job.Propagate p) = p < b
 
 module _ (P : Job → Type 0) (b : ℕ) where
-  single : (x : ℕ) → x < b → AnyOf P (job.Pull x ∷ job.Enter x ∷ job.Carry x ∷ job.Crash x ∷ job.Recover x ∷ job.Propagate x ∷ []) → AnyOf P (jobs_below b)
+  single : (x : ℕ) → x < b →
+      AnyOf P (job.Pull x ∷ job.Enter x ∷ job.Carry x ∷ job.Crash x ∷ job.Recover x ∷ job.Propagate x ∷ []) →
+      AnyOf P (jobs_below b)
   single x less there = among Job P (singles b) (pairs b ++ applies b)
-      (inl (among_each Job P (λ x. job.Pull x ∷ job.Enter x ∷ job.Carry x ∷ job.Crash x ∷ job.Recover x ∷ job.Propagate x ∷ []) b x less there))
+      (inl (among_each Job P (λ x. job.Pull x ∷ job.Enter x ∷ job.Carry x ∷ job.Crash x ∷ job.Recover x
+      ∷ job.Propagate x ∷ []) b x less there))
 
-  pair : (x y : ℕ) → x < b → y < b → AnyOf P (job.Take x y ∷ job.Visit x y ∷ job.Pass x y ∷ job.Lose x y ∷ []) → AnyOf P (jobs_below b)
+  pair : (x y : ℕ) → x < b → y < b → AnyOf P (job.Take x y ∷ job.Visit x y ∷ job.Pass x y ∷ job.Lose x y ∷ []) →
+      AnyOf P (jobs_below b)
   pair x y less also there = among Job P (singles b) (pairs b ++ applies b) (inr (among Job P (pairs b) (applies b)
-      (inl (among_each Job P (λ x. each_below (λ y. job.Take x y ∷ job.Visit x y ∷ job.Pass x y ∷ job.Lose x y ∷ []) b) b x less
+      (inl (among_each Job P (λ x. each_below (λ y. job.Take x y ∷ job.Visit x y ∷ job.Pass x y ∷ job.Lose x y
+      ∷ []) b) b x less
       (among_each Job P (λ y. job.Take x y ∷ job.Visit x y ∷ job.Pass x y ∷ job.Lose x y ∷ []) b y also there)))))
 
   pub small_there : (j : Job) → IsSmall b j → P j → AnyOf P (jobs_below b)
@@ -80,8 +89,10 @@ module _ (P : Job → Type 0) (b : ℕ) where
   small_there (job.Visit k p) small is = pair k p small.0 small.1 (inr (inl is))
   small_there (job.Pass k p) small is = pair k p small.0 small.1 (inr (inr (inl is)))
   small_there (job.Lose k p) small is = pair k p small.0 small.1 (inr (inr (inr (inl is))))
-  small_there (job.Apply k p j q) small is = among Job P (singles b) (pairs b ++ applies b) (inr (among Job P (pairs b) (applies b)
-      (inr (among_each Job P (λ k. each_below (λ p. each_below (λ j. each_below (λ q. job.Apply k p j q ∷ []) b) b) b) b k small.0
+  small_there (job.Apply k p j q) small is =
+      among Job P (singles b) (pairs b ++ applies b) (inr (among Job P (pairs b) (applies b)
+      (inr (among_each Job P (λ k. each_below
+      (λ p. each_below (λ j. each_below (λ q. job.Apply k p j q ∷ []) b) b) b) b k small.0
       (among_each Job P (λ p. each_below (λ j. each_below (λ q. job.Apply k p j q ∷ []) b) b) b p small.1
       (among_each Job P (λ j. each_below (λ q. job.Apply k p j q ∷ []) b) b j small.2
       (among_each Job P (λ q. job.Apply k p j q ∷ []) b q small.3 (inl is))))))))
@@ -90,7 +101,8 @@ module _ (P : Job → Type 0) (b : ℕ) where
 
 -- the first legal one of these jobs, or none is legal
 abbrev IsLeast : Setting → ChainState → List Job → Job → Type 0
-IsLeast c s jobs j = IsLegalJob c s j × ((other : Job) → AnyOf (λ x. x ≡ other) jobs → IsLegalJob c s other → IsEarlier s other j → ⊥)
+IsLeast c s jobs j = IsLegalJob c s j × ((other : Job) → AnyOf (λ x. x ≡ other) jobs → IsLegalJob c s other →
+    IsEarlier s other j → ⊥)
 
 abbrev AreIllegal : Setting → ChainState → List Job → Type 0
 AreIllegal c s jobs = (other : Job) → AnyOf (λ x. x ≡ other) jobs → IsLegalJob c s other → ⊥
@@ -102,8 +114,22 @@ module _ (c : Setting) (is : IsSetting c) (s : ChainState) (n : IsCounted c s) w
   least_of [] = inr (λ other there. absurd there)
   least_of (x ∷ jobs) = elim (is_legal c is s n x) [
     | inr isnt ↦ elim (least_of jobs) [
-      | inr none ↦ inr (λ other there legal. elim there [ inl e ↦ isnt (subst (IsLegalJob c s) (sym e) legal) | inr more ↦ none other more legal ])
-      | inl l ↦ inl (l.0, (l.1.0, λ other there legal before. elim there [ inl e ↦ isnt (subst (IsLegalJob c s) (sym e) legal) | inr more ↦ l.1.1 other more legal before ]))
+      | inr none ↦ inr (λ other there legal. elim there [
+        | inl e ↦
+            isnt (subst (IsLegalJob c s) (sym e) legal)
+        | inr more ↦ none other more legal
+      ])
+      | inl l ↦ inl (
+        l.0,
+        (
+          l.1.0,
+          λ other there legal before. elim there [
+            | inl e ↦ isnt (subst (IsLegalJob c s) (sym e) legal)
+            | inr more ↦
+                l.1.1 other more legal before
+          ],
+        ),
+      )
     ]
     | inl can ↦ elim (least_of jobs) [
       | inr none ↦ inl (
@@ -111,7 +137,8 @@ module _ (c : Setting) (is : IsSetting c) (s : ChainState) (n : IsCounted c s) w
         (
           can,
           λ other there legal before. elim there [
-            | inl e ↦ Rattle.ftc_protocol.proofs.JobOrder.not_below_itself (place_of s x) (subst (λ v. IsEarlier s v x) (sym e) before)
+            | inl e ↦ Rattle.ftc_protocol.proofs.JobOrder.not_below_itself (place_of s x)
+                (subst (λ v. IsEarlier s v x) (sym e) before)
             | inr more ↦ none other more legal
           ],
         ),
@@ -122,8 +149,10 @@ module _ (c : Setting) (is : IsSetting c) (s : ChainState) (n : IsCounted c s) w
           (
             can,
             λ other there legal before. elim there [
-              | inl e ↦ Rattle.ftc_protocol.proofs.JobOrder.not_below_itself (place_of s x) (subst (λ v. IsEarlier s v x) (sym e) before)
-              | inr more ↦ l.1.1 other more legal (below_both (place_of s other) (place_of s x) (place_of s l.0) before first)
+              | inl e ↦ Rattle.ftc_protocol.proofs.JobOrder.not_below_itself (place_of s x)
+                  (subst (λ v. IsEarlier s v x) (sym e) before)
+              | inr more ↦ l.1.1 other more legal
+                  (below_both (place_of s other) (place_of s x) (place_of s l.0) before first)
             ],
           ),
         )
@@ -133,7 +162,8 @@ module _ (c : Setting) (is : IsSetting c) (s : ChainState) (n : IsCounted c s) w
             (
               l.1.0,
               λ other there legal before. elim there [
-                | inl e ↦ Rattle.ftc_protocol.proofs.JobOrder.not_below_itself (place_of s l.0) (subst (λ v. IsEarlier s v l.0) (sym e ∙ same) before)
+                | inl e ↦ Rattle.ftc_protocol.proofs.JobOrder.not_below_itself (place_of s l.0)
+                    (subst (λ v. IsEarlier s v l.0) (sym e ∙ same) before)
                 | inr more ↦ l.1.1 other more legal before
               ],
             ),
@@ -144,7 +174,8 @@ module _ (c : Setting) (is : IsSetting c) (s : ChainState) (n : IsCounted c s) w
               l.1.0,
               λ other there legal before. elim there [
                 | inl e ↦ Rattle.ftc_protocol.proofs.JobOrder.not_below_itself (place_of s l.0)
-                    (below_both (place_of s l.0) (place_of s x) (place_of s l.0) later (subst (λ v. IsEarlier s v l.0) (sym e) before))
+                    (below_both (place_of s l.0) (place_of s x) (place_of s l.0) later
+                    (subst (λ v. IsEarlier s v l.0) (sym e) before))
                 | inr more ↦ l.1.1 other more legal before
               ],
             ),
@@ -160,39 +191,56 @@ module _ (c : Setting) (is : IsSetting c) (s : ChainState) (n : IsCounted c s) w
   most_numbers = servers c + most_messages c + 1
 
   held_below : (p k : ℕ) (m : Message) (v r : Bool) → s.message p ≡ Some m → m.place ≡ Held k v r → k < servers c
-  held_below p k m v r there at = reached.live.inv.world.inside k (subst (IsUp (servers c) s.up) at (reached.live.inv.awake p m there))
+  held_below p k m v r there at =
+      reached.live.inv.world.inside k (subst (IsUp (servers c) s.up) at (reached.live.inv.awake p m there))
 
   queued_below : (p l : ℕ) (m : Message) → s.message p ≡ Some m → m.place ≡ Queued l → l < servers c
   queued_below p l m there at =
-      let low : next_of (servers c) l < servers c = reached.live.inv.world.inside (next_of (servers c) l) (subst (IsUp (servers c) s.up) at (reached.live.inv.awake p m there)) in
+      let low : next_of (servers c) l < servers c =
+      reached.live.inv.world.inside (next_of (servers c) l)
+      (subst (IsUp (servers c) s.up) at (reached.live.inv.awake p m there)) in
       elim (cases_eq (l + 1) (servers c)) [
         | inl last ↦ omega arith
-        | inr more ↦ let e : next_of (servers c) l ≡ l + 1 = ap (λ v. if v then 0 else l + 1) (ne_eqb (l + 1) (servers c) more) in omega arith
+        | inr more ↦ let e : next_of (servers c) l ≡ l + 1 =
+            ap (λ v. if v then 0 else l + 1) (ne_eqb (l + 1) (servers c) more) in omega arith
       ]
 
   pub within : (j : Job) → IsLegalJob c s j → IsWithin c j
   within (job.Enter p) legal = legal.0.1
-  within (job.Take l p) legal = (queued_below p l legal.0.0 legal.0.1 legal.0.2, numbered c is s n p legal.0.0 legal.0.1)
+  within (job.Take l p) legal =
+      (queued_below p l legal.0.0 legal.0.1 legal.0.2, numbered c is s n p legal.0.0 legal.0.1)
   within (job.Apply k p j q) legal = (
     held_below p k legal.0.0 legal.0.1.1 legal.0.1.2 legal.0.1.0 legal.0.1.3,
     numbered c is s n p legal.0.0 legal.0.1.0,
-    stands_below c is.ring.some (λ o. is_changing c.partitions o ≡ true) s.trace reached.live.inv.world.serial j q legal.0.3,
+    stands_below c is.ring.some (λ o. is_changing c.partitions o
+        ≡ true) s.trace reached.live.inv.world.serial j q legal.0.3,
     visited_packet c is s n (λ o. is_changing c.partitions o ≡ true) j q legal.0.3,
   )
-  within (job.Visit k p) legal = (held_below p k legal.0.0 false legal.0.2 legal.0.3 legal.0.4, numbered c is s n p legal.0.0 legal.0.3)
-  within (job.Pass k p) legal = (held_below p k legal.0.0 legal.0.1.visited false legal.0.1.there legal.0.1.held, numbered c is s n p legal.0.0 legal.0.1.there)
-  within (job.Lose k p) legal = (held_below p k legal.0.0 legal.0.1.visited false legal.0.1.there legal.0.1.held, numbered c is s n p legal.0.0 legal.0.1.there)
+  within (job.Visit k p) legal =
+      (held_below p k legal.0.0 false legal.0.2 legal.0.3 legal.0.4, numbered c is s n p legal.0.0 legal.0.3)
+  within (job.Pass k p) legal = (
+    held_below p k legal.0.0 legal.0.1.visited false legal.0.1.there legal.0.1.held,
+    numbered c is s n p legal.0.0 legal.0.1.there,
+  )
+  within (job.Lose k p) legal = (
+    held_below p k legal.0.0 legal.0.1.visited false legal.0.1.there legal.0.1.held,
+    numbered c is s n p legal.0.0 legal.0.1.there,
+  )
   within (job.Carry p) legal = numbered c is s n p legal.0.0 legal.0.1
-  within (job.Crash k) legal = let fit = fit_next c s.up s.lines (line.Crash s.entered k) legal.0 reached.live.inv.fit in fit.0
-  within (job.Recover k) legal = let fit = fit_next c s.up s.lines (line.Recover s.entered k) legal.0.0 reached.live.inv.fit in fit.0
+  within (job.Crash k) legal = let fit =
+      fit_next c s.up s.lines (line.Crash s.entered k) legal.0 reached.live.inv.fit in fit.0
+  within (job.Recover k) legal = let fit =
+      fit_next c s.up s.lines (line.Recover s.entered k) legal.0.0 reached.live.inv.fit in fit.0
   within (job.Pull l) legal = reached.live.inv.world.inside l legal.0.0
   within (job.Propagate p) legal = let same : p ≡ count c + s.propagates = legal.0.4 in
-      let bound : s.propagates + 1 ≤ count c + length c.lines + 1 = most c is (next c s (event.Propagate p)) (keeps_counts c is s n (event.Propagate p) legal) in omega arith
+      let bound : s.propagates + 1 ≤ count c + length c.lines + 1 =
+      most c is (next c s (event.Propagate p)) (keeps_counts c is s n (event.Propagate p) legal) in omega arith
 
   small_within : (j : Job) → IsWithin c j → IsSmall (servers c + most_messages c + 1) j
   small_within (job.Enter p) w = omega arith
   small_within (job.Take l p) w = let a = w.0 in let b = w.1 in (omega arith, omega arith)
-  small_within (job.Apply k p j q) w = let a = w.0 in let b = w.1 in let d = w.2 in let e = w.3 in (omega arith, omega arith, omega arith, omega arith)
+  small_within (job.Apply k p j q) w = let a = w.0 in let b = w.1 in let d = w.2 in let e =
+      w.3 in (omega arith, omega arith, omega arith, omega arith)
   small_within (job.Visit k p) w = let a = w.0 in let b = w.1 in (omega arith, omega arith)
   small_within (job.Pass k p) w = let a = w.0 in let b = w.1 in (omega arith, omega arith)
   small_within (job.Lose k p) w = let a = w.0 in let b = w.1 in (omega arith, omega arith)
@@ -211,7 +259,13 @@ module _ (c : Setting) (is : IsSetting c) (s : ChainState) (n : IsCounted c s) w
   -- there is a first job, or no job is legal
   pub first_or_none : ((j : Job) × IsFirstJob c s j) ⊎ ((j : Job) → IsLegalJob c s j → ⊥)
   first_or_none = elim (least_of (jobs_below (servers c + most_messages c + 1))) [
-    | inl l ↦ inl (l.0, record { legal = l.1.0; least = λ other legal before. l.1.1 other (listed other legal) legal before })
+    | inl l ↦ inl (
+      l.0,
+      record {
+        legal = l.1.0;
+        least = λ other legal before. l.1.1 other (listed other legal) legal before;
+      },
+    )
     | inr none ↦ inr (λ j legal. none j (listed j legal) legal)
   ]
 
@@ -236,7 +290,8 @@ module _ (c : Setting) (is : IsSetting c) (s : ChainState) (n : IsCounted c s) w
 
 -- ---- all of it ends
 
-pub legal_on : (c : Setting) (journal more : List Event) (s : ChainState) → AreLegal c s journal → AreLegal c (state_after c s journal) more → AreLegal c s (journal ++ more)
+pub legal_on : (c : Setting) (journal more : List Event) (s : ChainState) → AreLegal c s journal →
+    AreLegal c (state_after c s journal) more → AreLegal c s (journal ++ more)
 legal_on c [] more s legal rest = rest
 legal_on c (e ∷ journal) more s legal rest = (legal.0, legal_on c journal more (next c s e) legal.1 rest)
 
@@ -244,19 +299,24 @@ pub releases_legal : (c : Setting) (es : List Event) (s : ChainState) → AreRel
 releases_legal c [] s a = tt
 releases_legal c (e ∷ es) s a = (a.1, releases_legal c es (next c s e) a.2)
 
-pub releases_end : (c : Setting) (es : List Event) (s : ChainState) → AreReleases c s es → IsNoneDue c (state_after c s es)
+pub releases_end : (c : Setting) (es : List Event) (s : ChainState) → AreReleases c s es →
+    IsNoneDue c (state_after c s es)
 releases_end c [] s a = a
 releases_end c (e ∷ es) s a = releases_end c es (next c s e) a.2
 
 -- what is played is legal
-pub played_legal : (c : Setting) (schedule : List Event) (s : ChainState) (es : List Event) → IsPlay c s schedule es → AreLegal c s es
+pub played_legal : (c : Setting) (schedule : List Event) (s : ChainState) (es : List Event) → IsPlay c s schedule es →
+    AreLegal c s es
 played_legal c [] s es a = subst (AreLegal c s) (sym a) tt
 played_legal c (e ∷ schedule) s es a = elim a [
   | inr over ↦ played_legal c schedule s es over.1
   | inl x ↦
       let made : Event = event_of c s (slot_of e) x.0 in
       let rest = played_legal c schedule (state_after c (next c s made) x.1) x.2 x.7 in
-      let legal : AreLegal c s (made ∷ (x.1 ++ x.2)) = (any_slot c s FINISHING_SLOT (slot_of e) x.0 x.4, legal_on c x.1 x.2 (next c s made) (releases_legal c x.1 (next c s made) x.5) rest) in
+      let legal : AreLegal c s (made ∷ (x.1 ++ x.2)) = (
+        any_slot c s FINISHING_SLOT (slot_of e) x.0 x.4,
+        legal_on c x.1 x.2 (next c s made) (releases_legal c x.1 (next c s made) x.5) rest,
+      ) in
       subst (AreLegal c s) (sym x.6) legal
 ]
 
@@ -264,55 +324,74 @@ module _ (c : Setting) (is : IsSetting c) where
   pub counted_at : (journal : List Event) → IsRun c journal → IsCounted c (state_after c (opening c) journal)
   counted_at journal run = counted_on c is journal (opening c) (opens_counted c is) run
 
-  run_on : (journal : List Event) (e : Event) → IsRun c journal → IsLegal c (state_after c (opening c) journal) e → IsRun c (journal ++ e ∷ [])
+  run_on : (journal : List Event) (e : Event) → IsRun c journal → IsLegal c (state_after c (opening c) journal) e →
+      IsRun c (journal ++ e ∷ [])
   run_on journal e run legal = legal_on c journal (e ∷ []) (opening c) run (legal, tt)
 
-  after_on : (journal : List Event) (e : Event) → state_after c (opening c) (journal ++ e ∷ []) ≡ next c (state_after c (opening c) journal) e
+  after_on : (journal : List Event) (e : Event) →
+      state_after c (opening c) (journal ++ e ∷ []) ≡ next c (state_after c (opening c) journal) e
   after_on journal e = state_on c journal (e ∷ []) (opening c)
 
-  pub releases_exist : (fuel : ℕ) (journal : List Event) → IsRun c journal → work_left c (state_after c (opening c) journal) < fuel → (es : List Event) × AreReleases c (state_after c (opening c) journal) es
+  pub releases_exist : (fuel : ℕ) (journal : List Event) → IsRun c journal →
+      work_left c (state_after c (opening c) journal) < fuel →
+      (es : List Event) × AreReleases c (state_after c (opening c) journal) es
   releases_exist zero journal run less = absurd (omega arith)
-  releases_exist (suc fuel) journal run less = elim (release_or_none c is (state_after c (opening c) journal) (counted_at journal run)) [
-    | inr none ↦ ([], none)
-    | inl r ↦
-        let e : Event = event.Release r.0 in
-        let legal : IsLegal c (state_after c (opening c) journal) e = (r.1, λ not_release. absurd (true≢false not_release)) in
-        let run' = run_on journal e run legal in
-        let falls = work_falls c is journal e run' in
-        let rest = releases_exist fuel (journal ++ e ∷ []) run' (omega arith) in
-        (e ∷ rest.0, (refl, legal, subst (λ t. AreReleases c t rest.0) (after_on journal e) rest.1))
-  ]
+  releases_exist (suc fuel) journal run less =
+      elim (release_or_none c is (state_after c (opening c) journal) (counted_at journal run)) [
+        | inr none ↦ ([], none)
+        | inl r ↦
+            let e : Event = event.Release r.0 in
+            let legal : IsLegal c (state_after c (opening c) journal) e =
+            (r.1, λ not_release. absurd (true≢false not_release)) in
+            let run' = run_on journal e run legal in
+            let falls = work_falls c is journal e run' in
+            let rest = releases_exist fuel (journal ++ e ∷ []) run' (omega arith) in
+            (e ∷ rest.0, (refl, legal, subst (λ t. AreReleases c t rest.0) (after_on journal e) rest.1))
+      ]
 
-  pub finish_exists : (fuel : ℕ) (journal : List Event) → IsRun c journal → work_left c (state_after c (opening c) journal) < fuel → (es : List Event) × AreFinish c (state_after c (opening c) journal) es
+  pub finish_exists : (fuel : ℕ) (journal : List Event) → IsRun c journal →
+      work_left c (state_after c (opening c) journal) < fuel →
+      (es : List Event) × AreFinish c (state_after c (opening c) journal) es
   finish_exists zero journal run less = absurd (omega arith)
-  finish_exists (suc fuel) journal run less = elim (next_or_finished c is (state_after c (opening c) journal) (counted_at journal run)) [
-    | inr finished ↦ ([], finished)
-    | inl x ↦
-        let e = x.0 in
-        let legal = next_legal c (state_after c (opening c) journal) e x.1 in
-        let run' = run_on journal e run legal in
-        let falls = work_falls c is journal e run' in
-        let rest = finish_exists fuel (journal ++ e ∷ []) run' (omega arith) in
-        (e ∷ rest.0, (x.1, subst (λ t. AreFinish c t rest.0) (after_on journal e) rest.1))
-  ]
+  finish_exists (suc fuel) journal run less =
+      elim (next_or_finished c is (state_after c (opening c) journal) (counted_at journal run)) [
+        | inr finished ↦ ([], finished)
+        | inl x ↦
+            let e = x.0 in
+            let legal = next_legal c (state_after c (opening c) journal) e x.1 in
+            let run' = run_on journal e run legal in
+            let falls = work_falls c is journal e run' in
+            let rest = finish_exists fuel (journal ++ e ∷ []) run' (omega arith) in
+            (e ∷ rest.0, (x.1, subst (λ t. AreFinish c t rest.0) (after_on journal e) rest.1))
+      ]
 
-  pub releases_of : (journal : List Event) → IsRun c journal → (es : List Event) × AreReleases c (state_after c (opening c) journal) es
-  releases_of journal run = releases_exist (suc (work_left c (state_after c (opening c) journal))) journal run (omega arith)
+  pub releases_of : (journal : List Event) → IsRun c journal →
+      (es : List Event) × AreReleases c (state_after c (opening c) journal) es
+  releases_of journal run = releases_exist (suc (work_left c (state_after c (opening c) journal))) journal run
+      (omega arith)
 
   pub finish_of : (journal : List Event) → IsRun c journal → (whole : List Event) × IsFinish c journal whole
-  finish_of journal run = let f = finish_exists (suc (work_left c (state_after c (opening c) journal))) journal run (omega arith) in (journal ++ f.0, record { rest = f.0; parts = refl; finish = f.1 })
+  finish_of journal run = let f =
+      finish_exists (suc (work_left c (state_after c (opening c) journal))) journal run (omega arith) in
+      (journal ++ f.0, record { rest = f.0; parts = refl; finish = f.1 })
 
   -- whether an event's job is legal
-  job_legal : (journal : List Event) → IsRun c journal → (e : Event) → ((j : Job) × (job_of e ≡ Some j) × IsLegalJob c (state_after c (opening c) journal) j) ⊎ IsPassedOver c (state_after c (opening c) journal) e
-  job_legal journal run e = elim (job_of e) as (λ o. job_of e ≡ o → ((j : Job) × (job_of e ≡ Some j) × IsLegalJob c (state_after c (opening c) journal) j) ⊎ IsPassedOver c (state_after c (opening c) journal) e) [
-    | None ↦ λ of. inr (λ j other legal. none-some j (sym of ∙ other))
-    | Some j ↦ λ of. elim (is_legal c is (state_after c (opening c) journal) (counted_at journal run) j) [
-      | inl legal ↦ inl (j, of, legal)
-      | inr isnt ↦ inr (λ i other legal. isnt (subst (IsLegalJob c (state_after c (opening c) journal)) (sym (same_Some j i (sym of ∙ other))) legal))
-    ]
-  ] refl
+  job_legal : (journal : List Event) → IsRun c journal → (e : Event) →
+      ((j : Job) × (job_of e ≡ Some j) × IsLegalJob c (state_after c (opening c) journal) j)
+      ⊎ IsPassedOver c (state_after c (opening c) journal) e
+  job_legal journal run e = elim (job_of e) as (λ o. job_of e ≡ o →
+      ((j : Job) × (job_of e ≡ Some j) × IsLegalJob c (state_after c (opening c) journal) j)
+      ⊎ IsPassedOver c (state_after c (opening c) journal) e) [
+        | None ↦ λ of. inr (λ j other legal. none-some j (sym of ∙ other))
+        | Some j ↦ λ of. elim (is_legal c is (state_after c (opening c) journal) (counted_at journal run) j) [
+          | inl legal ↦ inl (j, of, legal)
+          | inr isnt ↦ inr (λ i other legal. isnt
+              (subst (IsLegalJob c (state_after c (opening c) journal)) (sym (same_Some j i (sym of ∙ other))) legal))
+        ]
+      ] refl
 
-  pub play_of : (schedule journal : List Event) → IsRun c journal → (es : List Event) × IsPlay c (state_after c (opening c) journal) schedule es
+  pub play_of : (schedule journal : List Event) → IsRun c journal →
+      (es : List Event) × IsPlay c (state_after c (opening c) journal) schedule es
   play_of [] journal run = ([], refl)
   play_of (e ∷ schedule) journal run = elim (job_legal journal run e) [
     | inr over ↦ let rest = play_of schedule journal run in (rest.0, inr (over, rest.1))
@@ -324,11 +403,15 @@ module _ (c : Setting) (is : IsSetting c) where
         let rs = releases_of (journal ++ made ∷ []) run' in
         let at : state_after c (opening c) (journal ++ made ∷ []) ≡ next c s made = after_on journal made in
         let released : AreReleases c (next c s made) rs.0 = subst (λ t. AreReleases c t rs.0) at rs.1 in
-        let run'' = legal_on c (journal ++ made ∷ []) rs.0 (opening c) run' (releases_legal c rs.0 (state_after c (opening c) (journal ++ made ∷ [])) rs.1) in
+        let run'' = legal_on c (journal
+        ++ made ∷ []) rs.0 (opening c) run'
+        (releases_legal c rs.0 (state_after c (opening c) (journal ++ made ∷ [])) rs.1) in
         let rest = play_of schedule ((journal ++ made ∷ []) ++ rs.0) run'' in
         let end : state_after c (opening c) ((journal ++ made ∷ []) ++ rs.0) ≡ state_after c (next c s made) rs.0 =
-        state_on c (journal ++ made ∷ []) rs.0 (opening c) ∙ ap (λ t. state_after c t rs.0) at in
-        (made ∷ (rs.0 ++ rest.0), inl (x.0, rs.0, rest.0, x.1, x.2, released, refl, subst (λ t. IsPlay c t schedule rest.0) end rest.1))
+        state_on c (journal ++ made ∷ []) rs.0 (opening c) ∙ ap (λ t. state_after c t rs.0) at in (
+          made ∷ (rs.0 ++ rest.0),
+          inl (x.0, rs.0, rest.0, x.1, x.2, released, refl, subst (λ t. IsPlay c t schedule rest.0) end rest.1),
+        )
   ]
 
   pub drive_of : (schedule : List Event) → (whole : List Event) × IsDrive c schedule whole

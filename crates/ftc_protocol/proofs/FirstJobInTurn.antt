@@ -1,5 +1,6 @@
 -- The first job by its place is the first in the order's own words.
-use Rattle.std.proofs.Common.{◌≡◌, ℕ, ◌<◌, ◌≤◌, Bool, true, false, List, [], ◌∷◌, ◌⊎◌, inl, inr, refl, sym, ap, subst, ◌∙◌, arith, Some, None}
+use Rattle.std.proofs.Common.{◌≡◌, ℕ, ◌<◌, ◌≤◌, Bool, true, false, List, [], ◌∷◌, ◌⊎◌, inl, inr, refl, sym, ap, subst}
+use Rattle.std.proofs.Common.{◌∙◌, arith, Some, None}
 use Rattle.std.proofs.lemmas.Bool.{true≢false}
 use Rattle.std.proofs.lemmas.Option.{none-some, same_Some}
 use Rattle.ftc_journal.specs.declared.job.Job.{Job}
@@ -10,7 +11,8 @@ use Rattle.ftc_protocol.specs.Setting.{Setting, servers}
 use Rattle.ftc_protocol.specs.State.{ChainState, Message, Held}
 use Rattle.ftc_protocol.specs.Legal.{IsHeld, IsNextLine}
 use Rattle.ftc_protocol.specs.Measure.{IsBelow}
-use Rattle.ftc_protocol.specs.Jobs.{since_of, place_of, IsLegalJob, IsEarlier, IsFirstJob, IsNoApply, IsNoVisit, IsWork, IsNoWork, IsNoPull, AreIdleBefore, AreIdle, IsNoTake, IsNoLine, IsNoEnter, IsInTurn}
+use Rattle.ftc_protocol.specs.Jobs.{since_of, place_of, IsLegalJob, IsEarlier, IsFirstJob, IsNoApply, IsNoVisit, IsWork}
+use Rattle.ftc_protocol.specs.Jobs.{IsNoWork, IsNoPull, AreIdleBefore, AreIdle, IsNoTake, IsNoLine, IsNoEnter, IsInTurn}
 use Rattle.ftc_protocol.specs.Known.{IsReady}
 use Rattle.ftc_protocol.proofs.InsidePackets.{AreFated, IsPast}
 use Rattle.ftc_protocol.proofs.ArrivalTimes.{IsDated}
@@ -26,7 +28,8 @@ behind_first x xs ys before = elim before [ inl less ↦ absurd (omega arith) | 
 too_early : (x y : ℕ) (xs ys : List ℕ) → y < x → IsBelow (x ∷ xs) (y ∷ ys) → ⊥
 too_early x y xs ys less before = let le = first_of x y xs ys before in omega arith
 
-three_parts : (k i t u : ℕ) (xs ys : List ℕ) → IsBelow (2 ∷ k ∷ t ∷ xs) (2 ∷ i ∷ u ∷ ys) → (k < i) ⊎ (((k ≡ i) × (t < u)) ⊎ ((k ≡ i) × (t ≡ u) × IsBelow xs ys))
+three_parts : (k i t u : ℕ) (xs ys : List ℕ) → IsBelow (2 ∷ k ∷ t ∷ xs) (2 ∷ i ∷ u ∷ ys) →
+    (k < i) ⊎ (((k ≡ i) × (t < u)) ⊎ ((k ≡ i) × (t ≡ u) × IsBelow xs ys))
 three_parts k i t u xs ys before = elim (behind_first 2 (k ∷ t ∷ xs) (i ∷ u ∷ ys) before) [
   | inl less ↦ inl less
   | inr same ↦ elim same.1 [ inl sooner ↦ inr (inl (same.0, sooner)) | inr both ↦ inr (inr (same.0, both.0, both.1)) ]
@@ -53,10 +56,12 @@ module _ (c : Setting) (s : ChainState) where
   one_message p m n a b = same_Some m n (sym a ∙ b)
 
   -- a message is carried or passed, and passed or lost
-  not_both : (p k : ℕ) → IsLegalJob c s (job.Carry p) → (m : Message) → s.message p ≡ Some m → (v : Bool) → m.place ≡ Held k v false → ⊥
+  not_both : (p k : ℕ) → IsLegalJob c s (job.Carry p) → (m : Message) → s.message p ≡ Some m → (v : Bool) →
+      m.place ≡ Held k v false → ⊥
   not_both p k legal m there v held =
       let same = one_message p legal.0.0 m legal.0.1 there in
-      let ring : Held 0 legal.0.2 true ≡ Held k v false = sym legal.0.3 ∙ (ap (λ (x : Message). x.place) same ∙ held) in absurd (cc)
+      let ring : Held 0 legal.0.2 true ≡ Held k v false = sym legal.0.3 ∙ (ap (λ (x : Message). x.place) same ∙ held) in
+      absurd (cc)
 
   not_lost : (k p : ℕ) → IsLegalJob c s (job.Pass k p) → IsLegalJob c s (job.Lose k p) → ⊥
   not_lost k p pass lose = elim pass.0.2 [
@@ -74,74 +79,115 @@ module _ (c : Setting) (s : ChainState) where
     pub lose : IsLegalJob c s (job.Lose k p) → IsBelow (3 ∷ 1 ∷ 0 ∷ p ∷ []) t → ⊥
     pub carry : k ≡ 0 → IsLegalJob c s (job.Carry p) → IsBelow (3 ∷ 2 ∷ 0 ∷ p ∷ []) t → ⊥
 
-  module _ (d : IsDated s) (k p : ℕ) (m : Message) (there : s.message p ≡ Some m) (no_pull : IsNoPull c s) (idle : AreIdleBefore c s k p) (t : List ℕ) (last : IsLast k p t) where
+  module _ (d : IsDated s) (k p : ℕ) (m : Message) (there : s.message p ≡ Some m) (no_pull : IsNoPull c s)
+      (idle : AreIdleBefore c s k p) (t : List ℕ) (last : IsLast k p t) where
     -- a message that came as early at this server is this one
     same_origin : (q : ℕ) (n : Message) → s.message q ≡ Some n → since_of (s.message q) ≡ since_of (s.message p) → q ≡ p
-    same_origin q n other same = d.messages.apart q p n m other there (sym (ap since_of other) ∙ (same ∙ ap since_of there))
+    same_origin q n other same =
+        d.messages.apart q p n m other there (sym (ap since_of other) ∙ (same ∙ ap since_of there))
 
-    before_or_same : (i q : ℕ) (n : Message) → IsHeld s i q n → (xs : List ℕ) → IsBelow (2 ∷ i ∷ since_of (s.message q) ∷ xs) (2 ∷ k ∷ since_of (s.message p) ∷ t)
+    before_or_same : (i q : ℕ) (n : Message) → IsHeld s i q n → (xs : List ℕ) →
+        IsBelow (2 ∷ i ∷ since_of (s.message q) ∷ xs) (2 ∷ k ∷ since_of (s.message p) ∷ t)
         → IsNoWork c s i q ⊎ ((i ≡ k) × (q ≡ p) × IsBelow xs t)
-    before_or_same i q n held xs before = elim (three_parts i k (since_of (s.message q)) (since_of (s.message p)) xs t before) [
-      | inl less ↦ inl (idle i q n held (inl less))
-      | inr rest ↦ elim rest [
-        | inl sooner ↦ inl (idle i q n held (inr (sooner.0, subst (λ x. x < since_of (s.message p)) (ap since_of held.0) sooner.1)))
-        | inr same ↦ inr (same.0, same_origin q n held.0 same.1, same.2)
-      ]
-    ]
+    before_or_same i q n held xs before =
+        elim (three_parts i k (since_of (s.message q)) (since_of (s.message p)) xs t before) [
+          | inl less ↦ inl (idle i q n held (inl less))
+          | inr rest ↦ elim rest [
+            | inl sooner ↦ inl (idle i q n held
+                (inr (sooner.0, subst (λ x. x < since_of (s.message p)) (ap since_of held.0) sooner.1)))
+            | inr same ↦ inr (same.0, same_origin q n held.0 same.1, same.2)
+          ]
+        ]
 
     work_least : (j : Job) → IsLegalJob c s j → IsBelow (place_of s j) (2 ∷ k ∷ since_of (s.message p) ∷ t) → ⊥
     work_least (job.Pull l) legal before = no_pull l legal
-    work_least (job.Apply i q g x) legal before = let h = apply_held i q g x legal in elim (before_or_same i q h.0 h.1 (1 ∷ x ∷ g ∷ q ∷ []) before) [
-      | inl none ↦ none.apply g x legal
-      | inr same ↦ last.apply g x (subst (λ v. IsLegalJob c s (job.Apply v p g x)) same.0 (subst (λ v. IsLegalJob c s (job.Apply i v g x)) same.1 legal)) (subst (λ v. IsBelow (1 ∷ x ∷ g ∷ v ∷ []) t) same.1 same.2)
-    ]
-    work_least (job.Visit i q) legal before = let h = visit_held i q legal in elim (before_or_same i q h.0 h.1 (2 ∷ 0 ∷ 0 ∷ q ∷ []) before) [
-      | inl none ↦ none.visit legal
-      | inr same ↦ last.visit (subst (λ v. IsLegalJob c s (job.Visit v p)) same.0 (subst (λ v. IsLegalJob c s (job.Visit i v)) same.1 legal)) (subst (λ v. IsBelow (2 ∷ 0 ∷ 0 ∷ v ∷ []) t) same.1 same.2)
-    ]
-    work_least (job.Pass i q) legal before = let h = pass_held i q legal in elim (before_or_same i q h.0 h.1 (3 ∷ 0 ∷ 0 ∷ q ∷ []) before) [
-      | inl none ↦ none.pass legal
-      | inr same ↦ last.pass (subst (λ v. IsLegalJob c s (job.Pass v p)) same.0 (subst (λ v. IsLegalJob c s (job.Pass i v)) same.1 legal)) (subst (λ v. IsBelow (3 ∷ 0 ∷ 0 ∷ v ∷ []) t) same.1 same.2)
-    ]
-    work_least (job.Lose i q) legal before = let h = lose_held i q legal in elim (before_or_same i q h.0 h.1 (3 ∷ 1 ∷ 0 ∷ q ∷ []) before) [
-      | inl none ↦ none.lose legal
-      | inr same ↦ last.lose (subst (λ v. IsLegalJob c s (job.Lose v p)) same.0 (subst (λ v. IsLegalJob c s (job.Lose i v)) same.1 legal)) (subst (λ v. IsBelow (3 ∷ 1 ∷ 0 ∷ v ∷ []) t) same.1 same.2)
-    ]
-    work_least (job.Carry q) legal before = let h = carry_held q legal in elim (before_or_same 0 q h.0 h.1 (3 ∷ 2 ∷ 0 ∷ q ∷ []) before) [
-      | inl none ↦ none.carry refl legal
-      | inr same ↦ last.carry (sym same.0) (subst (λ v. IsLegalJob c s (job.Carry v)) same.1 legal) (subst (λ v. IsBelow (3 ∷ 2 ∷ 0 ∷ v ∷ []) t) same.1 same.2)
-    ]
-    work_least (job.Take l q) legal before = too_early 3 2 (l ∷ 0 ∷ 0 ∷ 0 ∷ 0 ∷ q ∷ []) (k ∷ since_of (s.message p) ∷ t) (omega arith) before
-    work_least (job.Crash i) legal before = too_early 4 2 (i ∷ 0 ∷ 0 ∷ 0 ∷ 0 ∷ 0 ∷ []) (k ∷ since_of (s.message p) ∷ t) (omega arith) before
-    work_least (job.Recover i) legal before = too_early 4 2 (i ∷ 0 ∷ 1 ∷ 0 ∷ 0 ∷ 0 ∷ []) (k ∷ since_of (s.message p) ∷ t) (omega arith) before
-    work_least (job.Enter q) legal before = too_early 5 2 (0 ∷ 0 ∷ 0 ∷ 0 ∷ 0 ∷ q ∷ []) (k ∷ since_of (s.message p) ∷ t) (omega arith) before
-    work_least (job.Propagate q) legal before = too_early 6 2 (0 ∷ 0 ∷ 0 ∷ 0 ∷ 0 ∷ q ∷ []) (k ∷ since_of (s.message p) ∷ t) (omega arith) before
+    work_least (job.Apply i q g x) legal before = let h = apply_held i q g x legal in
+        elim (before_or_same i q h.0 h.1 (1 ∷ x ∷ g ∷ q ∷ []) before) [
+          | inl none ↦ none.apply g x legal
+          | inr same ↦ last.apply g x
+              (subst (λ v. IsLegalJob c s (job.Apply v p g x)) same.0
+              (subst (λ v. IsLegalJob c s (job.Apply i v g x)) same.1 legal))
+              (subst (λ v. IsBelow (1 ∷ x ∷ g ∷ v ∷ []) t) same.1 same.2)
+        ]
+    work_least (job.Visit i q) legal before = let h =
+        visit_held i q legal in elim (before_or_same i q h.0 h.1 (2 ∷ 0 ∷ 0 ∷ q ∷ []) before) [
+          | inl none ↦ none.visit legal
+          | inr same ↦ last.visit (subst (λ v. IsLegalJob c s (job.Visit v p)) same.0
+              (subst (λ v. IsLegalJob c s (job.Visit i v)) same.1 legal))
+              (subst (λ v. IsBelow (2 ∷ 0 ∷ 0 ∷ v ∷ []) t) same.1 same.2)
+        ]
+    work_least (job.Pass i q) legal before = let h =
+        pass_held i q legal in elim (before_or_same i q h.0 h.1 (3 ∷ 0 ∷ 0 ∷ q ∷ []) before) [
+          | inl none ↦ none.pass legal
+          | inr same ↦ last.pass (subst (λ v. IsLegalJob c s (job.Pass v p)) same.0
+              (subst (λ v. IsLegalJob c s (job.Pass i v)) same.1 legal))
+              (subst (λ v. IsBelow (3 ∷ 0 ∷ 0 ∷ v ∷ []) t) same.1 same.2)
+        ]
+    work_least (job.Lose i q) legal before = let h =
+        lose_held i q legal in elim (before_or_same i q h.0 h.1 (3 ∷ 1 ∷ 0 ∷ q ∷ []) before) [
+          | inl none ↦ none.lose legal
+          | inr same ↦ last.lose (subst (λ v. IsLegalJob c s (job.Lose v p)) same.0
+              (subst (λ v. IsLegalJob c s (job.Lose i v)) same.1 legal))
+              (subst (λ v. IsBelow (3 ∷ 1 ∷ 0 ∷ v ∷ []) t) same.1 same.2)
+        ]
+    work_least (job.Carry q) legal before = let h =
+        carry_held q legal in elim (before_or_same 0 q h.0 h.1 (3 ∷ 2 ∷ 0 ∷ q ∷ []) before) [
+          | inl none ↦ none.carry refl legal
+          | inr same ↦ last.carry (sym same.0) (subst (λ v. IsLegalJob c s (job.Carry v)) same.1 legal)
+              (subst (λ v. IsBelow (3 ∷ 2 ∷ 0 ∷ v ∷ []) t) same.1 same.2)
+        ]
+    work_least (job.Take l q) legal before =
+        too_early 3 2 (l ∷ 0 ∷ 0 ∷ 0 ∷ 0 ∷ q ∷ []) (k ∷ since_of (s.message p) ∷ t) (omega arith) before
+    work_least (job.Crash i) legal before =
+        too_early 4 2 (i ∷ 0 ∷ 0 ∷ 0 ∷ 0 ∷ 0 ∷ []) (k ∷ since_of (s.message p) ∷ t) (omega arith) before
+    work_least (job.Recover i) legal before =
+        too_early 4 2 (i ∷ 0 ∷ 1 ∷ 0 ∷ 0 ∷ 0 ∷ []) (k ∷ since_of (s.message p) ∷ t) (omega arith) before
+    work_least (job.Enter q) legal before =
+        too_early 5 2 (0 ∷ 0 ∷ 0 ∷ 0 ∷ 0 ∷ q ∷ []) (k ∷ since_of (s.message p) ∷ t) (omega arith) before
+    work_least (job.Propagate q) legal before =
+        too_early 6 2 (0 ∷ 0 ∷ 0 ∷ 0 ∷ 0 ∷ q ∷ []) (k ∷ since_of (s.message p) ∷ t) (omega arith) before
 
-  pull_least : (l : ℕ) → ((other : ℕ) → other < l → IsLegalJob c s (job.Pull other) → ⊥) → (j : Job) → IsLegalJob c s j → IsEarlier s j (job.Pull l) → ⊥
-  pull_least l smaller (job.Pull i) legal before = elim (behind_first 1 (i ∷ 0 ∷ 0 ∷ 0 ∷ 0 ∷ 0 ∷ []) (l ∷ 0 ∷ 0 ∷ 0 ∷ 0 ∷ 0 ∷ []) before) [
-    | inl less ↦ smaller i less legal
-    | inr same ↦ not_below_itself (0 ∷ 0 ∷ 0 ∷ 0 ∷ 0 ∷ []) same.1
-  ]
-  pull_least l smaller (job.Apply i q g x) legal before = too_early 2 1 (i ∷ since_of (s.message q) ∷ 1 ∷ x ∷ g ∷ q ∷ []) (l ∷ 0 ∷ 0 ∷ 0 ∷ 0 ∷ 0 ∷ []) (omega arith) before
-  pull_least l smaller (job.Visit i q) legal before = too_early 2 1 (i ∷ since_of (s.message q) ∷ 2 ∷ 0 ∷ 0 ∷ q ∷ []) (l ∷ 0 ∷ 0 ∷ 0 ∷ 0 ∷ 0 ∷ []) (omega arith) before
-  pull_least l smaller (job.Pass i q) legal before = too_early 2 1 (i ∷ since_of (s.message q) ∷ 3 ∷ 0 ∷ 0 ∷ q ∷ []) (l ∷ 0 ∷ 0 ∷ 0 ∷ 0 ∷ 0 ∷ []) (omega arith) before
-  pull_least l smaller (job.Lose i q) legal before = too_early 2 1 (i ∷ since_of (s.message q) ∷ 3 ∷ 1 ∷ 0 ∷ q ∷ []) (l ∷ 0 ∷ 0 ∷ 0 ∷ 0 ∷ 0 ∷ []) (omega arith) before
-  pull_least l smaller (job.Carry q) legal before = too_early 2 1 (0 ∷ since_of (s.message q) ∷ 3 ∷ 2 ∷ 0 ∷ q ∷ []) (l ∷ 0 ∷ 0 ∷ 0 ∷ 0 ∷ 0 ∷ []) (omega arith) before
-  pull_least l smaller (job.Take i q) legal before = too_early 3 1 (i ∷ 0 ∷ 0 ∷ 0 ∷ 0 ∷ q ∷ []) (l ∷ 0 ∷ 0 ∷ 0 ∷ 0 ∷ 0 ∷ []) (omega arith) before
-  pull_least l smaller (job.Crash i) legal before = too_early 4 1 (i ∷ 0 ∷ 0 ∷ 0 ∷ 0 ∷ 0 ∷ []) (l ∷ 0 ∷ 0 ∷ 0 ∷ 0 ∷ 0 ∷ []) (omega arith) before
-  pull_least l smaller (job.Recover i) legal before = too_early 4 1 (i ∷ 0 ∷ 1 ∷ 0 ∷ 0 ∷ 0 ∷ []) (l ∷ 0 ∷ 0 ∷ 0 ∷ 0 ∷ 0 ∷ []) (omega arith) before
-  pull_least l smaller (job.Enter q) legal before = too_early 5 1 (0 ∷ 0 ∷ 0 ∷ 0 ∷ 0 ∷ q ∷ []) (l ∷ 0 ∷ 0 ∷ 0 ∷ 0 ∷ 0 ∷ []) (omega arith) before
-  pull_least l smaller (job.Propagate q) legal before = too_early 6 1 (0 ∷ 0 ∷ 0 ∷ 0 ∷ 0 ∷ q ∷ []) (l ∷ 0 ∷ 0 ∷ 0 ∷ 0 ∷ 0 ∷ []) (omega arith) before
+  pull_least : (l : ℕ) → ((other : ℕ) → other < l → IsLegalJob c s (job.Pull other) → ⊥) → (j : Job) →
+      IsLegalJob c s j → IsEarlier s j (job.Pull l) → ⊥
+  pull_least l smaller (job.Pull i) legal before =
+      elim (behind_first 1 (i ∷ 0 ∷ 0 ∷ 0 ∷ 0 ∷ 0 ∷ []) (l ∷ 0 ∷ 0 ∷ 0 ∷ 0 ∷ 0 ∷ []) before) [
+        | inl less ↦ smaller i less legal
+        | inr same ↦ not_below_itself (0 ∷ 0 ∷ 0 ∷ 0 ∷ 0 ∷ []) same.1
+      ]
+  pull_least l smaller (job.Apply i q g x) legal before =
+      too_early 2 1 (i ∷ since_of (s.message q) ∷ 1 ∷ x ∷ g ∷ q ∷ []) (l ∷ 0 ∷ 0 ∷ 0 ∷ 0 ∷ 0 ∷ []) (omega arith) before
+  pull_least l smaller (job.Visit i q) legal before =
+      too_early 2 1 (i ∷ since_of (s.message q) ∷ 2 ∷ 0 ∷ 0 ∷ q ∷ []) (l ∷ 0 ∷ 0 ∷ 0 ∷ 0 ∷ 0 ∷ []) (omega arith) before
+  pull_least l smaller (job.Pass i q) legal before =
+      too_early 2 1 (i ∷ since_of (s.message q) ∷ 3 ∷ 0 ∷ 0 ∷ q ∷ []) (l ∷ 0 ∷ 0 ∷ 0 ∷ 0 ∷ 0 ∷ []) (omega arith) before
+  pull_least l smaller (job.Lose i q) legal before =
+      too_early 2 1 (i ∷ since_of (s.message q) ∷ 3 ∷ 1 ∷ 0 ∷ q ∷ []) (l ∷ 0 ∷ 0 ∷ 0 ∷ 0 ∷ 0 ∷ []) (omega arith) before
+  pull_least l smaller (job.Carry q) legal before =
+      too_early 2 1 (0 ∷ since_of (s.message q) ∷ 3 ∷ 2 ∷ 0 ∷ q ∷ []) (l ∷ 0 ∷ 0 ∷ 0 ∷ 0 ∷ 0 ∷ []) (omega arith) before
+  pull_least l smaller (job.Take i q) legal before =
+      too_early 3 1 (i ∷ 0 ∷ 0 ∷ 0 ∷ 0 ∷ q ∷ []) (l ∷ 0 ∷ 0 ∷ 0 ∷ 0 ∷ 0 ∷ []) (omega arith) before
+  pull_least l smaller (job.Crash i) legal before =
+      too_early 4 1 (i ∷ 0 ∷ 0 ∷ 0 ∷ 0 ∷ 0 ∷ []) (l ∷ 0 ∷ 0 ∷ 0 ∷ 0 ∷ 0 ∷ []) (omega arith) before
+  pull_least l smaller (job.Recover i) legal before =
+      too_early 4 1 (i ∷ 0 ∷ 1 ∷ 0 ∷ 0 ∷ 0 ∷ []) (l ∷ 0 ∷ 0 ∷ 0 ∷ 0 ∷ 0 ∷ []) (omega arith) before
+  pull_least l smaller (job.Enter q) legal before =
+      too_early 5 1 (0 ∷ 0 ∷ 0 ∷ 0 ∷ 0 ∷ q ∷ []) (l ∷ 0 ∷ 0 ∷ 0 ∷ 0 ∷ 0 ∷ []) (omega arith) before
+  pull_least l smaller (job.Propagate q) legal before =
+      too_early 6 1 (0 ∷ 0 ∷ 0 ∷ 0 ∷ 0 ∷ q ∷ []) (l ∷ 0 ∷ 0 ∷ 0 ∷ 0 ∷ 0 ∷ []) (omega arith) before
 
   module _ (no_pull : IsNoPull c s) (idle : AreIdle c s) where
     -- where no pull is legal and no message has work, the other jobs are left
     abbrev LeftFor : (Job → Type 0) → Type 0
-    LeftFor P = ((l q : ℕ) → IsLegalJob c s (job.Take l q) → P (job.Take l q)) × ((k : ℕ) → IsLegalJob c s (job.Crash k) → P (job.Crash k)) × ((k : ℕ) → IsLegalJob c s (job.Recover k) → P (job.Recover k))
-        × ((q : ℕ) → IsLegalJob c s (job.Enter q) → P (job.Enter q)) × ((q : ℕ) → IsLegalJob c s (job.Propagate q) → P (job.Propagate q))
+    LeftFor P = ((l q : ℕ) → IsLegalJob c s (job.Take l q) → P (job.Take l q))
+        × ((k : ℕ) → IsLegalJob c s (job.Crash k) → P (job.Crash k))
+        × ((k : ℕ) → IsLegalJob c s (job.Recover k) → P (job.Recover k))
+        × ((q : ℕ) → IsLegalJob c s (job.Enter q) → P (job.Enter q))
+        × ((q : ℕ) → IsLegalJob c s (job.Propagate q) → P (job.Propagate q))
 
     left_for : (P : Job → Type 0) → LeftFor P → (j : Job) → IsLegalJob c s j → P j
     left_for P left (job.Pull l) legal = absurd (no_pull l legal)
-    left_for P left (job.Apply i q g x) legal = absurd (let h = apply_held i q g x legal in (idle i q h.0 h.1).apply g x legal)
+    left_for P left (job.Apply i q g x) legal =
+        absurd (let h = apply_held i q g x legal in (idle i q h.0 h.1).apply g x legal)
     left_for P left (job.Visit i q) legal = absurd (let h = visit_held i q legal in (idle i q h.0 h.1).visit legal)
     left_for P left (job.Pass i q) legal = absurd (let h = pass_held i q legal in (idle i q h.0 h.1).pass legal)
     left_for P left (job.Lose i q) legal = absurd (let h = lose_held i q legal in (idle i q h.0 h.1).lose legal)
@@ -164,25 +210,31 @@ module _ (c : Setting) (s : ChainState) where
   line_same (line ∷ lines) a b x y = sym x ∙ y
 
   crash_same : (k i : ℕ) → IsLegalJob c s (job.Crash k) → IsLegalJob c s (job.Crash i) → k ≡ i
-  crash_same k i a b = let same : line.Crash s.entered k ≡ line.Crash s.entered i = line_same s.lines (line.Crash s.entered k) (line.Crash s.entered i) a.0 b.0 in cc
+  crash_same k i a b = let same : line.Crash s.entered k ≡ line.Crash s.entered i =
+      line_same s.lines (line.Crash s.entered k) (line.Crash s.entered i) a.0 b.0 in cc
 
   recover_same : (k i : ℕ) → IsLegalJob c s (job.Recover k) → IsLegalJob c s (job.Recover i) → k ≡ i
-  recover_same k i a b = let same : line.Recover s.entered k ≡ line.Recover s.entered i = line_same s.lines (line.Recover s.entered k) (line.Recover s.entered i) a.0.0 b.0.0 in cc
+  recover_same k i a b = let same : line.Recover s.entered k ≡ line.Recover s.entered i =
+      line_same s.lines (line.Recover s.entered k) (line.Recover s.entered i) a.0.0 b.0.0 in cc
 
   crash_or_recover : (k i : ℕ) → IsLegalJob c s (job.Crash k) → IsLegalJob c s (job.Recover i) → ⊥
-  crash_or_recover k i a b = let same : line.Crash s.entered k ≡ line.Recover s.entered i = line_same s.lines (line.Crash s.entered k) (line.Recover s.entered i) a.0 b.0.0 in absurd (cc)
+  crash_or_recover k i a b = let same : line.Crash s.entered k ≡ line.Recover s.entered i =
+      line_same s.lines (line.Crash s.entered k) (line.Recover s.entered i) a.0 b.0.0 in absurd (cc)
 
   itself : (a b : Job) → a ≡ b → IsEarlier s a b → ⊥
   itself a b same before = not_below_itself (place_of s b) (subst (λ x. IsEarlier s x b) same before)
 
   module _ (d : IsDated s) (no_pull : IsNoPull c s) (idle : AreIdle c s) where
-    take_least : (l p : ℕ) → IsLegalJob c s (job.Take l p) → ((other another : ℕ) → other < l → IsLegalJob c s (job.Take other another) → ⊥) → (j : Job) → IsLegalJob c s j → IsEarlier s j (job.Take l p) → ⊥
+    take_least : (l p : ℕ) → IsLegalJob c s (job.Take l p) →
+        ((other another : ℕ) → other < l → IsLegalJob c s (job.Take other another) → ⊥) → (j : Job) → IsLegalJob c s j →
+        IsEarlier s j (job.Take l p) → ⊥
     take_least l p own smaller = left_for no_pull idle (λ j. IsEarlier s j (job.Take l p) → ⊥) (
       (λ i q legal before. elim (behind_first 3 (i ∷ 0 ∷ 0 ∷ 0 ∷ 0 ∷ q ∷ []) (l ∷ 0 ∷ 0 ∷ 0 ∷ 0 ∷ p ∷ []) before) [
         | inl less ↦ smaller i q less legal
         | inr same ↦
             let legal' : IsLegalJob c s (job.Take l q) = subst (λ v. IsLegalJob c s (job.Take v q)) same.0 legal in
-            itself (job.Take i q) (job.Take l p) (ap (λ v. job.Take v q) same.0 ∙ ap (job.Take l) (take_same d l q p legal' own)) before
+            itself (job.Take i q) (job.Take l p)
+            (ap (λ v. job.Take v q) same.0 ∙ ap (job.Take l) (take_same d l q p legal' own)) before
       ]),
       (λ k legal before. too_early 4 3 (k ∷ 0 ∷ 0 ∷ 0 ∷ 0 ∷ 0 ∷ []) (l ∷ 0 ∷ 0 ∷ 0 ∷ 0 ∷ p ∷ []) (omega arith) before),
       (λ k legal before. too_early 4 3 (k ∷ 0 ∷ 1 ∷ 0 ∷ 0 ∷ 0 ∷ []) (l ∷ 0 ∷ 0 ∷ 0 ∷ 0 ∷ p ∷ []) (omega arith) before),
@@ -191,49 +243,65 @@ module _ (c : Setting) (s : ChainState) where
     )
 
     module _ (no_take : IsNoTake c s) where
-      crash_least : (i : ℕ) → IsLegalJob c s (job.Crash i) → (j : Job) → IsLegalJob c s j → IsEarlier s j (job.Crash i) → ⊥
+      crash_least : (i : ℕ) → IsLegalJob c s (job.Crash i) → (j : Job) → IsLegalJob c s j →
+          IsEarlier s j (job.Crash i) → ⊥
       crash_least i own = left_for no_pull idle (λ j. IsEarlier s j (job.Crash i) → ⊥) (
         (λ l q legal before. no_take l q legal),
         (λ k legal before. itself (job.Crash k) (job.Crash i) (ap job.Crash (crash_same k i legal own)) before),
         (λ k legal before. crash_or_recover i k own legal),
-        (λ q legal before. too_early 5 4 (0 ∷ 0 ∷ 0 ∷ 0 ∷ 0 ∷ q ∷ []) (i ∷ 0 ∷ 0 ∷ 0 ∷ 0 ∷ 0 ∷ []) (omega arith) before),
-        (λ q legal before. too_early 6 4 (0 ∷ 0 ∷ 0 ∷ 0 ∷ 0 ∷ q ∷ []) (i ∷ 0 ∷ 0 ∷ 0 ∷ 0 ∷ 0 ∷ []) (omega arith) before),
+        (λ q legal before. too_early 5 4 (0 ∷ 0 ∷ 0 ∷ 0 ∷ 0 ∷ q ∷ []) (i ∷ 0 ∷ 0 ∷ 0 ∷ 0 ∷ 0
+            ∷ []) (omega arith) before),
+        (λ q legal before. too_early 6 4 (0 ∷ 0 ∷ 0 ∷ 0 ∷ 0 ∷ q ∷ []) (i ∷ 0 ∷ 0 ∷ 0 ∷ 0 ∷ 0
+            ∷ []) (omega arith) before),
       )
 
-      recover_least : (i : ℕ) → IsLegalJob c s (job.Recover i) → (j : Job) → IsLegalJob c s j → IsEarlier s j (job.Recover i) → ⊥
+      recover_least : (i : ℕ) → IsLegalJob c s (job.Recover i) → (j : Job) → IsLegalJob c s j →
+          IsEarlier s j (job.Recover i) → ⊥
       recover_least i own = left_for no_pull idle (λ j. IsEarlier s j (job.Recover i) → ⊥) (
         (λ l q legal before. no_take l q legal),
         (λ k legal before. crash_or_recover k i legal own),
         (λ k legal before. itself (job.Recover k) (job.Recover i) (ap job.Recover (recover_same k i legal own)) before),
-        (λ q legal before. too_early 5 4 (0 ∷ 0 ∷ 0 ∷ 0 ∷ 0 ∷ q ∷ []) (i ∷ 0 ∷ 1 ∷ 0 ∷ 0 ∷ 0 ∷ []) (omega arith) before),
-        (λ q legal before. too_early 6 4 (0 ∷ 0 ∷ 0 ∷ 0 ∷ 0 ∷ q ∷ []) (i ∷ 0 ∷ 1 ∷ 0 ∷ 0 ∷ 0 ∷ []) (omega arith) before),
+        (λ q legal before. too_early 5 4 (0 ∷ 0 ∷ 0 ∷ 0 ∷ 0 ∷ q ∷ []) (i ∷ 0 ∷ 1 ∷ 0 ∷ 0 ∷ 0
+            ∷ []) (omega arith) before),
+        (λ q legal before. too_early 6 4 (0 ∷ 0 ∷ 0 ∷ 0 ∷ 0 ∷ q ∷ []) (i ∷ 0 ∷ 1 ∷ 0 ∷ 0 ∷ 0
+            ∷ []) (omega arith) before),
       )
 
       module _ (no_line : IsNoLine c s) where
-        enter_least : (p : ℕ) → IsLegalJob c s (job.Enter p) → (j : Job) → IsLegalJob c s j → IsEarlier s j (job.Enter p) → ⊥
+        enter_least : (p : ℕ) → IsLegalJob c s (job.Enter p) → (j : Job) → IsLegalJob c s j →
+            IsEarlier s j (job.Enter p) → ⊥
         enter_least p own = left_for no_pull idle (λ j. IsEarlier s j (job.Enter p) → ⊥) (
           (λ l q legal before. no_take l q legal),
           (λ k legal before. no_line k (inl legal)),
           (λ k legal before. no_line k (inr legal)),
           (λ q legal before. itself (job.Enter q) (job.Enter p) (ap job.Enter (legal.0.0 ∙ sym own.0.0)) before),
-          (λ q legal before. too_early 6 5 (0 ∷ 0 ∷ 0 ∷ 0 ∷ 0 ∷ q ∷ []) (0 ∷ 0 ∷ 0 ∷ 0 ∷ 0 ∷ p ∷ []) (omega arith) before),
+          (λ q legal before. too_early 6 5 (0 ∷ 0 ∷ 0 ∷ 0 ∷ 0 ∷ q ∷ []) (0 ∷ 0 ∷ 0 ∷ 0 ∷ 0 ∷ p
+              ∷ []) (omega arith) before),
         )
 
-        propagate_least : IsNoEnter c s → (p : ℕ) → IsLegalJob c s (job.Propagate p) → (j : Job) → IsLegalJob c s j → IsEarlier s j (job.Propagate p) → ⊥
+        propagate_least : IsNoEnter c s → (p : ℕ) → IsLegalJob c s (job.Propagate p) → (j : Job) → IsLegalJob c s j →
+            IsEarlier s j (job.Propagate p) → ⊥
         propagate_least no_enter p own = left_for no_pull idle (λ j. IsEarlier s j (job.Propagate p) → ⊥) (
           (λ l q legal before. no_take l q legal),
           (λ k legal before. no_line k (inl legal)),
           (λ k legal before. no_line k (inr legal)),
           (λ q legal before. no_enter q legal),
-          (λ q legal before. itself (job.Propagate q) (job.Propagate p) (ap job.Propagate (legal.0.4 ∙ sym own.0.4)) before),
+          (λ q legal before. itself (job.Propagate q) (job.Propagate p)
+              (ap job.Propagate (legal.0.4 ∙ sym own.0.4)) before),
         )
 
   -- what of the same message is not before its work
-  apply_last : (k p g x : ℕ) → ((other another : ℕ) → IsLegalJob c s (job.Apply k p other another) → ((another < x) ⊎ ((another ≡ x) × (other < g))) → ⊥) → IsLast k p (1 ∷ x ∷ g ∷ p ∷ [])
+  apply_last : (k p g x : ℕ) →
+      ((other another : ℕ) → IsLegalJob c s (job.Apply k p other another) →
+      ((another < x) ⊎ ((another ≡ x) × (other < g))) → ⊥) → IsLast k p (1 ∷ x ∷ g ∷ p ∷ [])
   apply_last k p g x smaller = record {
     apply = λ j q legal before. elim (behind_first 1 (q ∷ j ∷ p ∷ []) (x ∷ g ∷ p ∷ []) before) [
       | inl less ↦ smaller j q legal (inl less)
-      | inr same ↦ elim same.1 [ inl less ↦ smaller j q legal (inr (same.0, less)) | inr both ↦ not_below_itself (p ∷ []) both.1 ]
+      | inr same ↦ elim same.1 [
+        | inl less ↦ smaller j q legal (inr (same.0, less))
+        | inr both ↦
+            not_below_itself (p ∷ []) both.1
+      ]
     ];
     visit = λ legal before. too_early 2 1 (0 ∷ 0 ∷ p ∷ []) (x ∷ g ∷ p ∷ []) (omega arith) before;
     pass = λ legal before. too_early 3 1 (0 ∷ 0 ∷ p ∷ []) (x ∷ g ∷ p ∷ []) (omega arith) before;
@@ -255,20 +323,25 @@ module _ (c : Setting) (s : ChainState) where
     apply = λ j q legal before. no_apply j q legal;
     visit = λ legal before. no_visit legal;
     pass = λ legal before. not_below_itself (3 ∷ 0 ∷ 0 ∷ p ∷ []) before;
-    lose = λ legal before. too_early 1 0 (0 ∷ p ∷ []) (0 ∷ p ∷ []) (omega arith) (behind_first 3 (1 ∷ 0 ∷ p ∷ []) (0 ∷ 0 ∷ p ∷ []) before);
-    carry = λ at_0 legal before. too_early 2 0 (0 ∷ p ∷ []) (0 ∷ p ∷ []) (omega arith) (behind_first 3 (2 ∷ 0 ∷ p ∷ []) (0 ∷ 0 ∷ p ∷ []) before);
+    lose = λ legal before. too_early 1 0 (0 ∷ p ∷ []) (0 ∷ p ∷ []) (omega arith)
+        (behind_first 3 (1 ∷ 0 ∷ p ∷ []) (0 ∷ 0 ∷ p ∷ []) before);
+    carry = λ at_0 legal before. too_early 2 0 (0 ∷ p ∷ []) (0 ∷ p ∷ []) (omega arith)
+        (behind_first 3 (2 ∷ 0 ∷ p ∷ []) (0 ∷ 0 ∷ p ∷ []) before);
   }
 
-  lose_last : (k p : ℕ) → IsNoApply c s k p → IsNoVisit c s k p → IsLegalJob c s (job.Lose k p) → IsLast k p (3 ∷ 1 ∷ 0 ∷ p ∷ [])
+  lose_last : (k p : ℕ) → IsNoApply c s k p → IsNoVisit c s k p → IsLegalJob c s (job.Lose k p) →
+      IsLast k p (3 ∷ 1 ∷ 0 ∷ p ∷ [])
   lose_last k p no_apply no_visit own = record {
     apply = λ j q legal before. no_apply j q legal;
     visit = λ legal before. no_visit legal;
     pass = λ legal before. not_lost k p legal own;
     lose = λ legal before. not_below_itself (3 ∷ 1 ∷ 0 ∷ p ∷ []) before;
-    carry = λ at_0 legal before. too_early 2 1 (0 ∷ p ∷ []) (0 ∷ p ∷ []) (omega arith) (behind_first 3 (2 ∷ 0 ∷ p ∷ []) (1 ∷ 0 ∷ p ∷ []) before);
+    carry = λ at_0 legal before. too_early 2 1 (0 ∷ p ∷ []) (0 ∷ p ∷ []) (omega arith)
+        (behind_first 3 (2 ∷ 0 ∷ p ∷ []) (1 ∷ 0 ∷ p ∷ []) before);
   }
 
-  carry_last : (p : ℕ) → IsNoApply c s 0 p → IsNoVisit c s 0 p → IsLegalJob c s (job.Carry p) → IsLast 0 p (3 ∷ 2 ∷ 0 ∷ p ∷ [])
+  carry_last : (p : ℕ) → IsNoApply c s 0 p → IsNoVisit c s 0 p → IsLegalJob c s (job.Carry p) →
+      IsLast 0 p (3 ∷ 2 ∷ 0 ∷ p ∷ [])
   carry_last p no_apply no_visit own = record {
     apply = λ j q legal before. no_apply j q legal;
     visit = λ legal before. no_visit legal;
@@ -281,40 +354,63 @@ module _ (c : Setting) (s : ChainState) where
   turn_is_first d (job.Pull l) turn = record { legal = turn.0; least = pull_least l turn.1 }
   turn_is_first d (job.Apply k p g x) turn =
       let w = turn.2 in let h = apply_held k p g x w.2 in
-      record { legal = w.2; least = work_least d k p h.0 h.1.0 turn.0 turn.1 (1 ∷ x ∷ g ∷ p ∷ []) (apply_last k p g x w.3) }
+      record {
+        legal = w.2;
+        least = work_least d k p h.0 h.1.0 turn.0 turn.1 (1 ∷ x ∷ g ∷ p
+            ∷ []) (apply_last k p g x w.3);
+      }
   turn_is_first d (job.Visit k p) turn =
       let w = turn.2 in let h = visit_held k p w.3 in
       record { legal = w.3; least = work_least d k p h.0 h.1.0 turn.0 turn.1 (2 ∷ 0 ∷ 0 ∷ p ∷ []) (visit_last k p w.2) }
   turn_is_first d (job.Pass k p) turn =
       let w = turn.2 in let h = pass_held k p w.4 in
-      record { legal = w.4; least = work_least d k p h.0 h.1.0 turn.0 turn.1 (3 ∷ 0 ∷ 0 ∷ p ∷ []) (pass_last k p w.2 w.3) }
+      record {
+        legal = w.4;
+        least = work_least d k p h.0 h.1.0 turn.0 turn.1 (3 ∷ 0 ∷ 0 ∷ p
+            ∷ []) (pass_last k p w.2 w.3);
+      }
   turn_is_first d (job.Lose k p) turn =
       let w = turn.2 in let h = lose_held k p w.4 in
-      record { legal = w.4; least = work_least d k p h.0 h.1.0 turn.0 turn.1 (3 ∷ 1 ∷ 0 ∷ p ∷ []) (lose_last k p w.2 w.3 w.4) }
+      record {
+        legal = w.4;
+        least = work_least d k p h.0 h.1.0 turn.0 turn.1 (3 ∷ 1 ∷ 0 ∷ p
+            ∷ []) (lose_last k p w.2 w.3 w.4);
+      }
   turn_is_first d (job.Carry p) turn =
       let w = turn.2 in let h = carry_held p w.4 in
-      record { legal = w.4; least = work_least d 0 p h.0 h.1.0 turn.0 turn.1 (3 ∷ 2 ∷ 0 ∷ p ∷ []) (carry_last p w.2 w.3 w.4) }
+      record {
+        legal = w.4;
+        least = work_least d 0 p h.0 h.1.0 turn.0 turn.1 (3 ∷ 2 ∷ 0 ∷ p
+            ∷ []) (carry_last p w.2 w.3 w.4);
+      }
   turn_is_first d (job.Take l p) turn = record { legal = turn.2; least = take_least d turn.0 turn.1 l p turn.2 turn.3 }
   turn_is_first d (job.Crash k) turn = record { legal = turn.3; least = crash_least d turn.0 turn.1 turn.2 k turn.3 }
-  turn_is_first d (job.Recover k) turn = record { legal = turn.3; least = recover_least d turn.0 turn.1 turn.2 k turn.3 }
-  turn_is_first d (job.Enter p) turn = record { legal = turn.4; least = enter_least d turn.0 turn.1 turn.2 turn.3 p turn.4 }
-  turn_is_first d (job.Propagate p) turn = record { legal = turn.5; least = propagate_least d turn.0 turn.1 turn.2 turn.3 turn.4 p turn.5 }
+  turn_is_first d (job.Recover k) turn =
+      record { legal = turn.3; least = recover_least d turn.0 turn.1 turn.2 k turn.3 }
+  turn_is_first d (job.Enter p) turn =
+      record { legal = turn.4; least = enter_least d turn.0 turn.1 turn.2 turn.3 p turn.4 }
+  turn_is_first d (job.Propagate p) turn =
+      record { legal = turn.5; least = propagate_least d turn.0 turn.1 turn.2 turn.3 turn.4 p turn.5 }
 
   -- ---- from the place to the order's words
 
-  ahead_below : (i k t u : ℕ) (xs ys : List ℕ) → ((i < k) ⊎ ((i ≡ k) × (t < u))) → IsBelow (2 ∷ i ∷ t ∷ xs) (2 ∷ k ∷ u ∷ ys)
-  ahead_below i k t u xs ys ahead = elim ahead [ inl less ↦ inr (refl, inl less) | inr sooner ↦ inr (refl, inr (sooner.0, inl sooner.1)) ]
+  ahead_below : (i k t u : ℕ) (xs ys : List ℕ) → ((i < k) ⊎ ((i ≡ k) × (t < u))) →
+      IsBelow (2 ∷ i ∷ t ∷ xs) (2 ∷ k ∷ u ∷ ys)
+  ahead_below i k t u xs ys ahead =
+      elim ahead [ inl less ↦ inr (refl, inl less) | inr sooner ↦ inr (refl, inr (sooner.0, inl sooner.1)) ]
 
   module _ (j : Job) (first : IsFirstJob c s j) where
     open first use {least}
 
     -- where the place of the job begins so
     pull_none : (y : ℕ) (ys : List ℕ) → place_of s j ≡ (y ∷ ys) → 1 < y → IsNoPull c s
-    pull_none y ys at less l legal = least (job.Pull l) legal (subst (IsBelow (place_of s (job.Pull l))) (sym at) (inl less))
+    pull_none y ys at less l legal =
+        least (job.Pull l) legal (subst (IsBelow (place_of s (job.Pull l))) (sym at) (inl less))
 
     work_none : (y : ℕ) (ys : List ℕ) → place_of s j ≡ (y ∷ ys) → 2 < y → AreIdle c s
     work_none y ys at less k p m held = record {
-      apply = λ g x legal. least (job.Apply k p g x) legal (subst (IsBelow (place_of s (job.Apply k p g x))) (sym at) (inl less));
+      apply = λ g x legal. least (job.Apply k p g x) legal
+          (subst (IsBelow (place_of s (job.Apply k p g x))) (sym at) (inl less));
       visit = λ legal. least (job.Visit k p) legal (subst (IsBelow (place_of s (job.Visit k p))) (sym at) (inl less));
       pass = λ legal. least (job.Pass k p) legal (subst (IsBelow (place_of s (job.Pass k p))) (sym at) (inl less));
       lose = λ legal. least (job.Lose k p) legal (subst (IsBelow (place_of s (job.Lose k p))) (sym at) (inl less));
@@ -322,7 +418,8 @@ module _ (c : Setting) (s : ChainState) where
     }
 
     take_none : (y : ℕ) (ys : List ℕ) → place_of s j ≡ (y ∷ ys) → 3 < y → IsNoTake c s
-    take_none y ys at less l p legal = least (job.Take l p) legal (subst (IsBelow (place_of s (job.Take l p))) (sym at) (inl less))
+    take_none y ys at less l p legal =
+        least (job.Take l p) legal (subst (IsBelow (place_of s (job.Take l p))) (sym at) (inl less))
 
     line_none : (y : ℕ) (ys : List ℕ) → place_of s j ≡ (y ∷ ys) → 4 < y → IsNoLine c s
     line_none y ys at less k which = elim which [
@@ -336,21 +433,31 @@ module _ (c : Setting) (s : ChainState) where
       visit = λ legal. least (job.Visit i q) legal (below (2 ∷ 0 ∷ 0 ∷ q ∷ []));
       pass = λ legal. least (job.Pass i q) legal (below (3 ∷ 0 ∷ 0 ∷ q ∷ []));
       lose = λ legal. least (job.Lose i q) legal (below (3 ∷ 1 ∷ 0 ∷ q ∷ []));
-      carry = λ at_0 legal. least (job.Carry q) legal (subst (λ v. IsBelow (2 ∷ v ∷ since_of (s.message q) ∷ 3 ∷ 2 ∷ 0 ∷ q ∷ []) (place_of s j)) at_0 (below (3 ∷ 2 ∷ 0 ∷ q ∷ [])));
+      carry = λ at_0 legal. least (job.Carry q) legal
+          (subst (λ v. IsBelow (2 ∷ v ∷ since_of (s.message q) ∷ 3 ∷ 2 ∷ 0 ∷ q ∷ []) (place_of s j)) at_0
+          (below (3 ∷ 2 ∷ 0 ∷ q ∷ [])));
     }
       where
         below : (xs : List ℕ) → IsBelow (2 ∷ i ∷ since_of (s.message q) ∷ xs) (place_of s j)
         below xs = subst (IsBelow (2 ∷ i ∷ since_of (s.message q) ∷ xs)) (sym at)
-            (ahead_below i k (since_of (s.message q)) (since_of (s.message p)) xs ys (subst (λ t. (i < k) ⊎ ((i ≡ k) × (t < since_of (s.message p)))) (sym (ap since_of held.0)) ahead))
+            (ahead_below i k (since_of (s.message q)) (since_of (s.message p)) xs ys
+            (subst (λ t. (i < k) ⊎ ((i ≡ k) × (t < since_of (s.message p)))) (sym (ap since_of held.0)) ahead))
 
-    no_apply_of : (k p : ℕ) (what : ℕ) (ys : List ℕ) → place_of s j ≡ (2 ∷ k ∷ since_of (s.message p) ∷ what ∷ ys) → 1 < what → IsNoApply c s k p
-    no_apply_of k p what ys at less g x legal = least (job.Apply k p g x) legal (subst (IsBelow (place_of s (job.Apply k p g x))) (sym at) (inr (refl, inr (refl, inr (refl, inl less)))))
+    no_apply_of : (k p : ℕ) (what : ℕ) (ys : List ℕ) → place_of s j ≡ (2 ∷ k ∷ since_of (s.message p) ∷ what ∷ ys) →
+        1 < what → IsNoApply c s k p
+    no_apply_of k p what ys at less g x legal =
+        least (job.Apply k p g x) legal
+        (subst (IsBelow (place_of s (job.Apply k p g x))) (sym at) (inr (refl, inr (refl, inr (refl, inl less)))))
 
-    no_visit_of : (k p : ℕ) (what : ℕ) (ys : List ℕ) → place_of s j ≡ (2 ∷ k ∷ since_of (s.message p) ∷ what ∷ ys) → 2 < what → IsNoVisit c s k p
-    no_visit_of k p what ys at less legal = least (job.Visit k p) legal (subst (IsBelow (place_of s (job.Visit k p))) (sym at) (inr (refl, inr (refl, inr (refl, inl less)))))
+    no_visit_of : (k p : ℕ) (what : ℕ) (ys : List ℕ) → place_of s j ≡ (2 ∷ k ∷ since_of (s.message p) ∷ what ∷ ys) →
+        2 < what → IsNoVisit c s k p
+    no_visit_of k p what ys at less legal =
+        least (job.Visit k p) legal
+        (subst (IsBelow (place_of s (job.Visit k p))) (sym at) (inr (refl, inr (refl, inr (refl, inl less)))))
 
   pub first_is_turn : (j : Job) → IsFirstJob c s j → IsInTurn c s j
-  first_is_turn (job.Pull l) first = (first.legal, λ other less legal. first.least (job.Pull other) legal (inr (refl, inl less)))
+  first_is_turn (job.Pull l) first =
+      (first.legal, λ other less legal. first.least (job.Pull other) legal (inr (refl, inl less)))
   first_is_turn (job.Apply k p g x) first = let j = job.Apply k p g x in (
     pull_none j first _ _ refl (omega arith),
     before_none j first k p _ refl,
@@ -359,7 +466,16 @@ module _ (c : Setting) (s : ChainState) where
       refl,
       first.legal,
       λ other another legal less. first.least (job.Apply k p other another) legal
-          (inr (refl, inr (refl, inr (refl, inr (refl, (elim less [ inl low ↦ inl low | inr same ↦ inr (same.0, inl same.1) ])))))),
+          (inr (
+            refl,
+            inr (
+              refl,
+              inr (
+                refl,
+                inr (refl, (elim less [ inl low ↦ inl low | inr same ↦ inr (same.0, inl same.1) ])),
+              ),
+            ),
+          )),
     ),
   )
   first_is_turn (job.Visit k p) first = let j = job.Visit k p in (
@@ -370,17 +486,35 @@ module _ (c : Setting) (s : ChainState) where
   first_is_turn (job.Pass k p) first = let j = job.Pass k p in (
     pull_none j first _ _ refl (omega arith),
     before_none j first k p _ refl,
-    (refl, refl, no_apply_of j first k p _ _ refl (omega arith), no_visit_of j first k p _ _ refl (omega arith), first.legal),
+    (
+      refl,
+      refl,
+      no_apply_of j first k p _ _ refl (omega arith),
+      no_visit_of j first k p _ _ refl (omega arith),
+      first.legal,
+    ),
   )
   first_is_turn (job.Lose k p) first = let j = job.Lose k p in (
     pull_none j first _ _ refl (omega arith),
     before_none j first k p _ refl,
-    (refl, refl, no_apply_of j first k p _ _ refl (omega arith), no_visit_of j first k p _ _ refl (omega arith), first.legal),
+    (
+      refl,
+      refl,
+      no_apply_of j first k p _ _ refl (omega arith),
+      no_visit_of j first k p _ _ refl (omega arith),
+      first.legal,
+    ),
   )
   first_is_turn (job.Carry p) first = let j = job.Carry p in (
     pull_none j first _ _ refl (omega arith),
     before_none j first 0 p _ refl,
-    (refl, refl, no_apply_of j first 0 p _ _ refl (omega arith), no_visit_of j first 0 p _ _ refl (omega arith), first.legal),
+    (
+      refl,
+      refl,
+      no_apply_of j first 0 p _ _ refl (omega arith),
+      no_visit_of j first 0 p _ _ refl (omega arith),
+      first.legal,
+    ),
   )
   first_is_turn (job.Take l p) first = let j = job.Take l p in (
     pull_none j first _ _ refl (omega arith),
@@ -424,26 +558,53 @@ module _ (c : Setting) (s : ChainState) where
       let had = (ready g x (subst (λ (v : Message). v.logs g x ≡ true) same legal.0.2)).changing legal.0.3 in
       true≢false (sym had ∙ legal.0.4)
 
-  no_visit_done : (k p : ℕ) (m : Message) → s.message p ≡ Some m → (v : Bool) → m.place ≡ Held k v false → (v ≡ true) ⊎ (m.packet ≡ None) → IsNoVisit c s k p
+  no_visit_done : (k p : ℕ) (m : Message) → s.message p ≡ Some m → (v : Bool) → m.place ≡ Held k v false →
+      (v ≡ true) ⊎ (m.packet ≡ None) → IsNoVisit c s k p
   no_visit_done k p m there v held done legal =
       let same = one_message p legal.0.0 m legal.0.3 there in
       elim done [
         | inl already ↦
-            let both : Held k false legal.0.2 ≡ Held k v false = sym legal.0.4 ∙ (ap (λ (x : Message). x.place) same ∙ held) in
+            let both : Held k false legal.0.2 ≡ Held k v false =
+            sym legal.0.4 ∙ (ap (λ (x : Message). x.place) same ∙ held) in
             let flag : false ≡ v = cc in true≢false (sym (flag ∙ already))
         | inr none ↦ none-some legal.0.1 (sym none ∙ (ap (λ (x : Message). x.packet) (sym same) ∙ legal.0.5))
       ]
 
   pub visit_works : (k p : ℕ) → IsLegalJob c s (job.Visit k p) → IsWork c s k p (job.Visit k p)
-  visit_works k p legal = (refl, refl, no_apply_ready k p legal.0.0 (legal.0.3, false, legal.0.2, legal.0.4) legal.0.6, legal)
+  visit_works k p legal = (
+    refl,
+    refl,
+    no_apply_ready k p legal.0.0 (legal.0.3, false, legal.0.2, legal.0.4) legal.0.6,
+    legal,
+  )
 
   pub pass_works : (k p : ℕ) → IsLegalJob c s (job.Pass k p) → IsWork c s k p (job.Pass k p)
-  pass_works k p legal =
-      (refl, refl, no_apply_ready k p legal.0.0 (legal.0.1.there, legal.0.1.visited, false, legal.0.1.held) legal.0.1.ready, no_visit_done k p legal.0.0 legal.0.1.there legal.0.1.visited legal.0.1.held legal.0.1.done, legal)
+  pass_works k p legal = (
+    refl,
+    refl,
+    no_apply_ready k p legal.0.0 (
+      legal.0.1.there,
+      legal.0.1.visited,
+      false,
+      legal.0.1.held,
+    ) legal.0.1.ready,
+    no_visit_done k p legal.0.0 legal.0.1.there legal.0.1.visited legal.0.1.held legal.0.1.done,
+    legal,
+  )
 
   pub lose_works : (k p : ℕ) → IsLegalJob c s (job.Lose k p) → IsWork c s k p (job.Lose k p)
-  lose_works k p legal =
-      (refl, refl, no_apply_ready k p legal.0.0 (legal.0.1.there, legal.0.1.visited, false, legal.0.1.held) legal.0.1.ready, no_visit_done k p legal.0.0 legal.0.1.there legal.0.1.visited legal.0.1.held legal.0.1.done, legal)
+  lose_works k p legal = (
+    refl,
+    refl,
+    no_apply_ready k p legal.0.0 (
+      legal.0.1.there,
+      legal.0.1.visited,
+      false,
+      legal.0.1.held,
+    ) legal.0.1.ready,
+    no_visit_done k p legal.0.0 legal.0.1.there legal.0.1.visited legal.0.1.held legal.0.1.done,
+    legal,
+  )
 
   pub carry_works : AreFated c s → (p : ℕ) → IsLegalJob c s (job.Carry p) → IsWork c s 0 p (job.Carry p)
   carry_works fated p legal = (
@@ -458,7 +619,8 @@ module _ (c : Setting) (s : ChainState) where
   )
 
   -- where no stage has a job there is none
-  pub none_in_turn : IsNoPull c s → AreIdle c s → IsNoTake c s → IsNoLine c s → IsNoEnter c s → ((p : ℕ) → IsLegalJob c s (job.Propagate p) → ⊥) → (j : Job) → IsLegalJob c s j → ⊥
+  pub none_in_turn : IsNoPull c s → AreIdle c s → IsNoTake c s → IsNoLine c s → IsNoEnter c s →
+      ((p : ℕ) → IsLegalJob c s (job.Propagate p) → ⊥) → (j : Job) → IsLegalJob c s j → ⊥
   none_in_turn no_pull idle no_take no_line no_enter no_propagate = left_for no_pull idle (λ j. ⊥) (
     (λ l q legal. no_take l q legal),
     (λ k legal. no_line k (inl legal)),
@@ -478,31 +640,36 @@ module _ (c : Setting) (s : ChainState) where
   placed : (k p : ℕ) (j : Job) → IsWork c s k p j → IsPlaced k p j
   placed k p (job.Apply i q g x) w = record {
     tail = 1 ∷ x ∷ g ∷ p ∷ [];
-    placed = ap (λ v. 2 ∷ v ∷ since_of (s.message q) ∷ 1 ∷ x ∷ g ∷ q ∷ []) w.0 ∙ ap (λ v. 2 ∷ k ∷ since_of (s.message v) ∷ 1 ∷ x ∷ g ∷ v ∷ []) w.1;
+    placed = ap (λ v. 2 ∷ v ∷ since_of (s.message q) ∷ 1 ∷ x ∷ g ∷ q ∷ []) w.0 ∙ ap (λ v. 2 ∷ k ∷ since_of (s.message v)
+        ∷ 1 ∷ x ∷ g ∷ v ∷ []) w.1;
     last = apply_last k p g x w.3;
     not_before = λ t l. l.apply g x w.2;
   }
   placed k p (job.Visit i q) w = record {
     tail = 2 ∷ 0 ∷ 0 ∷ p ∷ [];
-    placed = ap (λ v. 2 ∷ v ∷ since_of (s.message q) ∷ 2 ∷ 0 ∷ 0 ∷ q ∷ []) w.0 ∙ ap (λ v. 2 ∷ k ∷ since_of (s.message v) ∷ 2 ∷ 0 ∷ 0 ∷ v ∷ []) w.1;
+    placed = ap (λ v. 2 ∷ v ∷ since_of (s.message q) ∷ 2 ∷ 0 ∷ 0 ∷ q ∷ []) w.0 ∙ ap (λ v. 2 ∷ k ∷ since_of (s.message v)
+        ∷ 2 ∷ 0 ∷ 0 ∷ v ∷ []) w.1;
     last = visit_last k p w.2;
     not_before = λ t l. l.visit w.3;
   }
   placed k p (job.Pass i q) w = record {
     tail = 3 ∷ 0 ∷ 0 ∷ p ∷ [];
-    placed = ap (λ v. 2 ∷ v ∷ since_of (s.message q) ∷ 3 ∷ 0 ∷ 0 ∷ q ∷ []) w.0 ∙ ap (λ v. 2 ∷ k ∷ since_of (s.message v) ∷ 3 ∷ 0 ∷ 0 ∷ v ∷ []) w.1;
+    placed = ap (λ v. 2 ∷ v ∷ since_of (s.message q) ∷ 3 ∷ 0 ∷ 0 ∷ q ∷ []) w.0 ∙ ap (λ v. 2 ∷ k ∷ since_of (s.message v)
+        ∷ 3 ∷ 0 ∷ 0 ∷ v ∷ []) w.1;
     last = pass_last k p w.2 w.3;
     not_before = λ t l. l.pass w.4;
   }
   placed k p (job.Lose i q) w = record {
     tail = 3 ∷ 1 ∷ 0 ∷ p ∷ [];
-    placed = ap (λ v. 2 ∷ v ∷ since_of (s.message q) ∷ 3 ∷ 1 ∷ 0 ∷ q ∷ []) w.0 ∙ ap (λ v. 2 ∷ k ∷ since_of (s.message v) ∷ 3 ∷ 1 ∷ 0 ∷ v ∷ []) w.1;
+    placed = ap (λ v. 2 ∷ v ∷ since_of (s.message q) ∷ 3 ∷ 1 ∷ 0 ∷ q ∷ []) w.0 ∙ ap (λ v. 2 ∷ k ∷ since_of (s.message v)
+        ∷ 3 ∷ 1 ∷ 0 ∷ v ∷ []) w.1;
     last = lose_last k p w.2 w.3 w.4;
     not_before = λ t l. l.lose w.4;
   }
   placed k p (job.Carry q) w = record {
     tail = 3 ∷ 2 ∷ 0 ∷ p ∷ [];
-    placed = ap (λ v. 2 ∷ v ∷ since_of (s.message q) ∷ 3 ∷ 2 ∷ 0 ∷ q ∷ []) (sym w.0) ∙ ap (λ v. 2 ∷ k ∷ since_of (s.message v) ∷ 3 ∷ 2 ∷ 0 ∷ v ∷ []) w.1;
+    placed = ap (λ v. 2 ∷ v ∷ since_of (s.message q) ∷ 3 ∷ 2 ∷ 0 ∷ q ∷ []) (sym w.0) ∙ ap (λ v. 2 ∷ k
+        ∷ since_of (s.message v) ∷ 3 ∷ 2 ∷ 0 ∷ v ∷ []) w.1;
     last = subst (λ v. IsLast v p (3 ∷ 2 ∷ 0 ∷ p ∷ [])) (sym w.0)
         (carry_last p (subst (λ v. IsNoApply c s v p) w.0 w.2) (subst (λ v. IsNoVisit c s v p) w.0 w.3) w.4);
     not_before = λ t l. l.carry w.0 w.4;
@@ -518,8 +685,11 @@ module _ (c : Setting) (s : ChainState) where
   not_sooner k p a b wa wb before =
       let pa = placed k p a wa in let pb = placed k p b wb in
       let t = since_of (s.message p) in
-      let both : IsBelow (2 ∷ k ∷ t ∷ pa.tail) (2 ∷ k ∷ t ∷ pb.tail) = subst (λ v. IsBelow v (2 ∷ k ∷ t ∷ pb.tail)) pa.placed (subst (IsBelow (place_of s a)) pb.placed before) in
-      pa.not_before pb.tail pb.last (behind_first t pa.tail pb.tail (behind_first k (t ∷ pa.tail) (t ∷ pb.tail) (behind_first 2 (k ∷ t ∷ pa.tail) (k ∷ t ∷ pb.tail) both)))
+      let both : IsBelow (2 ∷ k ∷ t ∷ pa.tail) (2 ∷ k ∷ t ∷ pb.tail) =
+      subst (λ v. IsBelow v (2 ∷ k ∷ t ∷ pb.tail)) pa.placed (subst (IsBelow (place_of s a)) pb.placed before) in
+      pa.not_before pb.tail pb.last
+      (behind_first t pa.tail pb.tail
+      (behind_first k (t ∷ pa.tail) (t ∷ pb.tail) (behind_first 2 (k ∷ t ∷ pa.tail) (k ∷ t ∷ pb.tail) both)))
 
   pub one_work : (k p : ℕ) (a b : Job) → IsWork c s k p a → IsWork c s k p b → a ≡ b
   one_work k p a b wa wb = elim (ordered s a b) [

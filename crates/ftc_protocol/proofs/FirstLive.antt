@@ -24,7 +24,8 @@ first_by c s j k is = record {
   first = λ i il less. false_from_ne_true (s.up i) (λ live. let le = is.nearest i il live in absurd (omega arith));
 }
 
-pub first_there : (c : Setting) (s : ChainState) → IsRing (shape c) → IsAdmissible c s.up → (j : ℕ) → j < servers c → IsFirst c s j (first_live c s j)
+pub first_there : (c : Setting) (s : ChainState) → IsRing (shape c) → IsAdmissible c s.up → (j : ℕ) → j < servers c →
+    IsFirst c s j (first_live c s j)
 first_there c s ring admissible j jl = found (first_live_of (shape c) s.up j) refl
   where
     found : (o : Option ℕ) → first_live_of (shape c) s.up j ≡ o → IsFirst c s j (unwrap_or o j)

@@ -1,9 +1,11 @@
 -- What servers have and know, and what messages tell, are fronts of the trace in every state of a run.
-use Rattle.std.proofs.Common.{◌≡◌, ℕ, ◌<◌, ◌&&◌, ◌||◌, if◌then◌else◌, Bool, true, false, List, [], ◌∷◌, Option, Some, None, inl, inr, refl, sym, subst, arith}
+use Rattle.std.proofs.Common.{◌≡◌, ℕ, ◌<◌, ◌&&◌, ◌||◌, if◌then◌else◌, Bool, true, false, List, [], ◌∷◌, Option, Some}
+use Rattle.std.proofs.Common.{None, inl, inr, refl, sym, subst, arith}
 use Rattle.std.proofs.lemmas.Bool.{true≢false, and_parts, and_from, or_cases, or_left, or_right}
 use Rattle.std.proofs.lemmas.Option.{none-some, same_Some}
 use Rattle.ftc_journal.specs.declared.event.Event.{Event}
-use Rattle.ftc_journal.specs.declared.event.Event.TheVariants.{Apply, Carry, Crash, Enter, Lose, Pass, Propagate, Pull, Recover, Release, Take, Visit}
+use Rattle.ftc_journal.specs.declared.event.Event.TheVariants.{Apply, Carry, Crash, Enter, Lose, Pass, Propagate, Pull}
+use Rattle.ftc_journal.specs.declared.event.Event.TheVariants.{Recover, Release, Take, Visit}
 use Rattle.ftc_ring.specs.Ring.{next_of}
 use Rattle.ftc_serial.specs.Take.{Outcome}
 use Rattle.ftc_serial.specs.Serial.{Entry, Visited, Given}
@@ -18,7 +20,8 @@ use Rattle.ftc_protocol.specs.Front.{AreApart, IsClosed, IsFront, AreFronts}
 use Rattle.ftc_protocol.specs.Trace.{IsSomeVisit}
 use Rattle.ftc_protocol.specs.State.{ChainState, Message, opening}
 use Rattle.ftc_protocol.specs.Known.{knows}
-use Rattle.ftc_protocol.specs.Next.{next, known_by, outcome_at, taken_message, visited_message, sent_message, drop_if, fresh_message}
+use Rattle.ftc_protocol.specs.Next.{next, known_by, outcome_at, taken_message, visited_message, sent_message, drop_if}
+use Rattle.ftc_protocol.specs.Next.{fresh_message}
 use Rattle.ftc_protocol.specs.Recovery.{previous_live, following_live}
 use Rattle.ftc_protocol.specs.Run.{IsRun, AreLegal, state_after}
 use Rattle.ftc_protocol.proofs.Premises.{IsGood}

@@ -5,7 +5,8 @@ use Rattle.std.proofs.lemmas.Option.{none-some}
 use Rattle.std.specs.Prelude.{option_map}
 use Rattle.std.proofs.lemmas.Option.{slice_get-get_or}
 use Rattle.ftc_serial.specs.declared.position.Position.TheVariants as position
-use Rattle.ftc_journal.specs.declared.event.Event.TheVariants.{Apply, Carry, Crash, Enter, Lose, Pass, Propagate, Pull, Recover, Release, Take, Visit}
+use Rattle.ftc_journal.specs.declared.event.Event.TheVariants.{Apply, Carry, Crash, Enter, Lose, Pass, Propagate, Pull}
+use Rattle.ftc_journal.specs.declared.event.Event.TheVariants.{Recover, Release, Take, Visit}
 use Rattle.ftc_protocol.proofs.Premises.{AreFit, IsGood}
 use Rattle.ftc_protocol.specs.Run.{AreLegal, state_after}
 use Rattle.ftc_protocol.specs.State.{ChainState, opening}
@@ -37,7 +38,8 @@ keeps c good s h (Pull l) legal = small.pulls c good s h l legal
 keeps c good s h (Propagate p) legal = small.propagates c good s h p legal
 keeps c good s h (Release p) legal = releases c good s h p legal
 
-pub runs : (c : Setting) → IsGood c → (es : List Event) (s : ChainState) → Inv c s → AreLegal c s es → Inv c (state_after c s es)
+pub runs : (c : Setting) → IsGood c → (es : List Event) (s : ChainState) → Inv c s → AreLegal c s es →
+    Inv c (state_after c s es)
 runs c good [] s h legal = h
 runs c good (e ∷ es) s h legal = runs c good es (next c s e) (keeps c good s h e legal.0.0) legal.1
 
@@ -45,8 +47,15 @@ pub opens : (c : Setting) → IsGood c → AreFit c (opening c).up c.lines → I
 opens c good fit = record {
   world = record {
     inside = λ k u. ltb-true k (servers c) u;
-    lists = record { listed = λ k j p is. absurd (true≢false (sym is)); heads = λ j p u is. absurd is; closed = λ k j p q is. absurd (true≢false (sym is)) };
-    nest = record { member = λ k j p is. absurd (true≢false (sym is)); nested = λ j i k p b u le is. absurd (true≢false (sym is)) };
+    lists = record {
+      listed = λ k j p is. absurd (true≢false (sym is));
+      heads = λ j p u is. absurd is;
+      closed = λ k j p q is. absurd (true≢false (sym is));
+    };
+    nest = record {
+      member = λ k j p is. absurd (true≢false (sym is));
+      nested = λ j i k p b u le is. absurd (true≢false (sym is));
+    };
     serial = tt;
     passed = λ i j p le t st. absurd t;
     earlier = λ k i j p is. absurd (true≢false (sym is));
@@ -66,5 +75,6 @@ opens c good fit = record {
   gaps = λ l g. absurd (true≢false (sym g));
 }
 
-pub always : (c : Setting) → IsGood c → AreFit c (opening c).up c.lines → (es : List Event) → AreLegal c (opening c) es → Inv c (state_after c (opening c) es)
+pub always : (c : Setting) → IsGood c → AreFit c (opening c).up c.lines → (es : List Event) →
+    AreLegal c (opening c) es → Inv c (state_after c (opening c) es)
 always c good fit es legal = runs c good es (opening c) (opens c good fit) legal

@@ -2,7 +2,8 @@
 use Rattle.std.proofs.Common.{◌≡◌, ℕ, zero, suc, List, [], ◌∷◌, length, ◌⊎◌, inl, inr, refl, sym, ap, ◌∙◌, arith}
 use Rattle.std.proofs.lemmas.Bool.{cases_eq, cases_lt}
 use Rattle.ftc_journal.specs.declared.job.Job.{Job}
-use Rattle.ftc_journal.specs.declared.job.Job.TheVariants.{Apply, Carry, Crash, Enter, Lose, Pass, Propagate, Pull, Recover, Take, Visit}
+use Rattle.ftc_journal.specs.declared.job.Job.TheVariants.{Apply, Carry, Crash, Enter, Lose, Pass, Propagate, Pull}
+use Rattle.ftc_journal.specs.declared.job.Job.TheVariants.{Recover, Take, Visit}
 use Rattle.ftc_protocol.specs.Setting.{Setting}
 use Rattle.ftc_protocol.specs.State.{ChainState}
 use Rattle.ftc_protocol.specs.Measure.{IsBelow}
@@ -16,7 +17,12 @@ below_both (x ∷ xs) [] zs a b = absurd a
 below_both (x ∷ xs) (y ∷ ys) [] a b = absurd b
 below_both (x ∷ xs) (y ∷ ys) (z ∷ zs) a b = elim a [
   | inl less ↦ elim b [ inl more ↦ inl (omega arith) | inr same ↦ let e : y ≡ z = same.0 in inl (omega arith) ]
-  | inr same ↦ let e : x ≡ y = same.0 in elim b [ inl more ↦ inl (omega arith) | inr equal ↦ inr (e ∙ equal.0, below_both xs ys zs same.1 equal.1) ]
+  | inr same ↦ let e : x ≡ y =
+      same.0 in elim b [
+        | inl more ↦ inl (omega arith)
+        | inr equal ↦
+            inr (e ∙ equal.0, below_both xs ys zs same.1 equal.1)
+      ]
 ]
 
 pub not_below_itself : (xs : List ℕ) → IsBelow xs xs → ⊥

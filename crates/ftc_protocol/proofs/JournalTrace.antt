@@ -1,10 +1,12 @@
 -- The machine's trace is the trace of its journal.
-use Rattle.std.proofs.Common.{◌≡◌, ℕ, ◌+◌, ◌<◌, ◌==◌, ◌||◌, if◌then◌else◌, Bool, true, false, not, cond, List, [], ◌∷◌, ◌++◌, filter, refl, sym, ap, subst, ◌∙◌, arith, inl, inr, Option, Some, None}
+use Rattle.std.proofs.Common.{◌≡◌, ℕ, ◌+◌, ◌<◌, ◌==◌, ◌||◌, if◌then◌else◌, Bool, true, false, not, cond, List, [], ◌∷◌}
+use Rattle.std.proofs.Common.{◌++◌, filter, refl, sym, ap, subst, ◌∙◌, arith, inl, inr, Option, Some, None}
 use Rattle.std.specs.List.{flat_map}
 use Rattle.std.proofs.lemmas.Bool.{true≢false, false_from_ne_true, or_cases}
 use Rattle.ftc_ring.specs.Ring.{next_of}
 use Rattle.ftc_journal.specs.declared.event.Event.{Event}
-use Rattle.ftc_journal.specs.declared.event.Event.TheVariants.{Apply, Carry, Crash, Enter, Lose, Pass, Propagate, Pull, Recover, Release, Take, Visit}
+use Rattle.ftc_journal.specs.declared.event.Event.TheVariants.{Apply, Carry, Crash, Enter, Lose, Pass, Propagate, Pull}
+use Rattle.ftc_journal.specs.declared.event.Event.TheVariants.{Recover, Release, Take, Visit}
 use Rattle.ftc_journal.specs.declared.event.VisitName.{VisitName}
 use Rattle.ftc_serial.specs.declared.step.Step.{Step}
 use Rattle.ftc_serial.specs.declared.step.Step.TheVariants as step
@@ -38,12 +40,15 @@ use Rattle.ftc_protocol.proofs.FewPropagates.{IsCounted, keeps_counts, opens_cou
 
 -- ---- lists of steps
 
-pub filter_joined : {A : Type 0} (test : A → Bool) (xs ys : List A) → filter test (xs ++ ys) ≡ filter test xs ++ filter test ys
+pub filter_joined : {A : Type 0} (test : A → Bool) (xs ys : List A) →
+    filter test (xs ++ ys) ≡ filter test xs ++ filter test ys
 filter_joined test [] ys = refl
-filter_joined test (x ∷ xs) ys = elim (test x) as (λ b. cond b (x ∷ filter test (xs ++ ys)) (filter test (xs ++ ys)) ≡ cond b (x ∷ filter test xs) (filter test xs) ++ filter test ys) [
-  | true ↦ ap (λ l. x ∷ l) (filter_joined test xs ys)
-  | false ↦ filter_joined test xs ys
-]
+filter_joined test (x ∷ xs) ys =
+    elim (test x) as (λ b. cond b (x ∷ filter test (xs ++ ys)) (filter test (xs ++ ys))
+    ≡ cond b (x ∷ filter test xs) (filter test xs) ++ filter test ys) [
+      | true ↦ ap (λ l. x ∷ l) (filter_joined test xs ys)
+      | false ↦ filter_joined test xs ys
+    ]
 
 joined : {A : Type 0} (xs ys zs : List A) → (xs ++ ys) ++ zs ≡ xs ++ (ys ++ zs)
 joined [] ys zs = refl
@@ -63,26 +68,33 @@ stays undone (step.Visit server packet) = not (names undone server packet)
 stays undone (step.Release packet) = true
 
 -- what is left of a trace has the steps that stay
-steps_left : (undone : List VisitName) (trace : List Entry) → steps_in (left_of (names undone) trace) ≡ filter (stays undone) (steps_in trace)
+steps_left : (undone : List VisitName) (trace : List Entry) →
+    steps_in (left_of (names undone) trace) ≡ filter (stays undone) (steps_in trace)
 unfolding stays
 steps_left undone [] = refl
 steps_left undone (Given p bytes ∷ older) =
-    ap (λ l. l ++ step.Release p ∷ []) (steps_left undone older) ∙ sym (filter_joined (stays undone) (steps_in older) (step.Release p ∷ []))
+    ap (λ l. l ++ step.Release p ∷ []) (steps_left undone older) ∙ sym
+    (filter_joined (stays undone) (steps_in older) (step.Release p ∷ []))
 steps_left undone (Visited k p o ∷ older) =
-    elim (names undone k p) as (λ b. steps_in (cond (not b) (Visited k p o ∷ left_of (names undone) older) (left_of (names undone) older)) ≡ filter (stays undone) (steps_in older) ++ cond (not b) (step.Visit k p ∷ []) []) [
+    elim (names undone k p) as
+    (λ b. steps_in (cond (not b) (Visited k p o ∷ left_of (names undone) older) (left_of (names undone) older))
+    ≡ filter (stays undone) (steps_in older) ++ cond (not b) (step.Visit k p ∷ []) []) [
       | true ↦ steps_left undone older ∙ sym (ends (filter (stays undone) (steps_in older)))
       | false ↦ ap (λ l. l ++ step.Visit k p ∷ []) (steps_left undone older)
     ]
     ∙ sym (filter_joined (stays undone) (steps_in older) (step.Visit k p ∷ []))
 
 -- undoing more leaves the steps that stay
-more_undone : (some more : List VisitName) (event : Event) → steps_of (some ++ more) event ≡ filter (stays more) (steps_of some event)
+more_undone : (some more : List VisitName) (event : Event) →
+    steps_of (some ++ more) event ≡ filter (stays more) (steps_of some event)
 unfolding stays
 more_undone some more (Visit k p w) =
     ap (λ b. if b then [] else step.Visit k p ∷ []) (any_name k p some more)
-    ∙ (elim (names some k p) as (λ a. (if a || names more k p then [] else step.Visit k p ∷ []) ≡ filter (stays more) (if a then [] else step.Visit k p ∷ [])) [
+    ∙ (elim (names some k p) as (λ a. (if a || names more k p then [] else step.Visit k p ∷ [])
+    ≡ filter (stays more) (if a then [] else step.Visit k p ∷ [])) [
       | true ↦ refl
-      | false ↦ elim (names more k p) as (λ b. (if b then [] else step.Visit k p ∷ []) ≡ cond (not b) (step.Visit k p ∷ []) []) [ true ↦ refl | false ↦ refl ]
+      | false ↦ elim (names more k p) as (λ b. (if b then [] else step.Visit k p ∷ [])
+          ≡ cond (not b) (step.Visit k p ∷ []) []) [ true ↦ refl | false ↦ refl ]
     ])
 more_undone some more (Release p) = refl
 more_undone some more (Enter p) = refl
@@ -96,7 +108,8 @@ more_undone some more (Recover k undone) = refl
 more_undone some more (Pull k) = refl
 more_undone some more (Propagate p) = refl
 
-undone_more : (some more : List VisitName) (events : List Event) → flat_map (steps_of (some ++ more)) events ≡ filter (stays more) (flat_map (steps_of some) events)
+undone_more : (some more : List VisitName) (events : List Event) →
+    flat_map (steps_of (some ++ more)) events ≡ filter (stays more) (flat_map (steps_of some) events)
 undone_more some more [] = refl
 undone_more some more (event ∷ events) =
     ap (λ l. l ++ flat_map (steps_of (some ++ more)) events) (more_undone some more event)
@@ -109,21 +122,27 @@ outside : (b : Bool) (e : ℕ) (f : Fate) → (if b then Lost e else f) ≡ Insi
 outside true e f is = absurd (cc)
 outside false e f is = is
 
-pub inside_before : (c : Setting) (s : ChainState) (e : Event) → MayHappen c s e → (p : ℕ) → p < s.entered → (next c s e).fate p ≡ Inside → s.fate p ≡ Inside
+pub inside_before : (c : Setting) (s : ChainState) (e : Event) → MayHappen c s e → (p : ℕ) → p < s.entered →
+    (next c s e).fate p ≡ Inside → s.fate p ≡ Inside
 inside_before c s (Enter q) legal p less is =
-    with_at_cases (λ v. v ≡ Inside → s.fate p ≡ Inside) s.fate q _ p (λ same x. let at : q ≡ s.entered = legal.0 in absurd (omega arith)) (λ other x. x) is
+    with_at_cases (λ v. v ≡ Inside → s.fate p ≡ Inside) s.fate q _ p (λ same x. let at : q ≡ s.entered = legal.0 in
+    absurd (omega arith)) (λ other x. x) is
 inside_before c s (Take k q) legal p less is = is
 inside_before c s (Apply k q a b) legal p less is = is
 inside_before c s (Visit k q w) legal p less is =
-    with_at_cases (λ v. v ≡ Inside → s.fate p ≡ Inside) s.fate q _ p (λ same x. ap s.fate same ∙ before (outcome_at c s k q).packet x) (λ other x. x) is
+    with_at_cases (λ v. v ≡ Inside →
+    s.fate p ≡ Inside) s.fate q _ p (λ same x. ap s.fate same ∙ before (outcome_at c s k q).packet x)
+    (λ other x. x) is
   where
     before : (o : Option (List ℕ)) → fate_by k (s.fate q) o ≡ Inside → s.fate q ≡ Inside
     before None x = absurd (cc)
     before (Some bytes) x = x
 inside_before c s (Pass k q) legal p less is =
-    with_at_cases (λ v. v ≡ Inside → s.fate p ≡ Inside) s.fate q _ p (λ same x. ap s.fate same ∙ outside _ s.events (s.fate q) x) (λ other x. x) is
+    with_at_cases (λ v. v ≡ Inside →
+    s.fate p ≡ Inside) s.fate q _ p (λ same x. ap s.fate same ∙ outside _ s.events (s.fate q) x) (λ other x. x) is
 inside_before c s (Lose k q) legal p less is =
-    with_at_cases (λ v. v ≡ Inside → s.fate p ≡ Inside) s.fate q _ p (λ same x. ap s.fate same ∙ outside _ s.events (s.fate q) x) (λ other x. x) is
+    with_at_cases (λ v. v ≡ Inside →
+    s.fate p ≡ Inside) s.fate q _ p (λ same x. ap s.fate same ∙ outside _ s.events (s.fate q) x) (λ other x. x) is
 inside_before c s (Carry q) legal p less is = is
 inside_before c s (Crash k) legal p less is = outside _ s.events (s.fate p) is
 inside_before c s (Recover k undone) legal p less is = outside _ s.events (s.fate p) is
@@ -134,31 +153,43 @@ inside_before c s (Release q) legal p less is =
 
 -- ---- what is undone is not made again
 
-module _ (c : Setting) (good : IsGood c) (s : ChainState) (h : Inv c s) (k : ℕ) (undone : List VisitName) (after : Inv c (next c s (Recover k undone))) where
+module _ (c : Setting) (good : IsGood c) (s : ChainState) (h : Inv c s) (k : ℕ) (undone : List VisitName)
+    (after : Inv c (next c s (Recover k undone))) where
   trace' : List Entry
   trace' = left_of (names undone) s.trace
 
   -- a packet whose place is the same has the same visits
-  waits_same : (x : ℕ) (bytes : List ℕ) (p j : ℕ) → (serial_of c s.trace).place p ≡ Waits x bytes → (serial_of c (left_of (names undone) s.trace)).place p ≡ Waits x bytes → IsSomeVisit s.trace j p → IsSomeVisit (left_of (names undone) s.trace) j p
+  waits_same : (x : ℕ) (bytes : List ℕ) (p j : ℕ) → (serial_of c s.trace).place p ≡ Waits x bytes →
+      (serial_of c (left_of (names undone) s.trace)).place p ≡ Waits x bytes → IsSomeVisit s.trace j p →
+      IsSomeVisit (left_of (names undone) s.trace) j p
   waits_same x bytes p j before behind there =
-      visited_before c (left_of (names undone) s.trace) after.world.serial p x bytes behind j (visited_earlier c s.trace x p bytes h.world.serial before j there)
+      visited_before c (left_of (names undone) s.trace) after.world.serial p x bytes behind j
+      (visited_earlier c s.trace x p bytes h.world.serial before j there)
 
-  passed_same : (bytes : List ℕ) (p j : ℕ) → (serial_of c (left_of (names undone) s.trace)).place p ≡ Passed bytes → IsSomeVisit s.trace j p → IsSomeVisit (left_of (names undone) s.trace) j p
+  passed_same : (bytes : List ℕ) (p j : ℕ) → (serial_of c (left_of (names undone) s.trace)).place p ≡ Passed bytes →
+      IsSomeVisit s.trace j p → IsSomeVisit (left_of (names undone) s.trace) j p
   passed_same bytes p j behind there =
-      visited_all c (left_of (names undone) s.trace) after.world.serial p bytes behind j (stands_below c good.some _ s.trace h.world.serial j p there)
+      visited_all c (left_of (names undone) s.trace) after.world.serial p bytes behind j
+      (stands_below c good.some _ s.trace h.world.serial j p there)
 
-  under_way_same : (w : Where) (bytes : List ℕ) (p j : ℕ) → (serial_of c s.trace).place p ≡ expected (servers c) w bytes → (serial_of c (left_of (names undone) s.trace)).place p ≡ expected (servers c) w bytes
+  under_way_same : (w : Where) (bytes : List ℕ) (p j : ℕ) →
+      (serial_of c s.trace).place p ≡ expected (servers c) w bytes →
+      (serial_of c (left_of (names undone) s.trace)).place p ≡ expected (servers c) w bytes
       → IsSomeVisit s.trace j p → IsSomeVisit (left_of (names undone) s.trace) j p
   under_way_same (Held x false r) bytes p j before behind there = waits_same x bytes p j before behind there
-  under_way_same (Queued l) bytes p j before behind there = waits_same (next_of (servers c) l) bytes p j before behind there
+  under_way_same (Queued l) bytes p j before behind there =
+      waits_same (next_of (servers c) l) bytes p j before behind there
   under_way_same (Held x true r) bytes p j before behind there =
-      elim (x + 1 == servers c) as (λ b. (serial_of c s.trace).place p ≡ placed b x bytes → (serial_of c (left_of (names undone) s.trace)).place p ≡ placed b x bytes → IsSomeVisit (left_of (names undone) s.trace) j p) [
+      elim (x + 1 == servers c) as (λ b. (serial_of c s.trace).place p ≡ placed b x bytes →
+      (serial_of c (left_of (names undone) s.trace)).place p ≡ placed b x bytes →
+      IsSomeVisit (left_of (names undone) s.trace) j p) [
         | true ↦ λ was is. passed_same bytes p j is there
         | false ↦ λ was is. waits_same (x + 1) bytes p j was is there
       ] before behind
 
   -- so an undone visit's packet isn't inside any more
-  pub undone_outside : AreFated c (next c s (Recover k undone)) → (j p : ℕ) → p < s.entered → In (names undone) j p → IsSomeVisit s.trace j p → (next c s (Recover k undone)).fate p ≡ Inside → ⊥
+  pub undone_outside : AreFated c (next c s (Recover k undone)) → (j p : ℕ) → p < s.entered → In (names undone) j p →
+      IsSomeVisit s.trace j p → (next c s (Recover k undone)).fate p ≡ Inside → ⊥
   undone_outside fated j p entered is there inside =
       let fates = are_fates c (next c s (Recover k undone)) fated in
       let stood : IsSomeVisit (left_of (names undone) s.trace) j p = elim ((fates.inside p entered).0 inside) [
@@ -189,54 +220,78 @@ entered_more c s (Pull k) p less = less
 entered_more c s (Propagate q) p less = less
 entered_more c s (Release q) p less = less
 
-module _ (c : Setting) (is : IsSetting c) (s : ChainState) (n : IsCounted c s) (before : List Event) (same : steps_in s.trace ≡ trace_of before) (gone : AreGone s (flat_map undone_by before)) where
+module _ (c : Setting) (is : IsSetting c) (s : ChainState) (n : IsCounted c s) (before : List Event)
+    (same : steps_in s.trace ≡ trace_of before) (gone : AreGone s (flat_map undone_by before)) where
   open n use {reached, shaped}
 
   still_gone : (e : Event) → MayHappen c s e → AreGone (next c s e) (flat_map undone_by before)
-  still_gone e legal j p i = let was = gone j p i in (entered_more c s e p was.0, λ inside. was.1 (inside_before c s e legal p was.0 inside))
+  still_gone e legal j p i = let was =
+      gone j p i in (entered_more c s e p was.0, λ inside. was.1 (inside_before c s e legal p was.0 inside))
 
   -- an event that undoes nothing
-  plain : (e : Event) → IsLegal c s e → undone_by e ≡ [] → steps_in (next c s e).trace ≡ steps_in s.trace ++ steps_of (flat_map undone_by before) e
-      → (steps_in (next c s e).trace ≡ trace_of (before ++ e ∷ [])) × AreGone (next c s e) (flat_map undone_by (before ++ e ∷ []))
+  plain : (e : Event) → IsLegal c s e → undone_by e ≡ [] →
+      steps_in (next c s e).trace ≡ steps_in s.trace ++ steps_of (flat_map undone_by before) e
+      → (steps_in (next c s e).trace ≡ trace_of (before ++ e ∷ []))
+      × AreGone (next c s e) (flat_map undone_by (before ++ e ∷ []))
   plain e legal none_undone step_is =
-      let undone : flat_map undone_by (before ++ e ∷ []) ≡ flat_map undone_by before = mapped undone_by before (e ∷ []) ∙ (ap (λ l. flat_map undone_by before ++ (l ++ [])) none_undone ∙ ends (flat_map undone_by before)) in (
+      let undone : flat_map undone_by (before ++ e ∷ []) ≡ flat_map undone_by before =
+      mapped undone_by before (e
+      ∷ []) ∙ (ap (λ l. flat_map undone_by before ++ (l ++ [])) none_undone ∙ ends (flat_map undone_by before)) in (
         step_is ∙ (ap (λ l. l ++ steps_of (flat_map undone_by before) e) same
-            ∙ (sym (mapped (steps_of (flat_map undone_by before)) before (e ∷ []) ∙ ap (λ l. trace_of before ++ l) (ends (steps_of (flat_map undone_by before) e)))
+            ∙ (sym (mapped (steps_of (flat_map undone_by before)) before (e ∷ []) ∙ ap (λ l. trace_of before
+            ++ l) (ends (steps_of (flat_map undone_by before) e)))
             ∙ ap (λ u. flat_map (steps_of u) (before ++ e ∷ [])) (sym undone))),
         subst (AreGone (next c s e)) (sym undone) (still_gone e legal.0),
       )
 
-  visited_step : (k p w : ℕ) → IsLegal c s (Visit k p w) → steps_of (flat_map undone_by before) (Visit k p w) ≡ step.Visit k p ∷ []
+  visited_step : (k p w : ℕ) → IsLegal c s (Visit k p w) →
+      steps_of (flat_map undone_by before) (Visit k p w) ≡ step.Visit k p ∷ []
   visited_step k p w legal =
       let m = legal.0.0 in
       let fates = are_fates c s reached.fated in
       let entered = reached.live.inv.entered p m legal.0.1 legal.0.3 legal.0.5 in
-      let inside : s.fate p ≡ Inside = (fates.inside p entered).1 (inl (record { message = m; there = legal.0.3; bytes = legal.0.1; carries = legal.0.5 })) in
-      ap (λ b. if b then [] else step.Visit k p ∷ []) (false_from_ne_true (names (flat_map undone_by before) k p) (λ undone. (gone k p undone).1 inside))
+      let inside : s.fate p ≡ Inside =
+      (fates.inside p entered).1
+      (inl (record { message = m; there = legal.0.3; bytes = legal.0.1; carries = legal.0.5 })) in
+      ap (λ b. if b then [] else step.Visit k p
+      ∷ []) (false_from_ne_true (names (flat_map undone_by before) k p) (λ undone. (gone k p undone).1 inside))
 
   recovered : (k : ℕ) (undone : List VisitName) → IsLegal c s (Recover k undone)
-      → (steps_in (next c s (Recover k undone)).trace ≡ trace_of (before ++ Recover k undone ∷ [])) × AreGone (next c s (Recover k undone)) (flat_map undone_by (before ++ Recover k undone ∷ []))
+      → (steps_in (next c s (Recover k undone)).trace ≡ trace_of (before ++ Recover k undone ∷ []))
+      × AreGone (next c s (Recover k undone)) (flat_map undone_by (before ++ Recover k undone ∷ []))
   recovered k undone legal =
       let some = flat_map undone_by before in
-      let all : flat_map undone_by (before ++ Recover k undone ∷ []) ≡ some ++ undone = mapped undone_by before (Recover k undone ∷ []) ∙ ap (λ l. some ++ l) (ends undone) in
+      let all : flat_map undone_by (before ++ Recover k undone ∷ []) ≡ some ++ undone =
+      mapped undone_by before (Recover k undone ∷ []) ∙ ap (λ l. some ++ l) (ends undone) in
       let counted = keeps_counts c is s n (Recover k undone) legal in (
         steps_left undone s.trace ∙ (ap (filter (stays undone)) same ∙ (sym (undone_more some undone before)
-            ∙ (sym (ends (flat_map (steps_of (some ++ undone)) before)) ∙ (sym (mapped (steps_of (some ++ undone)) before (Recover k undone ∷ []))
+            ∙ (sym (ends (flat_map (steps_of (some ++ undone)) before)) ∙
+            (sym (mapped (steps_of (some ++ undone)) before (Recover k undone ∷ []))
             ∙ ap (λ u. flat_map (steps_of u) (before ++ Recover k undone ∷ [])) (sym all))))),
-        subst (AreGone (next c s (Recover k undone))) (sym all) (λ j p i. elim (or_cases (names some j p) (names undone j p) (sym (any_name j p some undone) ∙ i)) [
-          | inl old ↦ still_gone (Recover k undone) legal.0 j p old
-          | inr new ↦
-              let there : IsSomeVisit s.trace j p = (in_order_says (is_undone c s (previous_live c s k) (following_live c s k)) s.trace j p (subst (λ u. In (names u) j p) legal.0.1 new)).1 in
-              let entered = shaped.visited j p there in
-              (entered, undone_outside c (is_good c is) s reached.live.inv k undone counted.reached.live.inv counted.reached.fated j p entered new there)
-        ]),
+        subst (AreGone (next c s (Recover k undone))) (sym all)
+            (λ j p i. elim (or_cases (names some j p) (names undone j p) (sym (any_name j p some undone) ∙ i)) [
+              | inl old ↦ still_gone (Recover k undone) legal.0 j p old
+              | inr new ↦
+                  let there : IsSomeVisit s.trace j p =
+                  (in_order_says (is_undone c s (previous_live c s k) (following_live c s k)) s.trace j p
+                  (subst (λ u. In (names u) j p) legal.0.1 new)).1 in
+                  let entered = shaped.visited j p there in (
+                    entered,
+                    undone_outside c
+                        (is_good c is) s reached.live.inv k undone counted.reached.live.inv counted.reached.fated j p
+                        entered
+                        new there,
+                  )
+            ]),
       )
 
-  pub traces : (e : Event) → IsLegal c s e → (steps_in (next c s e).trace ≡ trace_of (before ++ e ∷ [])) × AreGone (next c s e) (flat_map undone_by (before ++ e ∷ []))
+  pub traces : (e : Event) → IsLegal c s e → (steps_in (next c s e).trace ≡ trace_of (before ++ e ∷ []))
+      × AreGone (next c s e) (flat_map undone_by (before ++ e ∷ []))
   traces (Enter p) legal = plain (Enter p) legal refl (sym (ends (steps_in s.trace)))
   traces (Take k p) legal = plain (Take k p) legal refl (sym (ends (steps_in s.trace)))
   traces (Apply k p j q) legal = plain (Apply k p j q) legal refl (sym (ends (steps_in s.trace)))
-  traces (Visit k p w) legal = plain (Visit k p w) legal refl (ap (λ l. steps_in s.trace ++ l) (sym (visited_step k p w legal)))
+  traces (Visit k p w) legal =
+      plain (Visit k p w) legal refl (ap (λ l. steps_in s.trace ++ l) (sym (visited_step k p w legal)))
   traces (Pass k p) legal = plain (Pass k p) legal refl (sym (ends (steps_in s.trace)))
   traces (Lose k p) legal = plain (Lose k p) legal refl (sym (ends (steps_in s.trace)))
   traces (Carry p) legal = plain (Carry p) legal refl (sym (ends (steps_in s.trace)))
@@ -246,12 +301,17 @@ module _ (c : Setting) (is : IsSetting c) (s : ChainState) (n : IsCounted c s) (
   traces (Propagate p) legal = plain (Propagate p) legal refl (sym (ends (steps_in s.trace)))
   traces (Release p) legal = plain (Release p) legal refl refl
 
-traces_on : (c : Setting) → IsSetting c → (after before : List Event) (s : ChainState) → IsCounted c s → steps_in s.trace ≡ trace_of before → AreGone s (flat_map undone_by before) → AreLegal c s after
+traces_on : (c : Setting) → IsSetting c → (after before : List Event) (s : ChainState) → IsCounted c s →
+    steps_in s.trace ≡ trace_of before → AreGone s (flat_map undone_by before) → AreLegal c s after
     → steps_in (state_after c s after).trace ≡ trace_of (before ++ after)
 traces_on c is [] before s n same gone legal = same ∙ ap trace_of (sym (ends before))
 traces_on c is (e ∷ after) before s n same gone legal =
     let now = traces c is s n before same gone e legal.0 in
-    traces_on c is after (before ++ e ∷ []) (next c s e) (keeps_counts c is s n e legal.0) now.0 now.1 legal.1 ∙ ap trace_of (joined before (e ∷ []) after)
+    traces_on c is after (before
+    ++ e ∷ []) (next c s e) (keeps_counts c is s n e legal.0) now.0 now.1 legal.1 ∙ ap trace_of
+    (joined before (e ∷ []) after)
 
-pub trace_is : (c : Setting) → IsSetting c → (journal : List Event) → IsRun c journal → steps_in (state_after c (opening c) journal).trace ≡ trace_of journal
-trace_is c is journal run = traces_on c is journal [] (opening c) (opens_counted c is) refl (λ j p i. absurd (true≢false (sym i))) run
+pub trace_is : (c : Setting) → IsSetting c → (journal : List Event) → IsRun c journal →
+    steps_in (state_after c (opening c) journal).trace ≡ trace_of journal
+trace_is c is journal run =
+    traces_on c is journal [] (opening c) (opens_counted c is) refl (λ j p i. absurd (true≢false (sym i))) run

@@ -1,5 +1,6 @@
 -- The lone message passes the last server: its packet goes to the buffer, where it has one, and nothing is sent.
-use Rattle.std.proofs.Common.{◌≡◌, ◌≢◌, ◌⊎◌, ℕ, ◌+◌, ◌-◌, ◌==◌, ◌&&◌, ◌||◌, nat_lt, if◌then◌else◌, not, Bool, true, false, List, inl, inr, refl, ap, subst, ◌∙◌, arith, eq-eqb, Option, Some, None}
+use Rattle.std.proofs.Common.{◌≡◌, ◌≢◌, ◌⊎◌, ℕ, ◌+◌, ◌-◌, ◌==◌, ◌&&◌, ◌||◌, nat_lt, if◌then◌else◌, not, Bool, true}
+use Rattle.std.proofs.Common.{false, List, inl, inr, refl, ap, subst, ◌∙◌, arith, eq-eqb, Option, Some, None}
 use Rattle.ftc_journal.specs.declared.event.Event.TheVariants.{Pass}
 use Rattle.ftc_serial.proofs.Functions.{with_at_cases}
 use Rattle.ftc_protocol.specs.Setting.{Setting, servers}
@@ -14,7 +15,8 @@ use Rattle.ftc_protocol.proofs.InTransit.{same_message, other_message}
 use Rattle.ftc_protocol.proofs.Lone.{IsAt, IsBuffered, IsGone, IsThrough}
 use Rattle.ftc_protocol.proofs.LonePass.{plain_then}
 
-module _ (c : Setting) (good : IsGood c) (quiet : IsQuiet c) (alone : c.failures ≡ 0) (s : ChainState) (p k : ℕ) (visited : Bool) (at : IsAt c s p (Held k visited false))
+module _ (c : Setting) (good : IsGood c) (quiet : IsQuiet c) (alone : c.failures ≡ 0) (s : ChainState) (p k : ℕ)
+    (visited : Bool) (at : IsAt c s p (Held k visited false))
     (done : (visited ≡ true) ⊎ (at.message.packet ≡ None)) (last : k + 1 ≡ servers c) where
   is_last : (k + 1 == servers c) ≡ true
   is_last = eq-eqb (k + 1) (servers c) last
@@ -23,8 +25,10 @@ module _ (c : Setting) (good : IsGood c) (quiet : IsQuiet c) (alone : c.failures
   unsent = ap (λ b. not b || nat_lt 0 c.failures) is_last ∙ ap (nat_lt 0) alone
 
   no_message : (origin : ℕ) → (next c s (Pass k p)).message origin ≡ None
-  no_message origin = with_at_cases (λ v. v ≡ None) s.message p (if is_sent c k && not (is_away c s k false) then sent_message c s k (s.message p) else None) origin
-      (λ same. ap (λ b. if b && not (is_away c s k false) then sent_message c s k (s.message p) else None) unsent) (λ other. at.others origin other)
+  no_message origin = with_at_cases (λ v. v ≡ None) s.message p (if is_sent c k && not (is_away c s k false) then
+      sent_message c s k (s.message p) else None) origin
+      (λ same. ap (λ b. if b && not (is_away c s k false) then sent_message c s k (s.message p) else None) unsent)
+      (λ other. at.others origin other)
 
   -- the buffer then
   withheld_then : (next c s (Pass k p)).withheld p ≡ withheld_packet s at.message at.message.packet
@@ -32,14 +36,21 @@ module _ (c : Setting) (good : IsGood c) (quiet : IsQuiet c) (alone : c.failures
       ∙ (ap (λ b. if b then withheld_of s (s.message p) else s.withheld p) is_last ∙ ap (withheld_of s) at.there)
 
   others_then : (packet : ℕ) → packet ≢ p → (next c s (Pass k p)).withheld packet ≡ None
-  others_then packet other = other_message s.withheld p (if k + 1 == servers c then withheld_of s (s.message p) else s.withheld p) packet other ∙ at.withheld packet
+  others_then packet other =
+      other_message s.withheld p (if k + 1 == servers c then withheld_of s (s.message p)
+      else s.withheld p) packet other ∙ at.withheld packet
 
-  left_then : (packet : Option (List ℕ)) → at.message.packet ≡ packet → IsBuffered c (next c s (Pass k p)) p ⊎ IsGone c (next c s (Pass k p)) p
+  left_then : (packet : Option (List ℕ)) → at.message.packet ≡ packet → IsBuffered c (next c s (Pass k p)) p
+      ⊎ IsGone c (next c s (Pass k p)) p
   left_then None none_there =
       let before = at.gone none_there in
       inr (record {
-        withheld = λ packet. with_at_cases (λ v. v ≡ None) s.withheld p (if k + 1 == servers c then withheld_of s (s.message p) else s.withheld p) packet
-            (λ same. ap (λ b. if b then withheld_of s (s.message p) else s.withheld p) is_last ∙ (ap (withheld_of s) at.there ∙ ap (withheld_packet s at.message) none_there)) (λ other. at.withheld packet);
+        withheld = λ packet. with_at_cases (λ v. v ≡ None) s.withheld p (if k + 1 == servers c then
+            withheld_of s (s.message p) else s.withheld p) packet
+            (λ same. ap (λ b. if b then withheld_of s (s.message p)
+            else s.withheld p) is_last ∙
+            (ap (withheld_of s) at.there ∙ ap (withheld_packet s at.message) none_there))
+            (λ other. at.withheld packet);
         server = before.0;
         dropped = before.2;
       })
@@ -49,7 +60,8 @@ module _ (c : Setting) (good : IsGood c) (quiet : IsQuiet c) (alone : c.failures
         withheld = record { since = s.events; bytes = bytes; needs = at.message.needs };
         there = withheld_then ∙ ap (withheld_packet s at.message) is;
         others = others_then;
-        due = λ group needed. subst (λ server. Has c.partitions s.trace (knows c s server) group p) end (at.told group needed);
+        due = λ group needed. subst (λ server. Has c.partitions s.trace (knows c s server) group p) end
+            (at.told group needed);
       })
 
   pub passed_through : IsThrough c (next c s (Pass k p)) p

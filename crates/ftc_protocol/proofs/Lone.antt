@@ -1,5 +1,6 @@
 -- States in which one packet at a time is under way, and nothing else.
-use Rattle.std.proofs.Common.{◌≡◌, ◌≢◌, ℕ, suc, ◌+◌, ◌-◌, ◌<◌, ◌⊎◌, true, false, Bool, sym, subst, ◌∙◌, arith, Some, None}
+use Rattle.std.proofs.Common.{◌≡◌, ◌≢◌, ℕ, suc, ◌+◌, ◌-◌, ◌<◌, ◌⊎◌, true, false, Bool, sym, subst, ◌∙◌, arith, Some}
+use Rattle.std.proofs.Common.{None}
 use Rattle.std.proofs.lemmas.Option.{none-some}
 use Rattle.ftc_protocol.specs.Setting.{Setting, servers}
 use Rattle.ftc_protocol.specs.Visits.{Visits}
@@ -40,8 +41,8 @@ behind (Held server true by_ring) = server + 1
 behind (Held server false by_ring) = server
 behind (Queued link) = link + 1
 
--- The packet's message is there, the only one. Each visit that its packet needs is known there; and where it has no packet, a
--- middlebox behind it dropped that.
+-- The packet's message is there, the only one. Each visit that its packet needs is known there; and where it has no
+-- packet, a middlebox behind it dropped that.
 pub record IsAt (c : Setting) (s : ChainState) (p : ℕ) (place : Where) : Type 0 where
   pub plain : IsPlain c s (suc p)
   pub withheld : (packet : ℕ) → s.withheld packet ≡ None
@@ -49,7 +50,8 @@ pub record IsAt (c : Setting) (s : ChainState) (p : ℕ) (place : Where) : Type 
   pub message : Message
   pub there : s.message p ≡ Some message
   pub placed : message.place ≡ place
-  pub told : (group : ℕ) → message.needs group ≡ true → Has c.partitions s.trace (known_at c s place message.known) group p
+  pub told : (group : ℕ) → message.needs group ≡ true →
+      Has c.partitions s.trace (known_at c s place message.known) group p
   pub gone : message.packet ≡ None → (k : ℕ) × (k < behind place) × ((serial_of c s.trace).place p ≡ Filtered k)
 
 -- The buffer has the packet alone, which is due.
@@ -72,20 +74,26 @@ pub record IsThrough (c : Setting) (s : ChainState) (p : ℕ) : Type 0 where
   pub left : IsBuffered c s p ⊎ IsGone c s p
 
 -- where nothing is withheld nothing is due
-pub none_due : (c : Setting) (s : ChainState) → ((packet : ℕ) → s.withheld packet ≡ None) → (b : Bool) → b ≡ false → (packet : ℕ) (withheld : Withheld) → IsDue c s packet withheld → ⊥
+pub none_due : (c : Setting) (s : ChainState) → ((packet : ℕ) → s.withheld packet ≡ None) → (b : Bool) → b ≡ false →
+    (packet : ℕ) (withheld : Withheld) → IsDue c s packet withheld → ⊥
 none_due c s empty b is packet withheld due = none-some withheld (sym (empty packet) ∙ due.0)
 
-module _ (c : Setting) (good : IsGood c) (alone : c.failures ≡ 0) (s : ChainState) (p k : ℕ) (visited : Bool) (at : IsAt c s p (Held k visited false)) where
+module _ (c : Setting) (good : IsGood c) (alone : c.failures ≡ 0) (s : ChainState) (p k : ℕ) (visited : Bool)
+    (at : IsAt c s p (Held k visited false)) where
   pub server_below : k < servers c
-  server_below = let inv = at.plain.reached.live.inv in inv.world.inside k (subst (IsUp (servers c) s.up) at.placed (inv.awake p at.message at.there))
+  server_below = let inv = at.plain.reached.live.inv in
+      inv.world.inside k (subst (IsUp (servers c) s.up) at.placed (inv.awake p at.message at.there))
 
   -- without replicas a message carries logs of the server's own group alone, and the server is its head
   pub ready_here : IsReady c s k at.message
   ready_here group packet log =
       let inv = at.plain.reached.live.inv in
-      let carried = subst (λ x. AreCarried c s.trace s.up s.lists at.message.logs x) (held_target (servers c) k at.message.place visited false at.placed) (inv.messages p at.message at.there).carried in
+      let carried = subst (λ x. AreCarried c s.trace s.up s.lists at.message.logs x)
+      (held_target (servers c) k at.message.place visited false at.placed)
+      (inv.messages p at.message at.there).carried in
       let member = carried.member group packet log in
       let below : group < servers c = member.0 in
       let far = apart_cases (servers c) group k below server_below in
       let same : group ≡ k = omega (arith, member.1) in
-      subst (λ x. Has c.partitions s.trace (s.lists x) group packet) same (head_has c s.trace s.up s.lists inv.world.lists inv.world.nest group packet (at.plain.calm.up group below))
+      subst (λ x. Has c.partitions s.trace (s.lists x) group packet) same
+      (head_has c s.trace s.up s.lists inv.world.lists inv.world.nest group packet (at.plain.calm.up group below))

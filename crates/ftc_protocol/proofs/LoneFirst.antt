@@ -1,5 +1,6 @@
 -- Where one packet at a time is under way, what it does next is the first job.
-use Rattle.std.proofs.Common.{◌≡◌, ◌⊎◌, ℕ, true, false, Bool, List, [], ◌∷◌, ◌++◌, inl, inr, refl, sym, ap, subst, ◌∙◌, arith, Some, None}
+use Rattle.std.proofs.Common.{◌≡◌, ◌⊎◌, ℕ, true, false, Bool, List, [], ◌∷◌, ◌++◌, inl, inr, refl, sym, ap, subst, ◌∙◌}
+use Rattle.std.proofs.Common.{arith, Some, None}
 use Rattle.std.proofs.lemmas.Bool.{true≢false, cases_eq}
 use Rattle.std.proofs.lemmas.Option.{none-some, same_Some}
 use Rattle.ftc_base.specs.declared.limits.TheConstants.{FINISHING_SLOT}
@@ -25,11 +26,13 @@ abbrev pub AreNext : Setting → ChainState → List Event → Type 0
 AreNext c s [] = Unit {0}
 AreNext c s (e ∷ es) = IsNextEvent c s e × AreNext c (next c s e) es
 
-pub next_both : (c : Setting) (es fs : List Event) (s : ChainState) → AreNext c s es → AreNext c (state_after c s es) fs → AreNext c s (es ++ fs)
+pub next_both : (c : Setting) (es fs : List Event) (s : ChainState) → AreNext c s es →
+    AreNext c (state_after c s es) fs → AreNext c s (es ++ fs)
 next_both c [] fs s first second = second
 next_both c (e ∷ es) fs s first second = (first.0, next_both c es fs (next c s e) first.1 second)
 
-pub next_finish : (c : Setting) (es : List Event) (s : ChainState) → AreNext c s es → IsFinished c (state_after c s es) → AreFinish c s es
+pub next_finish : (c : Setting) (es : List Event) (s : ChainState) → AreNext c s es →
+    IsFinished c (state_after c s es) → AreFinish c s es
 next_finish c [] s all finished = finished
 next_finish c (e ∷ es) s all finished = (all.0, next_finish c es (next c s e) all.1 finished)
 
@@ -42,7 +45,8 @@ no_line s none line is = subst (λ l. IsNextLine l line) none is
 
 -- ---- a message that is held
 
-module _ (c : Setting) (good : IsGood c) (quiet : IsQuiet c) (alone : c.failures ≡ 0) (s : ChainState) (p k : ℕ) (visited : Bool) (at : IsAt c s p (Held k visited false)) where
+module _ (c : Setting) (good : IsGood c) (quiet : IsQuiet c) (alone : c.failures ≡ 0) (s : ChainState) (p k : ℕ)
+    (visited : Bool) (at : IsAt c s p (Held k visited false)) where
   only : (q : ℕ) (m : Message) → s.message q ≡ Some m → (q ≡ p) × (m ≡ at.message)
   only q m there = elim (cases_eq q p) [
     | inl e ↦ (e, same_Some m at.message (sym there ∙ (ap s.message e ∙ at.there)))
@@ -56,15 +60,18 @@ module _ (c : Setting) (good : IsGood c) (quiet : IsQuiet c) (alone : c.failures
   no_apply : (i q j x : ℕ) → MayHappen c s (event.Apply i q j x) → ⊥
   no_apply i q j x legal =
       let o = only q legal.0 legal.1.0 in
-      let held : Held i legal.1.1 legal.1.2 ≡ Held k visited false = place_is q legal.0 (Held i legal.1.1 legal.1.2) legal.1.0 legal.1.3 in
+      let held : Held i legal.1.1 legal.1.2 ≡ Held k visited false =
+      place_is q legal.0 (Held i legal.1.1 legal.1.2) legal.1.0 legal.1.3 in
       let same : k ≡ i = cc in
-      let ready = ready_here c good alone s p k visited at j x (subst (λ (m : Message). m.logs j x ≡ true) o.1 legal.2) in
+      let ready = ready_here c good alone s p k visited at j x
+      (subst (λ (m : Message). m.logs j x ≡ true) o.1 legal.2) in
       let had : s.lists k j x ≡ true = ready.changing legal.3 in
       true≢false (sym had ∙ (ap (λ v. s.lists v j x) same ∙ legal.4))
 
   -- the visit, where the packet waits here
   module _ (waits : visited ≡ false) (bytes : List ℕ) (packet : at.message.packet ≡ Some bytes) where
-    no_leave : (i q : ℕ) (m : Message) → s.message q ≡ Some m → (v : Bool) → m.place ≡ Held i v false → (v ≡ true) ⊎ (m.packet ≡ None) → ⊥
+    no_leave : (i q : ℕ) (m : Message) → s.message q ≡ Some m → (v : Bool) → m.place ≡ Held i v false →
+        (v ≡ true) ⊎ (m.packet ≡ None) → ⊥
     no_leave i q m there v is done =
         let o = only q m there in
         let held : Held i v false ≡ Held k visited false = place_is q m (Held i v false) there is in
@@ -78,24 +85,36 @@ module _ (c : Setting) (good : IsGood c) (quiet : IsQuiet c) (alone : c.failures
     visit_least (job.Apply i q j x) legal before = no_apply i q j x legal
     visit_least (job.Visit i q) legal before =
         let o = only q legal.0 legal.3 in
-        let held : Held i false legal.2 ≡ Held k visited false = place_is q legal.0 (Held i false legal.2) legal.3 legal.4 in
+        let held : Held i false legal.2 ≡ Held k visited false =
+        place_is q legal.0 (Held i false legal.2) legal.3 legal.4 in
         let same : i ≡ k = cc in
         not_earlier s (job.Visit i q) (job.Visit k p) (ap (λ v. job.Visit v q) same ∙ ap (job.Visit k) o.0) before
-    visit_least (job.Pass i q) legal before = no_leave i q legal.0 legal.1.there legal.1.visited legal.1.held legal.1.done
-    visit_least (job.Lose i q) legal before = no_leave i q legal.0 legal.1.there legal.1.visited legal.1.held legal.1.done
-    visit_least (job.Carry q) legal before = let held : Held 0 legal.2 true ≡ Held k visited false = place_is q legal.0 (Held 0 legal.2 true) legal.1 legal.3 in absurd (cc)
-    visit_least (job.Take l q) legal before = let held : Queued l ≡ Held k visited false = place_is q legal.0 (Queued l) legal.1 legal.2 in absurd (cc)
+    visit_least (job.Pass i q) legal before =
+        no_leave i q legal.0 legal.1.there legal.1.visited legal.1.held legal.1.done
+    visit_least (job.Lose i q) legal before =
+        no_leave i q legal.0 legal.1.there legal.1.visited legal.1.held legal.1.done
+    visit_least (job.Carry q) legal before = let held : Held 0 legal.2 true ≡ Held k visited false =
+        place_is q legal.0 (Held 0 legal.2 true) legal.1 legal.3 in absurd (cc)
+    visit_least (job.Take l q) legal before = let held : Queued l ≡ Held k visited false =
+        place_is q legal.0 (Queued l) legal.1 legal.2 in absurd (cc)
     visit_least (job.Crash i) legal before = no_line s at.plain.calm.lines _ legal
     visit_least (job.Recover i) legal before = no_line s at.plain.calm.lines _ legal.0
-    visit_least (job.Enter q) legal before = elim before [ inl less ↦ omega arith | inr same ↦ let e = same.0 in omega arith ]
-    visit_least (job.Propagate q) legal before = elim before [ inl less ↦ omega arith | inr same ↦ let e = same.0 in omega arith ]
+    visit_least (job.Enter q) legal before =
+        elim before [ inl less ↦ omega arith | inr same ↦ let e = same.0 in omega arith ]
+    visit_least (job.Propagate q) legal before =
+        elim before [ inl less ↦ omega arith | inr same ↦ let e = same.0 in omega arith ]
 
     pub visit_first : IsLegal c s (event.Visit k p FINISHING_SLOT) → IsNextEvent c s (event.Visit k p FINISHING_SLOT)
-    visit_first legal = inr (job.Visit k p, record { legal = legal; least = λ j other before. visit_least j other.0 before }, refl)
+    visit_first legal = inr (
+      job.Visit k p,
+      record { legal = legal; least = λ j other before. visit_least j other.0 before },
+      refl,
+    )
 
   -- the pass, where the packet has been here or is no more
   module _ (done : (visited ≡ true) ⊎ (at.message.packet ≡ None)) where
-    no_visit : (i q : ℕ) (m : Message) → s.message q ≡ Some m → (r : Bool) → m.place ≡ Held i false r → (bytes : List ℕ) → m.packet ≡ Some bytes → ⊥
+    no_visit : (i q : ℕ) (m : Message) → s.message q ≡ Some m → (r : Bool) → m.place ≡ Held i false r →
+        (bytes : List ℕ) → m.packet ≡ Some bytes → ⊥
     no_visit i q m there r is bytes packet =
         let o = only q m there in
         let held : Held i false r ≡ Held k visited false = place_is q m (Held i false r) there is in
@@ -110,31 +129,45 @@ module _ (c : Setting) (good : IsGood c) (quiet : IsQuiet c) (alone : c.failures
     pass_least (job.Visit i q) legal before = no_visit i q legal.0 legal.3 legal.2 legal.4 legal.1 legal.5
     pass_least (job.Pass i q) legal before =
         let o = only q legal.0 legal.1.there in
-        let held : Held i legal.1.visited false ≡ Held k visited false = place_is q legal.0 (Held i legal.1.visited false) legal.1.there legal.1.held in
+        let held : Held i legal.1.visited false ≡ Held k visited false =
+        place_is q legal.0 (Held i legal.1.visited false) legal.1.there legal.1.held in
         let same : i ≡ k = cc in
         not_earlier s (job.Pass i q) (job.Pass k p) (ap (λ v. job.Pass v q) same ∙ ap (job.Pass k) o.0) before
     pass_least (job.Lose i q) legal before = true≢false (sym legal.3 ∙ quiet.loses i q)
-    pass_least (job.Carry q) legal before = let held : Held 0 legal.2 true ≡ Held k visited false = place_is q legal.0 (Held 0 legal.2 true) legal.1 legal.3 in absurd (cc)
-    pass_least (job.Take l q) legal before = let held : Queued l ≡ Held k visited false = place_is q legal.0 (Queued l) legal.1 legal.2 in absurd (cc)
+    pass_least (job.Carry q) legal before = let held : Held 0 legal.2 true ≡ Held k visited false =
+        place_is q legal.0 (Held 0 legal.2 true) legal.1 legal.3 in absurd (cc)
+    pass_least (job.Take l q) legal before = let held : Queued l ≡ Held k visited false =
+        place_is q legal.0 (Queued l) legal.1 legal.2 in absurd (cc)
     pass_least (job.Crash i) legal before = no_line s at.plain.calm.lines _ legal
     pass_least (job.Recover i) legal before = no_line s at.plain.calm.lines _ legal.0
-    pass_least (job.Enter q) legal before = elim before [ inl less ↦ omega arith | inr same ↦ let e = same.0 in omega arith ]
-    pass_least (job.Propagate q) legal before = elim before [ inl less ↦ omega arith | inr same ↦ let e = same.0 in omega arith ]
+    pass_least (job.Enter q) legal before =
+        elim before [ inl less ↦ omega arith | inr same ↦ let e = same.0 in omega arith ]
+    pass_least (job.Propagate q) legal before =
+        elim before [ inl less ↦ omega arith | inr same ↦ let e = same.0 in omega arith ]
 
     pub pass_first : IsLegal c s (event.Pass k p) → IsNextEvent c s (event.Pass k p)
-    pass_first legal = inr (job.Pass k p, record { legal = legal; least = λ j other before. pass_least j other.0 before }, refl)
+    pass_first legal = inr (
+      job.Pass k p,
+      record { legal = legal; least = λ j other before. pass_least j other.0 before },
+      refl,
+    )
 
 -- ---- a message that is queued
 
 module _ (c : Setting) (s : ChainState) (p k : ℕ) (at : IsAt c s p (Queued k)) where
   only_queued : (q : ℕ) (m : Message) (w : Where) → s.message q ≡ Some m → m.place ≡ w → (q ≡ p) × (w ≡ Queued k)
   only_queued q m w there is = elim (cases_eq q p) [
-    | inl e ↦ (e, sym is ∙ (ap (λ (x : Message). x.place) (same_Some m at.message (sym there ∙ (ap s.message e ∙ at.there))) ∙ at.placed))
+    | inl e ↦ (
+      e,
+      sym is ∙ (ap (λ (x : Message). x.place)
+          (same_Some m at.message (sym there ∙ (ap s.message e ∙ at.there))) ∙ at.placed),
+    )
     | inr other ↦ absurd (none-some m (sym (at.others q other) ∙ there))
   ]
 
   not_held : (q : ℕ) (m : Message) (i : ℕ) (v r : Bool) → s.message q ≡ Some m → m.place ≡ Held i v r → ⊥
-  not_held q m i v r there is = let held : Held i v r ≡ Queued k = (only_queued q m (Held i v r) there is).1 in absurd (cc)
+  not_held q m i v r there is = let held : Held i v r ≡ Queued k = (only_queued q m (Held i v r) there is).1 in
+      absurd (cc)
 
   take_least : (j : Job) → MayHappen c s (event_of c s FINISHING_SLOT j) → IsEarlier s j (job.Take k p) → ⊥
   take_least (job.Pull l) legal before = true≢false (sym legal.2 ∙ at.plain.calm.gap l)
@@ -150,11 +183,17 @@ module _ (c : Setting) (s : ChainState) (p k : ℕ) (at : IsAt c s p (Queued k))
       not_earlier s (job.Take l q) (job.Take k p) (ap (λ v. job.Take v q) same ∙ ap (job.Take k) o.0) before
   take_least (job.Crash i) legal before = no_line s at.plain.calm.lines _ legal
   take_least (job.Recover i) legal before = no_line s at.plain.calm.lines _ legal.0
-  take_least (job.Enter q) legal before = elim before [ inl less ↦ omega arith | inr same ↦ let e = same.0 in omega arith ]
-  take_least (job.Propagate q) legal before = elim before [ inl less ↦ omega arith | inr same ↦ let e = same.0 in omega arith ]
+  take_least (job.Enter q) legal before =
+      elim before [ inl less ↦ omega arith | inr same ↦ let e = same.0 in omega arith ]
+  take_least (job.Propagate q) legal before =
+      elim before [ inl less ↦ omega arith | inr same ↦ let e = same.0 in omega arith ]
 
   pub take_first : IsLegal c s (event.Take k p) → IsNextEvent c s (event.Take k p)
-  take_first legal = inr (job.Take k p, record { legal = legal; least = λ j other before. take_least j other.0 before }, refl)
+  take_first legal = inr (
+    job.Take k p,
+    record { legal = legal; least = λ j other before. take_least j other.0 before },
+    refl,
+  )
 
 -- ---- no message
 
@@ -173,8 +212,14 @@ module _ (c : Setting) (s : ChainState) (p : ℕ) (idle : IsIdle c p s) where
   enter_least (job.Crash i) legal before = no_line s idle.plain.calm.lines _ legal
   enter_least (job.Recover i) legal before = no_line s idle.plain.calm.lines _ legal.0
   enter_least (job.Enter q) legal before =
-      let one : q ≡ s.entered = legal.0 in let same : q ≡ p = one ∙ idle.plain.entered in not_earlier s (job.Enter q) (job.Enter p) (ap job.Enter same) before
-  enter_least (job.Propagate q) legal before = elim before [ inl less ↦ omega arith | inr same ↦ let e = same.0 in omega arith ]
+      let one : q ≡ s.entered = legal.0 in let same : q ≡ p = one ∙ idle.plain.entered in
+      not_earlier s (job.Enter q) (job.Enter p) (ap job.Enter same) before
+  enter_least (job.Propagate q) legal before =
+      elim before [ inl less ↦ omega arith | inr same ↦ let e = same.0 in omega arith ]
 
   pub enter_first : IsLegal c s (event.Enter p) → IsNextEvent c s (event.Enter p)
-  enter_first legal = inr (job.Enter p, record { legal = legal; least = λ j other before. enter_least j other.0 before }, refl)
+  enter_first legal = inr (
+    job.Enter p,
+    record { legal = legal; least = λ j other before. enter_least j other.0 before },
+    refl,
+  )

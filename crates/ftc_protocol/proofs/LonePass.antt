@@ -1,5 +1,6 @@
 -- The lone message passes a server.
-use Rattle.std.proofs.Common.{◌≡◌, ◌≢◌, ◌⊎◌, ℕ, suc, ◌+◌, ◌<◌, ◌==◌, ◌&&◌, nat_lt, if◌then◌else◌, not, Bool, true, false, inl, refl, sym, ap, ◌∙◌, arith, None}
+use Rattle.std.proofs.Common.{◌≡◌, ◌≢◌, ◌⊎◌, ℕ, suc, ◌+◌, ◌<◌, ◌==◌, ◌&&◌, nat_lt, if◌then◌else◌, not, Bool, true}
+use Rattle.std.proofs.Common.{false, inl, refl, sym, ap, ◌∙◌, arith, None}
 use Rattle.std.proofs.lemmas.Bool.{and_parts, and_from, or_left, ne_eqb}
 use Rattle.ftc_journal.specs.declared.event.Event.TheVariants.{Pass}
 use Rattle.ftc_ring.specs.Ring.{next_of}
@@ -16,14 +17,21 @@ use Rattle.ftc_protocol.proofs.Complete.{keeps_reached}
 use Rattle.ftc_protocol.proofs.FaultFree.{keeps_calm, next_below}
 use Rattle.ftc_protocol.proofs.Lone.{IsPlain, IsAt, behind, none_due, ready_here, server_below}
 
-module _ (c : Setting) (good : IsGood c) (quiet : IsQuiet c) (alone : c.failures ≡ 0) (s : ChainState) (p k : ℕ) (visited : Bool) (at : IsAt c s p (Held k visited false))
+module _ (c : Setting) (good : IsGood c) (quiet : IsQuiet c) (alone : c.failures ≡ 0) (s : ChainState) (p k : ℕ)
+    (visited : Bool) (at : IsAt c s p (Held k visited false))
     (done : (visited ≡ true) ⊎ (at.message.packet ≡ None)) where
   open at.plain use {reached, calm}
 
   pub may_pass : MayHappen c s (Pass k p)
   may_pass = (
     at.message,
-    record { there = at.there; visited = visited; held = at.placed; ready = ready_here c good alone s p k visited at; done = done },
+    record {
+      there = at.there;
+      visited = visited;
+      held = at.placed;
+      ready = ready_here c good alone s p k visited at;
+      done = done;
+    },
     inl (quiet.loses k p),
   )
 
@@ -48,8 +56,10 @@ module _ (c : Setting) (good : IsGood c) (quiet : IsQuiet c) (alone : c.failures
     not_last = ne_eqb (k + 1) (servers c) more
 
     sends : (is_sent c k && not (is_away c s k false)) ≡ true
-    sends = and_from (is_sent c k) (not (is_away c s k false)) (or_left (not (k + 1 == servers c)) (nat_lt 0 c.failures) (ap not not_last))
-        (ap (λ up. not (not up)) (calm.up (next_of (servers c) k) (next_below (servers c) k (server_below c good alone s p k visited at))))
+    sends = and_from (is_sent c k) (not (is_away c s k false))
+        (or_left (not (k + 1 == servers c)) (nat_lt 0 c.failures) (ap not not_last))
+        (ap (λ up. not (not up))
+        (calm.up (next_of (servers c) k) (next_below (servers c) k (server_below c good alone s p k visited at))))
 
     sent : Message
     sent = record {
@@ -69,11 +79,14 @@ module _ (c : Setting) (good : IsGood c) (quiet : IsQuiet c) (alone : c.failures
     unfolding sent
     sent_on_link = record {
       plain = plain_then;
-      withheld = λ packet. with_at_cases (λ v. v ≡ None) s.withheld p (if k + 1 == servers c then withheld_of s (s.message p) else s.withheld p) packet
-          (λ same. ap (λ b. if b then withheld_of s (s.message p) else s.withheld p) not_last ∙ at.withheld p) (λ other. at.withheld packet);
+      withheld = λ packet. with_at_cases (λ v. v ≡ None) s.withheld p (if k + 1 == servers c then
+          withheld_of s (s.message p) else s.withheld p) packet
+          (λ same. ap (λ b. if b then withheld_of s (s.message p) else s.withheld p) not_last ∙ at.withheld p)
+          (λ other. at.withheld packet);
       others = λ origin other. other_message s.message p _ origin other ∙ at.others origin other;
       message = sent;
-      there = same_message s.message p (if is_sent c k && not (is_away c s k false) then sent_message c s k (s.message p) else None)
+      there = same_message s.message p (if is_sent c k && not (is_away c s k false) then
+          sent_message c s k (s.message p) else None)
           ∙ (ap (λ b. if b then sent_message c s k (s.message p) else None) sends ∙ ap (sent_message c s k) at.there);
       placed = refl;
       told = λ group needed. at.told group (and_parts (not (k + 1 == servers c)) (at.message.needs group) needed).1;

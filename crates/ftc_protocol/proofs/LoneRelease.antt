@@ -15,13 +15,16 @@ use Rattle.ftc_protocol.proofs.Complete.{keeps_reached}
 use Rattle.ftc_protocol.proofs.FaultFree.{keeps_calm}
 use Rattle.ftc_protocol.proofs.Lone.{IsPlain, IsIdle, IsBuffered}
 
-module _ (c : Setting) (good : IsGood c) (quiet : IsQuiet c) (s : ChainState) (p : ℕ) (plain : IsPlain c s (suc p)) (messages : (origin : ℕ) → s.message origin ≡ None) (buffered : IsBuffered c s p) where
+module _ (c : Setting) (good : IsGood c) (quiet : IsQuiet c) (s : ChainState) (p : ℕ) (plain : IsPlain c s (suc p))
+    (messages : (origin : ℕ) → s.message origin ≡ None) (buffered : IsBuffered c s p) where
   open plain use {reached, calm}
 
   oldest : (other : ℕ) (withheld : Withheld) → IsDue c s other withheld → buffered.withheld.since ≤ withheld.since
   oldest other withheld due = elim (cases_eq other p) [
     | inl same ↦
-        let equal : buffered.withheld.since ≡ withheld.since = ap (λ (w : Withheld). w.since) (same_Some buffered.withheld withheld (sym buffered.there ∙ (ap s.withheld (sym same) ∙ due.0))) in
+        let equal : buffered.withheld.since ≡ withheld.since =
+        ap (λ (w : Withheld). w.since)
+        (same_Some buffered.withheld withheld (sym buffered.there ∙ (ap s.withheld (sym same) ∙ due.0))) in
         omega arith
     | inr ne ↦ absurd (none-some withheld (sym (buffered.others other ne) ∙ due.0))
   ]
@@ -41,5 +44,6 @@ module _ (c : Setting) (good : IsGood c) (quiet : IsQuiet c) (s : ChainState) (p
       forwarder = plain.forwarder;
     };
     messages = messages;
-    withheld = λ packet. with_at_cases (λ v. v ≡ None) s.withheld p None packet (λ same. refl) (λ other. buffered.others packet other);
+    withheld = λ packet. with_at_cases (λ v. v ≡ None) s.withheld p None packet (λ same. refl)
+        (λ other. buffered.others packet other);
   }

@@ -1,5 +1,6 @@
 -- The next server takes the lone message.
-use Rattle.std.proofs.Common.{◌≡◌, ◌≢◌, ℕ, suc, ◌+◌, ◌<◌, ◌≤◌, ◌==◌, ◌&&◌, if◌then◌else◌, false, sym, ap, subst, ◌∙◌, arith, inl, inr, add-one, Some}
+use Rattle.std.proofs.Common.{◌≡◌, ◌≢◌, ℕ, suc, ◌+◌, ◌<◌, ◌≤◌, ◌==◌, ◌&&◌, if◌then◌else◌, false, sym, ap, subst, ◌∙◌}
+use Rattle.std.proofs.Common.{arith, inl, inr, add-one, Some}
 use Rattle.std.proofs.lemmas.Bool.{cases_eq, ne_eqb, or_left, or_right}
 use Rattle.std.proofs.lemmas.Option.{none-some, same_Some}
 use Rattle.ftc_journal.specs.declared.event.Event.TheVariants.{Take}
@@ -18,14 +19,17 @@ use Rattle.ftc_protocol.proofs.Complete.{keeps_reached}
 use Rattle.ftc_protocol.proofs.FaultFree.{keeps_calm}
 use Rattle.ftc_protocol.proofs.Lone.{IsAt, none_due}
 
-module _ (c : Setting) (good : IsGood c) (quiet : IsQuiet c) (s : ChainState) (p k : ℕ) (more : k + 1 ≢ servers c) (at : IsAt c s p (Queued k)) where
+module _ (c : Setting) (good : IsGood c) (quiet : IsQuiet c) (s : ChainState) (p k : ℕ) (more : k + 1 ≢ servers c)
+    (at : IsAt c s p (Queued k)) where
   open at.plain use {reached, calm}
 
   -- it is the only one there, so the oldest
   oldest : (other : ℕ) (queued : Message) → s.message other ≡ Some queued → at.message.since ≤ queued.since
   oldest other queued is = elim (cases_eq other p) [
     | inl same ↦
-        let equal : at.message.since ≡ queued.since = ap (λ (m : Message). m.since) (same_Some at.message queued (sym at.there ∙ (ap s.message (sym same) ∙ is))) in
+        let equal : at.message.since ≡ queued.since =
+        ap (λ (m : Message). m.since)
+        (same_Some at.message queued (sym at.there ∙ (ap s.message (sym same) ∙ is))) in
         omega arith
     | inr ne ↦ absurd (none-some queued (sym (at.others other ne) ∙ is))
   ]
@@ -45,9 +49,13 @@ module _ (c : Setting) (good : IsGood c) (quiet : IsQuiet c) (s : ChainState) (p
   -- the server knows what the message knew
   known_then : (group q : ℕ) → In at.message.known group q → In (knows c (next c s (Take k p)) (suc k)) group q
   known_then group q is = subst (λ server. In (knows c (next c s (Take k p)) server) group q) next_is
-      (or_left ((next c s (Take k p)).known (next_of (servers c) k) group q) (is_tail c group (next_of (servers c) k) && s.lists (next_of (servers c) k) group q)
-      (subst (λ (v : Visits). In v group q) (sym (same_message s.known (next_of (servers c) k) (union (s.known (next_of (servers c) k)) (known_by (s.message p)))))
-      (or_right (s.known (next_of (servers c) k) group q) (known_by (s.message p) group q) (subst (λ o. In (known_by o) group q) (sym at.there) is))))
+      (or_left ((next c s (Take k p)).known (next_of (servers c) k) group q) (is_tail c group (next_of (servers c) k)
+      && s.lists (next_of (servers c) k) group q)
+      (subst (λ (v : Visits). In v group q)
+      (sym (same_message s.known (next_of (servers c) k)
+      (union (s.known (next_of (servers c) k)) (known_by (s.message p)))))
+      (or_right (s.known (next_of (servers c) k) group q) (known_by (s.message p) group q)
+      (subst (λ o. In (known_by o) group q) (sym at.there) is))))
 
   pub taken_there : IsAt c (next c s (Take k p)) p (Held (suc k) false false)
   unfolding taken
@@ -62,7 +70,10 @@ module _ (c : Setting) (good : IsGood c) (quiet : IsQuiet c) (s : ChainState) (p
     others = λ origin other. other_message s.message p _ origin other ∙ at.others origin other;
     message = taken;
     there = same_message s.message p (taken_message c s k (s.message p)) ∙ ap (taken_message c s k) at.there;
-    placed = ap (λ b. Held (if b then 0 else k + 1) false b) (ne_eqb (k + 1) (servers c) more) ∙ ap (λ server. Held server false false) (add-one k);
-    told = λ group needed. has_more c.partitions s.trace at.message.known (knows c (next c s (Take k p)) (suc k)) group p (known_then group) (at.told group needed);
-    gone = λ no_packet. let before = at.gone no_packet in (before.0, let less : before.0 < k + 1 = before.1 in omega arith, before.2);
+    placed = ap (λ b. Held (if b then 0 else k + 1) false b) (ne_eqb (k + 1) (servers c) more) ∙ ap
+        (λ server. Held server false false) (add-one k);
+    told = λ group needed. has_more c.partitions s.trace at.message.known
+        (knows c (next c s (Take k p)) (suc k)) group p (known_then group) (at.told group needed);
+    gone = λ no_packet. let before =
+        at.gone no_packet in (before.0, let less : before.0 < k + 1 = before.1 in omega arith, before.2);
   }

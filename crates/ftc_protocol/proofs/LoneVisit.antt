@@ -1,5 +1,6 @@
 -- The lone packet visits a middlebox.
-use Rattle.std.proofs.Common.{◌≡◌, ℕ, ◌<◌, ◌==◌, ◌&&◌, ◌||◌, nat_lt, true, false, List, inl, inr, sym, ap, subst, ◌∙◌, arith, eq-eqb, eqb-true, Some, is_some}
+use Rattle.std.proofs.Common.{◌≡◌, ℕ, ◌<◌, ◌==◌, ◌&&◌, ◌||◌, nat_lt, true, false, List, inl, inr, sym, ap, subst, ◌∙◌}
+use Rattle.std.proofs.Common.{arith, eq-eqb, eqb-true, Some, is_some}
 use Rattle.std.proofs.lemmas.Bool.{cases_eq, and_parts, and_from, or_cases, or_left, or_right}
 use Rattle.ftc_journal.specs.declared.event.Event.TheVariants.{Visit}
 use Rattle.ftc_ring.specs.Ring.{apart}
@@ -23,7 +24,8 @@ use Rattle.ftc_protocol.proofs.Complete.{IsReached, keeps_reached}
 use Rattle.ftc_protocol.proofs.FaultFree.{keeps_calm}
 use Rattle.ftc_protocol.proofs.Lone.{IsAt, none_due, ready_here, server_below}
 
-module _ (c : Setting) (good : IsGood c) (quiet : IsQuiet c) (alone : c.failures ≡ 0) (s : ChainState) (p k : ℕ) (at : IsAt c s p (Held k false false))
+module _ (c : Setting) (good : IsGood c) (quiet : IsQuiet c) (alone : c.failures ≡ 0) (s : ChainState) (p k : ℕ)
+    (at : IsAt c s p (Held k false false))
     (bytes : List ℕ) (packet : at.message.packet ≡ Some bytes) (worker : ℕ) where
   open at.plain use {reached, calm}
 
@@ -45,12 +47,14 @@ module _ (c : Setting) (good : IsGood c) (quiet : IsQuiet c) (alone : c.failures
     since = at.message.since;
     packet = (outcome_at c s k p).packet;
     logs = union at.message.logs (just k p (is_touching (outcome_at c s k p) && nat_lt 0 c.failures));
-    needs = λ group. is_some (outcome_at c s k p).packet && (at.message.needs group || ((group == k) && is_touching (outcome_at c s k p)));
+    needs = λ group. is_some (outcome_at c s k p).packet
+        && (at.message.needs group || ((group == k) && is_touching (outcome_at c s k p)));
     known = at.message.known;
   }
 
   -- the server's own visits it knows at once, and what it knew it knows still
-  own_known : (q : ℕ) → In ((next c s (Visit k p worker)).lists k) k q → In (knows c (next c s (Visit k p worker)) k) k q
+  own_known : (q : ℕ) → In ((next c s (Visit k p worker)).lists k) k q →
+      In (knows c (next c s (Visit k p worker)) k) k q
   own_known q is =
       let far = apart_cases (servers c) k k below below in
       let none : apart (servers c) k k ≡ c.failures = omega arith in
@@ -61,25 +65,36 @@ module _ (c : Setting) (good : IsGood c) (quiet : IsQuiet c) (alone : c.failures
     | inl known ↦ or_left (s.known k group q) _ known
     | inr tail ↦
         let parts = and_parts (is_tail c group k) (s.lists k group q) tail in
-        or_right (s.known k group q) _ (and_from (is_tail c group k) _ parts.0 (kept s.lists k k p (is_changing c.partitions (outcome_at c s k p)) k group q parts.1))
+        or_right (s.known k group q) _
+        (and_from (is_tail c group k) _ parts.0
+        (kept s.lists k k p (is_changing c.partitions (outcome_at c s k p)) k group q parts.1))
   ]
 
-  told_then : (group : ℕ) → visited.needs group ≡ true → Has c.partitions (next c s (Visit k p worker)).trace (knows c (next c s (Visit k p worker)) k) group p
+  told_then : (group : ℕ) → visited.needs group ≡ true →
+      Has c.partitions (next c s (Visit k p worker)).trace (knows c (next c s (Visit k p worker)) k) group p
   unfolding visited
   told_then group needed = elim (cases_eq group k) [
     | inl same ↦
         let inv = reached_then.live.inv in
         let had : Has c.partitions (next c s (Visit k p worker)).trace ((next c s (Visit k p worker)).lists k) k p =
-        head_has c (next c s (Visit k p worker)).trace s.up (next c s (Visit k p worker)).lists inv.world.lists inv.world.nest k p (calm.up k below) in
-        subst (λ g. Has c.partitions (next c s (Visit k p worker)).trace (knows c (next c s (Visit k p worker)) k) g p) (sym same)
-        (has_more c.partitions (next c s (Visit k p worker)).trace ((next c s (Visit k p worker)).lists k) (knows c (next c s (Visit k p worker)) k) k p own_known had)
+        head_has c (next c s (Visit k p worker)).trace s.up
+        (next c s (Visit k p worker)).lists inv.world.lists inv.world.nest k p (calm.up k below) in
+        subst (λ g. Has c.partitions (next c s (Visit k p worker)).trace (knows c (next c s (Visit k p worker)) k) g p)
+        (sym same)
+        (has_more c.partitions (next c s (Visit k p worker)).trace ((next c s (Visit k p worker)).lists k)
+        (knows c (next c s (Visit k p worker)) k) k p own_known had)
     | inr other ↦
-        let before : at.message.needs group ≡ true = elim (or_cases (at.message.needs group) ((group == k) && is_touching (outcome_at c s k p)) (and_parts (is_some (outcome_at c s k p).packet) _ needed).1) [
+        let before : at.message.needs group ≡ true =
+        elim (or_cases (at.message.needs group) ((group == k)
+        && is_touching (outcome_at c s k p)) (and_parts (is_some (outcome_at c s k p).packet) _ needed).1) [
           | inl was ↦ was
-          | inr here ↦ absurd (other (eqb-true group k (and_parts (group == k) (is_touching (outcome_at c s k p)) here).0))
+          | inr here ↦ absurd (other
+              (eqb-true group k (and_parts (group == k) (is_touching (outcome_at c s k p)) here).0))
         ] in
-        has_more c.partitions (next c s (Visit k p worker)).trace (knows c s k) (knows c (next c s (Visit k p worker)) k) group p (known_still group)
-        (has_grown c.partitions s.trace k p (outcome_at c s k p) (knows c s k) group p (λ e. other (sym e.0)) (at.told group before))
+        has_more c.partitions (next c s (Visit k p worker)).trace (knows c s k)
+        (knows c (next c s (Visit k p worker)) k) group p (known_still group)
+        (has_grown c.partitions s.trace k p (outcome_at c s k p) (knows c s k) group p (λ e. other (sym e.0))
+        (at.told group before))
   ]
 
   pub visited_here : IsAt c (next c s (Visit k p worker)) p (Held k true false)
@@ -94,12 +109,14 @@ module _ (c : Setting) (good : IsGood c) (quiet : IsQuiet c) (alone : c.failures
     withheld = at.withheld;
     others = λ origin other. other_message s.message p _ origin other ∙ at.others origin other;
     message = visited;
-    there = same_message s.message p (visited_message c k p (outcome_at c s k p) (s.message p)) ∙ ap (visited_message c k p (outcome_at c s k p)) at.there;
+    there = same_message s.message p (visited_message c k p (outcome_at c s k p) (s.message p)) ∙ ap
+        (visited_message c k p (outcome_at c s k p)) at.there;
     placed = ap visited_at at.placed;
     told = told_then;
     gone = λ dropped. (
       k,
       omega arith,
-      same_message (serial_of c s.trace).place p (place_after (servers c) k (outcome_at c s k p).packet) ∙ ap (place_after (servers c) k) dropped,
+      same_message (serial_of c s.trace).place p (place_after (servers c) k (outcome_at c s k p).packet) ∙ ap
+          (place_after (servers c) k) dropped,
     );
   }

@@ -37,26 +37,31 @@ module _ (c : Setting) (is : IsSetting c) (s : ChainState) (n : IsCounted c s) (
   HasApply x = (g : ℕ) × (g < servers c + most_messages c + 1) × IsLegalJob c s (job.Apply k p g x)
 
   has_apply : (x : ℕ) → Decided (HasApply x)
-  has_apply x = some_below (servers c + most_messages c + 1) (λ g. IsLegalJob c s (job.Apply k p g x)) (λ g. is_legal c is s n (job.Apply k p g x))
+  has_apply x = some_below (servers c + most_messages c + 1) (λ g. IsLegalJob c s (job.Apply k p g x))
+      (λ g. is_legal c is s n (job.Apply k p g x))
 
-  applies : (x g : ℕ) → IsLegalJob c s (job.Apply k p g x) → ((other : ℕ) → other < x → HasApply other → ⊥) → ((other : ℕ) → other < g → IsLegalJob c s (job.Apply k p other x) → ⊥)
+  applies : (x g : ℕ) → IsLegalJob c s (job.Apply k p g x) → ((other : ℕ) → other < x → HasApply other → ⊥) →
+      ((other : ℕ) → other < g → IsLegalJob c s (job.Apply k p other x) → ⊥)
       → IsWork c s k p (job.Apply k p g x)
   applies x g legal lower smaller = (
     refl,
     refl,
     legal,
     λ other another can before. elim before [
-      | inl less ↦ let low = small_legal c is s n (job.Apply k p other another) can in lower another less (other, low.2, can)
+      | inl less ↦ let low = small_legal c is s n (job.Apply k p other another) can in
+          lower another less (other, low.2, can)
       | inr same ↦ smaller other same.1 (subst (λ v. IsLegalJob c s (job.Apply k p other v)) same.0 can)
     ],
   )
 
   apply_or_none : ((j : Job) × IsWork c s k p j) ⊎ IsNoApply c s k p
   apply_or_none = elim (lowest (servers c + most_messages c + 1) HasApply has_apply) [
-    | inr none ↦ inr (λ g x legal. let low = small_legal c is s n (job.Apply k p g x) legal in none x low.3 (g, low.2, legal))
+    | inr none ↦ inr (λ g x legal. let low = small_legal c is s n (job.Apply k p g x) legal in
+        none x low.3 (g, low.2, legal))
     | inl found ↦
         let x = found.number in
-        elim (lowest (servers c + most_messages c + 1) (λ g. IsLegalJob c s (job.Apply k p g x)) (λ g. is_legal c is s n (job.Apply k p g x))) [
+        elim (lowest (servers c + most_messages c + 1) (λ g. IsLegalJob c s (job.Apply k p g x))
+        (λ g. is_legal c is s n (job.Apply k p g x))) [
           | inl group ↦ inl (job.Apply k p group.number x, applies x group.number group.has found.least group.least)
           | inr none ↦ let has = found.has in absurd (none has.0 has.1 has.2)
         ]
@@ -72,10 +77,25 @@ module _ (c : Setting) (is : IsSetting c) (s : ChainState) (n : IsCounted c s) (
         | inr no_pass ↦ elim (is_legal c is s n (job.Lose k p)) [
           | inl can ↦ inl (job.Lose k p, lose_works c s k p can)
           | inr no_lose ↦ elim (cases_eq k 0) [
-            | inr elsewhere ↦ inr (record { apply = no_apply; visit = no_visit; pass = no_pass; lose = no_lose; carry = λ at_0 can. elsewhere at_0 })
+            | inr elsewhere ↦ inr (record {
+              apply = no_apply;
+              visit = no_visit;
+              pass = no_pass;
+              lose = no_lose;
+              carry = λ at_0 can. elsewhere at_0;
+            })
             | inl at_0 ↦ elim (is_legal c is s n (job.Carry p)) [
-              | inr no_carry ↦ inr (record { apply = no_apply; visit = no_visit; pass = no_pass; lose = no_lose; carry = λ here can. no_carry can })
-              | inl can ↦ inl (job.Carry p, subst (λ v. IsWork c s v p (job.Carry p)) (sym at_0) (carry_works c s n.reached.fated p can))
+              | inr no_carry ↦ inr (record {
+                apply = no_apply;
+                visit = no_visit;
+                pass = no_pass;
+                lose = no_lose;
+                carry = λ here can. no_carry can;
+              })
+              | inl can ↦ inl (
+                job.Carry p,
+                subst (λ v. IsWork c s v p (job.Carry p)) (sym at_0) (carry_works c s n.reached.fated p can),
+              )
             ]
           ]
         ]

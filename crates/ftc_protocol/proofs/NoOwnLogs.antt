@@ -1,9 +1,11 @@
 -- A message that its server is still to visit has no log and no need of that server's own middlebox.
-use Rattle.std.proofs.Common.{◌≡◌, ℕ, ◌+◌, ◌<◌, ◌==◌, ◌&&◌, if◌then◌else◌, Bool, true, false, not, List, [], ◌∷◌, Option, Some, None, inl, inr, refl, sym, subst, ◌∙◌, arith, eqb-true}
+use Rattle.std.proofs.Common.{◌≡◌, ℕ, ◌+◌, ◌<◌, ◌==◌, ◌&&◌, if◌then◌else◌, Bool, true, false, not, List, [], ◌∷◌}
+use Rattle.std.proofs.Common.{Option, Some, None, inl, inr, refl, sym, subst, ◌∙◌, arith, eqb-true}
 use Rattle.std.proofs.lemmas.Bool.{true≢false, and_parts, or_cases}
 use Rattle.std.proofs.lemmas.Option.{none-some, same_Some}
 use Rattle.ftc_journal.specs.declared.event.Event.{Event}
-use Rattle.ftc_journal.specs.declared.event.Event.TheVariants.{Apply, Carry, Crash, Enter, Lose, Pass, Propagate, Pull, Recover, Release, Take, Visit}
+use Rattle.ftc_journal.specs.declared.event.Event.TheVariants.{Apply, Carry, Crash, Enter, Lose, Pass, Propagate, Pull}
+use Rattle.ftc_journal.specs.declared.event.Event.TheVariants.{Recover, Release, Take, Visit}
 use Rattle.ftc_serial.specs.Words.{with_at}
 use Rattle.ftc_ring.specs.Ring.{apart, next_of}
 use Rattle.ftc_protocol.specs.Setting.{Setting, IsSetting, is_tail, packet_at, servers}
@@ -12,7 +14,8 @@ use Rattle.ftc_protocol.specs.Visits.{In}
 use Rattle.ftc_protocol.specs.Changes.{is_touching}
 use Rattle.ftc_protocol.specs.Orderly.{IsUnvisited, AreAhead}
 use Rattle.ftc_protocol.specs.Legal.{MayHappen, MayLeave}
-use Rattle.ftc_protocol.specs.Next.{next, outcome_at, taken_message, visited_at, visited_message, sent_message, fresh_message, is_at}
+use Rattle.ftc_protocol.specs.Next.{next, outcome_at, taken_message, visited_at, visited_message, sent_message}
+use Rattle.ftc_protocol.specs.Next.{fresh_message, is_at}
 use Rattle.ftc_protocol.specs.Recovery.{is_dropped, following_live}
 use Rattle.ftc_protocol.specs.Run.{IsRun, AreLegal, state_after}
 use Rattle.ftc_protocol.proofs.Premises.{IsGood}

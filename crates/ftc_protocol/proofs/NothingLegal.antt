@@ -3,16 +3,20 @@ use Rattle.std.proofs.Common.{◌≡◌, ℕ, ◌<◌, true, false, [], sym, sub
 use Rattle.std.proofs.lemmas.Bool.{true≢false}
 use Rattle.std.proofs.lemmas.Option.{none-some}
 use Rattle.ftc_journal.specs.declared.event.Event.{Event}
-use Rattle.ftc_journal.specs.declared.event.Event.TheVariants.{Apply, Carry, Crash, Enter, Lose, Pass, Propagate, Pull, Recover, Release, Take, Visit}
+use Rattle.ftc_journal.specs.declared.event.Event.TheVariants.{Apply, Carry, Crash, Enter, Lose, Pass, Propagate, Pull}
+use Rattle.ftc_journal.specs.declared.event.Event.TheVariants.{Recover, Release, Take, Visit}
 use Rattle.ftc_script.specs.declared.line.ScriptLine.{ScriptLine}
 use Rattle.ftc_protocol.specs.Setting.{Setting, servers, count}
 use Rattle.ftc_protocol.specs.State.{ChainState, Message}
 use Rattle.ftc_protocol.specs.Legal.{MayHappen, IsNextLine}
 use Rattle.ftc_protocol.specs.Run.{IsFinished}
 
-module _ (c : Setting) (s : ChainState) (lines : s.lines ≡ []) (entered : s.entered ≡ count c) (messages : (origin : ℕ) → s.message origin ≡ None)
-    (forwarder : (group packet : ℕ) → s.forwarder group packet ≡ false) (gaps : (link : ℕ) → link < servers c → s.gap link ≡ false)
-    (withheld : (packet : ℕ) → s.withheld packet ≡ None) (inside : (server : ℕ) → s.up server ≡ true → server < servers c) where
+module _ (c : Setting) (s : ChainState) (lines : s.lines ≡ []) (entered : s.entered
+    ≡ count c) (messages : (origin : ℕ) → s.message origin ≡ None)
+    (forwarder : (group packet : ℕ) → s.forwarder group packet ≡ false) (gaps : (link : ℕ) → link < servers c →
+    s.gap link ≡ false)
+    (withheld : (packet : ℕ) → s.withheld packet ≡ None) (inside : (server : ℕ) → s.up server ≡ true →
+    server < servers c) where
   no_line : (line : ScriptLine) → IsNextLine s.lines line → ⊥
   no_line line is = subst (λ l. IsNextLine l line) lines is
 
@@ -20,7 +24,8 @@ module _ (c : Setting) (s : ChainState) (lines : s.lines ≡ []) (entered : s.en
   no_message origin message there = none-some message (sym (messages origin) ∙ there)
 
   nothing_happens : (event : Event) → MayHappen c s event → ⊥
-  nothing_happens (Enter p) legal = let e0 : p ≡ s.entered = legal.0 in let e1 : p < count c = legal.1 in absurd (omega arith)
+  nothing_happens (Enter p) legal = let e0 : p ≡ s.entered = legal.0 in let e1 : p < count c =
+      legal.1 in absurd (omega arith)
   nothing_happens (Take k p) legal = no_message p legal.0 legal.1
   nothing_happens (Apply k p j q) legal = no_message p legal.0 legal.1.0
   nothing_happens (Visit k p w) legal = no_message p legal.0 legal.3

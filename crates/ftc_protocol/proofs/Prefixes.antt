@@ -21,18 +21,24 @@ use Rattle.ftc_protocol.proofs.Induction.{keeps, always}
 use Rattle.ftc_protocol.proofs.ReleasedForGood.{kept_forever}
 use Rattle.ftc_protocol.proofs.Soundness.{sound}
 
-pub sound_before : (c : Setting) → IsSetting c → (before after : List Event) → IsRun c (before ++ after) → IsSound c (state_after c (opening c) before)
-sound_before c is before after run = sound c (is_good c is) is.ring (opens_fit c is) before (first_legal c before after (opening c) run)
+pub sound_before : (c : Setting) → IsSetting c → (before after : List Event) → IsRun c (before ++ after) →
+    IsSound c (state_after c (opening c) before)
+sound_before c is before after run =
+    sound c (is_good c is) is.ring (opens_fit c is) before (first_legal c before after (opening c) run)
 
 -- no event takes a release from the trace
-given_left : (out : Taken) (trace : List Entry) (packet : ℕ) (bytes : List ℕ) → AnyOf (λ entry. entry ≡ Given packet bytes) trace → AnyOf (λ entry. entry ≡ Given packet bytes) (left_of out trace)
+given_left : (out : Taken) (trace : List Entry) (packet : ℕ) (bytes : List ℕ) →
+    AnyOf (λ entry. entry ≡ Given packet bytes) trace → AnyOf (λ entry. entry ≡ Given packet bytes) (left_of out trace)
 given_left out trace packet bytes any = stands_left out (λ entry. entry ≡ Given packet bytes) trace (untaken trace any)
   where
-    untaken : (entries : List Entry) → AnyOf (λ entry. entry ≡ Given packet bytes) entries → AnyOf (λ entry. (entry ≡ Given packet bytes) × (is_taken out entry ≡ false)) entries
+    untaken : (entries : List Entry) → AnyOf (λ entry. entry ≡ Given packet bytes) entries →
+        AnyOf (λ entry. (entry ≡ Given packet bytes) × (is_taken out entry ≡ false)) entries
     untaken [] there = absurd there
-    untaken (entry ∷ older) there = elim there [ inl here ↦ inl (here, ap (is_taken out) here) | inr more ↦ inr (untaken older more) ]
+    untaken (entry ∷ older) there =
+        elim there [ inl here ↦ inl (here, ap (is_taken out) here) | inr more ↦ inr (untaken older more) ]
 
-given_kept : (c : Setting) (s : ChainState) (e : Event) (packet : ℕ) (bytes : List ℕ) → AnyOf (λ entry. entry ≡ Given packet bytes) s.trace → AnyOf (λ entry. entry ≡ Given packet bytes) (next c s e).trace
+given_kept : (c : Setting) (s : ChainState) (e : Event) (packet : ℕ) (bytes : List ℕ) →
+    AnyOf (λ entry. entry ≡ Given packet bytes) s.trace → AnyOf (λ entry. entry ≡ Given packet bytes) (next c s e).trace
 given_kept c s (event.Enter q) packet bytes any = any
 given_kept c s (event.Take l q) packet bytes any = any
 given_kept c s (event.Apply k q a b) packet bytes any = any
@@ -50,20 +56,32 @@ pub record IsKept (before after : List Entry) (packet : ℕ) (bytes : List ℕ) 
   pub given : AnyOf (λ entry. entry ≡ Given packet bytes) after
   pub visits : (server : ℕ) → IsSomeVisit before server packet → IsSomeVisit after server packet
 
-kept_after : (c : Setting) → IsGood c → (packet : ℕ) (bytes : List ℕ) (after : List Event) (s : ChainState) → Inv c s → AreLegal c s after
+kept_after : (c : Setting) → IsGood c → (packet : ℕ) (bytes : List ℕ) (after : List Event) (s : ChainState) → Inv c s →
+    AreLegal c s after
     → AnyOf (λ entry. entry ≡ Given packet bytes) s.trace → IsKept s.trace (state_after c s after).trace packet bytes
 kept_after c good packet bytes [] s h legal given = record { given = given; visits = λ server is. is }
 kept_after c good packet bytes (e ∷ after) s h legal given =
-    let more = kept_after c good packet bytes after (next c s e) (keeps c good s h e legal.0.0) legal.1 (given_kept c s e packet bytes given) in
-    record { given = more.given; visits = λ server is. more.visits server (kept_forever c good s h e legal.0.0 packet bytes given server is) }
+    let more = kept_after c good packet bytes after (next c s e) (keeps c good s h e legal.0.0) legal.1
+    (given_kept c s e packet bytes given) in
+    record {
+      given = more.given;
+      visits = λ server is. more.visits server (kept_forever c good s h e legal.0.0 packet bytes given server is);
+    }
 
-pub kept_on : (c : Setting) → IsSetting c → (before after : List Event) → IsRun c (before ++ after) → (packet : ℕ) (bytes : List ℕ)
+pub kept_on : (c : Setting) → IsSetting c → (before after : List Event) → IsRun c (before ++ after) →
+    (packet : ℕ) (bytes : List ℕ)
     → AnyOf (λ entry. entry ≡ Given packet bytes) (state_after c (opening c) before).trace
     → AnyOf (λ entry. entry ≡ Given packet bytes) (state_after c (opening c) (before ++ after)).trace
-    × ((server : ℕ) → IsSomeVisit (state_after c (opening c) before).trace server packet → IsSomeVisit (state_after c (opening c) (before ++ after)).trace server packet)
+    × ((server : ℕ) → IsSomeVisit (state_after c (opening c) before).trace server packet →
+    IsSomeVisit (state_after c (opening c) (before ++ after)).trace server packet)
 kept_on c is before after run packet bytes given =
     let good = is_good c is in
     let reached = state_after c (opening c) before in
-    let kept = kept_after c good packet bytes after reached (always c good (opens_fit c is) before (first_legal c before after (opening c) run)) (rest_legal c before after (opening c) run) given in
-    let on : (state_after c reached after).trace ≡ (state_after c (opening c) (before ++ after)).trace = ap (λ (s : ChainState). s.trace) (sym (state_on c before after (opening c))) in
-    (subst (λ t. AnyOf (λ entry. entry ≡ Given packet bytes) t) on kept.given, λ server there. subst (λ t. IsSomeVisit t server packet) on (kept.visits server there))
+    let kept = kept_after c good packet bytes after reached
+    (always c good (opens_fit c is) before (first_legal c before after (opening c) run))
+    (rest_legal c before after (opening c) run) given in
+    let on : (state_after c reached after).trace ≡ (state_after c (opening c) (before ++ after)).trace =
+    ap (λ (s : ChainState). s.trace) (sym (state_on c before after (opening c))) in (
+      subst (λ t. AnyOf (λ entry. entry ≡ Given packet bytes) t) on kept.given,
+      λ server there. subst (λ t. IsSomeVisit t server packet) on (kept.visits server there),
+    )

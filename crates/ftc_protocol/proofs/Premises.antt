@@ -18,7 +18,8 @@ is_crash (Recover at server) = false
 
 -- each group has a live member
 abbrev pub IsAdmissible : Setting → (ℕ → Bool) → Type 0
-IsAdmissible c up = (j : ℕ) → j < servers c → (z : ℕ) × (z < servers c) × (up z ≡ true) × (apart (servers c) j z ≤ c.failures)
+IsAdmissible c up = (j : ℕ) → j < servers c → (z : ℕ) × (z < servers c) × (up z ≡ true)
+    × (apart (servers c) j z ≤ c.failures)
 
 -- the lines to come leave each group a live member, and replace servers that are down
 abbrev pub AreFit : Setting → (ℕ → Bool) → List ScriptLine → Type 0

@@ -1,10 +1,12 @@
--- How many messages without a packet there can be: each is paid for by a packet whose message is gone, or by a crash or a recovery,
--- but for one.
-use Rattle.std.proofs.Common.{◌≡◌, ◌≢◌, ℕ, ◌+◌, ◌<◌, ◌≤◌, ◌==◌, ◌&&◌, ◌||◌, ◌⊎◌, if◌then◌else◌, Bool, true, false, not, refl, sym, ap, subst, ◌∙◌, arith, inl, inr, eq-eqb, Option, Some, None, is_some}
+-- How many messages without a packet there can be: each is paid for by a packet whose message is gone, or by a crash or
+-- a recovery, but for one.
+use Rattle.std.proofs.Common.{◌≡◌, ◌≢◌, ℕ, ◌+◌, ◌<◌, ◌≤◌, ◌==◌, ◌&&◌, ◌||◌, ◌⊎◌, if◌then◌else◌, Bool, true, false, not}
+use Rattle.std.proofs.Common.{refl, sym, ap, subst, ◌∙◌, arith, inl, inr, eq-eqb, Option, Some, None, is_some}
 use Rattle.std.proofs.lemmas.Bool.{true≢false, cases_eq, cases_lt, ne_eqb, false_from_ne_true}
 use Rattle.std.proofs.lemmas.Option.{same_Some}
 use Rattle.ftc_journal.specs.declared.event.Event.{Event}
-use Rattle.ftc_journal.specs.declared.event.Event.TheVariants.{Apply, Carry, Crash, Enter, Lose, Pass, Propagate, Pull, Recover, Release, Take, Visit}
+use Rattle.ftc_journal.specs.declared.event.Event.TheVariants.{Apply, Carry, Crash, Enter, Lose, Pass, Propagate, Pull}
+use Rattle.ftc_journal.specs.declared.event.Event.TheVariants.{Recover, Release, Take, Visit}
 use Rattle.ftc_serial.specs.Words.{with_at}
 use Rattle.ftc_serial.proofs.Functions.{with_at_cases}
 use Rattle.ftc_protocol.specs.Setting.{Setting, servers, count, packet_at, is_tail}
@@ -42,24 +44,32 @@ pub record ArePaid (c : Setting) (s : ChainState) (begun : ℕ) : Type 0 where
   pub paid : begun + (if busy then 1 else 0) ≤ ended s.entered s.message
   pub idle : busy ≡ false → IsIdle c s
 
-module _ (c : Setting) (good : IsGood c) (s : ChainState) (h : Inv c s) (t : IsTimed c s) (n : AreNumbered c s) (f : AreFated c s) (a : AreShaped c s) (begun : ℕ) (paid : ArePaid c s begun) where
+module _ (c : Setting) (good : IsGood c) (s : ChainState) (h : Inv c s) (t : IsTimed c s) (n : AreNumbered c s)
+    (f : AreFated c s) (a : AreShaped c s) (begun : ℕ) (paid : ArePaid c s begun) where
   -- no message is new, and what the forwarder is met by stays
-  still_paid : (s' : ChainState) → s'.entered ≡ s.entered → ((p : ℕ) → p < s.entered → is_some (s.message p) ≡ false → is_some (s'.message p) ≡ false)
+  still_paid : (s' : ChainState) → s'.entered ≡ s.entered →
+      ((p : ℕ) → p < s.entered → is_some (s.message p) ≡ false → is_some (s'.message p) ≡ false)
       → (IsIdle c s → IsIdle c s') → ArePaid c s' begun
   still_paid s' same fewer idle = record {
     busy = paid.busy;
-    paid = subst (λ e. begun + (if paid.busy then 1 else 0) ≤ ended e s'.message) (sym same) (let more = ended_more s.entered s.message s'.message fewer in let old = paid.paid in omega arith);
+    paid = subst (λ e. begun + (if paid.busy then 1 else 0) ≤ ended e s'.message) (sym same)
+        (let more = ended_more s.entered s.message s'.message fewer in let old = paid.paid in omega arith);
     idle = λ is. idle (paid.idle is);
   }
 
-  none_at : (p : ℕ) (o : Option Message) → is_some o ≡ is_some (s.message p) → (q : ℕ) → is_some (s.message q) ≡ false → is_some (with_at s.message p o q) ≡ false
-  none_at p o same q was = with_at_cases (λ v. is_some v ≡ false) s.message p o q (λ e. same ∙ (ap (λ x. is_some (s.message x)) (sym e) ∙ was)) (λ ne. was)
+  none_at : (p : ℕ) (o : Option Message) → is_some o ≡ is_some (s.message p) → (q : ℕ) → is_some (s.message q) ≡ false →
+      is_some (with_at s.message p o q) ≡ false
+  none_at p o same q was = with_at_cases (λ v. is_some v ≡ false) s.message p o q
+      (λ e. same ∙ (ap (λ x. is_some (s.message x)) (sym e) ∙ was)) (λ ne. was)
 
-  gone_at : (p : ℕ) (o : Option Message) → is_some (s.message p) ≡ true → (q : ℕ) → is_some (s.message q) ≡ false → is_some (with_at s.message p o q) ≡ false
-  gone_at p o there q was = with_at_cases (λ v. is_some v ≡ false) s.message p o q (λ e. absurd (true≢false (sym there ∙ (ap (λ x. is_some (s.message x)) (sym e) ∙ was)))) (λ ne. was)
+  gone_at : (p : ℕ) (o : Option Message) → is_some (s.message p) ≡ true → (q : ℕ) → is_some (s.message q) ≡ false →
+      is_some (with_at s.message p o q) ≡ false
+  gone_at p o there q was = with_at_cases (λ v. is_some v ≡ false) s.message p o q
+      (λ e. absurd (true≢false (sym there ∙ (ap (λ x. is_some (s.message x)) (sym e) ∙ was)))) (λ ne. was)
 
   -- a message at server 0 stays where another is changed
-  met_other : (s' : ChainState) (p : ℕ) (o : Option Message) → s'.message ≡ with_at s.message p o → (m : IsMet c s) → m.origin ≢ p → IsMet c s'
+  met_other : (s' : ChainState) (p : ℕ) (o : Option Message) → s'.message ≡ with_at s.message p o → (m : IsMet c s) →
+      m.origin ≢ p → IsMet c s'
   met_other s' p o is m other = record {
     origin = m.origin;
     message = m.message;
@@ -72,18 +82,22 @@ module _ (c : Setting) (good : IsGood c) (s : ChainState) (h : Inv c s) (t : IsT
   there_is : (p : ℕ) (m : Message) → s.message p ≡ Some m → is_some (s.message p) ≡ true
   there_is p m there = ap is_some there
 
-  not_place : (m : IsMet c s) (p : ℕ) (x : Message) → s.message p ≡ Some x → ((v : Bool) → x.place ≡ Held 0 v false → ⊥) → m.origin ≢ p
+  not_place : (m : IsMet c s) (p : ℕ) (x : Message) → s.message p ≡ Some x →
+      ((v : Bool) → x.place ≡ Held 0 v false → ⊥) → m.origin ≢ p
   not_place m p x there isnt same =
       let e : m.message ≡ x = same_Some m.message x (sym m.there ∙ (ap s.message same ∙ there)) in
       isnt m.visited (ap (λ (y : Message). y.place) (sym e) ∙ m.held)
 
-  left_paid : (k p : ℕ) (lost : Bool) (m : Message) → MayLeave c s k p m → ArePaid c (ticked (sent_on c s k p lost)) begun
+  left_paid : (k p : ℕ) (lost : Bool) (m : Message) → MayLeave c s k p m →
+      ArePaid c (ticked (sent_on c s k p lost)) begun
   left_paid k p lost m leaves =
-      still_paid (ticked (sent_on c s k p lost)) refl (λ q less. gone_at p _ (there_is p m leaves.there) q) (λ idle. elim (cases_eq k 0) [
+      still_paid (ticked (sent_on c s k p lost)) refl (λ q less. gone_at p _ (there_is p m leaves.there) q)
+      (λ idle. elim (cases_eq k 0) [
         | inl first ↦ inl (λ j q. ap (λ b. not b && s.forwarder j q) (eq-eqb k 0 first))
         | inr later ↦ elim idle [
           | inl empty ↦ inl (λ j q. both (not (k == 0)) (s.forwarder j q) (empty j q))
-          | inr met ↦ inr (met_other (ticked (sent_on c s k p lost)) p _ refl met (not_place met p m leaves.there (λ v is. later (same_holder k v leaves.visited (sym leaves.held ∙ is)))))
+          | inr met ↦ inr (met_other (ticked (sent_on c s k p lost)) p _ refl met
+              (not_place met p m leaves.there (λ v is. later (same_holder k v leaves.visited (sym leaves.held ∙ is)))))
         ]
       ])
     where
@@ -101,7 +115,8 @@ module _ (c : Setting) (good : IsGood c) (s : ChainState) (h : Inv c s) (t : IsT
       record {
         busy = paid.busy;
         paid =
-            let more = ended_more s.entered s.message (with_at s.message p o) (λ q less was. ap is_some (other_message s.message p o q (λ e. omega arith)) ∙ was) in
+            let more = ended_more s.entered s.message (with_at s.message p o)
+            (λ q less was. ap is_some (other_message s.message p o q (λ e. omega arith)) ∙ was) in
             let next_one = ended_next s.entered (with_at s.message p o) in
             let old = paid.paid in omega arith;
         idle = λ is. elim (paid.idle is) [
@@ -109,14 +124,28 @@ module _ (c : Setting) (good : IsGood c) (s : ChainState) (h : Inv c s) (t : IsT
           | inr met ↦ inr (met_other (next c s (Enter p)) p o refl met (λ e. let far = met.behind in omega arith))
         ];
       }
-  pays (Take l p) legal other = still_paid (next c s (Take l p)) refl (λ q less. gone_at p _ (there_is p legal.0 legal.1) q) (λ idle. elim idle [
-    | inl empty ↦ inl empty
-    | inr met ↦ inr (met_other (next c s (Take l p)) p _ refl met (not_place met p legal.0 legal.1 (λ v is. queued (sym legal.2 ∙ is))))
-  ])
+  pays (Take l p) legal other =
+      still_paid (next c s (Take l p)) refl (λ q less. gone_at p _ (there_is p legal.0 legal.1) q) (λ idle. elim idle [
+        | inl empty ↦ inl empty
+        | inr met ↦ inr (met_other (next c s (Take l p)) p _ refl met
+            (not_place met p legal.0 legal.1 (λ v is. queued (sym legal.2 ∙ is))))
+      ])
     where
       queued : {v : Bool} → Queued l ≡ Held 0 v false → ⊥
       queued {v} is = cc
-  pays (Apply k p j q) legal other = still_paid (next c s (Apply k p j q)) refl (λ x less was. was) (λ idle. elim idle [ inl empty ↦ inl empty | inr m ↦ inr (record { origin = m.origin; message = m.message; visited = m.visited; behind = m.behind; there = m.there; held = m.held }) ])
+  pays (Apply k p j q) legal other =
+      still_paid (next c s (Apply k p j q)) refl (λ x less was. was) (λ idle. elim idle [
+        | inl empty ↦
+            inl empty
+        | inr m ↦ inr (record {
+          origin = m.origin;
+          message = m.message;
+          visited = m.visited;
+          behind = m.behind;
+          there = m.there;
+          held = m.held;
+        })
+      ])
   pays (Visit k p w) legal other =
       let m = legal.0 in
       let entered : p < s.entered = h.entered p m legal.1 legal.3 legal.5 in
@@ -131,37 +160,47 @@ module _ (c : Setting) (good : IsGood c) (s : ChainState) (h : Inv c s) (t : IsT
       let m = legal.0 in
       elim (cases_lt p (count c)) [
         | inl packet ↦
-            let entered : p < s.entered = elim (n p m legal.1) [ inl less ↦ less | inr more ↦ let far = more.0 in absurd (omega arith) ] in
+            let entered : p < s.entered =
+            elim (n p m legal.1) [ inl less ↦ less | inr more ↦ let far = more.0 in absurd (omega arith) ] in
             record {
               busy = true;
               paid =
-                  let more = ended_one s.entered s.message (with_at s.message p None) (λ q less was. gone_at p None (there_is p m legal.1) q was) p entered (there_is p m legal.1) (ap is_some (same_message s.message p None)) in
+                  let more = ended_one s.entered s.message (with_at s.message p None)
+                  (λ q less was. gone_at p None (there_is p m legal.1) q was) p entered (there_is p m legal.1)
+                  (ap is_some (same_message s.message p None)) in
                   let old = paid.paid in omega arith;
               idle = λ is. absurd (true≢false is);
             }
         | inr behind ↦
-            let no_log : (j q : ℕ) → logs_of (s.message p) j q ≡ false = λ j q. false_from_ne_true (logs_of (s.message p) j q) (λ is.
+            let no_log : (j q : ℕ) → logs_of (s.message p) j q ≡ false =
+            λ j q. false_from_ne_true (logs_of (s.message p) j q) (λ is.
             let log : In m.logs j q = ap (λ o. logs_of o j q) (sym legal.1) ∙ is in
             let shape = subst (λ w. IsShaped (servers c) p w m.logs) legal.3 (a.messages p m legal.1) in
             let ringed = shape j q log in
             let same : q ≡ p = ringed.0 in
             let stands = ((h.messages p m legal.1).carried.member j q log).2 in
-            let entered : q < s.entered = a.visited j q (Rattle.ftc_protocol.proofs.VisitsPassed.some_stands _ s.trace j q stands) in
+            let entered : q < s.entered =
+            a.visited j q (Rattle.ftc_protocol.proofs.VisitsPassed.some_stands _ s.trace j q stands) in
             let most = t.bounded in
             omega arith) in
-            still_paid (next c s (Carry p)) refl (λ q less. gone_at p None (there_is p m legal.1) q) (λ idle. elim idle [
-              | inl empty ↦ inl (λ j q. neither (s.forwarder j q) (logs_of (s.message p) j q) (not (is_tail c j 0)) (empty j q) (no_log j q))
-              | inr met ↦ inr (met_other (next c s (Carry p)) p None refl met (not_place met p m legal.1 (λ v is. by_ring legal.2 v (sym legal.3 ∙ is))))
+            still_paid (next c s (Carry p)) refl (λ q less. gone_at p None (there_is p m legal.1) q)
+            (λ idle. elim idle [
+              | inl empty ↦ inl (λ j q. neither (s.forwarder j q) (logs_of (s.message p) j q) (not (is_tail c j 0))
+                  (empty j q) (no_log j q))
+              | inr met ↦ inr (met_other (next c s (Carry p)) p None refl met
+                  (not_place met p m legal.1 (λ v is. by_ring legal.2 v (sym legal.3 ∙ is))))
             ])
       ]
     where
       neither : (x y z : Bool) → x ≡ false → y ≡ false → (x || (y && z)) ≡ false
-      neither x y z no_x no_y = subst (λ b. (b || (y && z)) ≡ false) (sym no_x) (subst (λ b. (b && z) ≡ false) (sym no_y) refl)
+      neither x y z no_x no_y = subst (λ b. (b || (y && z))
+          ≡ false) (sym no_x) (subst (λ b. (b && z) ≡ false) (sym no_y) refl)
 
       by_ring : (w v : Bool) → Held 0 w true ≡ Held 0 v false → ⊥
       by_ring w v is = cc
   pays (Crash k) legal other =
-      still_paid (next c s (Crash k)) refl (λ q less was. dropped (λ (m : Message). is_at c k m.place) (s.message q) was) (λ idle. elim (cases_eq k 0) [
+      still_paid (next c s (Crash k)) refl
+      (λ q less was. dropped (λ (m : Message). is_at c k m.place) (s.message q) was) (λ idle. elim (cases_eq k 0) [
         | inl first ↦ inl (λ j q. ap (λ b. not b && s.forwarder j q) (eq-eqb k 0 first))
         | inr later ↦ elim idle [
           | inl empty ↦ inl (λ j q. both (not (k == 0)) (s.forwarder j q) (empty j q))
@@ -172,7 +211,8 @@ module _ (c : Setting) (good : IsGood c) (s : ChainState) (h : Inv c s) (t : IsT
             behind = met.behind;
             held = met.held;
             there = ap (drop_if (λ (m : Message). is_at c k m.place)) met.there
-                ∙ ap (λ b. if b then None else Some met.message) (ap (is_at c k) met.held ∙ ne_eqb 0 k (λ e. later (sym e)));
+                ∙ ap (λ b. if b then None
+                else Some met.message) (ap (is_at c k) met.held ∙ ne_eqb 0 k (λ e. later (sym e)));
           })
         ]
       ])
@@ -185,7 +225,8 @@ module _ (c : Setting) (good : IsGood c) (s : ChainState) (h : Inv c s) (t : IsT
       dropped test None is = refl
       dropped test (Some m) is = absurd (true≢false is)
   pays (Recover k undone) legal other =
-      still_paid (next c s (Recover k undone)) refl (λ q less was. dropped (is_dropped c s (following_live c s k)) (s.message q) was) (λ idle. elim idle [
+      still_paid (next c s (Recover k undone)) refl
+      (λ q less was. dropped (is_dropped c s (following_live c s k)) (s.message q) was) (λ idle. elim idle [
         | inl empty ↦ inl empty
         | inr met ↦ inr (record {
           origin = met.origin;
@@ -194,7 +235,10 @@ module _ (c : Setting) (good : IsGood c) (s : ChainState) (h : Inv c s) (t : IsT
           behind = met.behind;
           held = met.held;
           there = ap (drop_if (is_dropped c s (following_live c s k))) met.there
-              ∙ ap (λ b. if b then None else Some met.message) (ap (λ w. is_dropped_at c s (following_live c s k) met.message.logs w) met.held ∙ ready met (following_live c s k));
+              ∙ ap (λ b. if b then None
+              else Some met.message) (ap
+              (λ w. is_dropped_at c s (following_live c s k) met.message.logs w) met.held ∙ ready met
+              (following_live c s k));
         })
       ])
     where
@@ -203,31 +247,72 @@ module _ (c : Setting) (good : IsGood c) (s : ChainState) (h : Inv c s) (t : IsT
       dropped test (Some m) is = absurd (true≢false is)
 
       -- what waits at server 0 is ready there: it has logs of group 0 alone
-      ready : (met : IsMet c s) (live : ℕ) → ((0 == live) && not (has_each c.partitions s.trace (s.lists live) met.message.logs)) ≡ false
+      ready : (met : IsMet c s) (live : ℕ) →
+          ((0 == live) && not (has_each c.partitions s.trace (s.lists live) met.message.logs)) ≡ false
       ready met live = elim (cases_eq 0 live) [
-        | inr elsewhere ↦ ap (λ b. b && not (has_each c.partitions s.trace (s.lists live) met.message.logs)) (ne_eqb 0 live elsewhere)
+        | inr elsewhere ↦ ap (λ b. b && not (has_each c.partitions s.trace (s.lists live) met.message.logs))
+            (ne_eqb 0 live elsewhere)
         | inl here ↦
-            let up : s.up 0 ≡ true = subst (Rattle.ftc_protocol.proofs.LiveHolders.IsUp (servers c) s.up) met.held (h.awake met.origin met.message met.there) in
-            let ringed = subst (λ w. Rattle.ftc_protocol.proofs.ArrivalOrder.IsRinged (servers c) w met.message.logs) met.held (t.ringed met.origin met.message met.there) in
-            let has : has_each c.partitions s.trace (s.lists 0) met.message.logs ≡ true = each_has c (s.lists 0) met.message.logs s.trace h.world.serial (λ j q log.
-            subst (λ x. Has c.partitions s.trace (s.lists 0) x q) (sym (ringed refl j q log)) (head_has c s.trace s.up s.lists h.world.lists h.world.nest 0 q up)) in
-            subst (λ l. ((0 == l) && not (has_each c.partitions s.trace (s.lists l) met.message.logs)) ≡ false) here (ap not has)
+            let up : s.up 0 ≡ true = subst (Rattle.ftc_protocol.proofs.LiveHolders.IsUp (servers c) s.up) met.held
+            (h.awake met.origin met.message met.there) in
+            let ringed = subst (λ w. Rattle.ftc_protocol.proofs.ArrivalOrder.IsRinged
+            (servers c) w met.message.logs) met.held (t.ringed met.origin met.message met.there) in
+            let has : has_each c.partitions s.trace (s.lists 0) met.message.logs ≡ true =
+            each_has c (s.lists 0) met.message.logs s.trace h.world.serial (λ j q log.
+            subst (λ x. Has c.partitions s.trace (s.lists 0) x q) (sym (ringed refl j q log))
+            (head_has c s.trace s.up s.lists h.world.lists h.world.nest 0 q up)) in
+            subst (λ l. ((0 == l) && not (has_each c.partitions s.trace (s.lists l) met.message.logs))
+            ≡ false) here (ap not has)
       ]
-  pays (Pull k) legal other = still_paid (next c s (Pull k)) refl (λ x less was. was) (λ idle. elim idle [ inl empty ↦ inl empty | inr m ↦ inr (record { origin = m.origin; message = m.message; visited = m.visited; behind = m.behind; there = m.there; held = m.held }) ])
+  pays (Pull k) legal other =
+      still_paid (next c s (Pull k)) refl (λ x less was. was) (λ idle. elim idle [
+        | inl empty ↦ inl empty
+        | inr m ↦
+            inr (record {
+              origin = m.origin;
+              message = m.message;
+              visited = m.visited;
+              behind = m.behind;
+              there = m.there;
+              held = m.held;
+            })
+      ])
   pays (Propagate p) legal other = absurd (other (ap Propagate legal.4))
-  pays (Release p) legal other = still_paid (next c s (Release p)) refl (λ x less was. was) (λ idle. elim idle [ inl empty ↦ inl empty | inr m ↦ inr (record { origin = m.origin; message = m.message; visited = m.visited; behind = m.behind; there = m.there; held = m.held }) ])
+  pays (Release p) legal other =
+      still_paid (next c s (Release p)) refl (λ x less was. was) (λ idle. elim idle [
+        | inl empty ↦ inl empty
+        | inr m ↦
+            inr (record {
+              origin = m.origin;
+              message = m.message;
+              visited = m.visited;
+              behind = m.behind;
+              there = m.there;
+              held = m.held;
+            })
+      ])
 
   -- where it is paid for, one more is begun
-  pub one_begun : (p : ℕ) → MayHappen c s (Propagate p) → paid.busy ≡ true → ArePaid c (next c s (Propagate p)) (begun + 1)
+  pub one_begun : (p : ℕ) → MayHappen c s (Propagate p) → paid.busy ≡ true →
+      ArePaid c (next c s (Propagate p)) (begun + 1)
   one_begun p legal busy =
       let new = fresh_message s.events None in
       let all_in : s.entered ≡ count c = legal.0 in let number : p ≡ count c + s.propagates = legal.4 in
       record {
         busy = false;
         paid =
-            let more = ended_more s.entered s.message (with_at s.message p (Some new)) (λ q less was. ap is_some (other_message s.message p (Some new) q (λ e. omega arith)) ∙ was) in
-            let old = subst (λ b. begun + (if b then 1 else 0) ≤ ended s.entered s.message) busy paid.paid in omega arith;
-        idle = λ is. inr (record { origin = p; message = new; visited = false; behind = omega arith; there = same_message s.message p (Some new); held = refl });
+            let more = ended_more s.entered s.message (with_at s.message p (Some new))
+            (λ q less was. ap is_some (other_message s.message p (Some new) q (λ e. omega arith)) ∙ was) in
+            let old = subst (λ b. begun + (if b then 1 else 0) ≤ ended s.entered s.message) busy paid.paid in
+            omega arith;
+        idle = λ is. inr (record {
+          origin = p;
+          message = new;
+          visited = false;
+          behind = omega arith;
+          there = same_message s.message p (Some new);
+          held = refl;
+        });
       }
 
   -- where it isn't, the forwarder is empty
@@ -238,8 +323,11 @@ module _ (c : Setting) (good : IsGood c) (s : ChainState) (h : Inv c s) (t : IsT
   ]
 
   -- where nothing is forwarded, it costs nothing there
-  pub none_begun : (p : ℕ) → MayHappen c s (Propagate p) → ((j q : ℕ) → s.forwarder j q ≡ false) → ArePaid c (next c s (Propagate p)) begun
+  pub none_begun : (p : ℕ) → MayHappen c s (Propagate p) → ((j q : ℕ) → s.forwarder j q ≡ false) →
+      ArePaid c (next c s (Propagate p)) begun
   none_begun p legal empty =
       let new = fresh_message s.events None in
       let all_in : s.entered ≡ count c = legal.0 in let number : p ≡ count c + s.propagates = legal.4 in
-      still_paid (next c s (Propagate p)) refl (λ q less was. ap is_some (other_message s.message p (Some new) q (λ e. omega arith)) ∙ was) (λ idle. inl empty)
+      still_paid (next c s (Propagate p)) refl
+      (λ q less was. ap is_some (other_message s.message p (Some new) q (λ e. omega arith)) ∙ was)
+      (λ idle. inl empty)

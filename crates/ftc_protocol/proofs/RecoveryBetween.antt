@@ -1,5 +1,6 @@
 -- A recovery of server m between the nearest live servers r and t.
-use Rattle.std.proofs.Common.{◌≡◌, ℕ, ◌+◌, ◌-◌, ◌<◌, ◌≤◌, if◌then◌else◌, Bool, true, false, ◌⊎◌, inl, inr, refl, sym, subst, ◌∙◌, arith, le-leb}
+use Rattle.std.proofs.Common.{◌≡◌, ℕ, ◌+◌, ◌-◌, ◌<◌, ◌≤◌, if◌then◌else◌, Bool, true, false, ◌⊎◌, inl, inr, refl, sym}
+use Rattle.std.proofs.Common.{subst, ◌∙◌, arith, le-leb}
 use Rattle.std.proofs.lemmas.Bool.{true≢false, cases_eq, cases_lt, and_from, cases_order, lt-leb}
 use Rattle.ftc_protocol.proofs.CarriedLogs.{AreCarried, has_left, has_more}
 use Rattle.ftc_protocol.specs.State.{ChainState}
@@ -26,8 +27,10 @@ module _ (c : Setting) (s : ChainState) (m r t : ℕ) (inside : m < (servers c))
   pub between_down : (z : ℕ) → z < (servers c) → IsBetween (servers c) r t z → s.up z ≡ false
   between_down z lt between =
       let n = (servers c) in
-      let rz = apart_cases n r z before.below lt in let rm = apart_cases n r m before.below inside in let zm = apart_cases n z m lt inside in
-      let mz = apart_cases n m z inside lt in let mt = apart_cases n m t inside after.below in let rt = apart_cases n r t before.below after.below in
+      let rz = apart_cases n r z before.below lt in let rm = apart_cases n r m before.below inside in let zm =
+      apart_cases n z m lt inside in
+      let mz = apart_cases n m z inside lt in let mt = apart_cases n m t inside after.below in let rt =
+      apart_cases n r t before.below after.below in
       let pos : 0 < apart n r z = between.0 in
       let pr : 0 < apart n r m = before.before in
       let pt : 0 < apart n m t = after.after in
@@ -35,30 +38,41 @@ module _ (c : Setting) (s : ChainState) (m r t : ℕ) (inside : m < (servers c))
         | inl same ↦ let e : z ≡ m = omega arith in subst (λ v. s.up v ≡ false) (sym e) down
         | inr other ↦ elim other [
           | inl less ↦ before.between z lt (omega arith) (omega arith)
-          | inr more ↦ after.between z lt (omega arith) (elim between.1 [ inl same ↦ omega arith | inr less ↦ omega arith ])
+          | inr more ↦ after.between z lt (omega arith) (elim between.1 [
+            | inl same ↦ omega arith
+            | inr less ↦
+                omega arith
+          ])
         ]
       ]
 
   -- the live server t is the first live one from a head between
-  pub first_after : (i z : ℕ) → i < (servers c) → IsBetween (servers c) r t i → z < (servers c) → s.up z ≡ true → apart (servers c) i t ≤ apart (servers c) i z
+  pub first_after : (i z : ℕ) → i < (servers c) → IsBetween (servers c) r t i → z < (servers c) → s.up z ≡ true →
+      apart (servers c) i t ≤ apart (servers c) i z
   first_after i z il between lt live =
       let n = (servers c) in
       elim (cases_lt (apart n i z) (apart n i t)) [
         | inr more ↦ more
         | inl less ↦
-            let ri = apart_cases n r i before.below il in let iz = apart_cases n i z il lt in let it = apart_cases n i t il after.below in
+            let ri = apart_cases n r i before.below il in let iz = apart_cases n i z il lt in let it =
+            apart_cases n i t il after.below in
             let rz = apart_cases n r z before.below lt in let rt = apart_cases n r t before.below after.below in
             let pos : 0 < apart n r i = between.0 in
-            let zb : IsBetween n r t z = elim between.1 [ inl same ↦ (omega arith, inl same) | inr nearer ↦ (omega arith, inr (omega arith)) ] in
+            let zb : IsBetween n r t z =
+            elim between.1 [ inl same ↦ (omega arith, inl same) | inr nearer ↦ (omega arith, inr (omega arith)) ] in
             absurd (true≢false (sym live ∙ between_down z lt zb))
       ]
 
-  pub member_after : IsAdmissible c s.up → (i : ℕ) → i < (servers c) → IsBetween (servers c) r t i → apart (servers c) i t ≤ c.failures
-  member_after admissible i il between = let z = admissible i il in let le = first_after i z.0 il between z.1 z.2 in omega (arith, z.3)
+  pub member_after : IsAdmissible c s.up → (i : ℕ) → i < (servers c) → IsBetween (servers c) r t i →
+      apart (servers c) i t ≤ c.failures
+  member_after admissible i il between = let z = admissible i il in let le = first_after i z.0 il between z.1 z.2 in
+      omega (arith, z.3)
 
   -- What is carried to a live server x that isn't dropped: t has all of it whose head lies between.
-  pub carried_had : IsAdmissible c s.up → (logs : Visits) (x : ℕ) → x < (servers c) → s.up x ≡ true → (x ≡ t → (j q : ℕ) → In logs j q → Has c.partitions s.trace (s.lists t) j q)
-      → AreCarried c s.trace s.up s.lists logs x → (i j q : ℕ) → In logs j q → i ≤ j → IsTouching s.trace i q → IsBetween (servers c) r t i → Has c.partitions s.trace (s.lists t) i q
+  pub carried_had : IsAdmissible c s.up → (logs : Visits) (x : ℕ) → x < (servers c) → s.up x ≡ true →
+      (x ≡ t → (j q : ℕ) → In logs j q → Has c.partitions s.trace (s.lists t) j q)
+      → AreCarried c s.trace s.up s.lists logs x → (i j q : ℕ) → In logs j q → i ≤ j → IsTouching s.trace i q →
+      IsBetween (servers c) r t i → Has c.partitions s.trace (s.lists t) i q
   carried_had admissible logs x xl live ready h i j q is le touching between =
       let n = (servers c) in
       let jl : j < n = (h.member j q is).0 in
@@ -68,56 +82,80 @@ module _ (c : Setting) (s : ChainState) (m r t : ℕ) (inside : m < (servers c))
         | inl behind ↦ h.wake i j q is le touching t after.below after.live member behind
         | inr ahead ↦
             let first : apart n i t ≤ apart n i x = first_after i x il between xl live in
-            let it = apart_cases n i t il after.below in let ix = apart_cases n i x il xl in let jx = apart_cases n j x jl xl in
+            let it = apart_cases n i t il after.below in let ix = apart_cases n i x il xl in let jx =
+            apart_cases n j x jl xl in
             let same : x ≡ t = omega arith in
             ready same i q (h.together i j q is le touching (omega arith))
       ]
 
-  pub fetched_r : (j p : ℕ) → apart (servers c) j m ≤ c.failures → apart (servers c) r m ≤ apart (servers c) j m → In (s.lists r) j p → In (list_got c s m r t) j p
-  fetched_r j p member head h = and_from _ _ (le-leb _ _ member) (subst (λ b. (s.lists (if b then r else t) j p) ≡ true) (sym (le-leb (apart (servers c) r m) (apart (servers c) j m) head)) h)
+  pub fetched_r : (j p : ℕ) → apart (servers c) j m ≤ c.failures → apart (servers c) r m ≤ apart (servers c) j m →
+      In (s.lists r) j p → In (list_got c s m r t) j p
+  fetched_r j p member head h =
+      and_from _ _ (le-leb _ _ member)
+      (subst (λ b. (s.lists (if b then r else t) j p)
+      ≡ true) (sym (le-leb (apart (servers c) r m) (apart (servers c) j m) head)) h)
 
-  pub fetched_t : (j p : ℕ) → apart (servers c) j m ≤ c.failures → apart (servers c) j m < apart (servers c) r m → In (s.lists t) j p → In (list_got c s m r t) j p
-  fetched_t j p member head h = and_from _ _ (le-leb _ _ member) (subst (λ b. (s.lists (if b then r else t) j p) ≡ true) (sym (lt-leb (apart (servers c) r m) (apart (servers c) j m) head)) h)
+  pub fetched_t : (j p : ℕ) → apart (servers c) j m ≤ c.failures → apart (servers c) j m < apart (servers c) r m →
+      In (s.lists t) j p → In (list_got c s m r t) j p
+  fetched_t j p member head h =
+      and_from _ _ (le-leb _ _ member)
+      (subst (λ b. (s.lists (if b then r else t) j p)
+      ≡ true) (sym (lt-leb (apart (servers c) r m) (apart (servers c) j m) head)) h)
 
   pub recovers : IsAdmissible c s.up → (gone : Visits) → ((j p : ℕ) → In gone j p → IsUndone c s r t j p)
-      → (logs : Visits) (x : ℕ) → x < (servers c) → s.up x ≡ true → (x ≡ t → (j q : ℕ) → In logs j q → Has c.partitions s.trace (s.lists t) j q)
-      → AreCarried c s.trace s.up s.lists logs x → AreCarried c (left_of gone s.trace) (with_at s.up m true) (with_at s.lists m (list_got c s m r t)) logs x
+      → (logs : Visits) (x : ℕ) → x < (servers c) → s.up x ≡ true →
+      (x ≡ t → (j q : ℕ) → In logs j q → Has c.partitions s.trace (s.lists t) j q)
+      → AreCarried c s.trace s.up s.lists logs x →
+      AreCarried c (left_of gone s.trace) (with_at s.up m true) (with_at s.lists m (list_got c s m r t)) logs x
   recovers admissible gone undone logs x xl live ready h =
       let n = (servers c) in
       let had = carried_had admissible logs x xl live ready h in
-      let stood : (i q : ℕ) → IsTouching (left_of gone s.trace) i q → IsTouching s.trace i q = λ i q t'. (visit_stood gone (λ o. is_touching o ≡ true) s.trace i q t').0 in
+      let stood : (i q : ℕ) → IsTouching (left_of gone s.trace) i q → IsTouching s.trace i q =
+      λ i q t'. (visit_stood gone (λ o. is_touching o ≡ true) s.trace i q t').0 in
       record {
         member = λ j q is. let w = h.member j q is in (
           w.0,
           w.1,
-          visit_left gone (λ o. is_touching o ≡ true) s.trace j q w.2 (elim (gone j q) as (λ b. gone j q ≡ b → b ≡ false) [
-            | true ↦ λ g. let u = undone j q g in absurd (u.2.3 (had u.0 j q is u.1 u.2.0 (u.2.1, u.2.2)))
-            | false ↦ λ g. refl
-          ] refl),
+          visit_left gone (λ o. is_touching o ≡ true) s.trace j q w.2 (elim (gone j q) as (λ b. gone j q ≡ b →
+              b ≡ false) [
+                | true ↦ λ g. let u = undone j q g in absurd (u.2.3 (had u.0 j q is u.1 u.2.0 (u.2.1, u.2.2)))
+                | false ↦ λ g. refl
+              ] refl),
         );
-        wake = λ i j q is le t' y lt. with_at_cases (λ (b : Bool). b ≡ true → apart n i y ≤ c.failures → apart n i y < (j - i) + apart n j x → Has c.partitions (left_of gone s.trace) (with_at s.lists m (list_got c s m r t) y) i q) s.up m true y
+        wake = λ i j q is le t' y lt. with_at_cases (λ (b : Bool). b ≡ true → apart n i y ≤ c.failures →
+            apart n i y < (j - i) + apart n j x →
+            Has c.partitions (left_of gone s.trace) (with_at s.lists m (list_got c s m r t) y) i q) s.up m true y
             (λ e u member behind.
             let touching = stood i q t' in let jl : j < n = (h.member j q is).0 in let il : i < n = omega arith in
             let im_member : apart n i m ≤ c.failures = subst (λ v. apart n i v ≤ c.failures) e member in
-            let im_behind : apart n i m < (j - i) + apart n j x = subst (λ v. apart n i v < (j - i) + apart n j x) e behind in
-            let im = apart_cases n i m il inside in let ir = apart_cases n i r il before.below in let rm = apart_cases n r m before.below inside in let ri = apart_cases n r i before.below il in
+            let im_behind : apart n i m < (j - i) + apart n j x =
+            subst (λ v. apart n i v < (j - i) + apart n j x) e behind in
+            let im = apart_cases n i m il inside in let ir = apart_cases n i r il before.below in let rm =
+            apart_cases n r m before.below inside in let ri = apart_cases n r i before.below il in
             let mt = apart_cases n m t inside after.below in let rt = apart_cases n r t before.below after.below in
             let got : Has c.partitions s.trace (list_got c s m r t) i q = elim (cases_lt (apart n i m) (apart n r m)) [
-              | inr head ↦ has_more c.partitions s.trace (s.lists r) (list_got c s m r t) i q (λ p. fetched_r i p im_member head)
+              | inr head ↦ has_more c.partitions s.trace (s.lists r) (list_got c s m r t) i q
+                  (λ p. fetched_r i p im_member head)
                   (h.wake i j q is le touching r before.below before.live (omega arith) (omega arith))
-              | inl head ↦ has_more c.partitions s.trace (s.lists t) (list_got c s m r t) i q (λ p. fetched_t i p im_member head)
+              | inl head ↦ has_more c.partitions s.trace (s.lists t) (list_got c s m r t) i q
+                  (λ p. fetched_t i p im_member head)
                   (had i j q is le touching (omega arith, between_by i il head))
             ] in
-            has_left c.partitions s.trace gone _ i q (with_at_cases (λ (v : Visits). Has c.partitions s.trace v i q) s.lists m (list_got c s m r t) y (λ _. got) (λ ne. absurd (ne e))))
+            has_left c.partitions s.trace gone _ i q
+            (with_at_cases (λ (v : Visits). Has c.partitions s.trace v i q) s.lists m (list_got c s m r t) y
+            (λ _. got) (λ ne. absurd (ne e))))
             (λ ne live_y member behind. has_left c.partitions s.trace gone _ i q
-            (with_at_cases (λ (v : Visits). Has c.partitions s.trace v i q) s.lists m (list_got c s m r t) y (λ e. absurd (ne e)) (λ _. h.wake i j q is le (stood i q t') y lt live_y member behind)));
+            (with_at_cases (λ (v : Visits). Has c.partitions s.trace v i q) s.lists m (list_got c s m r t) y
+            (λ e. absurd (ne e)) (λ _. h.wake i j q is le (stood i q t') y lt live_y member behind)));
         together = λ i j q is le t' near. h.together i j q is le (stood i q t') near;
       }
     where
-      between_by : (i : ℕ) → i < (servers c) → apart (servers c) i m < apart (servers c) r m → (r ≡ t) ⊎ (apart (servers c) r i < apart (servers c) r t)
+      between_by : (i : ℕ) → i < (servers c) → apart (servers c) i m < apart (servers c) r m →
+          (r ≡ t) ⊎ (apart (servers c) r i < apart (servers c) r t)
       between_by i il head =
           let n = (servers c) in
-          let im = apart_cases n i m il inside in let rm = apart_cases n r m before.below inside in let ri = apart_cases n r i before.below il in
+          let im = apart_cases n i m il inside in let rm = apart_cases n r m before.below inside in let ri =
+          apart_cases n r i before.below il in
           let mt = apart_cases n m t inside after.below in let rt = apart_cases n r t before.below after.below in
           elim (cases_eq r t) [
             | inl same ↦ inl same

@@ -1,5 +1,6 @@
 -- The second example is a finished run: each of its events is legal in its turn, and none is at its end.
-use Rattle.std.proofs.Common.{◌≡◌, ℕ, ◌<◌, ◌≤◌, ◌&&◌, ◌||◌, ◌==◌, not, Bool, true, false, [], inl, inr, refl, sym, ap, subst, ◌∙◌, arith, Some, None, ltb-true, eqb-true}
+use Rattle.std.proofs.Common.{◌≡◌, ℕ, ◌<◌, ◌≤◌, ◌&&◌, ◌||◌, ◌==◌, not, Bool, true, false, [], inl, inr, refl, sym, ap}
+use Rattle.std.proofs.Common.{subst, ◌∙◌, arith, Some, None, ltb-true, eqb-true}
 use Rattle.std.proofs.lemmas.Bool.{true≢false, cases_eq, and_parts, or_cases, false_from_ne_true}
 use Rattle.std.proofs.lemmas.Option.{none-some, same_Some}
 use Rattle.ftc_ring.specs.Live.{HasLive, IsLive}
@@ -8,7 +9,8 @@ use Rattle.ftc_script.specs.Steps as steps
 use Rattle.ftc_serial.specs.Words.{with_at}
 use Rattle.ftc_serial.proofs.Functions.{with_at_cases}
 use Rattle.ftc_serial.specs.Take.{asked, asked_from}
-use Rattle.ftc_journal.specs.declared.event.Event.TheVariants.{Apply, Carry, Crash, Enter, Pass, Pull, Recover, Release, Take, Visit}
+use Rattle.ftc_journal.specs.declared.event.Event.TheVariants.{Apply, Carry, Crash, Enter, Pass, Pull, Recover, Release}
+use Rattle.ftc_journal.specs.declared.event.Event.TheVariants.{Take, Visit}
 use Rattle.ftc_mbox.specs.Ask.{ask}
 use Rattle.ftc_packet.specs.Flow.{flow_found, flow_in, is_flow}
 use Rattle.ftc_packet.specs.Layout.{word_at, transport_start}

@@ -4,7 +4,8 @@ use Rattle.std.proofs.lemmas.Bool.{true≢false}
 use Rattle.std.proofs.lemmas.Bool.{false_from_ne_true}
 use Rattle.ftc_script.specs.declared.line.ScriptLine.TheVariants as script_line
 use Rattle.ftc_serial.specs.Words.{AnyOf}
-use Rattle.ftc_journal.specs.declared.event.Event.TheVariants.{Apply, Carry, Crash, Enter, Lose, Pass, Propagate, Pull, Recover, Release, Take, Visit}
+use Rattle.ftc_journal.specs.declared.event.Event.TheVariants.{Apply, Carry, Crash, Enter, Lose, Pass, Propagate, Pull}
+use Rattle.ftc_journal.specs.declared.event.Event.TheVariants.{Recover, Release, Take, Visit}
 use Rattle.ftc_protocol.specs.State.{ChainState}
 use Rattle.ftc_journal.specs.declared.event.Event.{Event}
 use Rattle.ftc_serial.specs.Serial.{Given}
@@ -25,7 +26,8 @@ use Rattle.ftc_protocol.specs.Recovery.{previous_live, following_live}
 use Rattle.ftc_protocol.proofs.UndoneList.{undone_listed}
 
 -- no event undoes a visit of a released packet
-pub kept_forever : (c : Setting) → IsGood c → (s : ChainState) → Inv c s → (e : Event) → MayHappen c s e → (p : ℕ) (bytes : (List ℕ)) → AnyOf (λ e. e ≡ Given p bytes) s.trace
+pub kept_forever : (c : Setting) → IsGood c → (s : ChainState) → Inv c s → (e : Event) → MayHappen c s e →
+    (p : ℕ) (bytes : (List ℕ)) → AnyOf (λ e. e ≡ Given p bytes) s.trace
     → (j : ℕ) → IsInTrace Somehow s.trace j p → IsInTrace Somehow (next c s e).trace j p
 kept_forever c good s h (Enter q) legal p bytes given j st = st
 kept_forever c good s h (Take l q) legal p bytes given j st = st
@@ -53,4 +55,5 @@ kept_forever c good s h (Recover k undone) legal p bytes given j st =
     let jl : j < n = stands_below c good.some Somehow s.trace h.world.serial j p st in
     let i = u.0 in let le : i ≤ j = u.1 in let il : i < n = omega arith in
     let it = apart_cases n i t il after.below in
-    u.2.3 (h.world.released p bytes given i u.2.0 t after.below after.live (member_after c s k r t fit.0 down before after admissible i il (u.2.1, u.2.2)) (omega arith))))
+    u.2.3 (h.world.released p bytes given i u.2.0 t after.below after.live
+    (member_after c s k r t fit.0 down before after admissible i il (u.2.1, u.2.2)) (omega arith))))

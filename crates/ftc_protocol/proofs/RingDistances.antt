@@ -1,5 +1,7 @@
 -- Distances on the ring, and the nearest live servers.
-use Rattle.std.proofs.Common.{◌≡◌, ◌≢◌, ℕ, ◌+◌, ◌-◌, ◌<◌, ◌≤◌, ◌==◌, if◌then◌else◌, Bool, true, false, ◌⊎◌, inl, inr, refl, sym, ◌∙◌, arith, nat_le, leb-true, leb-false, eqb-true, Option, Some, None, unwrap_or}
+use Rattle.std.proofs.Common.{◌≡◌, ◌≢◌, ℕ, ◌+◌, ◌-◌, ◌<◌, ◌≤◌, ◌==◌, if◌then◌else◌, Bool, true, false, ◌⊎◌, inl, inr}
+use Rattle.std.proofs.Common.{refl, sym, ◌∙◌, arith, nat_le, leb-true, leb-false, eqb-true, Option, Some, None}
+use Rattle.std.proofs.Common.{unwrap_or}
 use Rattle.std.proofs.lemmas.Bool.{true≢false, eqb-false, cases_eq, false_from_ne_true}
 use Rattle.ftc_ring.specs.Ring.{apart, next_of, previous_of}
 use Rattle.ftc_ring.specs.Live.{live_after_of, live_before_of, IsLiveAfter, IsLiveBefore}
@@ -16,16 +18,25 @@ apart_cases n a b la lb = elim (nat_le a b) as (λ t. nat_le a b ≡ t → Apart
 ] refl
 
 pub apart_after : (n a : ℕ) → a < n → Apart n a (next_of n a) 1 × (next_of n a < n) ⊎ (n ≡ 1)
-apart_after n a la = elim (a + 1 == n) as (λ t. a + 1 == n ≡ t → (let b = if t then 0 else a + 1 in Apart n a b 1 × (b < n) ⊎ (n ≡ 1))) [
-  | true ↦ λ is. let e : a + 1 ≡ n = eqb-true (a + 1) n is in elim (cases_eq n 1) [ inl one ↦ inr one | inr more ↦ inl (inr (omega arith, omega arith), omega arith) ]
-  | false ↦ λ is. let e : a + 1 ≡ n → ⊥ = eqb-false (a + 1) n is in inl (inl (omega arith, omega arith), omega arith)
-] refl
+apart_after n a la = elim (a + 1 == n) as (λ t. a + 1 == n ≡ t →
+    (let b = if t then 0 else a + 1 in Apart n a b 1 × (b < n) ⊎ (n ≡ 1))) [
+      | true ↦ λ is. let e : a + 1 ≡ n = eqb-true (a + 1) n is in
+          elim (cases_eq n 1) [ inl one ↦ inr one | inr more ↦ inl (inr (omega arith, omega arith), omega arith) ]
+      | false ↦ λ is. let e : a + 1 ≡ n → ⊥ = eqb-false (a + 1) n is in
+          inl (inl (omega arith, omega arith), omega arith)
+    ] refl
 
 pub apart_before : (n a : ℕ) → a < n → Apart n (previous_of n a) a 1 × (previous_of n a < n) ⊎ (n ≡ 1)
-apart_before n a la = elim (a == 0) as (λ t. a == 0 ≡ t → (let b = if t then n - 1 else a - 1 in Apart n b a 1 × (b < n) ⊎ (n ≡ 1))) [
-  | true ↦ λ is. let e : a ≡ 0 = eqb-true a 0 is in elim (cases_eq n 1) [ inl one ↦ inr one | inr more ↦ inl (inr (omega arith, omega arith), omega arith) ]
-  | false ↦ λ is. let e : a ≡ 0 → ⊥ = eqb-false a 0 is in inl (inl (omega arith, omega arith), omega arith)
-] refl
+apart_before n a la = elim (a == 0) as (λ t. a == 0 ≡ t →
+    (let b = if t then n - 1 else a - 1 in Apart n b a 1 × (b < n) ⊎ (n ≡ 1))) [
+      | true ↦ λ is. let e : a ≡ 0 =
+          eqb-true a 0 is in elim (cases_eq n 1) [
+            | inl one ↦ inr one
+            | inr more ↦
+                inl (inr (omega arith, omega arith), omega arith)
+          ]
+      | false ↦ λ is. let e : a ≡ 0 → ⊥ = eqb-false a 0 is in inl (inl (omega arith, omega arith), omega arith)
+    ] refl
 
 -- t is the nearest live server after k
 pub record IsNextLive (n : ℕ) (up : ℕ → Bool) (k t : ℕ) : Type 0 where
@@ -40,7 +51,8 @@ pub record IsLastLive (n : ℕ) (up : ℕ → Bool) (k r : ℕ) : Type 0 where
   pub before : 0 < apart n r k
   pub between : (i : ℕ) → i < n → 0 < apart n i k → apart n i k < apart n r k → up i ≡ false
 
-module _ (n : ℕ) (up : ℕ → Bool) (k : ℕ) (inside : k < n) (y : ℕ) (y_below : y < n) (y_live : up y ≡ true) (other : y ≢ k) where
+module _ (n : ℕ) (up : ℕ → Bool) (k : ℕ) (inside : k < n) (y : ℕ) (y_below : y < n) (y_live : up y
+    ≡ true) (other : y ≢ k) where
   next_from : (t : ℕ) → IsLiveAfter n up k t → IsNextLive n up k t
   next_from t is =
       let kt = apart_cases n k t inside is.within in

@@ -1,5 +1,6 @@
 -- The tests of members, tails and servers between say what the words of the ring say.
-use Rattle.std.proofs.Common.{◌≡◌, ◌↔◌, ℕ, ◌+◌, ◌-◌, ◌<◌, ◌≤◌, if◌then◌else◌, nat_le, nat_lt, true, false, refl, arith, leb-true, le-leb, leb-false, ltb-true, lt-ltb, eqb-true, eq-eqb}
+use Rattle.std.proofs.Common.{◌≡◌, ◌↔◌, ℕ, ◌+◌, ◌-◌, ◌<◌, ◌≤◌, if◌then◌else◌, nat_le, nat_lt, true, false, refl, arith}
+use Rattle.std.proofs.Common.{leb-true, le-leb, leb-false, ltb-true, lt-ltb, eqb-true, eq-eqb}
 use Rattle.std.proofs.lemmas.Bool.{and_parts, and_from}
 use Rattle.ftc_ring.specs.Ring.{apart, IsMember, tail_of}
 use Rattle.ftc_ring.specs.Live.{IsBetween, span}

@@ -1,5 +1,6 @@
 -- Where packets were lost, and what the tests of standing and of undone visits say.
-use Rattle.std.proofs.Common.{◌≡◌, ◌≢◌, ◌↔◌, ℕ, ◌+◌, ◌<◌, ◌==◌, true, false, List, [], ◌∷◌, ◌++◌, length, refl, sym, ap, subst, ◌∙◌, arith, inl, inr, ◌⊎◌, if◌then◌else◌, eqb-true, leb-true}
+use Rattle.std.proofs.Common.{◌≡◌, ◌≢◌, ◌↔◌, ℕ, ◌+◌, ◌<◌, ◌==◌, true, false, List, [], ◌∷◌, ◌++◌, length, refl, sym, ap}
+use Rattle.std.proofs.Common.{subst, ◌∙◌, arith, inl, inr, ◌⊎◌, if◌then◌else◌, eqb-true, leb-true}
 use Rattle.std.proofs.lemmas.Bool.{true≢false, cases_lt, eqb-false, false_from_ne_true}
 use Rattle.ftc_journal.specs.declared.event.Event.{Event}
 use Rattle.ftc_journal.specs.declared.event.Event.TheVariants.{Recover}
@@ -44,44 +45,71 @@ record Found (c : Setting) (s : ChainState) (es : List Event) (number : ℕ) : T
   number_is : number ≡ s.events + length before
   may : MayLose c (state_after c s before) event
 
-lost_in : (c : Setting) (es : List Event) (s : ChainState) (p number : ℕ) → (state_after c s es).fate p ≡ Lost number → (s.fate p ≡ Lost number) ⊎ Found c s es number
+lost_in : (c : Setting) (es : List Event) (s : ChainState) (p number : ℕ) → (state_after c s es).fate p ≡ Lost number →
+    (s.fate p ≡ Lost number) ⊎ Found c s es number
 lost_in c [] s p number is = inl is
 lost_in c (e ∷ es) s p number is = elim (lost_in c es (next c s e) p number is) [
   | inl now ↦ elim (lost_by c s e p number now) [
     | inl old ↦ inl old
-    | inr new ↦ let same : number ≡ s.events = new.0 in inr (record { before = []; event = e; after = es; parts = refl; number_is = omega arith; may = new.1 })
+    | inr new ↦ let same : number ≡ s.events =
+        new.0 in inr (record { before = []; event = e; after = es; parts = refl; number_is = omega arith; may = new.1 })
   ]
   | inr found ↦
       let at : number ≡ (s.events + 1) + length found.before = found.number_is in
-      inr (record { before = e ∷ found.before; event = found.event; after = found.after; parts = ap (λ (x : List Event). e ∷ x) found.parts; number_is = omega arith; may = found.may })
+      inr (record {
+        before = e ∷ found.before;
+        event = found.event;
+        after = found.after;
+        parts = ap (λ (x : List Event). e ∷ x) found.parts;
+        number_is = omega arith;
+        may = found.may;
+      })
 ]
 
-pub lost_at : (c : Setting) (journal : List Event) (p number : ℕ) → (state_after c (opening c) journal).fate p ≡ Lost number → IsLostAt c journal number
+pub lost_at : (c : Setting) (journal : List Event) (p number : ℕ) →
+    (state_after c (opening c) journal).fate p ≡ Lost number → IsLostAt c journal number
 lost_at c journal p number is = elim (lost_in c journal (opening c) p number is) [
   | inl never ↦ absurd (cc)
   | inr found ↦ let at : number ≡ 0 + length found.before = found.number_is in
-      record { before = found.before; event = found.event; after = found.after; parts = found.parts; number_is = omega arith; may = found.may }
+      record {
+        before = found.before;
+        event = found.event;
+        after = found.after;
+        parts = found.parts;
+        number_is = omega arith;
+        may = found.may;
+      }
 ]
 
-to_between : (n r t i : ℕ) → 0 < apart n r i → ((r ≡ t) ⊎ (apart n r i < apart n r t)) → i < n → r < n → IsBetween n r t i
-to_between n r t i some far il rl = elim (r == t) as (λ b. r == t ≡ b → apart n r i < (if b then n else apart n r t) → IsBetween n r t i) [
-  | true ↦ λ e less. record { behind = some; ahead = subst (λ b. apart n r i < (if b then n else apart n r t)) (sym e) less }
-  | false ↦ λ e less. record { behind = some; ahead = subst (λ b. apart n r i < (if b then n else apart n r t)) (sym e) less }
-] refl (elim (r == t) as (λ b. r == t ≡ b → apart n r i < (if b then n else apart n r t)) [
-  | true ↦ λ e. let d = apart_cases n r i rl il in omega (arith, d)
-  | false ↦ λ e. elim far [ inl same ↦ absurd (eqb-false r t e same) | inr less ↦ less ]
-] refl)
+to_between : (n r t i : ℕ) → 0 < apart n r i → ((r ≡ t) ⊎ (apart n r i < apart n r t)) → i < n → r < n →
+    IsBetween n r t i
+to_between n r t i some far il rl =
+    elim (r == t) as (λ b. r == t ≡ b → apart n r i < (if b then n else apart n r t) → IsBetween n r t i) [
+      | true ↦ λ e less. record {
+        behind = some;
+        ahead = subst (λ b. apart n r i < (if b then n else apart n r t)) (sym e) less;
+      }
+      | false ↦ λ e less. record {
+        behind = some;
+        ahead = subst (λ b. apart n r i < (if b then n else apart n r t)) (sym e) less;
+      }
+    ] refl (elim (r == t) as (λ b. r == t ≡ b → apart n r i < (if b then n else apart n r t)) [
+      | true ↦ λ e. let d = apart_cases n r i rl il in omega (arith, d)
+      | false ↦ λ e. elim far [ inl same ↦ absurd (eqb-false r t e same) | inr less ↦ less ]
+    ] refl)
 
 from_between : (n r t i : ℕ) → IsBetween n r t i → (0 < apart n r i) × ((r ≡ t) ⊎ (apart n r i < apart n r t))
 from_between n r t i is = (
   is.behind,
-  elim (r == t) as (λ b. r == t ≡ b → apart n r i < (if b then n else apart n r t) → (r ≡ t) ⊎ (apart n r i < apart n r t)) [
-    | true ↦ λ e less. inl (eqb-true r t e)
-    | false ↦ λ e less. inr less
-  ] refl is.ahead,
+  elim (r == t) as (λ b. r == t ≡ b → apart n r i < (if b then n else apart n r t) →
+      (r ≡ t) ⊎ (apart n r i < apart n r t)) [
+        | true ↦ λ e less. inl (eqb-true r t e)
+        | false ↦ λ e less. inr less
+      ] refl is.ahead,
 )
 
-module _ (c : Setting) (s : ChainState) (run : IsRunState c s) (k : ℕ) (undone : List VisitName) (legal : MayHappen c s (Recover k undone)) where
+module _ (c : Setting) (s : ChainState) (run : IsRunState c s) (k : ℕ) (undone : List VisitName)
+    (legal : MayHappen c s (Recover k undone)) where
   good : IsGood c
   good = is_good c run.right
 
@@ -108,7 +136,8 @@ module _ (c : Setting) (s : ChainState) (run : IsRunState c s) (k : ℕ) (undone
       let exact = undoes c good s h k undone legal j p in (
         λ is.
             let u = exact.0 is in
-            let il : u.0 < n = stands_below c good.some (λ o. Rattle.ftc_protocol.specs.Changes.is_touching o ≡ true) s.trace h.world.serial u.0 p u.2.0 in
+            let il : u.0 < n = stands_below c good.some (λ o. Rattle.ftc_protocol.specs.Changes.is_touching o
+            ≡ true) s.trace h.world.serial u.0 p u.2.0 in
             record {
               there = u.3;
               earlier = u.0;
@@ -126,7 +155,9 @@ module _ (c : Setting) (s : ChainState) (run : IsRunState c s) (k : ℕ) (undone
   pub undone_closed : (j p q : ℕ) → In (names undone) j p → IsBefore c.partitions s.trace j p q → In (names undone) j q
   undone_closed j p q is earlier =
       let w = h.world in
-      (undoes c good s h k undone legal j q).1 (undone_before c s good.some good.sound w.lists w.nest w.serial w.passed w.earlier w.released (fit_now c s.up s.lines h.fit) k (previous_live c s k) (following_live c s k)
+      (undoes c good s h k undone legal j q).1
+      (undone_before c s good.some good.sound w.lists w.nest w.serial w.passed w.earlier w.released
+      (fit_now c s.up s.lines h.fit) k (previous_live c s k) (following_live c s k)
       fit.0 (fit.1 refl) before after j p q ((undoes c good s h k undone legal j p).0 is) earlier)
 
 first_live_of_first : (c : Setting) (s : ChainState) (j k : ℕ) → IsFirst c s j k → IsFirstLive (shape c) s.up j k
@@ -150,10 +181,13 @@ stands_means c setting journal run j p =
       λ is. record {
         there = is.there;
         had = λ i k le touching first. has_stable c.partitions s.trace (s.lists k) i p (λ lacks.
-            true≢false (sym ((exact j p is.there).1 (λ standing. lacks (standing i k le touching (first_by c s i k first)))) ∙ is.standing));
+            true≢false (sym ((exact j p is.there).1
+            (λ standing. lacks (standing i k le touching (first_by c s i k first)))) ∙ is.standing));
       },
       λ is. record {
         there = is.there;
-        standing = false_from_ne_true (has_fallen c s j p) (λ fell. (exact j p is.there).0 fell (λ i k le touching first. is.had i k le touching (first_live_of_first c s i k first)));
+        standing = false_from_ne_true (has_fallen c s j p)
+            (λ fell. (exact j p is.there).0 fell
+            (λ i k le touching first. is.had i k le touching (first_live_of_first c s i k first)));
       },
     )

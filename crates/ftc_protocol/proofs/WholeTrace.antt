@@ -19,6 +19,7 @@ whole_serial c is journal run =
     let inv = always c (is_good c is) (opens_fit c is) journal run in
     record {
       end = serial_of c s.trace;
-      exists = subst (λ (steps : List Step). serial_run c.rules (serial_opening c.packets) steps ≡ Some (serial_of c s.trace)) (trace_is c is journal run)
+      exists = subst (λ (steps : List Step). serial_run c.rules (serial_opening c.packets) steps
+          ≡ Some (serial_of c s.trace)) (trace_is c is journal run)
           (serial_runs c s.trace inv.world.serial);
     }

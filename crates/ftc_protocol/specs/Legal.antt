@@ -1,5 +1,6 @@
 -- When an event is legal.
-use Rattle.std.specs.Prelude.{ℕ, ◌≡◌, ◌≢◌, ◌+◌, ◌<◌, ◌≤◌, ◌⊎◌, ◌==◌, ◌||◌, nat_lt, not, Bool, true, false, List, [], ◌∷◌, Some, None}
+use Rattle.std.specs.Prelude.{ℕ, ◌≡◌, ◌≢◌, ◌+◌, ◌<◌, ◌≤◌, ◌⊎◌, ◌==◌, ◌||◌, nat_lt, not, Bool, true, false, List, []}
+use Rattle.std.specs.Prelude.{◌∷◌, Some, None}
 use Rattle.std.specs.List.{AllByRecursion}
 use Rattle.ftc_ring.specs.Ring.{next_of}
 use Rattle.ftc_journal.specs.declared.event.Event.{Event}

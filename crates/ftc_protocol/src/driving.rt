@@ -15,8 +15,10 @@ ghost use Rattle.ftc_protocol.specs.Legal.{IsLegal};
 ghost use Rattle.ftc_protocol.specs.Next.{next};
 ghost use Rattle.ftc_protocol.specs.Quiet.{IsQuiet};
 ghost use Rattle.ftc_protocol.specs.Run.{AreLegal, IsRun, IsFinished, state_after};
-ghost use Rattle.ftc_protocol.specs.Jobs.{event_of, slot_of, IsLegalJob, IsEarlier, IsFirstJob, IsWork, IsNoWork, IsNoPull, AreIdle, IsNoTake, IsNoLine, IsNoEnter, IsInTurn, IsWithin};
-ghost use Rattle.ftc_protocol.specs.Drive.{event_after, IsNoneDue, AreReleases, AreFinish, IsFinish, IsPassedOver, IsPlay, IsDrive};
+ghost use Rattle.ftc_protocol.specs.Jobs.{event_of, slot_of, IsLegalJob, IsEarlier, IsFirstJob, IsWork, IsNoWork};
+ghost use Rattle.ftc_protocol.specs.Jobs.{IsNoPull, AreIdle, IsNoTake, IsNoLine, IsNoEnter, IsInTurn, IsWithin};
+ghost use Rattle.ftc_protocol.specs.Drive.{event_after, IsNoneDue, AreReleases, AreFinish, IsFinish, IsPassedOver};
+ghost use Rattle.ftc_protocol.specs.Drive.{IsPlay, IsDrive};
 
 /// A job is legal where its event is, in whatever slot, and each event but a release does a job. The numbers
 /// of a legal job are those of servers, messages and packets.

@@ -18,7 +18,8 @@ ghost use Rattle.ftc_protocol.specs.Next.{next};
 ghost use Rattle.ftc_protocol.specs.Run.{IsRun, IsRunState, state_after};
 ghost use Rattle.ftc_protocol.specs.Moment.{IsSound, Stands};
 ghost use Rattle.ftc_protocol.specs.Front.{AreFronts};
-ghost use Rattle.ftc_protocol.specs.Orderly.{AreAhead, IsWithholding, IsUndone, IsStanding, IsOrderly, IsNeeding, IsRiding};
+ghost use Rattle.ftc_protocol.specs.Orderly.{AreAhead, IsWithholding, IsUndone, IsStanding, IsOrderly, IsNeeding};
+ghost use Rattle.ftc_protocol.specs.Orderly.{IsRiding};
 
 /// After every prefix of a run, in every order of its events, with every loss and every crash list that was
 /// accepted: the serial run of the visits that stand exists and released what was released. The first live

@@ -1,14 +1,17 @@
 -- A message that is behind the last server, or came from there, has no packet.
-use Rattle.std.proofs.Common.{◌≡◌, ◌∙◌, ◌+◌, ◌&&◌, ℕ, Bool, true, false, not, List, Option, Some, None, refl, sym, ap, subst, cond, eq-eqb, eqb-true}
+use Rattle.std.proofs.Common.{◌≡◌, ◌∙◌, ◌+◌, ◌&&◌, ℕ, Bool, true, false, not, List, Option, Some, None, refl, sym, ap}
+use Rattle.std.proofs.Common.{subst, cond, eq-eqb, eqb-true}
 use Rattle.ftc_journal.specs.declared.event.Event.{Event}
-use Rattle.ftc_journal.specs.declared.event.Event.TheVariants.{Apply, Carry, Crash, Enter, Lose, Pass, Propagate, Pull, Recover, Release, Take, Visit}
+use Rattle.ftc_journal.specs.declared.event.Event.TheVariants.{Apply, Carry, Crash, Enter, Lose, Pass, Propagate, Pull}
+use Rattle.ftc_journal.specs.declared.event.Event.TheVariants.{Recover, Release, Take, Visit}
 use Rattle.ftc_serial.specs.Take.{Outcome}
 use Rattle.ftc_serial.specs.Words.{with_at}
 use Rattle.ftc_serial.proofs.Functions.{with_at_cases}
 use Rattle.ftc_protocol.specs.Setting.{Setting, servers, packet_at}
 use Rattle.ftc_protocol.specs.State.{ChainState, Message, Where, Held, Queued}
 use Rattle.ftc_protocol.specs.Legal.{MayHappen, is_sent}
-use Rattle.ftc_protocol.specs.Next.{next, fresh_message, taken_message, visited_at, visited_message, outcome_at, sent_message, is_away, is_at, drop_if}
+use Rattle.ftc_protocol.specs.Next.{next, fresh_message, taken_message, visited_at, visited_message, outcome_at}
+use Rattle.ftc_protocol.specs.Next.{sent_message, is_away, is_at, drop_if}
 use Rattle.ftc_protocol.specs.Orderly.{IsPast}
 use Rattle.ftc_protocol.specs.Recovery.{following_live, is_dropped}
 use Rattle.ftc_protocol.specs.Run.{IsRunState}
@@ -76,7 +79,8 @@ module _ (setting : Setting) (state : ChainState) where
     keeps : (happens : Event) → MayHappen setting state happens → AreBare setting (next setting state happens)
     keeps (Enter packet) may = record {
       each = changed packet
-          (cond (state.up 0) (Some (fresh_message state.events (Some (packet_at setting packet)))) (state.message packet))
+          (cond (state.up 0) (Some (fresh_message state.events (Some (packet_at setting packet))))
+          (state.message packet))
           (entered packet (state.up 0));
     }
     keeps (Take link origin) may = record {
@@ -126,6 +130,7 @@ of_one size message o there bare past = (subst (IsBare size) there bare) past
 pub bare_past : (setting : Setting) (state : ChainState) → IsRunState setting state → (origin : ℕ) (message : Message) →
     state.message origin ≡ Some message → IsPast (servers setting) message.place → message.packet ≡ None
 bare_past setting state run origin message there past =
-    let are = in_each_state setting (AreBare setting) (λ before happens bare may. keeps setting before bare happens may) state
+    let are = in_each_state setting (AreBare setting)
+    (λ before happens bare may. keeps setting before bare happens may) state
     run (record { each = λ other. tt }) in
     of_one (servers setting) message (state.message origin) there (are.each origin) past

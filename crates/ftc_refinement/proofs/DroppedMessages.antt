@@ -1,5 +1,6 @@
 -- The held messages that stay where a server drops those that lack a log.
-use Rattle.std.proofs.Common.{◌≡◌, ◌∙◌, ◌++◌, ◌∷◌, ℕ, Bool, true, false, List, [], Option, Some, None, refl, sym, ap, subst, cond}
+use Rattle.std.proofs.Common.{◌≡◌, ◌∙◌, ◌++◌, ◌∷◌, ℕ, Bool, true, false, List, [], Option, Some, None, refl, sym, ap}
+use Rattle.std.proofs.Common.{subst, cond}
 use Rattle.std.specs.List.{filter, AllByRecursion}
 use Rattle.std.specs.Option.{option_map}
 use Rattle.ftc_protocol.specs.Setting.{Setting}
@@ -24,12 +25,14 @@ use Rattle.ftc_refinement.proofs.MessageCalls.{leaves}
 message_of_item : HeldItem → HeldMessage
 message_of_item item = record { visited = item.visited; by_ring = item.by_ring; message = item.message }
 
-the_same : (o : Option HeldMessage) (held : HeldMessage) → option_map item_of_held o ≡ Some (item_of_held held) → o ≡ Some held
+the_same : (o : Option HeldMessage) (held : HeldMessage) → option_map item_of_held o ≡ Some (item_of_held held) →
+    o ≡ Some held
 unfolding message_of_item
 the_same None held is = absurd cc
 the_same (Some other) held is = ap (option_map message_of_item) is
 
-assoc : {A : Type 0} (before : List A) (item : A) (after : List A) → (before ++ item ∷ []) ++ after ≡ before ++ item ∷ after
+assoc : {A : Type 0} (before : List A) (item : A) (after : List A) →
+    (before ++ item ∷ []) ++ after ≡ before ++ item ∷ after
 assoc [] item after = refl
 assoc (x ∷ before) item after = ap (λ list. x ∷ list) (assoc before item after)
 
@@ -45,10 +48,12 @@ module _ (setting : Setting) (state : ChainState) (server : ℕ) where
         (λ origin message item. IsHeldAs setting state server origin message item.visited item.by_ring item.message)
         (held_at state server) (items_of before) (item_of_held held) (items_of after)
         (subst (AreItems setting state server) (items_among before after held) are))),
-    subst (λ (list : List HeldMessage). AllByRecursion (λ (other : HeldMessage). found other.message.origin list ≡ Some other) after)
+    subst (λ (list : List HeldMessage). AllByRecursion (λ (other : HeldMessage). found other.message.origin list
+        ≡ Some other) after)
         (assoc before held after)
         (each_from (before ++ held ∷ []) after
-        (subst (λ (list : List HeldMessage). AreItems setting state server (items_of list)) (sym (assoc before held after)) are)),
+        (subst (λ (list : List HeldMessage). AreItems setting state server (items_of list))
+        (sym (assoc before held after)) are)),
   )
 
   pub each_found : (messages : List HeldMessage) → AreItems setting state server (items_of messages) →
@@ -81,7 +86,8 @@ pub stay_alike : (test : HeldMessage → Bool) (other : HeldItem → Bool) (mess
 stay_alike test other [] alike = refl
 stay_alike test other (held ∷ messages) alike =
     elim (test held) as (λ b. test held ≡ b → items_of (cond b (held ∷ filter test messages) (filter test messages))
-    ≡ cond (other (item_of_held held)) (item_of_held held ∷ filter other (items_of messages)) (filter other (items_of messages))) [
+    ≡ cond (other (item_of_held held)) (item_of_held held ∷ filter other (items_of messages))
+    (filter other (items_of messages))) [
       | true ↦ λ is. ap (λ list. item_of_held held ∷ list) (stay_alike test other messages alike.1)
           ∙ ap (λ b. cond b (item_of_held held ∷ filter other (items_of messages)) (filter other (items_of messages)))
           (sym is ∙ alike.0)

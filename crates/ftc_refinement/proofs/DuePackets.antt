@@ -1,5 +1,6 @@
 -- The packets of a buffer that are due.
-use Rattle.std.proofs.Common.{◌≡◌, ◌∙◌, ◌<◌, ◌≤◌, ◌+◌, ◌==◌, ◌⊎◌, ◌++◌, ◌∷◌, ℕ, Bool, true, false, List, [], Option, Some, None, refl, sym, ap, subst, cond, inl, inr, arith}
+use Rattle.std.proofs.Common.{◌≡◌, ◌∙◌, ◌<◌, ◌≤◌, ◌+◌, ◌==◌, ◌⊎◌, ◌++◌, ◌∷◌, ℕ, Bool, true, false, List, [], Option}
+use Rattle.std.proofs.Common.{Some, None, refl, sym, ap, subst, cond, inl, inr, arith}
 use Rattle.std.specs.Prelude.{◌↔◌}
 use Rattle.std.specs.List.{find, AllByRecursion, before_first, after_first}
 use Rattle.std.proofs.lemmas.Bool.{eq-eqb, eqb-true}
@@ -20,7 +21,8 @@ use Rattle.ftc_refinement.proofs.Messages.{found_is}
 
 -- where what is found stands
 which : {A : Type 0} (test : A → Bool) (before : List A) (item : A) (after : List A) (x : A) →
-    find test (before ++ item ∷ after) ≡ Some x → (find test before ≡ Some x) ⊎ ((item ≡ x) ⊎ (find test after ≡ Some x))
+    find test (before ++ item ∷ after) ≡ Some x → (find test before ≡ Some x)
+    ⊎ ((item ≡ x) ⊎ (find test after ≡ Some x))
 which {A} test [] item after x found =
     elim (test item) as (λ b. cond b (Some item) (find test after) ≡ Some x →
     (find test [] ≡ Some x) ⊎ ((item ≡ x) ⊎ (find test after ≡ Some x))) [
@@ -37,10 +39,12 @@ which {A} test (y ∷ before) item after x found =
 not_later : (one other : ℕ) → one < other → one ≤ other
 not_later one other less = omega (arith, less)
 
-module _ (setting : Setting) (state : ChainState) (server : ℕ) (last : server + 1 ≡ servers setting) (known : List (List ℕ))
+module _ (setting : Setting) (state : ChainState) (server : ℕ) (last : server + 1
+    ≡ servers setting) (known : List (List ℕ))
     (items : List WithheldPacket) (are : AreWithheld setting state server items)
     (said : (packet : ℕ) (waiting : Withheld) (item : WithheldPacket) → state.withheld packet ≡ Some waiting →
-    IsWithheldAs setting state packet waiting item → (is_due known item ≡ true) ↔ IsDue setting state packet waiting) where
+    IsWithheldAs setting state packet waiting item →
+    (is_due known item ≡ true) ↔ IsDue setting state packet waiting) where
   at_last : (packet : ℕ) → withheld_at setting state server packet ≡ state.withheld packet
   at_last packet = ap (λ b. cond b (state.withheld packet) None) (eq-eqb (server + 1) (servers setting) last)
 
@@ -49,7 +53,8 @@ module _ (setting : Setting) (state : ChainState) (server : ℕ) (last : server 
       (item : WithheldPacket) × (kept_of packet_of packet items ≡ Some item) × (is_due known item ≡ true)
   kept_due packet waiting due =
       let kept = kept_for time_of packet_of (IsWithheldAs setting state) packet waiting (kept_of packet_of packet items)
-      (subst (λ o. IsKeptAs (IsWithheldAs setting state) packet o (kept_of packet_of packet items)) (at_last packet ∙ due.0)
+      (subst (λ o. IsKeptAs (IsWithheldAs setting state) packet o (kept_of packet_of packet items))
+      (at_last packet ∙ due.0)
       (are.each packet)) in
       (kept.0, kept.1, (said packet waiting kept.0 due.0 kept.2).1 due)
 
@@ -57,7 +62,8 @@ module _ (setting : Setting) (state : ChainState) (server : ℕ) (last : server 
       IsDue setting state packet waiting → ⊥
   none_due none packet waiting due =
       let kept = kept_due packet waiting due in
-      let isnt = found_is (λ (item : WithheldPacket). is_due known item ≡ false) (λ item. packet_of item == packet) items kept.0
+      let isnt = found_is (λ (item : WithheldPacket). is_due known item
+      ≡ false) (λ item. packet_of item == packet) items kept.0
       none kept.1 in
       let is = kept.2 in
       let no = isnt.0 in
@@ -81,7 +87,8 @@ module _ (setting : Setting) (state : ChainState) (server : ℕ) (last : server 
 
     here : (waiting : Withheld) × (withheld_at setting state server due.packet ≡ Some waiting)
         × IsWithheldAs setting state due.packet waiting due
-    here = there_here time_of packet_of (IsWithheldAs setting state) (withheld_at setting state server) before due after apart
+    here = there_here time_of packet_of (IsWithheldAs setting state)
+        (withheld_at setting state server) before due after apart
 
     there : state.withheld due.packet ≡ Some here.0
     there = sym (at_last due.packet) ∙ here.1
@@ -109,7 +116,8 @@ module _ (setting : Setting) (state : ChainState) (server : ℕ) (last : server 
               ∙ (ap state.withheld named ∙ its.0)) in
               same_since here.0 waiting both
           | inr (inr later) ↦
-              let behind_it = found_is (Sooner due) test after kept.0 (behind Sooner before due after apart.order) later in
+              let behind_it = found_is (Sooner due) test after kept.0
+              (behind Sooner before due after apart.order) later in
               let named = eqb-true (packet_of kept.0) packet behind_it.1 in
               not_later here.0.since waiting.since
               (behind_it.0 here.0 waiting here.1 (ap (withheld_at setting state server) named ∙ there_too))
@@ -128,7 +136,11 @@ module _ (setting : Setting) (state : ChainState) (server : ℕ) (last : server 
             since_in (Some waiting) = waiting.since
 
     pub first_may : MayHappen setting state (event.Release due.packet)
-    first_may = (here.0, (said due.packet here.0 due there here.2).0 (test_of_found (is_due known) items due first), not_sooner)
+    first_may = (
+      here.0,
+      (said due.packet here.0 due there here.2).0 (test_of_found (is_due known) items due first),
+      not_sooner,
+    )
 
     pub first_bytes : bytes_withheld (state.withheld due.packet) ≡ due.bytes
     first_bytes = ap bytes_withheld there ∙ sym here.2.bytes

@@ -23,7 +23,8 @@ abbrev pub own_replica : HeadState → List Logged → Held
 own_replica head kept =
     record { content = head.content; partitions = head.partitions; vector = head.vector; kept = kept }
 
-abbrev pub contents : Held → List (Option Held) → List (List ℕ) → List HeldItem → List Withheld → List Logged → ServerContents
+abbrev pub contents : Held → List (Option Held) → List (List ℕ) → List HeldItem → List Withheld → List Logged →
+    ServerContents
 contents head later known held withheld forwarded = record {
   head = head;
   later = later;
@@ -33,7 +34,8 @@ contents head later known held withheld forwarded = record {
   forwarded = forwarded;
 }
 
-pub same_contents : (h i : Held) (l m : List (Option Held)) (k n : List (List ℕ)) (x y : List HeldItem) (w v : List Withheld)
+pub same_contents : (h i : Held) (l m : List (Option Held)) (k n : List (List ℕ)) (x y : List HeldItem)
+    (w v : List Withheld)
     (f g : List Logged) → h ≡ i → l ≡ m → k ≡ n → x ≡ y → w ≡ v → f ≡ g → contents h l k x w f ≡ contents i m n y v g
 same_contents h i l m k n x y w v f g eh el ek ex ew ef =
     ap (λ a. contents a l k x w f) eh ∙ (ap (λ a. contents i a k x w f) el ∙ (ap (λ a. contents i m a x w f) ek
@@ -59,7 +61,8 @@ pub record IsSameServer (one other : Server) : Type 0 where
   pub rule : one.rule ≡ other.rule
   pub partitions : one.partitions ≡ other.partitions
 
-pub stands_with : (setting : Setting) (before after : ChainState) (number : ℕ) (old new : Server) (kept : ServerContents) →
+pub stands_with : (setting : Setting) (before after : ChainState) (number : ℕ) (old new : Server)
+    (kept : ServerContents) →
     IsServerAt setting before number old → IsSameServer new old → contents_of new ≡ kept →
     IsServer setting after number kept → IsServerAt setting after number new
 stands_with setting before after number old new kept was same is stands = record {
@@ -96,6 +99,10 @@ takes setting before after number old new sent by_ring was taken =
     (same_own new old (ap (λ (s : ServerState). s.head) taken.rest) (ap (λ (s : ServerState). s.own.items) taken.rest))
     (ap (λ (s : ServerState). s.others) taken.rest)
     taken.known
-    (ap items_of taken.held ∙ items_behind old.held.items (record { visited = false; by_ring = by_ring; message = sent }))
+    (ap items_of taken.held ∙ items_behind old.held.items (record {
+      visited = false;
+      by_ring = by_ring;
+      message = sent;
+    }))
     (ap (λ (s : ServerState). s.buffer.items) taken.rest)
     (ap (λ (s : ServerState). s.forwarder) taken.rest))

@@ -30,7 +30,8 @@ held_by_item (Some other) held is =
 any_held : (origin : ℕ) (messages : List HeldMessage) → AnyOf (λ item. origin_in item ≡ origin) (items_of messages) →
     AnyOf (λ (held : HeldMessage). held.message.origin ≡ origin) messages
 any_held origin [] some = absurd some
-any_held origin (held ∷ messages) some = elim some [ inl here ↦ inl here | inr later ↦ inr (any_held origin messages later) ]
+any_held origin (held ∷ messages) some =
+    elim some [ inl here ↦ inl here | inr later ↦ inr (any_held origin messages later) ]
 
 module _ (setting : Setting) (state : ChainState) (server : ℕ) (messages : List HeldMessage)
     (items : AreItems setting state server (items_of messages)) where

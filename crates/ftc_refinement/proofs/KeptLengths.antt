@@ -1,11 +1,13 @@
 -- The packet of a message stays as long as it came.
-use Rattle.std.proofs.Common.{◌≡◌, ◌∙◌, ◌+◌, ◌==◌, ◌&&◌, ℕ, Bool, true, false, not, List, length, Option, Some, None, refl, sym, ap, subst, cond}
+use Rattle.std.proofs.Common.{◌≡◌, ◌∙◌, ◌+◌, ◌==◌, ◌&&◌, ℕ, Bool, true, false, not, List, length, Option, Some, None}
+use Rattle.std.proofs.Common.{refl, sym, ap, subst, cond}
 use Rattle.ftc_base.specs.declared.ask.Change.{Change}
 use Rattle.ftc_base.specs.declared.ask.Change.TheVariants.{Keep, Source, Destination}
 use Rattle.ftc_base.specs.declared.ask.Verdict.{Verdict}
 use Rattle.ftc_base.specs.declared.ask.Verdict.TheVariants.{Forward, Filter}
 use Rattle.ftc_journal.specs.declared.event.Event.{Event}
-use Rattle.ftc_journal.specs.declared.event.Event.TheVariants.{Apply, Carry, Crash, Enter, Lose, Pass, Propagate, Pull, Recover, Release, Take, Visit}
+use Rattle.ftc_journal.specs.declared.event.Event.TheVariants.{Apply, Carry, Crash, Enter, Lose, Pass, Propagate, Pull}
+use Rattle.ftc_journal.specs.declared.event.Event.TheVariants.{Recover, Release, Take, Visit}
 use Rattle.ftc_packet.specs.Rewrite.{with_end, with_source, with_destination}
 use Rattle.ftc_packet.proofs.WordEdits.{length-with_word}
 use Rattle.ftc_mbox.specs.Change.{changed_packet}
@@ -15,7 +17,8 @@ use Rattle.ftc_serial.proofs.Functions.{with_at_cases}
 use Rattle.ftc_protocol.specs.Setting.{Setting, servers, packet_at, rule_at}
 use Rattle.ftc_protocol.specs.State.{ChainState, Message}
 use Rattle.ftc_protocol.specs.Legal.{MayHappen, is_sent}
-use Rattle.ftc_protocol.specs.Next.{next, bytes_in, message_bytes, fresh_message, taken_message, visited_message, outcome_at, sent_message, is_away, is_at, drop_if}
+use Rattle.ftc_protocol.specs.Next.{next, bytes_in, message_bytes, fresh_message, taken_message, visited_message}
+use Rattle.ftc_protocol.specs.Next.{outcome_at, sent_message, is_away, is_at, drop_if}
 use Rattle.ftc_protocol.specs.Recovery.{following_live, is_dropped}
 use Rattle.ftc_protocol.specs.Run.{IsRunState}
 use Rattle.ftc_protocol.specs.Trace.{content_of}
@@ -111,7 +114,8 @@ module _ (setting : Setting) (state : ChainState) where
     its_outcome server packet message old there has bytes is =
         let before = message_bytes (state.message packet) in
         after_length before
-        (asked (rule_at setting server) before (content_of state.trace (state.lists server server) server)).end.verdict bytes is
+        (asked (rule_at setting server) before
+        (content_of state.trace (state.lists server server) server)).end.verdict bytes is
         ∙ (ap (λ o. length (message_bytes o)) there
         ∙ (ap (λ o. length (bytes_in o)) has
         ∙ of_one setting packet message old (state.message packet) there has (are.each packet)))
@@ -119,7 +123,8 @@ module _ (setting : Setting) (state : ChainState) where
     keeps : (happens : Event) → MayHappen setting state happens → AreAsLong setting (next setting state happens)
     keeps (Enter packet) may = record {
       each = changed packet
-          (cond (state.up 0) (Some (fresh_message state.events (Some (packet_at setting packet)))) (state.message packet))
+          (cond (state.up 0) (Some (fresh_message state.events (Some (packet_at setting packet))))
+          (state.message packet))
           (entered packet (state.up 0));
     }
     keeps (Take link origin) may = record {
@@ -137,7 +142,8 @@ module _ (setting : Setting) (state : ChainState) where
       each = changed origin
           (cond (is_sent setting server && not (is_away setting state server false))
           (sent_message setting state server (state.message origin)) None)
-          (sent server origin (is_sent setting server && not (is_away setting state server false)) (state.message origin)
+          (sent server origin (is_sent setting server
+          && not (is_away setting state server false)) (state.message origin)
           (are.each origin));
     }
     keeps (Lose server origin) may = record {
@@ -168,6 +174,7 @@ pub length_kept : (setting : Setting) (state : ChainState) → IsRunState settin
     (bytes : List ℕ) → state.message origin ≡ Some message → message.packet ≡ Some bytes →
     length bytes ≡ length (packet_at setting origin)
 length_kept setting state run origin message bytes there has =
-    let are = in_each_state setting (AreAsLong setting) (λ before happens long may. keeps setting before long happens may)
+    let are = in_each_state setting (AreAsLong setting)
+    (λ before happens long may. keeps setting before long happens may)
     state run (record { each = λ other. tt }) in
     of_one setting origin message bytes (state.message origin) there has (are.each origin)

@@ -1,5 +1,6 @@
 -- A log whose apply may happen is taken by the replicas of the server, and none that is applied next is above it.
-use Rattle.std.proofs.Common.{◌≡◌, ◌∙◌, ◌<◌, ◌==◌, ◌&&◌, ◌↔◌, ◌∷◌, arith, ℕ, Bool, true, false, not, List, [], Option, Some, None, length, refl, sym, ap, subst}
+use Rattle.std.proofs.Common.{◌≡◌, ◌∙◌, ◌<◌, ◌==◌, ◌&&◌, ◌↔◌, ◌∷◌, arith, ℕ, Bool, true, false, not, List, [], Option}
+use Rattle.std.proofs.Common.{Some, None, length, refl, sym, ap, subst}
 use Rattle.std.specs.List.{AllByRecursion}
 use Rattle.std.proofs.lemmas.Bool.{eqb-true, ne_eqb, true≢false}
 use Rattle.ftc_base.specs.declared.ask.Write.{Write}
@@ -76,9 +77,11 @@ module _ (setting : Setting) (state : ChainState) (server origin : ℕ) (visited
   alike : (log : Logged) → IsLogIn setting.partitions state.trace log → In message.logs log.group log.origin →
       (is_had old.others.items log ≡ true) ↔ ServerHas setting state server log.group log.origin
   alike log of_log rides =
-      let same = had_alike setting state server origin visited by_ring message old order is there place say log of_log rides in
+      let same = had_alike setting state server origin visited by_ring message old order is there place say log of_log
+      rides in
       let says = say log (replica_for old log.group) of_log
-      (rides_stands setting state server origin visited by_ring message old order is there place log.group log.origin rides) in
+      (rides_stands setting state server origin visited by_ring message old order is there place log.group log.origin
+      rides) in
       ((λ had. says.0 (sym same ∙ had)), (λ has. same ∙ says.1 has))
 
   module _ (log : Logged) (of_log : IsLogIn setting.partitions state.trace log)
@@ -115,7 +118,8 @@ module _ (setting : Setting) (state : ChainState) (server origin : ℕ) (visited
       lacking = is_lacking;
       allowed = ap (λ b. b && may_apply_to (replica_at old.others.items log.group) log) has_writes
           ∙ taken_by (replica_at old.others.items log.group)
-          (is.stands.replicas.others log.group (rides_below setting state server origin visited by_ring message old order
+          (is.stands.replicas.others log.group
+          (rides_below setting state server origin visited by_ring message old order
           is there place log.group log.origin rides))
           is_lacking;
     }
@@ -131,7 +135,8 @@ module _ (setting : Setting) (state : ChainState) (server origin : ℕ) (visited
 
     not_passed : logs_rise None logs ≡ true → AnyOf (λ other. other ≡ log) logs →
         IsNoLater log (next_log old.others.items None logs)
-    not_passed rising at = comes_by old.others.items log takeable None None logs rising lower_logs_had (λ never. absurd cc) at
+    not_passed rising at = comes_by old.others.items log takeable None None logs rising lower_logs_had
+        (λ never. absurd cc) at
 
   not_passed_over : (group packet : ℕ) → MayHappen setting state (event.Apply server origin group packet) →
       logs_rise None logs ≡ true → IsNotPassed (next_log old.others.items None logs) group packet
@@ -165,7 +170,8 @@ module _ (setting : Setting) (state : ChainState) (server origin : ℕ) (visited
 
 -- of a message that a server holds
 pub held_not_passed : (setting : Setting) (state : ChainState) (server origin group packet : ℕ) (held : HeldMessage)
-    (old : Server) → IsOrderly setting state → IsTrace setting.partitions state.trace → VectorsSay setting state server →
+    (old : Server) → IsOrderly setting state → IsTrace setting.partitions state.trace →
+    VectorsSay setting state server →
     ReadySays setting state server → TestsSay → IsServerAt setting state server old →
     found origin old.held.items ≡ Some held → logs_rise None held.message.logs ≡ true →
     MayHappen setting state (event.Apply server origin group packet) →

@@ -1,5 +1,6 @@
 -- Logs that ride with a message, and those of the forwarder: the two have none in common.
-use Rattle.std.proofs.Common.{◌≡◌, ◌∙◌, ◌==◌, ◌∷◌, ℕ, Bool, true, false, not, List, [], Some, filter, refl, sym, subst, cond}
+use Rattle.std.proofs.Common.{◌≡◌, ◌∙◌, ◌==◌, ◌∷◌, ℕ, Bool, true, false, not, List, [], Some, filter, refl, sym, subst}
+use Rattle.std.proofs.Common.{cond}
 use Rattle.std.specs.List.{AllByRecursion, list_all}
 use Rattle.ftc_message.specs.Logged.{Logged}
 use Rattle.ftc_message.specs.Ordered.{is_log_of, with_item, with_items}
@@ -26,7 +27,8 @@ use Rattle.ftc_refinement.proofs.Ring.{each_named}
 pub each_log : (setting : Setting) (state : ChainState) (visits : Visits) (logs : List Logged)
     (P : ℕ → ℕ → Type 0) (Q : Logged → Type 0) → AreLogsOf setting state visits logs →
     ((group packet : ℕ) → In visits group packet → P group packet) →
-    ((log : Logged) → IsLogIn setting.partitions state.trace log → P log.group log.origin → Q log) → AllByRecursion Q logs
+    ((log : Logged) → IsLogIn setting.partitions state.trace log → P log.group log.origin → Q log) →
+    AllByRecursion Q logs
 each_log setting state visits logs P Q are so from =
     all_mapped_of (IsLogIn setting.partitions state.trace)
     (λ (log : Logged). names_log logs log.group log.origin ≡ true) Q
@@ -83,7 +85,8 @@ apart_by P Q never logs others first second =
 forwarded_in : (state : ChainState) (server group packet : ℕ) → In (forwarded_at state server) group packet →
     In state.forwarder group packet
 forwarded_in state server group packet is =
-    elim (server == 0) as (λ b. (cond b state.forwarder no_visits) group packet ≡ true → In state.forwarder group packet) [
+    elim (server == 0) as (λ b. (cond b state.forwarder no_visits) group packet ≡ true →
+    In state.forwarder group packet) [
       | true ↦ λ forwarded. forwarded
       | false ↦ λ none. absurd cc
     ] is
@@ -93,7 +96,8 @@ pub each_forwarded : (setting : Setting) (state : ChainState) (server : ℕ) (fo
     ((log : Logged) → IsLogIn setting.partitions state.trace log →
     In state.forwarder log.group log.origin → Q log) → AllByRecursion Q forwarder
 each_forwarded setting state server forwarder Q are from =
-    each_log setting state (forwarded_at state server) forwarder (In state.forwarder) Q are (forwarded_in state server) from
+    each_log setting state (forwarded_at state server) forwarder (In state.forwarder) Q are
+    (forwarded_in state server) from
 
 -- none of the logs that ride with a message is the forwarder's
 module _ (setting : Setting) (state : ChainState) (server origin : ℕ) (old : Server) (riding : IsRiding state)
@@ -117,5 +121,6 @@ module _ (setting : Setting) (state : ChainState) (server origin : ℕ) (old : S
 
   pub onward_apart_from : are_apart (onward_in old held) old.forwarder ≡ true
   onward_apart_from = apart_by (In message.logs) (In state.forwarder)
-      (λ group packet rides forwarded. riding.away group packet origin message forwarded there rides) (onward_in old held)
+      (λ group packet rides forwarded. riding.away group packet origin message forwarded there rides)
+      (onward_in old held)
       old.forwarder onward_logs forwarder_logs

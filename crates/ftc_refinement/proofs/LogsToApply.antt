@@ -1,5 +1,6 @@
 -- The log that an apply names, and the replica that may have it.
-use Rattle.std.proofs.Common.{◌≡◌, ◌∙◌, ◌==◌, ◌&&◌, ◌||◌, ◌∷◌, ℕ, Bool, true, false, List, [], Option, Some, None, refl, ap, cond, inl, inr}
+use Rattle.std.proofs.Common.{◌≡◌, ◌∙◌, ◌==◌, ◌&&◌, ◌||◌, ◌∷◌, ℕ, Bool, true, false, List, [], Option, Some, None, refl}
+use Rattle.std.proofs.Common.{ap, cond, inl, inr}
 use Rattle.std.specs.List.{find}
 use Rattle.ftc_message.specs.Logged.{Logged}
 use Rattle.ftc_message.specs.Ordered.{is_log_of}
@@ -43,7 +44,8 @@ later_replica setting state server group known None (inr own) member other = abs
 later_replica setting state server group known (Some replica) slot member other = (replica, refl, slot.2)
 
 -- the replica of its group may have the log that is named
-pub may_apply_by : (replicas : List (Option Replicated)) (o : Option HeldMessage) (held : HeldMessage) (group packet : ℕ)
+pub may_apply_by : (replicas : List (Option Replicated)) (o : Option HeldMessage) (held : HeldMessage)
+    (group packet : ℕ)
     (log : Logged) (replica : Replicated) → o ≡ Some held →
     find (is_log_of packet group) held.message.logs ≡ Some log → replica_at replicas log.group ≡ Some replica →
     may_apply_to (Some replica) log ≡ true → may_apply_one replicas (log_of group packet o) ≡ true

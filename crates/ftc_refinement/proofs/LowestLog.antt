@@ -1,5 +1,6 @@
 -- No log of a held message that is to be applied stands before the one that is applied next.
-use Rattle.std.proofs.Common.{◌≡◌, ◌∙◌, ◌<◌, ◌≤◌, ◌⊎◌, ◌∷◌, ◌||◌, ℕ, Bool, true, false, List, [], Option, Some, None, refl, sym, ap, subst, cond, inl, inr, arith}
+use Rattle.std.proofs.Common.{◌≡◌, ◌∙◌, ◌<◌, ◌≤◌, ◌⊎◌, ◌∷◌, ◌||◌, ℕ, Bool, true, false, List, [], Option, Some, None}
+use Rattle.std.proofs.Common.{refl, sym, ap, subst, cond, inl, inr, arith}
 use Rattle.std.specs.List.{AllByRecursion, list_any}
 use Rattle.std.proofs.lemmas.Bool.{cases_eq}
 use Rattle.ftc_message.specs.Logged.{Logged, log_follows, logs_rise}
@@ -45,7 +46,8 @@ first_lower : (first log : Logged) (logs : List Logged) → logs_rise (Some (fir
     AnyOf (λ other. other ≡ log) logs → IsLower first log
 first_lower first log logs rising at =
     lower_by first log
-    (all_at (λ (other : Logged). first.origin ≤ other.origin) log logs (not_less first.origin first.group logs rising) at)
+    (all_at (λ (other : Logged). first.origin ≤ other.origin) log logs
+    (not_less first.origin first.group logs rising) at)
     (all_at (λ (other : Logged). other.origin ≡ first.origin → first.group < other.group) log logs
     (greater first.origin first.group logs rising) at)
 
@@ -71,7 +73,8 @@ module _ (replicas : List (Option Replicated)) (log : Logged) (takeable : IsTake
   comes_here : (waiting : Option ℕ) (first : Logged) (logs : List Logged) → first ≡ log →
       (waiting ≡ Some log.origin → ⊥) → next_log replicas waiting (first ∷ logs) ≡ Some first
   comes_here waiting first logs same free =
-      ap (λ b. cond b (next_log replicas waiting logs) (cond (is_packet_of waiting first) (next_log replicas waiting logs)
+      ap (λ b. cond b (next_log replicas waiting logs)
+      (cond (is_packet_of waiting first) (next_log replicas waiting logs)
       (cond (may_apply replicas first) (Some first) (next_log replicas (Some first.origin) logs))))
       (ap (is_had replicas) same ∙ takeable.lacking)
       ∙ (ap (λ b. cond b (next_log replicas waiting logs)

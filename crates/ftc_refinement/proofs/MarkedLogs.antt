@@ -1,5 +1,6 @@
 -- The log of a visit that touches something marks a partition, and so does its need.
-use Rattle.std.proofs.Common.{◌≡◌, ◌∙◌, ◌<◌, ◌≤◌, ◌∷◌, ℕ, Bool, true, List, [], Option, Some, None, refl, sym, ap, subst, cond, arith, inl, inr}
+use Rattle.std.proofs.Common.{◌≡◌, ◌∙◌, ◌<◌, ◌≤◌, ◌∷◌, ℕ, Bool, true, List, [], Option, Some, None, refl, sym, ap}
+use Rattle.std.proofs.Common.{subst, cond, arith, inl, inr}
 use Rattle.std.specs.Prelude.{IsSome}
 use Rattle.std.proofs.lemmas.Bool.{eq-eqb}
 use Rattle.ftc_base.specs.declared.ask.Answer.{Answer}
@@ -69,7 +70,8 @@ first_touched partitions answer answers =
 
 touched_marked : (partitions : ℕ) (numbers : ℕ → ℕ) (answers : List Answer) → 0 < partitions →
     partitions ≤ MOST_PARTITIONS → is_some_list answers ≡ true →
-    IsMarked (by_partition (λ partition. cond (is_touched partitions answers partition) (Some (numbers partition)) None))
+    IsMarked (by_partition (λ partition. cond (is_touched partitions answers partition)
+    (Some (numbers partition)) None))
 touched_marked partitions numbers [] some few touching = absurd cc
 touched_marked partitions numbers (answer ∷ answers) some few touching =
     let at = partition_of partitions answer.key in
@@ -78,18 +80,22 @@ touched_marked partitions numbers (answer ∷ answers) some few touching =
       partition = at;
       within = within;
       some = subst IsSome (sym (get_or-by_partition
-          (λ partition. cond (is_touched partitions (answer ∷ answers) partition) (Some (numbers partition)) None) at None within
+          (λ partition. cond (is_touched partitions (answer ∷ answers) partition)
+          (Some (numbers partition)) None) at None within
           ∙ ap (λ b. cond b (Some (numbers at)) None) (first_touched partitions answer answers))) refl;
     }
 
-module _ (setting : Setting) (right : IsSetting setting) (trace : List Entry) (is : IsTrace setting.partitions trace) where
+module _ (setting : Setting) (right : IsSetting setting) (trace : List Entry)
+    (is : IsTrace setting.partitions trace) where
   log_marked : (log : Logged) → IsLogIn setting.partitions trace log → IsTouching trace log.group log.origin →
       IsMarked log.before
   log_marked log of_log touching =
-      let both = both_stand setting.partitions (λ outcome. outcome ≡ of_log.outcome) (λ outcome. is_touching outcome ≡ true)
+      let both = both_stand setting.partitions (λ outcome. outcome ≡ of_log.outcome) (λ outcome. is_touching outcome
+      ≡ true)
       log.group log.origin trace is of_log.there touching in
       subst IsMarked (sym of_log.before)
-      (touched_marked setting.partitions (before_of setting.partitions trace log.group log.origin) of_log.outcome.answers
+      (touched_marked setting.partitions
+      (before_of setting.partitions trace log.group log.origin) of_log.outcome.answers
       right.some_partition right.few_partitions (ap is_touching (sym both.1) ∙ both.2))
 
   pub log_marks : (log : Logged) → IsLogIn setting.partitions trace log → IsTouching trace log.group log.origin →

@@ -31,12 +31,14 @@ with_messages old held withheld forwarded =
     record (contents_of old) { held = held; withheld = withheld; forwarded = forwarded }
 
 pub leaves : (setting : Setting) (before after : ChainState) (number : ℕ) (old new : Server) (held : List HeldItem)
-    (withheld : List Withheld) (forwarded : List Logged) → IsServerAt setting before number old → HasSameReplicas new old →
+    (withheld : List Withheld) (forwarded : List Logged) → IsServerAt setting before number old →
+    HasSameReplicas new old →
     items_of new.held.items ≡ held → new.buffer.items ≡ withheld → new.forwarder ≡ forwarded →
     IsServer setting after number (with_messages old held withheld forwarded) → IsServerAt setting after number new
 leaves setting before after number old new held withheld forwarded was same holds withholds forwards =
     stands_with setting before after number old new (with_messages old held withheld forwarded) was same.server
-    (same_contents (replica_or_own new None) (replica_or_own old None) new.others.items old.others.items new.known old.known
+    (same_contents (replica_or_own new None)
+    (replica_or_own old None) new.others.items old.others.items new.known old.known
     (items_of new.held.items) held new.buffer.items withheld new.forwarder forwarded
     (same_own new old same.head same.own) same.others same.known holds withholds forwards)
 
@@ -94,7 +96,8 @@ beside_release old new done = (
 -- ---- a message that leaves
 
 pub may_leave : (setting : Setting) (state : ChainState) (lost : Bool) (server origin : ℕ) →
-    IsLegal setting state (leaving lost server origin) → (message : Message) × MayLeave setting state server origin message
+    IsLegal setting state (leaving lost server origin) →
+    (message : Message) × MayLeave setting state server origin message
 may_leave setting state false server origin legal = (legal.0.0, legal.0.1)
 may_leave setting state true server origin legal = (legal.0.0, legal.0.1)
 

@@ -1,5 +1,6 @@
 -- The held messages of a server, and the items that stand for them.
-use Rattle.std.proofs.Common.{◌≡◌, ◌∙◌, ◌==◌, ◌&&◌, ◌++◌, ◌∷◌, ℕ, Bool, true, false, List, [], Option, Some, None, refl, sym, ap, subst, cond}
+use Rattle.std.proofs.Common.{◌≡◌, ◌∙◌, ◌==◌, ◌&&◌, ◌++◌, ◌∷◌, ℕ, Bool, true, false, List, [], Option, Some, None, refl}
+use Rattle.std.proofs.Common.{sym, ap, subst, cond}
 use Rattle.std.specs.List.{find, list_all, AllByRecursion}
 use Rattle.std.specs.Option.{option_map}
 use Rattle.std.proofs.lemmas.Bool.{eqb-true, eq-eqb}
@@ -66,7 +67,8 @@ pub record IsAmong (origin : ℕ) (messages : List HeldMessage) (held : HeldMess
   pub after : List HeldMessage
   pub parts : messages ≡ before ++ held ∷ after
   pub others : without origin messages ≡ before ++ after
-  pub changed : (change : HeldMessage → HeldMessage) → with_changed origin change messages ≡ before ++ change held ∷ after
+  pub changed : (change : HeldMessage → HeldMessage) →
+      with_changed origin change messages ≡ before ++ change held ∷ after
   pub origin_is : held.message.origin ≡ origin
 
 pub among : (origin : ℕ) (messages : List HeldMessage) (held : HeldMessage) → found origin messages ≡ Some held →
@@ -89,7 +91,8 @@ among origin (first ∷ messages) held there =
         after = rest.after;
         parts = ap (λ x. first ∷ x) rest.parts;
         others = ap (λ b. cond b messages (first ∷ without origin messages)) isnt ∙ ap (λ x. first ∷ x) rest.others;
-        changed = λ change. ap (λ b. cond b (change first ∷ messages) (first ∷ with_changed origin change messages)) isnt
+        changed = λ change. ap (λ b. cond b (change first ∷ messages) (first
+            ∷ with_changed origin change messages)) isnt
             ∙ ap (λ x. first ∷ x) (rest.changed change);
         origin_is = rest.origin_is;
       }

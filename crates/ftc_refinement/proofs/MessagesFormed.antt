@@ -1,5 +1,6 @@
 -- What a server sends of a message has a frame.
-use Rattle.std.proofs.Common.{◌≡◌, ◌∙◌, ◌<◌, ◌≤◌, ◌==◌, ◌||◌, ◌∷◌, ℕ, Bool, true, false, not, List, [], Some, None, length, refl, sym, ap, subst, cond}
+use Rattle.std.proofs.Common.{◌≡◌, ◌∙◌, ◌<◌, ◌≤◌, ◌==◌, ◌||◌, ◌∷◌, ℕ, Bool, true, false, not, List, [], Some, None}
+use Rattle.std.proofs.Common.{length, refl, sym, ap, subst, cond}
 use Rattle.std.specs.Prelude.{IfSome}
 use Rattle.std.specs.List.{AllByRecursion}
 use Rattle.std.proofs.lemmas.Bool.{eq-eqb}
@@ -55,7 +56,8 @@ module _ (setting : Setting) (state : ChainState) (run : IsRunState setting stat
 
   needs_mark : AllByRecursion (λ (need : Need). MarksSome need.marks) held.message.needs
   needs_mark = all_mapped_of
-      (λ (need : Need). need.group < MOST_SERVERS × IsNeedIn setting.partitions state.trace need.group origin need.marks)
+      (λ (need : Need). need.group < MOST_SERVERS
+      × IsNeedIn setting.partitions state.trace need.group origin need.marks)
       (λ (need : Need). needs_of held.message.needs need.group ≡ true) (λ (need : Need). MarksSome need.marks)
       (λ need of_need needed. need_marks setting run.right state.trace tied.trace need.group origin need.marks of_need.1
       (needing.carried origin need.group message there (sym (stands.needs.names need.group) ∙ needed)).0)
@@ -67,7 +69,8 @@ module _ (setting : Setting) (state : ChainState) (run : IsRunState setting stat
       let has : held.message.packet ≡ Some carried.1.0 = stands.packet ∙ carried.1.1 in
       absurd cc)
 
-  needs_marked : (last : Bool) → AllByRecursion (λ (need : Need). MarksSome need.marks) (cond last [] held.message.needs)
+  needs_marked : (last : Bool) →
+      AllByRecursion (λ (need : Need). MarksSome need.marks) (cond last [] held.message.needs)
   needs_marked true = tt
   needs_marked false = needs_mark
 
@@ -80,7 +83,8 @@ module _ (setting : Setting) (state : ChainState) (run : IsRunState setting stat
   sent_formed few short = record {
     packet = short;
     few_logs = few;
-    logs = all_with (λ (log : Logged). MarksSome log.before) is_earlier (attached_in old) (onward_in old held) attached_mark
+    logs = all_with (λ (log : Logged). MarksSome log.before) is_earlier (attached_in old)
+        (onward_in old held) attached_mark
         (all_kept (λ (log : Logged). MarksSome log.before)
         (λ (log : Logged). not (log.group == group_ending_at old.ring old.id)) held.message.logs logs_mark);
     needs = needs_marked (is_last old.ring old.id);

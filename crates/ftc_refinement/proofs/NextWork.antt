@@ -1,5 +1,6 @@
 -- The log of a held message that is applied next: which logs of its packet are had.
-use Rattle.std.proofs.Common.{◌≡◌, ◌≢◌, ◌∙◌, ◌<◌, ◌≤◌, ◌==◌, ◌||◌, ◌∷◌, ℕ, Bool, true, false, List, [], Option, Some, None, refl, sym, ap, subst, cond, arith}
+use Rattle.std.proofs.Common.{◌≡◌, ◌≢◌, ◌∙◌, ◌<◌, ◌≤◌, ◌==◌, ◌||◌, ◌∷◌, ℕ, Bool, true, false, List, [], Option, Some}
+use Rattle.std.proofs.Common.{None, refl, sym, ap, subst, cond, arith}
 use Rattle.std.specs.List.{AllByRecursion, list_any}
 use Rattle.std.proofs.lemmas.Bool.{eqb-true, eq-eqb}
 use Rattle.std.proofs.lemmas.Bool.Decides.{nat_tests}
@@ -25,7 +26,8 @@ pub not_less : (o g : ℕ) (logs : List Logged) → logs_rise (Some (o, g)) logs
     AllByRecursion (λ (log : Logged). o ≤ log.origin) logs
 not_less o g [] rising = tt
 not_less o g (log ∷ logs) rising =
-    let parts = both (log_follows (Some (o, g)) log.origin log.group) (logs_rise (Some (log.origin, log.group)) logs) rising in
+    let parts = both (log_follows (Some (o, g)) log.origin log.group)
+    (logs_rise (Some (log.origin, log.group)) logs) rising in
     let here = follows_at o g log.origin log.group parts.0 in (
       here,
       all_mapped (λ (other : Logged). log.origin ≤ other.origin) (λ (other : Logged). o ≤ other.origin)
@@ -44,9 +46,11 @@ pub greater : (o g : ℕ) (logs : List Logged) → logs_rise (Some (o, g)) logs 
     AllByRecursion (λ (log : Logged). log.origin ≡ o → g < log.group) logs
 greater o g [] rising = tt
 greater o g (log ∷ logs) rising =
-    let parts = both (log_follows (Some (o, g)) log.origin log.group) (logs_rise (Some (log.origin, log.group)) logs) rising in (
+    let parts = both (log_follows (Some (o, g)) log.origin log.group)
+    (logs_rise (Some (log.origin, log.group)) logs) rising in (
       follows_by o g log.origin log.group parts.0,
-      all_mapped_of (λ (other : Logged). log.origin ≤ other.origin) (λ (other : Logged). other.origin ≡ log.origin → log.group < other.group)
+      all_mapped_of (λ (other : Logged). log.origin ≤ other.origin) (λ (other : Logged). other.origin ≡ log.origin →
+          log.group < other.group)
           (λ (other : Logged). other.origin ≡ o → g < other.group)
           (λ other least more. greater_at o g log.origin log.group other.origin other.group parts.0 least more) logs
           (not_less log.origin log.group logs parts.1) (greater log.origin log.group logs parts.1),
@@ -84,7 +88,8 @@ waits_as (Some packet) log is = ap (λ n. Some n) (sym (eqb-true log.origin pack
 
 module _ (replicas : List (Option Replicated)) where
   -- what is so of all logs is so of it
-  pub all_next : (P : Logged → Type 0) (waiting : Option ℕ) (logs : List Logged) (log : Logged) → AllByRecursion P logs →
+  pub all_next : (P : Logged → Type 0) (waiting : Option ℕ) (logs : List Logged) (log : Logged) →
+      AllByRecursion P logs →
       next_log replicas waiting logs ≡ Some log → P log
   all_next P waiting [] log all next = absurd cc
   all_next P waiting (first ∷ logs) log all next =
@@ -94,7 +99,8 @@ module _ (replicas : List (Option Replicated)) where
       (λ test same. subst P same all.0) (λ test is. all_next P (Some first.origin) logs log all.1 is) next
 
   -- a packet that waits is passed over
-  skipped_over : (packet o g : ℕ) (logs : List Logged) (log : Logged) → packet ≤ o → logs_rise (Some (o, g)) logs ≡ true →
+  skipped_over : (packet o g : ℕ) (logs : List Logged) (log : Logged) → packet ≤ o →
+      logs_rise (Some (o, g)) logs ≡ true →
       next_log replicas (Some packet) logs ≡ Some log → log.origin ≢ packet
   skipped_over packet o g [] log bound rising next = absurd cc
   skipped_over packet o g (first ∷ logs) log bound rising next =
@@ -102,12 +108,14 @@ module _ (replicas : List (Option Replicated)) where
       (logs_rise (Some (first.origin, first.group)) logs) rising in
       let higher = no_less packet o first.origin bound (follows_at o g first.origin first.group parts.0) in
       by_tests (log.origin ≢ packet) first log (next_log replicas (Some packet) logs)
-      (next_log replicas (Some first.origin) logs) (is_had replicas first) (first.origin == packet) (may_apply replicas first)
+      (next_log replicas (Some first.origin) logs) (is_had replicas first) (first.origin == packet)
+      (may_apply replicas first)
       (λ test is. skipped_over packet first.origin first.group logs log higher parts.1 is)
       (λ test is. skipped_over packet first.origin first.group logs log higher parts.1 is)
       (λ isnt one same. differs_by first.origin packet isnt (ap (λ (l : Logged). l.origin) one ∙ same))
       (λ isnt is same. differs_by first.origin packet isnt (same_then first.origin packet
-      (subst (λ n. first.origin ≤ n) same (all_next (λ (l : Logged). first.origin ≤ l.origin) (Some first.origin) logs log
+      (subst (λ n. first.origin ≤ n) same
+      (all_next (λ (l : Logged). first.origin ≤ l.origin) (Some first.origin) logs log
       (not_less first.origin first.group logs parts.1) is)) higher))
       next
 
@@ -150,7 +158,8 @@ pub found_with : (P : Logged → Type 0) (test : Logged → Bool) (logs : List L
     list_any test logs ≡ true → (log : Logged) × (test log ≡ true) × P log
 found_with P test [] all some = absurd cc
 found_with P test (log ∷ logs) all some =
-    elim (test log) as (λ b. test log ≡ b → b || list_any test logs ≡ true → (log : Logged) × (test log ≡ true) × P log) [
+    elim (test log) as (λ b. test log ≡ b → b || list_any test logs ≡ true → (log : Logged) × (test log ≡ true)
+    × P log) [
       | true ↦ λ is some. (log, is, all.0)
       | false ↦ λ isnt some. found_with P test logs all.1 some
     ] refl some

@@ -1,5 +1,6 @@
 -- When a message may begin without a packet, by what the servers and links have.
-use Rattle.std.proofs.Common.{◌≡◌, ◌≢◌, ◌∙◌, ◌<◌, ◌≤◌, ◌+◌, ◌-◌, ◌==◌, ◌∷◌, ℕ, Bool, true, false, List, [], Option, Some, None, refl, sym, ap, subst, cond, arith, inl, inr, eq-eqb}
+use Rattle.std.proofs.Common.{◌≡◌, ◌≢◌, ◌∙◌, ◌<◌, ◌≤◌, ◌+◌, ◌-◌, ◌==◌, ◌∷◌, ℕ, Bool, true, false, List, [], Option}
+use Rattle.std.proofs.Common.{Some, None, refl, sym, ap, subst, cond, arith, inl, inr, eq-eqb}
 use Rattle.std.specs.List.{AllByRecursion}
 use Rattle.std.proofs.lemmas.Bool.{true≢false}
 use Rattle.std.proofs.lemmas.Option.{none-some}
@@ -52,7 +53,8 @@ module _ (setting : Setting) (state : ChainState) (number : ℕ) (server : Serve
       (origin : ℕ) (message : Message) → state.message origin ≡ Some message → (visited : Bool) →
       message.place ≢ Held number visited false
   none_beside_ring all origin message there visited place =
-      let it = found_as setting state number origin message visited false server.held.items there place at.stands.held in
+      let it = found_as setting state number origin message visited false server.held.items there place at.stands.held
+      in
       let flags = same_flags number it.held.visited it.held.by_ring visited false (sym it.stands.place ∙ place) in
       true≢false (sym (found_is (λ (held : HeldMessage). held.by_ring ≡ true)
       (λ (held : HeldMessage). held.message.origin == origin) server.held.items it.held all it.there).0 ∙ flags.1)
@@ -67,7 +69,8 @@ module _ (setting : Setting) (state : ChainState) (number : ℕ) (server : Serve
           absurd (none-some its.0 (sym (none held.message.origin) ∙ its.1))
 
   -- the buffer of the last server
-  at_last : number + 1 ≡ servers setting → (packet : ℕ) → withheld_at setting state number packet ≡ state.withheld packet
+  at_last : number + 1 ≡ servers setting → (packet : ℕ) →
+      withheld_at setting state number packet ≡ state.withheld packet
   at_last last packet = ap (λ b. cond b (state.withheld packet) None) (eq-eqb (number + 1) (servers setting) last)
 
   pub some_kept : number + 1 ≡ servers setting → (packet : ℕ) → state.withheld packet ≢ None → server.buffer.items ≢ []
@@ -79,7 +82,8 @@ module _ (setting : Setting) (state : ChainState) (number : ℕ) (server : Serve
   pub some_withheld : server.buffer.items ≢ [] → (packet : ℕ) × (state.withheld packet ≢ None)
   some_withheld some = first server.buffer.items refl
     where
-      first : (items : List WithheldPacket) → server.buffer.items ≡ items → (packet : ℕ) × (state.withheld packet ≢ None)
+      first : (items : List WithheldPacket) → server.buffer.items ≡ items →
+          (packet : ℕ) × (state.withheld packet ≢ None)
       first [] parts = absurd (some parts)
       first (kept ∷ rest) parts =
           let its = there_here time_of packet_of (IsWithheldAs setting state) (withheld_at setting state number) [] kept
@@ -91,7 +95,8 @@ module _ (setting : Setting) (state : ChainState) (number : ℕ) (server : Serve
           )
 
 -- a log of the forwarder is one of its visits, and the other way round
-module _ (setting : Setting) (state : ChainState) (logs : List Logged) (are : AreLogsOf setting state state.forwarder logs)
+module _ (setting : Setting) (state : ChainState) (logs : List Logged)
+    (are : AreLogsOf setting state state.forwarder logs)
   where
     pub some_logs : (group packet : ℕ) → In state.forwarder group packet → logs ≢ []
     some_logs group packet has empty =
@@ -140,8 +145,10 @@ module _ (setting : Setting) (state : ChainState) (slots : ℕ → Option Server
       let last = slot_up (servers setting - 1) last_below (up (servers setting - 1) last_below) in
       record {
         none_held = λ number server below is.
-            let at = of_slot number server below is in none_held_there setting state number server at.1 stalled.messages;
-        none_queued = λ link below. none_queued setting state link (queues link) (are.links_are link below) stalled.messages;
+            let at = of_slot number server below is in
+            none_held_there setting state number server at.1 stalled.messages;
+        none_queued = λ link below. none_queued setting state link (queues link)
+            (are.links_are link below) stalled.messages;
         no_gap = λ link below. let link_is = are.links_are link below in link_is.gap ∙ stalled.gaps link below;
         last = last.0;
         last_is = last.1;
@@ -162,7 +169,8 @@ module _ (setting : Setting) (state : ChainState) (slots : ℕ → Option Server
         first_is = first.1;
         by_ring = each_by_ring setting state 0 first.0 at.1 may.2;
         some = elim may.3 [
-          | inl carried ↦ inl (some_logs setting state first.0.forwarder at.1.stands.forwarded carried.0 carried.1 carried.2)
+          | inl carried ↦ inl (some_logs setting state first.0.forwarder at.1.stands.forwarded carried.0 carried.1
+              carried.2)
           | inr stalled ↦ inr (stalled_by may.1 stalled)
         ];
         origin_is = may.4;

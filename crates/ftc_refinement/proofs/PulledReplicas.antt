@@ -1,5 +1,6 @@
 -- Replicas that are put in place.
-use Rattle.std.proofs.Common.{◌≡◌, ◌≢◌, ◌∙◌, ◌<◌, ◌==◌, ◌∷◌, ℕ, Bool, true, false, List, [], Option, Some, None, length, refl, sym, ap, subst, cond, slice_set, inl, inr}
+use Rattle.std.proofs.Common.{◌≡◌, ◌≢◌, ◌∙◌, ◌<◌, ◌==◌, ◌∷◌, ℕ, Bool, true, false, List, [], Option, Some, None, length}
+use Rattle.std.proofs.Common.{refl, sym, ap, subst, cond, slice_set, inl, inr}
 use Rattle.std.specs.List.{find, AllByRecursion}
 use Rattle.std.proofs.lemmas.Bool.{eq-eqb, eqb-true, cases_eq}
 use Rattle.std.proofs.lemmas.List.{length-set, get_or-set_same, get_or-set_other}
@@ -18,7 +19,8 @@ abbrev pub in_place : Option GroupReplica → Option Held → Option Held
 in_place None old = old
 in_place (Some new) old = Some new.replica
 
-pub length_installed : (news : List GroupReplica) (others : List (Option Held)) → length (with_installed news others) ≡ length others
+pub length_installed : (news : List GroupReplica) (others : List (Option Held)) →
+    length (with_installed news others) ≡ length others
 length_installed [] others = refl
 length_installed (new ∷ news) others =
     length-set (with_installed news others) new.group (Some new.replica) ∙ length_installed news others
@@ -56,7 +58,8 @@ module _ (ring : RingShape) (id : ℕ) (known : List (List ℕ)) where
       with_own ring id group vector before ≡ cond b (group_raised before group vector) before
   own_by group vector before b is = ap (λ t. cond t (group_raised before group vector) before) is
 
-  pub none_known : (news : List GroupReplica) → AllByRecursion (λ (new : GroupReplica). group_ending_at ring id ≢ new.group) news →
+  pub none_known : (news : List GroupReplica) →
+      AllByRecursion (λ (new : GroupReplica). group_ending_at ring id ≢ new.group) news →
       known_with ring id news known ≡ known
   none_known [] apart = refl
   none_known (new ∷ news) apart =
@@ -78,7 +81,8 @@ module _ (ring : RingShape) (id : ℕ) (known : List (List ℕ)) where
             let named = eqb-true first.group (group_ending_at ring id) is in
             own_by first.group first.replica.vector (known_with ring id news known) true is
             ∙ (ap (λ k. group_raised k first.group first.replica.vector)
-            (none_known news (subst (λ g. AllByRecursion (λ (other : GroupReplica). g ≢ other.group) news) named once.0))
+            (none_known news (subst (λ g. AllByRecursion
+            (λ (other : GroupReplica). g ≢ other.group) news) named once.0))
             ∙ (ap (λ g. group_raised known g first.replica.vector) named
             ∙ ap (λ (r : GroupReplica). group_raised known (group_ending_at ring id) r.replica.vector) one))
         | false ↦ λ isnt later.

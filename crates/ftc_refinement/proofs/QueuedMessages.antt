@@ -1,5 +1,6 @@
 -- Which message of a link may be taken: its oldest.
-use Rattle.std.proofs.Common.{◌≡◌, ◌∙◌, ◌∷◌, ℕ, Bool, true, false, List, [], Option, Some, None, refl, sym, ap, subst, cond, eq-eqb, eqb-true}
+use Rattle.std.proofs.Common.{◌≡◌, ◌∙◌, ◌∷◌, ℕ, Bool, true, false, List, [], Option, Some, None, refl, sym, ap, subst}
+use Rattle.std.proofs.Common.{cond, eq-eqb, eqb-true}
 use Rattle.std.proofs.lemmas.Option.{none-some, same_Some}
 use Rattle.ftc_journal.specs.declared.event.Event.TheVariants as event
 use Rattle.ftc_link.specs.Queue.{Queue}
@@ -28,7 +29,8 @@ pub queued_by : (link : ℕ) (place : Where) → is_queued_on link place ≡ tru
 queued_by link (Held server visited by_ring) is = absurd cc
 queued_by link (Queued other) is = ap (λ l. Queued l) (eqb-true other link is)
 
-module _ (setting : Setting) (state : ChainState) (link : ℕ) (queue : Queue) (is : IsLink setting state link queue) where
+module _ (setting : Setting) (state : ChainState) (link : ℕ) (queue : Queue)
+    (is : IsLink setting state link queue) where
   pub on_link : (origin : ℕ) (message : Message) → state.message origin ≡ Some message →
       message.place ≡ Queued link → queued_on state link origin ≡ Some message
   on_link origin message there place =

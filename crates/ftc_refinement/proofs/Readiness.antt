@@ -1,5 +1,6 @@
 -- Which logs a server's replicas have.
-use Rattle.std.proofs.Common.{◌≡◌, ◌∙◌, ◌<◌, ◌&&◌, ◌⊎◌, ◌∷◌, ℕ, Bool, true, false, List, [], Option, Some, None, refl, sym, ap, subst, inl, inr}
+use Rattle.std.proofs.Common.{◌≡◌, ◌∙◌, ◌<◌, ◌&&◌, ◌⊎◌, ◌∷◌, ℕ, Bool, true, false, List, [], Option, Some, None, refl}
+use Rattle.std.proofs.Common.{sym, ap, subst, inl, inr}
 use Rattle.std.specs.List.{list_all, AllByRecursion}
 use Rattle.ftc_message.specs.Logged.{Logged}
 use Rattle.ftc_replica.specs.Held.{Held as Replicated}
@@ -30,7 +31,8 @@ use Rattle.ftc_refinement.proofs.Messages.{both}
 pub replica_for : Server → ℕ → Replicated
 replica_for old group = pruned_by (vector_of old.known group) (replica_in old group)
 
-module _ (setting : Setting) (state : ChainState) (server : ℕ) (old : Server) (is : IsServerAt setting state server old) where
+module _ (setting : Setting) (state : ChainState) (server : ℕ) (old : Server)
+    (is : IsServerAt setting state server old) where
   abbrev Stands : ℕ → Option Replicated → Type 0
   Stands group o = IsReplicaAt setting state server group (pruned_by (vector_of old.known group) (replica_or_own old o))
 
@@ -74,7 +76,8 @@ VectorsSay setting state server = (log : Logged) (held : Replicated) → IsLogIn
     IsReplicaAt setting state server log.group held →
     (covers_log held.vector log ≡ true) ↔ ServerHas setting state server log.group log.origin
 
-module _ (setting : Setting) (state : ChainState) (server origin : ℕ) (visited by_ring : Bool) (message : Message) (old : Server)
+module _ (setting : Setting) (state : ChainState) (server origin : ℕ) (visited by_ring : Bool) (message : Message)
+    (old : Server)
     (order : IsOrderly setting state) (is : IsServerAt setting state server old)
     (there : state.message origin ≡ Some message) (place : message.place ≡ Held server visited by_ring) where
   pub is_up : state.up server ≡ true
@@ -91,7 +94,8 @@ module _ (setting : Setting) (state : ChainState) (server origin : ℕ) (visited
   pub rides_stands : (group packet : ℕ) → In message.logs group packet →
       IsReplicaAt setting state server group (replica_for old group)
   rides_stands group packet rides =
-      replica_stands setting state server old is group (rides_below group packet rides) (rides_member group packet rides)
+      replica_stands setting state server old is group (rides_below group packet rides)
+      (rides_member group packet rides)
 
   own_has : (group packet : ℕ) → group ≡ server → IsChanging setting.partitions state.trace group packet →
       In (state.lists server) group packet

@@ -1,8 +1,10 @@
 -- A message that is ready at the server that holds it stays so.
-use Rattle.std.proofs.Common.{◌≡◌, ◌≢◌, ◌∙◌, ◌<◌, ◌==◌, ◌&&◌, ℕ, Bool, true, false, not, cond, Option, Some, None, inl, inr, refl, sym, ap, subst, arith, eq-eqb}
+use Rattle.std.proofs.Common.{◌≡◌, ◌≢◌, ◌∙◌, ◌<◌, ◌==◌, ◌&&◌, ℕ, Bool, true, false, not, cond, Option, Some, None, inl}
+use Rattle.std.proofs.Common.{inr, refl, sym, ap, subst, arith, eq-eqb}
 use Rattle.std.proofs.lemmas.Bool.{true≢false, and_parts, not-true, eqb-false}
 use Rattle.ftc_journal.specs.declared.event.Event.{Event}
-use Rattle.ftc_journal.specs.declared.event.Event.TheVariants.{Apply, Carry, Crash, Enter, Lose, Pass, Propagate, Pull, Recover, Release, Take, Visit}
+use Rattle.ftc_journal.specs.declared.event.Event.TheVariants.{Apply, Carry, Crash, Enter, Lose, Pass, Propagate, Pull}
+use Rattle.ftc_journal.specs.declared.event.Event.TheVariants.{Recover, Release, Take, Visit}
 use Rattle.ftc_ring.specs.Ring.{next_of}
 use Rattle.ftc_serial.proofs.Functions.{with_at_cases}
 use Rattle.ftc_serial.specs.Trace.{names}
@@ -13,7 +15,8 @@ use Rattle.ftc_protocol.specs.Changes.{is_touching, is_changing}
 use Rattle.ftc_protocol.specs.State.{ChainState, Message, Where, Held, Queued}
 use Rattle.ftc_protocol.specs.Known.{IsReady}
 use Rattle.ftc_protocol.specs.Legal.{IsLegal, is_sent}
-use Rattle.ftc_protocol.specs.Next.{next, sent_message, taken_message, is_away, is_at, drop_if, outcome_at, bytes_withheld}
+use Rattle.ftc_protocol.specs.Next.{next, sent_message, taken_message, is_away, is_at, drop_if, outcome_at}
+use Rattle.ftc_protocol.specs.Next.{bytes_withheld}
 use Rattle.ftc_protocol.specs.Orderly.{aim}
 use Rattle.ftc_protocol.specs.Recovery.{following_live, is_dropped}
 use Rattle.ftc_protocol.specs.Trace.{Has, IsSomeVisit}

@@ -17,12 +17,14 @@ use Rattle.ftc_refinement.specs.Contents.{items_of, contents_of, IsServerAt}
 use Rattle.ftc_refinement.proofs.Fields.{same_contents, same_own, stands_with}
 
 pub put_at : (others : List (Option Held)) (log : Logged) (group : ℕ) (replica : Held) → log.group ≡ group →
-    replica_at others group ≡ Some replica → with_applied others log ≡ slice_set others group (Some (applied log replica))
+    replica_at others group ≡ Some replica →
+    with_applied others log ≡ slice_set others group (Some (applied log replica))
 put_at others log group replica group_is there =
     ap (λ g. slice_set others g (option_map (applied log) (replica_at others g))) group_is
     ∙ ap (λ o. slice_set others group (option_map (applied log) o)) there
 
-pub known_at : (setting : Setting) (server group : ℕ) (vector : List ℕ) (known now : List (List ℕ)) (ring : RingShape) (number : ℕ) →
+pub known_at : (setting : Setting) (server group : ℕ) (vector : List ℕ) (known now : List (List ℕ)) (ring : RingShape)
+    (number : ℕ) →
     ring ≡ shape setting → number ≡ server → now ≡ with_own ring number group vector known →
     now ≡ with_own (shape setting) server group vector known
 known_at setting server group vector known now ring number ring_is number_is is =

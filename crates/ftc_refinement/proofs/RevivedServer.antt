@@ -1,5 +1,6 @@
 -- A server that begins anew.
-use Rattle.std.proofs.Common.{◌≡◌, ◌≢◌, ◌∙◌, ◌<◌, ◌≤◌, ◌==◌, ◌&&◌, ◌⊎◌, ℕ, Bool, true, false, not, List, Option, Some, None, length, refl, sym, ap, cond, inl, inr, arith}
+use Rattle.std.proofs.Common.{◌≡◌, ◌≢◌, ◌∙◌, ◌<◌, ◌≤◌, ◌==◌, ◌&&◌, ◌⊎◌, ℕ, Bool, true, false, not, List, Option, Some}
+use Rattle.std.proofs.Common.{None, length, refl, sym, ap, cond, inl, inr, arith}
 use Rattle.std.specs.Prelude.{nat_le}
 use Rattle.std.specs.List.{find}
 use Rattle.std.proofs.lemmas.Bool.{eq-eqb, eqb-true}
@@ -58,7 +59,8 @@ module _ (setting : Setting) (state : ChainState) (server : ℕ) (previous follo
         (all_mapped (IsGot setting state server previous following) (λ (new : GroupReplica). new.group < length first)
         (λ new its. let inside = its.inside in omega (arith, inside, size)) news got.each)
 
-    left_empty : (group : ℕ) → group < servers setting → ((new : GroupReplica) → find (is_of_group group) news ≡ Some new → ⊥) →
+    left_empty : (group : ℕ) → group < servers setting →
+        ((new : GroupReplica) → find (is_of_group group) news ≡ Some new → ⊥) →
         (not (group == server) && is_member setting group server) ≡ false →
         replica_at (with_installed news first) group ≡ None
     left_empty group below none isnt =
@@ -68,7 +70,8 @@ module _ (setting : Setting) (state : ChainState) (server : ℕ) (previous follo
 
     pub part_by : (group : ℕ) → group < servers setting → (same member : Bool) → (group == server) ≡ same →
         is_member setting group server ≡ member →
-        ((replica_of (with_installed news first) group ≡ None) × ((is_member setting group server ≡ false) ⊎ (group ≡ server)))
+        ((replica_of (with_installed news first) group ≡ None)
+        × ((is_member setting group server ≡ false) ⊎ (group ≡ server)))
         ⊎ ((replica : Held) × (replica_of (with_installed news first) group ≡ Some replica) × (Got group ≡ Some replica)
         × (is_member setting group server ≡ true) × (group ≡ server → ⊥))
     part_by group below true member same belongs =
@@ -134,7 +137,8 @@ module _ (setting : Setting) (state : ChainState) (server : ℕ) (previous follo
             let below = ending_inside (servers setting) setting.failures server ring.failures inside in
             let is_its = sym (ends (shape setting) tail server ring below inside) ∙ eq-eqb tail tail refl in
             let differs : tail ≢ server = λ same. let equal = eq-eqb server tail (sym same) in absurd cc in
-            let one = got.all tail below (is_last_member (apart (servers setting) tail server) setting.failures is_its) differs in
+            let one = got.all tail below
+            (is_last_member (apart (servers setting) tail server) setting.failures is_its) differs in
             let its = facts tail one.0 one.1 in
             record {
               tail = tail;
@@ -142,8 +146,10 @@ module _ (setting : Setting) (state : ChainState) (server : ℕ) (previous follo
               tail_is = is_its;
               replica = one.0.replica;
               replica_got = ap Got (sym its.1) ∙ its.0.replica;
-              knows = known_by (shape setting) server (with_own (shape setting) server server own.vector known) news one.0
+              knows = known_by (shape setting) server
+                  (with_own (shape setting) server server own.vector known) news one.0
                   got.once one.1
-                  ∙ ap (λ b. group_raised (cond b (group_raised known server own.vector) known) tail one.0.replica.vector) apart_so;
+                  ∙ ap (λ b. group_raised (cond b
+                  (group_raised known server own.vector) known) tail one.0.replica.vector) apart_so;
             }
       ] refl

@@ -1,5 +1,6 @@
 -- What a server says of the ring, and what the protocol says of it.
-use Rattle.std.proofs.Common.{◌≡◌, ◌∙◌, ◌<◌, ◌==◌, ◌&&◌, ◌||◌, ◌∷◌, ℕ, Bool, true, false, not, List, [], refl, sym, ap, cond}
+use Rattle.std.proofs.Common.{◌≡◌, ◌∙◌, ◌<◌, ◌==◌, ◌&&◌, ◌||◌, ◌∷◌, ℕ, Bool, true, false, not, List, [], refl, sym, ap}
+use Rattle.std.proofs.Common.{cond}
 use Rattle.std.specs.List.{AllByRecursion}
 use Rattle.std.proofs.lemmas.Bool.{eq-eqb}
 use Rattle.ftc_message.specs.Logged.{Logged}
@@ -42,7 +43,8 @@ or_true true b is = refl
 or_true false b is = is
 
 -- each log of a list is named by it
-pub each_named : (logs : List Logged) → AllByRecursion (λ (log : Logged). names_log logs log.group log.origin ≡ true) logs
+pub each_named : (logs : List Logged) →
+    AllByRecursion (λ (log : Logged). names_log logs log.group log.origin ≡ true) logs
 each_named [] = tt
 each_named (log ∷ logs) = (
   ap (λ b. b || names_log logs log.group log.origin)
@@ -59,7 +61,8 @@ pub groups_exist : (setting : Setting) (state : ChainState) (visits : Visits) (l
     AreLogsOf setting state visits logs → ((group packet : ℕ) → In visits group packet → group < servers setting) →
     AllByRecursion (λ (log : Logged). log.group < servers setting) logs
 groups_exist setting state visits logs are exist =
-    all_mapped (λ (log : Logged). names_log logs log.group log.origin ≡ true) (λ (log : Logged). log.group < servers setting)
+    all_mapped (λ (log : Logged). names_log logs log.group log.origin
+    ≡ true) (λ (log : Logged). log.group < servers setting)
     (λ log named. exist log.group log.origin (sym (are.names log.group log.origin) ∙ named)) logs (each_named logs)
 
 -- no visits have no logs

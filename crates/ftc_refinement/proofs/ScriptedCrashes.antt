@@ -1,7 +1,9 @@
--- The crashes and recoveries that are still to come may be made one after another: each crash is of a server that is up.
+-- The crashes and recoveries that are still to come may be made one after another: each crash is of a server that is
+-- up.
 use Rattle.std.proofs.Common.{◌≡◌, ◌∙◌, ℕ, ◌<◌, Bool, true, false, List, [], ◌∷◌, refl, subst, lt-ltb}
 use Rattle.ftc_journal.specs.declared.event.Event.{Event}
-use Rattle.ftc_journal.specs.declared.event.Event.TheVariants.{Apply, Carry, Enter, Lose, Pass, Propagate, Pull, Release, Take, Visit}
+use Rattle.ftc_journal.specs.declared.event.Event.TheVariants.{Apply, Carry, Enter, Lose, Pass, Propagate, Pull}
+use Rattle.ftc_journal.specs.declared.event.Event.TheVariants.{Release, Take, Visit}
 use Rattle.ftc_journal.specs.declared.event.Event.TheVariants as event
 use Rattle.ftc_ring.specs.Ring.{RingShape}
 use Rattle.ftc_script.specs.declared.line.ScriptLine.{ScriptLine}
@@ -35,7 +37,8 @@ module _ (setting : Setting) (state : ChainState) (to_come : AreToCome setting s
   step_of : (line : ScriptLine) → IsNextLine state.lines line →
       IsStep (shape setting) (count setting) to_come.last to_come.live line
       × AreSteps (shape setting) (count setting) (at_of line) (live_after to_come.live line) (lines_behind state.lines)
-  step_of line is = next_step (shape setting) (count setting) to_come.last to_come.live state.lines line is to_come.steps
+  step_of line is = next_step (shape setting)
+      (count setting) to_come.last to_come.live state.lines line is to_come.steps
 
   changed : (server : ℕ) (value : Bool) (other : ℕ) → other < servers setting →
       with_at state.up server value other ≡ with_at to_come.live server value other
@@ -51,7 +54,8 @@ module _ (setting : Setting) (state : ChainState) (to_come : AreToCome setting s
       (step.0.within, to_come.same server step.0.within ∙ step.1.up)
 
   keeps : (happens : Event) → MayHappen setting state happens → AreToCome setting (next setting state happens)
-  keeps (Enter packet) may = record { live = to_come.live; last = to_come.last; same = to_come.same; steps = to_come.steps }
+  keeps (Enter packet) may =
+      record { live = to_come.live; last = to_come.last; same = to_come.same; steps = to_come.steps }
   keeps (Take link origin) may =
       record { live = to_come.live; last = to_come.last; same = to_come.same; steps = to_come.steps }
   keeps (Apply server origin group packet) may =
@@ -62,7 +66,8 @@ module _ (setting : Setting) (state : ChainState) (to_come : AreToCome setting s
       record { live = to_come.live; last = to_come.last; same = to_come.same; steps = to_come.steps }
   keeps (Lose server origin) may =
       record { live = to_come.live; last = to_come.last; same = to_come.same; steps = to_come.steps }
-  keeps (Carry origin) may = record { live = to_come.live; last = to_come.last; same = to_come.same; steps = to_come.steps }
+  keeps (Carry origin) may =
+      record { live = to_come.live; last = to_come.last; same = to_come.same; steps = to_come.steps }
   keeps (event.Crash server) may = record {
     live = with_at to_come.live server false;
     last = state.entered;
@@ -75,7 +80,12 @@ module _ (setting : Setting) (state : ChainState) (to_come : AreToCome setting s
     same = changed server true;
     steps = (step_of (Recover state.entered server) may.0).1;
   }
-  keeps (Pull link) may = record { live = to_come.live; last = to_come.last; same = to_come.same; steps = to_come.steps }
+  keeps (Pull link) may = record {
+    live = to_come.live;
+    last = to_come.last;
+    same = to_come.same;
+    steps = to_come.steps;
+  }
   keeps (Propagate origin) may =
       record { live = to_come.live; last = to_come.last; same = to_come.same; steps = to_come.steps }
   keeps (Release packet) may =
@@ -91,5 +101,6 @@ opens setting is = record {
 
 pub are_to_come : (setting : Setting) (state : ChainState) → IsRunState setting state → AreToCome setting state
 are_to_come setting state run =
-    in_each_state setting (AreToCome setting) (λ before happens to_come may. keeps setting before to_come happens may) state run
+    in_each_state setting (AreToCome setting)
+    (λ before happens to_come may. keeps setting before to_come happens may) state run
     (opens setting run.right)

@@ -1,5 +1,6 @@
 -- What a server sends on.
-use Rattle.std.proofs.Common.{◌≡◌, ◌∙◌, ◌+◌, ◌==◌, ◌&&◌, ◌||◌, ℕ, Bool, true, false, not, List, [], Some, None, refl, sym, ap, cond, arith}
+use Rattle.std.proofs.Common.{◌≡◌, ◌∙◌, ◌+◌, ◌==◌, ◌&&◌, ◌||◌, ℕ, Bool, true, false, not, List, [], Some, None, refl}
+use Rattle.std.proofs.Common.{sym, ap, cond, arith}
 use Rattle.std.proofs.lemmas.Bool.Decides.{nat_tests}
 use Rattle.std.specs.Prelude.{nat_lt}
 use Rattle.std.specs.Option.{option_map}
@@ -65,7 +66,8 @@ attached_where setting state server forwarder are =
       | false ↦ λ none. sym (no_logs setting state forwarder none)
     ] are
 
-pub attached : (setting : Setting) (state : ChainState) (server : ℕ) (old : Server) → IsServerAt setting state server old →
+pub attached : (setting : Setting) (state : ChainState) (server : ℕ) (old : Server) →
+    IsServerAt setting state server old →
     attached_in old ≡ old.forwarder
 attached setting state server old is =
     ap (λ n. cond (n == 0) old.forwarder []) is.number_is

@@ -1,5 +1,6 @@
 -- A server that stands for the same state as before.
-use Rattle.std.proofs.Common.{◌≡◌, ◌∙◌, ℕ, true, false, not, List, [], ◌∷◌, Option, Some, None, refl, sym, ap, subst, cond}
+use Rattle.std.proofs.Common.{◌≡◌, ◌∙◌, ℕ, true, false, not, List, [], ◌∷◌, Option, Some, None, refl, sym, ap, subst}
+use Rattle.std.proofs.Common.{cond}
 use Rattle.std.specs.Option.{option_map}
 use Rattle.ftc_message.specs.Logged.{Logged}
 use Rattle.ftc_replica.specs.Held.{Held}
@@ -42,7 +43,8 @@ head_of content partitions vector kept =
     record { content = content; partitions = partitions; vector = vector; kept = kept }
 
 pub stays : (setting : Setting) (state : ChainState) (number : ℕ) (old new : Server) (one : ServerState) →
-    IsServerAt setting state number old → fields_of new ≡ one → IsSameState one old → IsServerAt setting state number new
+    IsServerAt setting state number old → fields_of new ≡ one → IsSameState one old →
+    IsServerAt setting state number new
 stays setting state number old new one was is same =
     stands_with setting state state number old new (contents_of old) was
     (record {
@@ -51,7 +53,8 @@ stays setting state number old new one was is same =
       rule = ap (λ (s : ServerState). s.rule) is ∙ same.rule;
       partitions = ap (λ (s : ServerState). s.partitions) is ∙ same.partitions;
     })
-    (same_contents (replica_or_own new None) (replica_or_own old None) new.others.items old.others.items new.known old.known
+    (same_contents (replica_or_own new None)
+    (replica_or_own old None) new.others.items old.others.items new.known old.known
     (items_of new.held.items) (items_of old.held.items) new.buffer.items old.buffer.items new.forwarder old.forwarder
     (ap (λ (s : ServerState). head_of s.head.content s.head.partitions s.head.vector s.own.items) is
     ∙ (ap (λ c. head_of c one.head.partitions one.head.vector one.own.items) same.content
@@ -85,7 +88,8 @@ all_same old head own held buffer content partitions vector owns holds withholds
   forwarder = refl;
 }
 
-module _ (setting : Setting) (state : ChainState) (number : ℕ) (old new : Server) (was : IsServerAt setting state number old) where
+module _ (setting : Setting) (state : ChainState) (number : ℕ) (old new : Server)
+    (was : IsServerAt setting state number old) where
   pub with_nothing : fields_of new ≡ fields_of old → IsServerAt setting state number new
   with_nothing is = stays setting state number old new (fields_of old) was is
       (all_same old old.head old.own old.held old.buffer refl refl refl refl refl refl)
@@ -123,7 +127,8 @@ missing_once vector (log ∷ logs) =
     missing vector (cond (not b) (log ∷ missing vector logs) (missing vector logs))
     ≡ cond (not b) (log ∷ missing vector logs) (missing vector logs)) [
       | true ↦ λ covered. missing_once vector logs
-      | false ↦ λ lacked. ap (λ b. cond (not b) (log ∷ missing vector (missing vector logs)) (missing vector (missing vector logs)))
+      | false ↦ λ lacked. ap (λ b. cond (not b) (log ∷ missing vector (missing vector logs))
+          (missing vector (missing vector logs)))
           lacked ∙ ap (λ x. log ∷ x) (missing_once vector logs)
     ] refl
 
@@ -151,7 +156,8 @@ module _ (setting : Setting) (state : ChainState) (number : ℕ) (known : List (
   }
 
 -- the server without them
-pub prunes : (setting : Setting) (state : ChainState) (number : ℕ) (old new : Server) → IsServerAt setting state number old →
+pub prunes : (setting : Setting) (state : ChainState) (number : ℕ) (old new : Server) →
+    IsServerAt setting state number old →
     HasPruned old new → IsServerAt setting state number new
 prunes setting state number old new was done =
     stands_with setting state state number old new
@@ -179,7 +185,8 @@ prunes setting state number old new was done =
     (ap (λ (s : ServerState). s.buffer.items) done.rest)
     (ap (λ (s : ServerState). s.forwarder) done.rest))
     (record {
-      replicas = replicas_pruned setting state number old.known (replica_or_own old None) old.others.items new.others.items
+      replicas = replicas_pruned setting state number old.known
+          (replica_or_own old None) old.others.items new.others.items
           was.stands.replicas done.others.each;
       held = was.stands.held;
       withheld = was.stands.withheld;

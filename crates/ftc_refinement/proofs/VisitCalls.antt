@@ -1,5 +1,6 @@
 -- A server that committed a visit.
-use Rattle.std.proofs.Common.{◌≡◌, ◌∙◌, ◌++◌, ◌∷◌, ◌==◌, ◌+◌, ℕ, true, false, List, [], Option, Some, None, length, suc, refl, sym, ap, cond, arith}
+use Rattle.std.proofs.Common.{◌≡◌, ◌∙◌, ◌++◌, ◌∷◌, ◌==◌, ◌+◌, ℕ, true, false, List, [], Option, Some, None, length, suc}
+use Rattle.std.proofs.Common.{refl, sym, ap, cond, arith}
 use Rattle.std.proofs.lemmas.Bool.Decides.{nat_tests}
 use Rattle.std.specs.Prelude.{IsNone, ◌↔◌}
 use Rattle.std.specs.Option.{is_some}
@@ -47,7 +48,8 @@ same_packet : (bytes : List ℕ) (verdict : Verdict) → packet_left bytes verdi
 same_packet bytes (Forward change) = refl
 same_packet bytes Filter = refl
 
-same_logs : (failures : ℕ) (log : Option Logged) (logs : List Logged) → logs_after failures log logs ≡ logs_with failures log logs
+same_logs : (failures : ℕ) (log : Option Logged) (logs : List Logged) →
+    logs_after failures log logs ≡ logs_with failures log logs
 same_logs failures None logs = refl
 same_logs failures (Some log) logs = refl
 
@@ -71,17 +73,20 @@ visits_message failures other running end bytes log held same = record {
 
 -- ---- what it touches and changes
 
-pub changes_nothing : (partitions : ℕ) (outcome : Outcome) → outcome.writes ≡ [] → is_changing partitions outcome ≡ false
+pub changes_nothing : (partitions : ℕ) (outcome : Outcome) → outcome.writes ≡ [] →
+    is_changing partitions outcome ≡ false
 unfolding changes
 changes_nothing partitions outcome none = ap (λ (writes : List Write). is_some_list (changed partitions writes)) none
   where
     changed : ℕ → List Write → List ℕ
     changed partitions writes = changes partitions (record { answers = []; writes = writes; packet = None })
 
-pub changes_some : (partitions : ℕ) (outcome : Outcome) (write : Write) (writes : List Write) → outcome.writes ≡ write ∷ writes →
+pub changes_some : (partitions : ℕ) (outcome : Outcome) (write : Write) (writes : List Write) →
+    outcome.writes ≡ write ∷ writes →
     is_changing partitions outcome ≡ true
 unfolding changes
-changes_some partitions outcome write writes some = ap (λ (writes : List Write). is_some_list (changed partitions writes)) some
+changes_some partitions outcome write writes some =
+    ap (λ (writes : List Write). is_some_list (changed partitions writes)) some
   where
     changed : ℕ → List Write → List ℕ
     changed partitions writes = changes partitions (record { answers = []; writes = writes; packet = None })
@@ -103,7 +108,8 @@ pub unchanged : (partitions : ℕ) (vector : List ℕ) → length vector ≡ MOS
 unfolding is_changed
 unchanged partitions vector long =
     sym (by_partition-from
-    (λ partition. cond (is_changed partitions [] partition) (number_at vector partition + 1) (number_at vector partition))
+    (λ partition. cond (is_changed partitions [] partition) (number_at vector partition
+    + 1) (number_at vector partition))
     vector 0 long (λ k within. refl))
 
 -- ---- the server
@@ -115,7 +121,8 @@ pub record IsCommitted (old new : Server) : Type 0 where
   pub withheld : new.buffer.items ≡ old.buffer.items
   pub forwarded : new.forwarder ≡ old.forwarder
 
-pub committed_beside : (old new : Server) (worker : ℕ) (running : Running) (end : End) → HasVisited old new worker running end →
+pub committed_beside : (old new : Server) (worker : ℕ) (running : Running) (end : End) →
+    HasVisited old new worker running end →
     IsCommitted old new
 committed_beside old new worker running end done = record {
   server = record {
@@ -162,11 +169,13 @@ own_made old new content vector kept content_is partitions_is vector_is kept_is 
 not_none : (n : ℕ) → (suc n == 0) ≡ false
 not_none n = grind (arith, nat_tests)
 
-module _ (old new : Server) (worker : ℕ) (running : Running) (end : End) (done : HasVisited old new worker running end) where
+module _ (old new : Server) (worker : ℕ) (running : Running) (end : End)
+    (done : HasVisited old new worker running end) where
   abbrev same_partitions : new.head.partitions ≡ old.head.partitions
   same_partitions = ap (λ (h : HeadState). h.partitions) done.head.rest
 
-  kept_as : (writes : List Write) (log : Option Logged) → writes ≡ [] → with_kept writes log old.own.items ≡ old.own.items
+  kept_as : (writes : List Write) (log : Option Logged) → writes ≡ [] →
+      with_kept writes log old.own.items ≡ old.own.items
   kept_as writes None none = refl
   kept_as writes (Some log) none =
       ap (λ (w : List Write). cond (length w == 0) old.own.items (old.own.items ++ log ∷ [])) none
@@ -181,14 +190,16 @@ module _ (old new : Server) (worker : ℕ) (running : Running) (end : End) (done
 
   pub known_stays : end.writes.items ≡ [] → new.known ≡ old.known
   known_stays none = done.known
-      ∙ ap (λ (w : List Write). cond (length w == 0) old.known (with_own old.ring old.id old.id new.head.vector old.known)) none
+      ∙ ap (λ (w : List Write). cond (length w == 0) old.known
+      (with_own old.ring old.id old.id new.head.vector old.known)) none
 
   pub head_commits : (partitions : ℕ) (bytes : List ℕ) (write : Write) (writes : List Write) (log : Logged) →
       old.head.partitions ≡ partitions → end.writes.items ≡ write ∷ writes → done.log ≡ Some log →
       replica_or_own new None ≡ committed partitions (outcome_of running end bytes) log (replica_or_own old None)
   head_commits partitions bytes write writes log partitions_is some logged =
       own_made old new (written end.writes.items old.head.content)
-      (vector_after partitions end.writes.items old.head.vector) (old.own.items ++ log ∷ []) done.head.content same_partitions
+      (vector_after partitions end.writes.items old.head.vector) (old.own.items
+      ++ log ∷ []) done.head.content same_partitions
       (done.head.vector ∙ ap (λ p. vector_after p end.writes.items old.head.vector) partitions_is)
       (done.own ∙ (ap (λ o. with_kept end.writes.items o old.own.items) logged
       ∙ (ap (λ (w : List Write). cond (length w == 0) old.own.items (old.own.items ++ log ∷ [])) some
@@ -197,5 +208,7 @@ module _ (old new : Server) (worker : ℕ) (running : Running) (end : End) (done
   pub known_with : (write : Write) (writes : List Write) → end.writes.items ≡ write ∷ writes →
       new.known ≡ with_own old.ring old.id old.id new.head.vector old.known
   known_with write writes some = done.known
-      ∙ (ap (λ (w : List Write). cond (length w == 0) old.known (with_own old.ring old.id old.id new.head.vector old.known)) some
-      ∙ ap (λ b. cond b old.known (with_own old.ring old.id old.id new.head.vector old.known)) (not_none (length writes)))
+      ∙ (ap (λ (w : List Write). cond (length w == 0) old.known
+      (with_own old.ring old.id old.id new.head.vector old.known)) some
+      ∙ ap (λ b. cond b old.known (with_own old.ring old.id old.id new.head.vector old.known))
+      (not_none (length writes)))

@@ -1,5 +1,6 @@
 -- What the work of a held message says of it.
-use Rattle.std.proofs.Common.{◌≡◌, ◌∙◌, ◌&&◌, ◌⊎◌, ◌∷◌, ℕ, Bool, true, false, not, List, [], Option, Some, None, refl, ap, subst, cond, inl, inr}
+use Rattle.std.proofs.Common.{◌≡◌, ◌∙◌, ◌&&◌, ◌⊎◌, ◌∷◌, ℕ, Bool, true, false, not, List, [], Option, Some, None, refl}
+use Rattle.std.proofs.Common.{ap, subst, cond, inl, inr}
 use Rattle.std.specs.List.{list_all}
 use Rattle.std.specs.Option.{is_some, option_map}
 use Rattle.ftc_message.specs.Logged.{Logged}
@@ -32,7 +33,8 @@ is_all_had replicas held None work other is =
     ] is
 
 pub ready_of : (replicas : List (Option Replicated)) (held : HeldMessage) (work : Work) →
-    ((group packet : ℕ) → Apply group packet ≡ work → ⊥) → work_for replicas held ≡ Some work → is_ready replicas held ≡ true
+    ((group packet : ℕ) → Apply group packet ≡ work → ⊥) → work_for replicas held ≡ Some work →
+    is_ready replicas held ≡ true
 ready_of replicas held work other is = is_all_had replicas held (next_log replicas None held.message.logs) work other is
 
 -- where all logs are had, none is to be applied
@@ -93,11 +95,13 @@ bytes_in_it false None is = absurd cc
 bytes_in_it false (Some bytes) is = (refl, (bytes, refl))
 
 -- a log that is to be applied is the next one
-pub next_applied : (replicas : List (Option Replicated)) (held : HeldMessage) (next : Option Logged) (group packet : ℕ) →
+pub next_applied : (replicas : List (Option Replicated)) (held : HeldMessage) (next : Option Logged)
+    (group packet : ℕ) →
     work_behind replicas held next ≡ Some (Apply group packet) →
     (log : Logged) × (next ≡ Some log) × (log.group ≡ group) × (log.origin ≡ packet)
 next_applied replicas held (Some log) group packet is = (log, refl, cc, cc)
-next_applied replicas held None group packet is = absurd (no_apply (is_ready replicas held) (is_waiting held) held.by_ring group packet is)
+next_applied replicas held None group packet is =
+    absurd (no_apply (is_ready replicas held) (is_waiting held) held.by_ring group packet is)
   where
     no_apply : (ready waiting by_ring : Bool) (group packet : ℕ) →
         cond ready (Some (last_by waiting by_ring)) None ≡ Some (Apply group packet) → ⊥
@@ -113,7 +117,8 @@ pub record IsHeldIn (setting : Setting) (state : ChainState) (server origin : �
   pub there : state.message origin ≡ Some message
   pub stands : IsHeldAs setting state server origin message held.visited held.by_ring held.message
 
-in_place : (test : Where → Bool) (o : Option Message) (message : Message) → where_it test o ≡ Some message → o ≡ Some message
+in_place : (test : Where → Bool) (o : Option Message) (message : Message) → where_it test o ≡ Some message →
+    o ≡ Some message
 in_place test None message is = absurd cc
 in_place test (Some other) message is =
     elim (test other.place) as (λ b. cond b (Some other) None ≡ Some message → Some other ≡ Some message) [
@@ -141,6 +146,7 @@ module _ (setting : Setting) (state : ChainState) (server origin : ℕ) (held : 
       (subst (IsKeptAs Stands origin (held_at state server origin))
       (kept_item origin messages ∙ ap (option_map item_of_held) there) (items.each origin))
 
-pub same_flags : (server : ℕ) (visited by_ring other another : Bool) → Held server visited by_ring ≡ Held server other another →
+pub same_flags : (server : ℕ) (visited by_ring other another : Bool) →
+    Held server visited by_ring ≡ Held server other another →
     (visited ≡ other) × (by_ring ≡ another)
 same_flags server visited by_ring other another same = (cc, cc)

@@ -12,7 +12,8 @@ use Rattle.ftc_refinement.specs.Contents.{contents_of}
 use Rattle.ftc_refinement.specs.Pulled.{is_of_group}
 
 -- It is the replica of a group that the server is a later member of.
-pub record IsGot (setting : Setting) (state : ChainState) (server : ℕ) (previous following : Server) (new : GroupReplica) :
+pub record IsGot (setting : Setting) (state : ChainState) (server : ℕ) (previous following : Server)
+    (new : GroupReplica) :
     Type 0 where
   pub inside : new.group < servers setting
   pub member : is_member setting new.group server ≡ true

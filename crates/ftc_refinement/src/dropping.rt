@@ -23,7 +23,8 @@ pub fn what_drop_unready_does()
         IsRunState setting state → IsLegal setting state (event.Recover server undone) →
         following_live setting state server ≢ server →
         IsServerAt setting state (following_live setting state server) old → HasDropped old new →
-        IsServerAt setting (next setting state (event.Recover server undone)) (following_live setting state server) new }
+        IsServerAt setting (next setting state (event.Recover server undone))
+        (following_live setting state server) new }
 {
     what_is_ready();
     what_tests_say();

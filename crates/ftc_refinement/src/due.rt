@@ -16,8 +16,8 @@ ghost use Rattle.ftc_refinement.specs.Contents.{IsServerAt};
 use ftc_edge::{due_packets, released_packets};
 use ftc_ties::a_packet_due;
 
-/// The packet that is due first in the last server's buffer is the one that may be released, with its bytes, and where none
-/// is due in the buffer, none is due in the state.
+/// The packet that is due first in the last server's buffer is the one that may be released, with its bytes, and where
+/// none is due in the buffer, none is due in the state.
 pub fn what_is_due()
     ensures first { (setting : Setting) (state : ChainState) (server : ℕ) (due : WithheldPacket) (old : Server) →
         IsRunState setting state → server + 1 ≡ servers setting → IsServerAt setting state server old →

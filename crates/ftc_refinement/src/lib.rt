@@ -1,6 +1,6 @@
 //! What each call of one server does to the state of the protocol: its contract leaves the server standing for the
-//! state after the event, and where the event is legal the call may be made. And which jobs are legal and come first, by
-//! what servers and links have. Nothing here runs.
+//! state after the event, and where the event is legal the call may be made. And which jobs are legal and come first,
+//! by what servers and links have. Nothing here runs.
 #![tactic(auto)]
 
 mod applying;

@@ -8,7 +8,8 @@ ghost use Rattle.ftc_server.specs.declared.answers.CommitAnswer.{CommitAnswer as
 ghost use Rattle.ftc_server.specs.declared.answers.CommitAnswer.TheVariants.{Done};
 ghost use Rattle.ftc_server.specs.declared.server.Server.{Server};
 ghost use Rattle.ftc_server.specs.State.{fields_of};
-ghost use Rattle.ftc_server.specs.Steps.{HasRoomed, HasBufferRoom, HasBegun, HasQuit, Reads, EndsVisit, HasPruned, IsOpening, empty_held};
+ghost use Rattle.ftc_server.specs.Steps.{HasRoomed, HasBufferRoom, HasBegun, HasQuit, Reads, EndsVisit, HasPruned};
+ghost use Rattle.ftc_server.specs.Steps.{IsOpening, empty_held};
 ghost use Rattle.ftc_refinement.specs.Contents.{IsServerAt};
 
 use ftc_standing::all_stand;
@@ -39,7 +40,8 @@ pub fn what_stays()
 /// A server to which nothing has happened stands for its part of the opening state.
 pub fn what_new_makes()
     ensures { (setting : Setting) (server : ℕ) (new : Server) → server < servers setting →
-        IsOpening (shape setting) server (rule_at setting server) setting.partitions (empty_held setting.partitions) new →
+        IsOpening (shape setting) server (rule_at setting server) setting.partitions
+        (empty_held setting.partitions) new →
         IsServerAt setting (opening setting) server new }
 {
     all_stand();

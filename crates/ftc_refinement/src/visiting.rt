@@ -25,7 +25,8 @@ use ftc_standing::a_visit_is_made;
 /// one that the protocol makes of the packet.
 pub fn what_a_commit_does()
     ensures { (setting : Setting) (state : ChainState) (server worker : ℕ) (running : ARunning) (end : AnEnd)
-        (old new : Server) → IsRunState setting state → IsLegal setting state (event.Visit server running.packet worker) →
+        (old new : Server) → IsRunState setting state →
+        IsLegal setting state (event.Visit server running.packet worker) →
         IsServerAt setting state server old → RunsUnwounded old.head worker running →
         ask_in old worker ≡ Some (Finish end) → HasVisited old new worker running end →
         ∥ IsServerAt setting (next setting state (event.Visit server running.packet worker)) server new ∥₁ }

@@ -11,7 +11,8 @@ LacksAll vector logs = AllByRecursion (λ log. covers_log vector log ≡ false) 
 
 -- the log in front is covered, so nothing else is dropped with it
 pub front_dropped : (vector : List ℕ) (logs : List Logged) (log : Logged) → 0 < length logs
-    → log ≡ slice_index_or logs 0 log → covers_log vector log ≡ true → missing vector (drop 1 logs) ≡ missing vector logs
+    → log ≡ slice_index_or logs 0 log → covers_log vector log ≡ true →
+    missing vector (drop 1 logs) ≡ missing vector logs
 front_dropped vector [] log some is covered = absurd (omega arith)
 front_dropped vector (first ∷ logs) log some is covered =
     let same : covers_log vector first ≡ true = ap (covers_log vector) (sym is) ∙ covered in rw same refl

@@ -18,4 +18,8 @@ pub record Held : Type 0 where
 
 -- with the log's writes made, the numbers of its changed partitions raised, and the log kept behind the others
 abbrev pub applied : Logged → Held → Held
-applied log held = record held { content = written log.writes held.content; vector = raised held.vector log.changed; kept = held.kept ++ log ∷ [] }
+applied log held = record held {
+  content = written log.writes held.content;
+  vector = raised held.vector log.changed;
+  kept = held.kept ++ log ∷ [];
+}

@@ -35,7 +35,12 @@ impl Model for Replica {
 
     ghost coded = { Prim.hlevel (codes, content_code) };
 
-    ghost view = { λ replica. record { content = replica.store.content; partitions = replica.store.partitions; vector = replica.vector; kept = replica.kept.items } };
+    ghost view = { λ replica. record {
+      content = replica.store.content;
+      partitions = replica.store.partitions;
+      vector = replica.vector;
+      kept = replica.kept.items;
+    } };
 }
 
 impl Replica {
@@ -57,7 +62,12 @@ impl Replica {
 
     /// The replica of these three.
     pub fn of(store: Store, vector: Vector, kept: Kept) -> Replica
-        ensures { result ≡ record { content = store.content; partitions = store.partitions; vector = vector; kept = kept.items } }
+        ensures { result ≡ record {
+          content = store.content;
+          partitions = store.partitions;
+          vector = vector;
+          kept = kept.items;
+        } }
     {
         Replica {
             store,

@@ -14,7 +14,10 @@ use Rattle.ftc_protocol.specs.Whole.{HasSerialRun}
 some_once : {A : Type 0} (found : Option A) (x y : IsSome found) → x ≡ y
 some_once found = ≡_prop coded_bool _ _
 
-pub has_end : (c : Setting) (journal : List Event) → ((setting : Setting) → IsSetting setting → (journal : List Event) → IsRun setting journal → HasSerialRun setting journal) → ∥ IsSetting c ∥₁ → ∥ IsRun c journal ∥₁ → IsSome (serial_run c.rules (serial_opening c.packets) (trace_of journal))
+pub has_end : (c : Setting) (journal : List Event) →
+    ((setting : Setting) → IsSetting setting → (journal : List Event) → IsRun setting journal →
+    HasSerialRun setting journal) → ∥ IsSetting c ∥₁ → ∥ IsRun c journal ∥₁ →
+    IsSome (serial_run c.rules (serial_opening c.packets) (trace_of journal))
 has_end c journal law setting run =
     ∥∥₁_elim setting (some_once _) (λ is. ∥∥₁_elim run (some_once _) (λ legal.
     let found : HasSerialRun c journal = law c is journal legal in

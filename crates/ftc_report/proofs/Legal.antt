@@ -6,7 +6,9 @@ use Rattle.ftc_serial.specs.declared.step.Step.{Step}
 use Rattle.ftc_serial.specs.Serial.{State, serial_step, serial_run}
 use Rattle.ftc_serial.specs.Illegal.{IsFirstIllegal}
 
-no_run : (rules : List Rule) (start reached : State) (steps : List Step) (place : ℕ) (step : Step) → serial_run rules start (take place steps) ≡ Some reached → slice_get steps place ≡ Some step → serial_step rules reached step ≡ None → serial_run rules start steps ≡ None
+no_run : (rules : List Rule) (start reached : State) (steps : List Step) (place : ℕ) (step : Step) →
+    serial_run rules start (take place steps) ≡ Some reached → slice_get steps place ≡ Some step →
+    serial_step rules reached step ≡ None → serial_run rules start steps ≡ None
 no_run rules start reached [] place step run there illegal = absurd (cc)
 no_run rules start reached (s ∷ steps) zero step run there illegal =
     let same : s ≡ step = cc in
@@ -14,12 +16,14 @@ no_run rules start reached (s ∷ steps) zero step run there illegal =
     let none : serial_step rules start s ≡ None = rw (same, here) illegal in
     rw none refl
 no_run rules start reached (s ∷ steps) (suc place) step run there illegal =
-    elim (serial_step rules start s) as (λ o. option_and_then (λ next. serial_run rules next (take place steps)) o ≡ Some reached → option_and_then (λ next. serial_run rules next steps) o ≡ None) [
+    elim (serial_step rules start s) as (λ o. option_and_then (λ next. serial_run rules next (take place steps)) o
+    ≡ Some reached → option_and_then (λ next. serial_run rules next steps) o ≡ None) [
       | None ↦ λ e. refl
       | Some next ↦ λ e. no_run rules next reached steps place step e there illegal
     ] run
 
-pub not_illegal : (rules : List Rule) (start : State) (steps : List Step) (place : ℕ) → IsFirstIllegal rules start steps place → IsSome (serial_run rules start steps) → ⊥
+pub not_illegal : (rules : List Rule) (start : State) (steps : List Step) (place : ℕ) →
+    IsFirstIllegal rules start steps place → IsSome (serial_run rules start steps) → ⊥
 not_illegal rules start steps place first some =
     let none = no_run rules start first.reached steps place first.step first.before first.there first.illegal in
     let impossible = rw none at some in cc

@@ -14,4 +14,5 @@ contents servers state = map state.maps (range_with_len 0 servers)
 
 -- those after the serial run of a journal's trace, none where it has no such run
 abbrev pub contents_after : List Rule → List (List ℕ) → List Event → List Content
-contents_after rules packets journal = option_map_or (contents (length rules)) (serial_run rules (serial_opening packets) (trace_of journal)) []
+contents_after rules packets journal =
+    option_map_or (contents (length rules)) (serial_run rules (serial_opening packets) (trace_of journal)) []

@@ -11,7 +11,8 @@ use Rattle.ftc_pcap.specs.declared.packets.Packet.{Packet}
 -- a released packet's record: its own stamps and original length, and the bytes with which it left
 abbrev pub released_record : Capture → Released → List ℕ
 released_record capture released =
-    option_map_or (λ packet. record_bytes capture.big (rewritten packet released.bytes)) (slice_get capture.packets released.packet) []
+    option_map_or (λ packet. record_bytes capture.big (rewritten packet released.bytes))
+    (slice_get capture.packets released.packet) []
 
 -- the capture's header, and the record of each released packet in the order of release
 abbrev pub out_bytes : Capture → List Released → List ℕ

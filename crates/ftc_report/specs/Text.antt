@@ -1,4 +1,5 @@
--- The text of a report: a header, four counts, a line for each packet, the lines of each store, and a line for each tap.
+-- The text of a report: a header, four counts, a line for each packet, the lines of each store, and a line for each
+-- tap.
 use Rattle.std.specs.Prelude.{ℕ, Bool, true, false, List, [], ◌∷◌, ◌++◌, length, count_by, decimal, codes}
 use Rattle.std.specs.List.{flat_map, enumerate_from}
 use Rattle.std.specs.FinMap.{len, entries}
@@ -44,7 +45,8 @@ head fates = codes "ftc-report 1\n" ++ count_lines fates
 -- the line of a packet: its number, and what became of it
 unfoldable pub fate_line : ℕ × Fate → List ℕ
 fate_line (packet, Released) = codes "fate " ++ decimal packet ++ codes " released\n"
-fate_line (packet, Filtered server) = codes "fate " ++ decimal packet ++ codes " filtered " ++ decimal server ++ codes "\n"
+fate_line (packet, Filtered server) =
+    codes "fate " ++ decimal packet ++ codes " filtered " ++ decimal server ++ codes "\n"
 fate_line (packet, Lost event) = codes "fate " ++ decimal packet ++ codes " lost " ++ decimal event ++ codes "\n"
 fate_line (packet, Inside) = codes "fate " ++ decimal packet ++ codes " inside\n"
 

@@ -13,7 +13,8 @@ use ftc_pcap::Packets;
 /// than a record may be.
 pub fn released_fit(packets: &Packets)
     ensures { (rules : List ARule) (steps : List AStep) (end : SerialState) →
-        serial_run rules (serial_opening (bytes_of_packets packets.now)) steps ≡ Some end → AreWritable packets.now end.released }
+        serial_run rules (serial_opening (bytes_of_packets packets.now)) steps ≡ Some end →
+        AreWritable packets.now end.released }
 {
     let _ = packets.len();
 }

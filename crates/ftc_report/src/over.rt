@@ -29,7 +29,9 @@ pub fn chain_after(
 ) -> Result<Serial, NoMemory>
     requires { IsSome (serial_run spec.now.rules (serial_opening (bytes_of_packets packets.now)) trace.now) }
     ensures rules { IfOk result (λ serial. rules_of serial ≡ spec.now.rules) }
-    ensures state { IfOk result (λ serial. serial_run spec.now.rules (serial_opening (bytes_of_packets packets.now)) trace.now ≡ Some (serial_state serial)) }
+    ensures state { IfOk result
+        (λ serial. serial_run spec.now.rules (serial_opening (bytes_of_packets packets.now)) trace.now
+        ≡ Some (serial_state serial)) }
 {
     match Serial::run(alloc, spec, packets, trace) {
         Ok(serial) => Ok(serial),
@@ -51,7 +53,8 @@ pub fn report(
     requires ring { script.now.ring ≡ record { servers = length spec.now.rules; failures = spec.now.failures } }
     requires packets { script.now.packets ≡ length packets.now }
     requires run { ∥ IsRun (setting_of spec.now (bytes_of_packets packets.now) script.now) journal.now.items ∥₁ }
-    ensures { IfOk result (λ text. text ≡ report_of (setting_of spec.now (bytes_of_packets packets.now) script.now) journal.now.items taps.now) }
+    ensures { IfOk result (λ text. text
+        ≡ report_of (setting_of spec.now (bytes_of_packets packets.now) script.now) journal.now.items taps.now) }
 {
     // The chain is in its bounds and the script was accepted, so that the laws speak of the run.
     accepted();

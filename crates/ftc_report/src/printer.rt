@@ -16,7 +16,8 @@ use std::alloc::Global;
 
 /// The text of a report over these fates, the stores of a serial chain, and the lines of the taps.
 pub fn print(alloc: Global, fates: &Fates, serial: &Serial, taps: &Lines) -> Result<Bytes, NoMemory>
-    ensures { IfOk result (λ text. text ≡ report_text fates.now (contents (length (rules_of serial.now)) (serial_state serial.now)) taps.now) }
+    ensures { IfOk result (λ text. text
+        ≡ report_text fates.now (contents (length (rules_of serial.now)) (serial_state serial.now)) taps.now) }
 {
     let mut out = Bytes::new(alloc);
     append_head(alloc, fates, &mut out)?;

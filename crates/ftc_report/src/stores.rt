@@ -73,7 +73,9 @@ fn append_store(
 
 /// Adds the lines of each middlebox's store.
 pub fn append_stores(alloc: Global, serial: &Serial, out: &mut Bytes) -> Result<(), NoMemory>
-    ensures { OnOk result (out.new ≡ out.old ++ flat_map store_lines (enumerate_from 0 (contents (length (rules_of serial.now)) (serial_state serial.now)))) }
+    ensures { OnOk result (out.new ≡ out.old
+        ++ flat_map store_lines (enumerate_from 0
+        (contents (length (rules_of serial.now)) (serial_state serial.now)))) }
 {
     for place in 0..serial.servers() {
         let server = ServerId::new(place as u8).unwrap();

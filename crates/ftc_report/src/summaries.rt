@@ -31,7 +31,8 @@ fn append_key_count(
 
 /// Adds the count of each middlebox's keys.
 fn append_key_counts(alloc: Global, serial: &Serial, out: &mut Bytes) -> Result<(), NoMemory>
-    ensures { OnOk result (out.new ≡ out.old ++ flat_map key_count (enumerate_from 0 (contents (length (rules_of serial.now)) (serial_state serial.now)))) }
+    ensures { OnOk result (out.new ≡ out.old
+        ++ flat_map key_count (enumerate_from 0 (contents (length (rules_of serial.now)) (serial_state serial.now)))) }
 {
     for place in 0..serial.servers() {
         let server = ServerId::new(place as u8).unwrap();
@@ -42,7 +43,8 @@ fn append_key_counts(alloc: Global, serial: &Serial, out: &mut Bytes) -> Result<
 
 /// How many packets have each fate, and how many keys each middlebox of a serial chain has.
 pub fn summary(alloc: Global, fates: &Fates, serial: &Serial) -> Result<Bytes, NoMemory>
-    ensures { IfOk result (λ text. text ≡ summary_text fates.now (contents (length (rules_of serial.now)) (serial_state serial.now))) }
+    ensures { IfOk result (λ text. text
+        ≡ summary_text fates.now (contents (length (rules_of serial.now)) (serial_state serial.now))) }
 {
     let mut out = Bytes::new(alloc);
     out.append(b"ftc-make 1\n")?;

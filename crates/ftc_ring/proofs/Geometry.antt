@@ -3,7 +3,8 @@ use Rattle.std.proofs.Common.{◌≡◌, ℕ, ◌+◌, ◌<◌, ◌≤◌, ◌�
 use Rattle.std.proofs.lemmas.Bool.Decides.{nat_tests}
 use Rattle.ftc_ring.specs.Ring.{apart, next_of, previous_of}
 
-pub apart_cases : (n a b : ℕ) → a < n → b < n → ((a ≤ b) × (apart n a b + a ≡ b)) ⊎ ((b < a) × (apart n a b + a ≡ b + n))
+pub apart_cases : (n a b : ℕ) → a < n → b < n → ((a ≤ b) × (apart n a b + a ≡ b))
+    ⊎ ((b < a) × (apart n a b + a ≡ b + n))
 apart_cases n a b la lb = grind (arith, nat_tests)
 
 pub apart_within : (n a b : ℕ) → a < n → b < n → apart n a b < n

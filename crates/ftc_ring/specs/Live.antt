@@ -1,5 +1,6 @@
 -- Which servers of a ring are live, where some are down.
-use Rattle.std.specs.Prelude.{◌≡◌, ◌≢◌, ℕ, ◌≤◌, ◌<◌, ◌-◌, ◌==◌, Bool, true, false, not, nat_le, Option, Some, None, if◌then◌else◌}
+use Rattle.std.specs.Prelude.{◌≡◌, ◌≢◌, ℕ, ◌≤◌, ◌<◌, ◌-◌, ◌==◌, Bool, true, false, not, nat_le, Option, Some, None}
+use Rattle.std.specs.Prelude.{if◌then◌else◌}
 use Rattle.std.specs.Option.{is_none}
 use Rattle.std.specs.List.{find, range_with_len}
 use Rattle.ftc_base.specs.Sets.{has}
@@ -36,7 +37,8 @@ pub record IsFirstLive (ring : RingShape) (live : ℕ → Bool) (group server : 
   pub within : server < ring.servers
   pub member : IsMember ring group server
   pub up : IsLive live server
-  pub nearest : (other : ℕ) → other < ring.servers → IsLive live other → apart ring.servers group server ≤ apart ring.servers group other
+  pub nearest : (other : ℕ) → other < ring.servers → IsLive live other →
+      apart ring.servers group server ≤ apart ring.servers group other
 
 -- the smallest group without a live member
 pub record IsFirstGone (ring : RingShape) (live : ℕ → Bool) (group : ℕ) : Type 0 where

@@ -2,7 +2,9 @@
 
 ghost use Rattle.std.specs.Prelude.{◌≡◌, ◌≢◌, ◌≤◌, ◌<◌, ◌+◌, ◌-◌, ◌⊎◌, ◌↔◌, ℕ, Bool, Some, None};
 ghost use Rattle.ftc_ring.specs.Ring.{RingShape, IsRing, apart, IsMember, next_of, previous_of, tail_of};
-ghost use Rattle.ftc_ring.specs.Live.{IsLive, IsDown, IsGone, IsAdmissible, IsFirstLive, IsFirstGone, IsLiveBefore, IsLiveAfter, IsAlone, IsBetween, first_live_of, gone_of, live_before_of, live_after_of, source_between, source_of, span};
+ghost use Rattle.ftc_ring.specs.Live.{IsLive, IsDown, IsGone, IsAdmissible, IsFirstLive, IsFirstGone, IsLiveBefore};
+ghost use Rattle.ftc_ring.specs.Live.{IsLiveAfter, IsAlone, IsBetween, first_live_of, gone_of, live_before_of};
+ghost use Rattle.ftc_ring.specs.Live.{live_after_of, source_between, source_of, span};
 
 /// How far servers are apart.
 pub fn distances()
@@ -71,11 +73,16 @@ pub fn the_live()
         (first_live_of ring live j ≡ None) ↔ IsGone ring live j }
     ensures gone_found { (ring : RingShape) (live : ℕ → Bool) (j : ℕ) → IsRing ring →
         (gone_of ring live ≡ Some j) ↔ IsFirstGone ring live j }
-    ensures gone_none { (ring : RingShape) (live : ℕ → Bool) → IsRing ring → (gone_of ring live ≡ None) ↔ IsAdmissible ring live }
-    ensures before_found { (n : ℕ) (live : ℕ → Bool) (k r : ℕ) → k < n → (live_before_of n live k ≡ Some r) ↔ IsLiveBefore n live k r }
-    ensures before_none { (n : ℕ) (live : ℕ → Bool) (k : ℕ) → k < n → (live_before_of n live k ≡ None) ↔ IsAlone n live k }
-    ensures after_found { (n : ℕ) (live : ℕ → Bool) (k s : ℕ) → k < n → (live_after_of n live k ≡ Some s) ↔ IsLiveAfter n live k s }
-    ensures after_none { (n : ℕ) (live : ℕ → Bool) (k : ℕ) → k < n → (live_after_of n live k ≡ None) ↔ IsAlone n live k }
+    ensures gone_none { (ring : RingShape) (live : ℕ → Bool) → IsRing ring →
+        (gone_of ring live ≡ None) ↔ IsAdmissible ring live }
+    ensures before_found { (n : ℕ) (live : ℕ → Bool) (k r : ℕ) → k < n →
+        (live_before_of n live k ≡ Some r) ↔ IsLiveBefore n live k r }
+    ensures before_none { (n : ℕ) (live : ℕ → Bool) (k : ℕ) → k < n →
+        (live_before_of n live k ≡ None) ↔ IsAlone n live k }
+    ensures after_found { (n : ℕ) (live : ℕ → Bool) (k s : ℕ) → k < n →
+        (live_after_of n live k ≡ Some s) ↔ IsLiveAfter n live k s }
+    ensures after_none { (n : ℕ) (live : ℕ → Bool) (k : ℕ) → k < n →
+        (live_after_of n live k ≡ None) ↔ IsAlone n live k }
     ensures admissible_not_alone { (ring : RingShape) (live : ℕ → Bool) (k : ℕ) → k < ring.servers → IsDown live k →
         IsAdmissible ring live → ¬ IsAlone ring.servers live k }
 {}
@@ -87,7 +94,8 @@ pub fn admissible()
     ensures more { (ring : RingShape) (live more : ℕ → Bool) →
         ((k : ℕ) → k < ring.servers → IsLive live k → IsLive more k) →
         IsAdmissible ring live → IsAdmissible ring more }
-    ensures first { (ring : RingShape) (live : ℕ → Bool) (j : ℕ) → IsRing ring → j < ring.servers → IsAdmissible ring live →
+    ensures first { (ring : RingShape) (live : ℕ → Bool) (j : ℕ) → IsRing ring → j < ring.servers →
+        IsAdmissible ring live →
         (k : ℕ) × (first_live_of ring live j ≡ Some k) × IsFirstLive ring live j k }
 {}
 

@@ -3,7 +3,8 @@
 ghost use Rattle.std.specs.Prelude.{◌≡◌, ◌≤◌, ◌<◌, ◌↔◌, IfSome, IfNone, IsNone};
 ghost use Rattle.std.specs.List.{find};
 ghost use Rattle.ftc_ring.specs.Ring.{along, against};
-ghost use Rattle.ftc_ring.specs.Live.{is_live, IsGone, IsAdmissible, IsFirstLive, IsFirstGone, IsLiveBefore, IsLiveAfter, IsAlone, first_live_of, gone_of, live_before_of, live_after_of};
+ghost use Rattle.ftc_ring.specs.Live.{is_live, IsGone, IsAdmissible, IsFirstLive, IsFirstGone, IsLiveBefore};
+ghost use Rattle.ftc_ring.specs.Live.{IsLiveAfter, IsAlone, first_live_of, gone_of, live_before_of, live_after_of};
 
 use crate::distance::server_of;
 use crate::ring::Ring;

@@ -2,7 +2,8 @@
 
 ghost use Rattle.std.specs.Prelude.{◌≡◌, ◌<◌, ℕ, Some};
 ghost use Rattle.ftc_ring.specs.Ring.{IsMember};
-ghost use Rattle.ftc_ring.specs.Live.{is_live, IsLive, IsDown, IsAdmissible, IsLiveBefore, IsLiveAfter, source_between, source_of};
+ghost use Rattle.ftc_ring.specs.Live.{is_live, IsLive, IsDown, IsAdmissible, IsLiveBefore, IsLiveAfter, source_between};
+ghost use Rattle.ftc_ring.specs.Live.{source_of};
 
 use crate::distance::apart;
 use crate::ring::Ring;

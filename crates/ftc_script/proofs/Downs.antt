@@ -18,12 +18,16 @@ recovered : (t h : Bool) → not (not t && h) ≡ (if t then true else not h)
 recovered true h = refl
 recovered false h = refl
 
-pub one_down : (down more server : ℕ) → ((k : ℕ) → has more k ≡ (k == server || has down k)) → is_live more ≡ with_at (is_live down) server false
+pub one_down : (down more server : ℕ) → ((k : ℕ) → has more k ≡ (k == server || has down k)) →
+    is_live more ≡ with_at (is_live down) server false
 one_down down more server each =
-    let point : (k : ℕ) → is_live more k ≡ with_at (is_live down) server false k = λ k. rw (each k) (crashed (k == server) (has down k)) in
+    let point : (k : ℕ) → is_live more k ≡ with_at (is_live down) server false k =
+    λ k. rw (each k) (crashed (k == server) (has down k)) in
     λ i. λ k. point k i
 
-pub one_up : (down fewer server : ℕ) → ((k : ℕ) → has fewer k ≡ (not (k == server) && has down k)) → is_live fewer ≡ with_at (is_live down) server true
+pub one_up : (down fewer server : ℕ) → ((k : ℕ) → has fewer k ≡ (not (k == server) && has down k)) →
+    is_live fewer ≡ with_at (is_live down) server true
 one_up down fewer server each =
-    let point : (k : ℕ) → is_live fewer k ≡ with_at (is_live down) server true k = λ k. rw (each k) (recovered (k == server) (has down k)) in
+    let point : (k : ℕ) → is_live fewer k ≡ with_at (is_live down) server true k =
+    λ k. rw (each k) (recovered (k == server) (has down k)) in
     λ i. λ k. point k i

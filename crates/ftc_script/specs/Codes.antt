@@ -1,7 +1,8 @@
 -- The numbers of the causes.
 use Rattle.std.specs.Prelude.{ℕ}
 use Rattle.ftc_script.specs.declared.fault.ScriptCause.{ScriptCause}
-use Rattle.ftc_script.specs.declared.fault.ScriptCause.TheVariants.{Word, Order, Past, NotUp, NotDown, GroupGone, LeftDown, Link, TooLong}
+use Rattle.ftc_script.specs.declared.fault.ScriptCause.TheVariants.{Word, Order, Past, NotUp, NotDown, GroupGone}
+use Rattle.ftc_script.specs.declared.fault.ScriptCause.TheVariants.{LeftDown, Link, TooLong}
 
 abbrev pub code_of : ScriptCause → ℕ
 code_of Word = 1

@@ -1,12 +1,14 @@
 -- The script that a text spells, or its first fault.
-use Rattle.std.specs.Prelude.{ℕ, ◌+◌, Bool, false, not, nat_le, nat_lt, List, [], ◌∷◌, ◌++◌, length, Option, Some, None, Result, Ok, Err, if◌then◌else◌}
+use Rattle.std.specs.Prelude.{ℕ, ◌+◌, Bool, false, not, nat_le, nat_lt, List, [], ◌∷◌, ◌++◌, length, Option, Some, None}
+use Rattle.std.specs.Prelude.{Result, Ok, Err, if◌then◌else◌}
 use Rattle.std.specs.List.{find, range_with_len, AllByRecursion}
 use Rattle.ftc_base.specs.Text.{lines_of, words_of}
 use Rattle.ftc_base.specs.declared.limits.TheConstants.{MOST_SCRIPT_BYTES}
 use Rattle.ftc_ring.specs.Ring.{RingShape}
 use Rattle.ftc_ring.specs.Live.{gone_of}
 use Rattle.ftc_script.specs.declared.fault.ScriptCause.{ScriptCause}
-use Rattle.ftc_script.specs.declared.fault.ScriptCause.TheVariants.{Order, Past, NotUp, NotDown, GroupGone, LeftDown, Link, TooLong}
+use Rattle.ftc_script.specs.declared.fault.ScriptCause.TheVariants.{Order, Past, NotUp, NotDown, GroupGone, LeftDown}
+use Rattle.ftc_script.specs.declared.fault.ScriptCause.TheVariants.{Link, TooLong}
 use Rattle.ftc_script.specs.declared.fault.ScriptFault.{ScriptFault}
 use Rattle.ftc_script.specs.declared.line.ScriptLine.{ScriptLine}
 use Rattle.ftc_script.specs.declared.line.ScriptLine.TheVariants.{Crash, Recover}
@@ -59,19 +61,27 @@ may_recover live server = unless (not (live server)) NotDown
 -- a link of the ring, and a packet of the capture
 abbrev pub lose_line : RingShape → ℕ → ℕ → ℕ → ℕ → Result LoseLine ScriptCause
 lose_line ring packets place number origin =
-    server_in ring number >>= λ link. unless (nat_lt origin packets) Past >> Ok (record { line = place; link = link; origin = origin })
+    server_in ring number >>= λ link. unless (nat_lt origin packets) Past >> Ok (record {
+      line = place;
+      link = link;
+      origin = origin;
+    })
 
 -- the lines with one more, which stands at that place
 abbrev pub add : RingShape → ℕ → ScriptDraft → ℕ → Statement → Result ScriptDraft ScriptCause
 add ring packets draft place said.Nothing = Ok draft
 add ring packets draft place (said.Crash at number) =
-    in_turn ring packets (last_of 0 draft.steps) at number >>= λ server. may_crash ring (live_in draft) server >> Ok (with_step draft (Crash at server))
+    in_turn ring packets (last_of 0 draft.steps) at number >>= λ server.
+    may_crash ring (live_in draft) server >> Ok (with_step draft (Crash at server))
 add ring packets draft place (said.Recover at number) =
-    in_turn ring packets (last_of 0 draft.steps) at number >>= λ server. may_recover (live_in draft) server >> Ok (with_step draft (Recover at server))
-add ring packets draft place (said.Lose link origin) = lose_line ring packets place link origin >>= λ line. Ok (with_lose draft line)
+    in_turn ring packets (last_of 0 draft.steps) at number >>= λ server.
+    may_recover (live_in draft) server >> Ok (with_step draft (Recover at server))
+add ring packets draft place (said.Lose link origin) = lose_line ring packets place link origin >>= λ line.
+    Ok (with_lose draft line)
 
 abbrev pub line_step : RingShape → ℕ → ScriptDraft → ℕ → List ℕ → Result ScriptDraft ScriptCause
-line_step ring packets draft place line = statement_of (words_of line) >>= λ statement. add ring packets draft place statement
+line_step ring packets draft place line = statement_of (words_of line) >>= λ statement.
+    add ring packets draft place statement
 
 -- a cause becomes a fault at its line
 abbrev pub fault_at : {A : Type 0} → ℕ → ScriptCause → Result A ScriptFault
@@ -87,22 +97,26 @@ down_of n live = find (λ server. not (live server)) (range_with_len 0 n)
 
 -- the script where no line is left; the place is behind the last line
 abbrev pub finished : RingShape → ℕ → ScriptDraft → ℕ → Option ℕ → Result ScriptShape ScriptFault
-finished ring packets draft place None = Ok (record { ring = ring; packets = packets; steps = draft.steps; loses = draft.loses })
+finished ring packets draft place None =
+    Ok (record { ring = ring; packets = packets; steps = draft.steps; loses = draft.loses })
 finished ring packets draft place (Some server) = fault_at place (LeftDown server)
 
 abbrev pub finish : RingShape → ℕ → ScriptDraft → ℕ → Result ScriptShape ScriptFault
 finish ring packets draft place = finished ring packets draft place (down_of ring.servers (live_in draft))
 
 -- the script of the lines that are left, the first of which stands at that place
-abbrev pub script_from : RingShape → ℕ → Result ScriptDraft ScriptFault → ℕ → List (List ℕ) → Result ScriptShape ScriptFault
+abbrev pub script_from : RingShape → ℕ → Result ScriptDraft ScriptFault → ℕ → List (List ℕ) →
+    Result ScriptShape ScriptFault
 script_from ring packets (Err fault) place lines = Err fault
 script_from ring packets (Ok draft) place [] = finish ring packets draft place
-script_from ring packets (Ok draft) place (line ∷ lines) = script_from ring packets (placed place (line_step ring packets draft place line)) (place + 1) lines
+script_from ring packets (Ok draft) place (line ∷ lines) =
+    script_from ring packets (placed place (line_step ring packets draft place line)) (place + 1) lines
 
 -- the script that a text spells, or its first fault
 abbrev pub script_of : RingShape → ℕ → List ℕ → Result ScriptShape ScriptFault
 script_of ring packets text =
-    if nat_lt MOST_SCRIPT_BYTES (length text) then fault_at 1 TooLong else script_from ring packets (Ok no_lines) 1 (lines_of text)
+    if nat_lt MOST_SCRIPT_BYTES (length text) then fault_at 1 TooLong
+    else script_from ring packets (Ok no_lines) 1 (lines_of text)
 
 -- the lines so far are those of a script of which further lines may follow
 pub record IsDraft (ring : RingShape) (packets : ℕ) (draft : ScriptDraft) : Type 0 where

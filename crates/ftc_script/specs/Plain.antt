@@ -32,4 +32,5 @@ loses_in place [] = []
 loses_in place (said.Nothing ∷ lines) = loses_in (place + 1) lines
 loses_in place (said.Crash at server ∷ lines) = loses_in (place + 1) lines
 loses_in place (said.Recover at server ∷ lines) = loses_in (place + 1) lines
-loses_in place (said.Lose link origin ∷ lines) = record { line = place; link = link; origin = origin } ∷ loses_in (place + 1) lines
+loses_in place (said.Lose link origin ∷ lines) =
+    record { line = place; link = link; origin = origin } ∷ loses_in (place + 1) lines

@@ -20,7 +20,8 @@ pub record IsLose (ring : RingShape) (packets : ℕ) (line : LoseLine) : Type 0 
   pub link : line.link < ring.servers
   pub origin : line.origin < packets
 
--- each step may be made in its turn, and behind the last one all servers are live; there are no more steps than a text has bytes
+-- each step may be made in its turn, and behind the last one all servers are live; there are no more steps than a text
+-- has bytes
 pub record IsScript (script : ScriptShape) : Type 0 where
   pub ring : IsRing script.ring
   pub few : length script.steps ≤ MOST_SCRIPT_BYTES

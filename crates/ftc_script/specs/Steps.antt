@@ -47,4 +47,5 @@ IsStep ring packets last live (Recover at server) = IsInTurn ring packets last a
 -- each step may be made where the ones before it have been made
 abbrev pub AreSteps : RingShape → ℕ → ℕ → (ℕ → Bool) → List ScriptLine → Type 0
 AreSteps ring packets last live [] = Unit {0}
-AreSteps ring packets last live (step ∷ steps) = IsStep ring packets last live step × AreSteps ring packets (at_of step) (live_after live step) steps
+AreSteps ring packets last live (step ∷ steps) =
+    IsStep ring packets last live step × AreSteps ring packets (at_of step) (live_after live step) steps

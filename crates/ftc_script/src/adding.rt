@@ -3,7 +3,8 @@
 ghost use Rattle.std.specs.Prelude.{◌≡◌, IfOk, OnOk};
 ghost use Rattle.ftc_base.specs.Refused.{IsReading};
 ghost use Rattle.ftc_script.specs.Steps.{last_of, IsCrash};
-ghost use Rattle.ftc_script.specs.Grammar.{live_in, server_in, in_turn, may_crash, may_recover, lose_line, add, IsDraft};
+ghost use Rattle.ftc_script.specs.Grammar.{live_in, server_in, in_turn, may_crash, may_recover, lose_line, add};
+ghost use Rattle.ftc_script.specs.Grammar.{IsDraft};
 
 use crate::draft::Draft;
 use crate::fault::ScriptCause;

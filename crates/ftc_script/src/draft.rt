@@ -33,7 +33,8 @@ impl Model for Draft {
 
     ghost view = { λ draft. record { steps = draft.steps; loses = draft.loses } };
 
-    ghost invariant = { λ draft. (is_live draft.down ≡ live_after_all all_live draft.steps) × (draft.last ≡ last_of 0 draft.steps) };
+    ghost invariant = { λ draft. (is_live draft.down ≡ live_after_all all_live draft.steps)
+        × (draft.last ≡ last_of 0 draft.steps) };
 }
 
 /// The servers that are down behind a step.

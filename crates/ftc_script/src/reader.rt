@@ -54,7 +54,8 @@ fn finish(
     draft: Draft,
     place: u32,
 ) -> Result<Script, Refuse<ScriptFault>>
-    requires { (script : ScriptShape) → IsRing ring.now → finish ring.now packets draft place ≡ Ok script → IsScript script }
+    requires { (script : ScriptShape) → IsRing ring.now → finish ring.now packets draft place ≡ Ok script →
+        IsScript script }
     ensures { IsReading result (finish ring.now packets draft place) }
 {
     match draft.first_down(ring.servers()) {

@@ -23,9 +23,19 @@ impl Model for Script {
 
     ghost Value = { ScriptShape };
 
-    ghost view = { λ script. record { ring = script.ring; packets = script.packets; steps = script.steps; loses = script.loses } };
+    ghost view = { λ script. record {
+      ring = script.ring;
+      packets = script.packets;
+      steps = script.steps;
+      loses = script.loses;
+    } };
 
-    ghost invariant = { λ script. IsScript (record { ring = script.ring; packets = script.packets; steps = script.steps; loses = script.loses }) };
+    ghost invariant = { λ script. IsScript (record {
+      ring = script.ring;
+      packets = script.packets;
+      steps = script.steps;
+      loses = script.loses;
+    }) };
 }
 
 impl Script {

@@ -35,7 +35,8 @@ one_more asks (first ∷ answers) answer turn asked =
     (turn.0, one_more (λ more. asks (first ∷ more)) answers answer turn.1 asked)
 
 -- answers after which the rule reads once more are fewer than a visit may have
-fewer : (rule : Rule) (packet : List ℕ) (answers : List Answer) (key : List ℕ) (change : Bool) → InTurn rule packet answers
+fewer : (rule : Rule) (packet : List ℕ) (answers : List Answer) (key : List ℕ) (change : Bool) →
+    InTurn rule packet answers
     → ask rule packet answers ≡ Read key change → length answers < MOST_READS
 fewer rule packet answers key change turn reads =
     (subst (ComesNext (ask rule packet) answers) reads (in_turn rule packet answers turn)).0
@@ -64,7 +65,8 @@ going_on rule packet content left so_far next =
     ]
 
 pub answered : (rule : Rule) (packet : List ℕ) (content : Content) (end : End) (rest : List Answer) (left : ℕ)
-    (so_far : List Answer) → length so_far + left ≡ MOST_READS → InTurn rule packet so_far → AreLater rule packet so_far rest
+    (so_far : List Answer) → length so_far + left ≡ MOST_READS → InTurn rule packet so_far →
+    AreLater rule packet so_far rest
     → AllByRecursion (λ (answer : Answer). get content answer.key ≡ answer.value) rest
     → ask rule packet (so_far ++ rest) ≡ Finish end
     → asked_from rule packet content left so_far ≡ ended (so_far ++ rest) end
@@ -87,7 +89,8 @@ answered rule packet content end (answer ∷ rest) (suc left) so_far few turn la
     grind (arith, length-append so_far (answer ∷ []), few) in
     ap (going_on rule packet content left so_far) reads.1
     ∙ (ap (λ (a : Answer). asked_from rule packet content left (so_far ++ a ∷ [])) (one_answer content answer current.0)
-    ∙ (answered rule packet content end rest left (so_far ++ answer ∷ []) long (one_more (ask rule packet) so_far answer turn asks)
+    ∙ (answered rule packet content end rest left (so_far
+    ++ answer ∷ []) long (one_more (ask rule packet) so_far answer turn asks)
     (later_still rule packet so_far answer rest later) current.1 (ap (ask rule packet) joined ∙ finish)
     ∙ ap (λ (xs : List Answer). ended xs end) joined))
 
@@ -95,8 +98,16 @@ answered rule packet content end (answer ∷ rest) (suc left) so_far few turn la
 pub outcome_in_turn : (rule : Rule) (packet : List ℕ) (content : Content) (end : End) (answers : List Answer)
     → InTurn rule packet answers → AllByRecursion (λ (answer : Answer). get content answer.key ≡ answer.value) answers
     → ask rule packet answers ≡ Finish end
-    → taken rule packet content ≡ record { answers = answers; writes = end.writes.items; packet = packet_after packet end.verdict }
+    → taken rule packet content ≡ record {
+      answers = answers;
+      writes = end.writes.items;
+      packet = packet_after packet end.verdict;
+    }
 unfolding asked
 outcome_in_turn rule packet content end answers turn current finish =
-    ap (λ (told : Asked). record { answers = told.answers.items; writes = told.end.writes.items; packet = packet_after packet told.end.verdict })
+    ap (λ (told : Asked). record {
+      answers = told.answers.items;
+      writes = told.end.writes.items;
+      packet = packet_after packet told.end.verdict;
+    })
     (answered rule packet content end answers MOST_READS [] refl tt turn current finish)

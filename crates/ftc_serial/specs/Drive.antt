@@ -1,5 +1,6 @@
 -- The run of a chain that keeps no replicas, on one thread.
-use Rattle.std.specs.Prelude.{ℕ, Bool, true, ◌≡◌, ◌+◌, ◌<◌, nat_le, nat_lt, List, [], ◌∷◌, ◌++◌, length, Option, Some, None, if◌then◌else◌}
+use Rattle.std.specs.Prelude.{ℕ, Bool, true, ◌≡◌, ◌+◌, ◌<◌, nat_le, nat_lt, List, [], ◌∷◌, ◌++◌, length, Option, Some}
+use Rattle.std.specs.Prelude.{None, if◌then◌else◌}
 use Rattle.ftc_base.specs.declared.limits.TheConstants.{FINISHING_SLOT}
 use Rattle.ftc_journal.specs.declared.event.Event.{Event}
 use Rattle.ftc_journal.specs.declared.event.Event.TheVariants as event
@@ -25,16 +26,18 @@ is_visited (Some last) server = nat_le server last
 
 -- the visit at a server, where there is one
 abbrev pub visit_events : ℕ → ℕ → Option ℕ → List Event
-visit_events server packet filtered = if is_visited filtered server then event.Visit server packet FINISHING_SLOT ∷ [] else []
+visit_events server packet filtered = if is_visited filtered server then event.Visit server packet FINISHING_SLOT ∷ []
+    else []
 
 -- the next server takes the message, where there is a next
 abbrev pub take_events : ℕ → ℕ → ℕ → List Event
 take_events servers server packet = if nat_lt (server + 1) servers then event.Take server packet ∷ [] else []
 
--- At a server the packet visits the middlebox, its message is sent on, and the next server takes the message. The message
--- of a packet that was dropped goes on without the packet.
+-- At a server the packet visits the middlebox, its message is sent on, and the next server takes the message. The
+-- message of a packet that was dropped goes on without the packet.
 abbrev pub server_events : ℕ → ℕ → Option ℕ → ℕ → List Event
-server_events servers packet filtered server = visit_events server packet filtered ++ event.Pass server packet ∷ take_events servers server packet
+server_events servers packet filtered server =
+    visit_events server packet filtered ++ event.Pass server packet ∷ take_events servers server packet
 
 abbrev pub release_events : ℕ → Option ℕ → List Event
 release_events packet None = event.Release packet ∷ []
@@ -57,8 +60,8 @@ IsSettled (Some (position.Filtered server)) = Unit {0}
 IsSettled (Some position.Released) = Unit {0}
 IsSettled None = ⊥
 
--- The journal drives all packets through the chain, its trace is a serial run, and that run ends in this state, in which
--- each packet was released or dropped.
+-- The journal drives all packets through the chain, its trace is a serial run, and that run ends in this state, in
+-- which each packet was released or dropped.
 pub record IsDriven (rules : List Rule) (packets : List (List ℕ)) (journal : List Event) (end : State) : Type 0 where
   pub events : journal ≡ drive (length rules) (length packets) end.place
   pub run : serial_run rules (serial_opening packets) (trace_of journal) ≡ Some end

@@ -34,18 +34,22 @@ entries rules state (step ∷ steps) =
 
 -- the visit read a key in that partition, of so many
 abbrev pub Touches : ℕ → Outcome → ℕ → Type 0
-Touches partitions outcome partition = AnyOf (λ (answer : Answer). partition_of partitions answer.key ≡ partition) outcome.answers
+Touches partitions outcome partition =
+    AnyOf (λ (answer : Answer). partition_of partitions answer.key ≡ partition) outcome.answers
 
 -- the visit wrote a key in that partition
 abbrev pub WritesIn : ℕ → Outcome → ℕ → Type 0
-WritesIn partitions outcome partition = AnyOf (λ (write : Write). partition_of partitions write.key ≡ partition) outcome.writes
+WritesIn partitions outcome partition =
+    AnyOf (λ (write : Write). partition_of partitions write.key ≡ partition) outcome.writes
 
 -- a visit of that middlebox that touches the partition there
 abbrev pub TouchesAt : ℕ → ℕ → ℕ → Entry → Type 0
-TouchesAt partitions server partition (Visited visited packet outcome) = (visited ≡ server) × Touches partitions outcome partition
+TouchesAt partitions server partition (Visited visited packet outcome) =
+    (visited ≡ server) × Touches partitions outcome partition
 TouchesAt partitions server partition (Given packet bytes) = ⊥
 
 -- a visit of that middlebox that writes in the partition there
 abbrev pub WritesAt : ℕ → ℕ → ℕ → Entry → Type 0
-WritesAt partitions server partition (Visited visited packet outcome) = (visited ≡ server) × WritesIn partitions outcome partition
+WritesAt partitions server partition (Visited visited packet outcome) =
+    (visited ≡ server) × WritesIn partitions outcome partition
 WritesAt partitions server partition (Given packet bytes) = ⊥

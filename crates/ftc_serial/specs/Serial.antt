@@ -1,5 +1,6 @@
 -- The serial chain: one visit at a time, and nothing is replicated.
-use Rattle.std.specs.Prelude.{ℕ, ◌+◌, ◌==◌, List, [], ◌∷◌, ◌++◌, length, slice_get, Option, Some, None, option_map, option_and_then, if◌then◌else◌}
+use Rattle.std.specs.Prelude.{ℕ, ◌+◌, ◌==◌, List, [], ◌∷◌, ◌++◌, length, slice_get, Option, Some, None, option_map}
+use Rattle.std.specs.Prelude.{option_and_then, if◌then◌else◌}
 use Rattle.std.specs.FinMap.{empty}
 use Rattle.ftc_base.specs.declared.released.Released.{Released}
 use Rattle.ftc_mbox.specs.declared.rule.Rule.{Rule}
@@ -55,7 +56,8 @@ abbrev pub entry_of : List Rule → State → Step → Option Entry
 entry_of rules state (Visit server packet) = visit_at rules state server packet (state.place packet)
 entry_of rules state (Release packet) = release_at packet (state.place packet)
 
--- Where a packet is after its visit at a middlebox: it waits for the next with the new bytes, has passed all, or is dropped.
+-- Where a packet is after its visit at a middlebox: it waits for the next with the new bytes, has passed all, or is
+-- dropped.
 abbrev pub position_after : ℕ → ℕ → Option (List ℕ) → Position
 position_after servers server (Some bytes) =
     if server + 1 == servers then position.Passed bytes else position.Waiting (server + 1) bytes
@@ -81,4 +83,5 @@ serial_step rules state step = option_map (after (length rules) state) (entry_of
 -- The serial run: the state after the steps, one after another, none where one of them isn't legal.
 abbrev pub serial_run : List Rule → State → List Step → Option State
 serial_run rules state [] = Some state
-serial_run rules state (step ∷ steps) = option_and_then (λ next. serial_run rules next steps) (serial_step rules state step)
+serial_run rules state (step ∷ steps) =
+    option_and_then (λ next. serial_run rules next steps) (serial_step rules state step)

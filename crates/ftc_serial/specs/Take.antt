@@ -55,4 +55,8 @@ packet_after packet Filter = None
 abbrev pub taken : Rule → List ℕ → Content → Outcome
 taken rule packet content =
     let told = asked rule packet content in
-    record { answers = told.answers.items; writes = told.end.writes.items; packet = packet_after packet told.end.verdict }
+    record {
+      answers = told.answers.items;
+      writes = told.end.writes.items;
+      packet = packet_after packet told.end.verdict;
+    }

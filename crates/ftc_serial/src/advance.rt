@@ -64,8 +64,10 @@ pub fn visited(
     requires known { server < servers }
     requires few { servers ≤ MOST_SERVERS }
     requires room { MOST_WRITES ≤ store.old.spare }
-    ensures position { (bytes : List ℕ) → from ≡ position.Waiting server bytes → result ≡ position_after servers server (taken rule.now bytes store.old.content).packet }
-    ensures content { (bytes : List ℕ) → from ≡ position.Waiting server bytes → store.new.content ≡ written (taken rule.now bytes store.old.content).writes store.old.content }
+    ensures position { (bytes : List ℕ) → from ≡ position.Waiting server bytes →
+        result ≡ position_after servers server (taken rule.now bytes store.old.content).packet }
+    ensures content { (bytes : List ℕ) → from ≡ position.Waiting server bytes →
+        store.new.content ≡ written (taken rule.now bytes store.old.content).writes store.old.content }
 {
     match from {
         Position::Waiting { bytes, .. } => {

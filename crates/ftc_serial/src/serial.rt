@@ -76,8 +76,10 @@ impl Serial {
     /// The packet goes through the middlebox of that server. It is refused exactly where the packet
     /// doesn't wait for it. A refused call leaves the chain as it was.
     pub fn visit(&mut self, server: ServerId, packet: PacketNo) -> Result<(), Refuse<NotWaiting>>
-        ensures made { OnOk result (serial_step (rules_of self.old) (serial_state self.old) (step.Visit server packet) ≡ Some (serial_state self.new)) }
-        ensures refused { IfBad result (λ _. serial_step (rules_of self.old) (serial_state self.old) (step.Visit server packet) ≡ None) }
+        ensures made { OnOk result (serial_step (rules_of self.old) (serial_state self.old) (step.Visit server packet)
+            ≡ Some (serial_state self.new)) }
+        ensures refused { IfBad result
+            (λ _. serial_step (rules_of self.old) (serial_state self.old) (step.Visit server packet) ≡ None) }
         ensures err { OnErr result (serial_state self.new ≡ serial_state self.old) }
         ensures rules { rules_of self.new ≡ rules_of self.old }
     {
@@ -103,8 +105,10 @@ impl Serial {
     /// The packet, which has passed all middleboxes, leaves the chain. It is refused exactly where it
     /// hasn't. A refused call leaves the chain as it was.
     pub fn release(&mut self, packet: PacketNo) -> Result<(), Refuse<NotWaiting>>
-        ensures made { OnOk result (serial_step (rules_of self.old) (serial_state self.old) (step.Release packet) ≡ Some (serial_state self.new)) }
-        ensures refused { IfBad result (λ _. serial_step (rules_of self.old) (serial_state self.old) (step.Release packet) ≡ None) }
+        ensures made { OnOk result (serial_step (rules_of self.old) (serial_state self.old) (step.Release packet)
+            ≡ Some (serial_state self.new)) }
+        ensures refused { IfBad result
+            (λ _. serial_step (rules_of self.old) (serial_state self.old) (step.Release packet) ≡ None) }
         ensures err { OnErr result (serial_state self.new ≡ serial_state self.old) }
         ensures rules { rules_of self.new ≡ rules_of self.old }
     {
@@ -126,7 +130,8 @@ impl Serial {
     /// Makes one step. It is refused exactly where the step isn't legal. A refused call leaves the chain
     /// as it was.
     pub fn step(&mut self, step: &Step) -> Result<(), Refuse<NotWaiting>>
-        ensures made { OnOk result (serial_step (rules_of self.old) (serial_state self.old) step.now ≡ Some (serial_state self.new)) }
+        ensures made { OnOk result (serial_step (rules_of self.old) (serial_state self.old) step.now
+            ≡ Some (serial_state self.new)) }
         ensures refused { IfBad result (λ _. serial_step (rules_of self.old) (serial_state self.old) step.now ≡ None) }
         ensures err { OnErr result (serial_state self.new ≡ serial_state self.old) }
         ensures rules { rules_of self.new ≡ rules_of self.old }
@@ -146,8 +151,12 @@ impl Serial {
         trace: &Trace,
     ) -> Result<Serial, Refuse<BadStep>>
         ensures rules { IfOk result (λ serial. rules_of serial ≡ spec.now.rules) }
-        ensures state { IfOk result (λ serial. serial_run spec.now.rules (serial_opening (bytes_of_packets packets.now)) trace.now ≡ Some (serial_state serial)) }
-        ensures bad { IfBad result (λ fault. IsFirstIllegal spec.now.rules (serial_opening (bytes_of_packets packets.now)) trace.now fault.place) }
+        ensures state { IfOk result
+            (λ serial. serial_run spec.now.rules (serial_opening (bytes_of_packets packets.now)) trace.now
+            ≡ Some (serial_state serial)) }
+        ensures bad { IfBad result
+            (λ fault. IsFirstIllegal spec.now.rules
+            (serial_opening (bytes_of_packets packets.now)) trace.now fault.place) }
     {
         let mut serial = Serial::new(alloc, spec, packets)?;
         for (place, step) in trace.as_slice().iter().enumerate() {

@@ -1,5 +1,6 @@
 -- Looking for a held message in a list that changes.
-use Rattle.std.proofs.Common.{◌≡◌, ◌≢◌, ◌∙◌, ◌&&◌, ℕ, Bool, true, false, List, [], ◌∷◌, ◌++◌, Option, Some, None, refl, sym, ap, cond, get_or, set}
+use Rattle.std.proofs.Common.{◌≡◌, ◌≢◌, ◌∙◌, ◌&&◌, ℕ, Bool, true, false, List, [], ◌∷◌, ◌++◌, Option, Some, None, refl}
+use Rattle.std.proofs.Common.{sym, ap, cond, get_or, set}
 use Rattle.std.specs.List.{find, list_all, filter, position}
 use Rattle.std.proofs.Common.{suc, zero, length, ◌<◌, arith}
 use Rattle.std.proofs.lemmas.Bool.{eqb-true}
@@ -28,7 +29,8 @@ pub and_both : (a b : Bool) → a ≡ true → b ≡ true → a && b ≡ true
 and_both true b first second = second
 and_both false b first second = absurd cc
 
-pub all_behind : {A : Type 0} (test : A → Bool) (items : List A) (item : A) → list_all test items ≡ true → test item ≡ true
+pub all_behind : {A : Type 0} (test : A → Bool) (items : List A) (item : A) → list_all test items ≡ true →
+    test item ≡ true
     → list_all test (items ++ item ∷ []) ≡ true
 all_behind test [] item all is = and_both (test item) true is refl
 all_behind test (x ∷ items) item all is =
@@ -51,9 +53,11 @@ pub all_changed : (test : Held → Bool) (origin : ℕ) (change : Held → Held)
 all_changed test origin change [] changed all = refl
 all_changed test origin change (x ∷ items) changed all =
     let parts = both (test x) (list_all test items) all in
-    elim (is_of origin x) as (λ t. list_all test (cond t (change x ∷ items) (x ∷ with_changed origin change items)) ≡ true) [
+    elim (is_of origin x) as (λ t. list_all test (cond t (change x ∷ items) (x ∷ with_changed origin change items))
+    ≡ true) [
       | true ↦ and_both (test (change x)) (list_all test items) (changed x) parts.1
-      | false ↦ and_both (test x) (list_all test (with_changed origin change items)) parts.0 (all_changed test origin change items changed parts.1)
+      | false ↦ and_both (test x) (list_all test (with_changed origin change items)) parts.0
+          (all_changed test origin change items changed parts.1)
     ]
 
 pub all_kept : {A : Type 0} (test keep : A → Bool) (items : List A) → list_all test items ≡ true
@@ -90,12 +94,14 @@ pub found_behind : {A : Type 0} (is : A → Bool) (items more : List A) (item : 
     → find is (items ++ more) ≡ Some item
 found_behind is [] more item there = absurd cc
 found_behind {A} is (x ∷ items) more item there =
-    elim (is x) as (λ t. cond t (Some x) (find is items) ≡ Some item → cond t (Some x) (find is (items ++ more)) ≡ Some item) [
+    elim (is x) as (λ t. cond t (Some x) (find is items) ≡ Some item →
+    cond t (Some x) (find is (items ++ more)) ≡ Some item) [
       | true ↦ λ same. same
       | false ↦ λ later. found_behind is items more item later
     ] there
 
-pub found_kept : {A : Type 0} (is keep : A → Bool) (items : List A) (item : A) → find is items ≡ Some item → keep item ≡ true
+pub found_kept : {A : Type 0} (is keep : A → Bool) (items : List A) (item : A) → find is items ≡ Some item →
+    keep item ≡ true
     → find is (filter keep items) ≡ Some item
 found_kept is keep [] item there kept = absurd cc
 found_kept {A} is keep (x ∷ items) item there kept =
@@ -130,7 +136,8 @@ found_without origin other (x ∷ items) differs =
     elim (is_of origin x) as (λ t. is_of origin x ≡ t
     → found other (cond t items (x ∷ without origin items)) ≡ found other (x ∷ items)) [
       | true ↦ λ yes. ap (λ (b : Bool). cond b (Some x) (found other items)) (sym (not_of origin other x differs yes))
-      | false ↦ λ _. ap (λ (rest : Option Held). cond (is_of other x) (Some x) rest) (found_without origin other items differs)
+      | false ↦ λ _. ap (λ (rest : Option Held). cond (is_of other x) (Some x) rest)
+          (found_without origin other items differs)
     ] refl
 
 pub found_changed : (origin other : ℕ) (change : Held → Held) (items : List Held)
@@ -145,7 +152,8 @@ found_changed origin other change (x ∷ items) keeps differs =
           let still : is_of other (change x) ≡ false = ap (λ (o : ℕ). o == other) (keeps x) ∙ isnt in
           ap (λ (b : Bool). cond b (Some (change x)) (found other items)) still
           ∙ ap (λ (b : Bool). cond b (Some x) (found other items)) (sym isnt)
-      | false ↦ λ _. ap (λ (rest : Option Held). cond (is_of other x) (Some x) rest) (found_changed origin other change items keeps differs)
+      | false ↦ λ _. ap (λ (rest : Option Held). cond (is_of other x) (Some x) rest)
+          (found_changed origin other change items keeps differs)
     ] refl
 
 -- ---- by its place
@@ -173,7 +181,8 @@ first_at test items place d at =
     let is = position-Some test items place d at in
     record { within = is.0; passes = is.1; before = is.2 }
 
-next_at : {A : Type 0} (test : A → Bool) (x : A) (items : List A) (place : ℕ) (d : A) → IsFirstAt test (x ∷ items) (suc place) d
+next_at : {A : Type 0} (test : A → Bool) (x : A) (items : List A) (place : ℕ) (d : A) →
+    IsFirstAt test (x ∷ items) (suc place) d
     → IsFirstAt test items place d
 next_at test x items place d at = record {
   within = let within = at.within in omega (arith, within);
@@ -204,8 +213,10 @@ changed_first origin change [] place d at = let within = at.within in absurd (om
 changed_first origin change (x ∷ items) zero d at =
     ap (λ (t : Bool). cond t (change x ∷ items) (x ∷ with_changed origin change items)) (sym at.passes)
 changed_first origin change (x ∷ items) (suc place) d at =
-    ap (λ (rest : List Held). x ∷ rest) (changed_first origin change items place d (next_at (is_of origin) x items place d at))
-    ∙ ap (λ (t : Bool). cond t (change x ∷ items) (x ∷ with_changed origin change items)) (sym (at.before 0 (omega arith)))
+    ap (λ (rest : List Held). x
+    ∷ rest) (changed_first origin change items place d (next_at (is_of origin) x items place d at))
+    ∙ ap (λ (t : Bool). cond t (change x ∷ items) (x ∷ with_changed origin change items))
+    (sym (at.before 0 (omega arith)))
 
 -- what is taken out at the place, and what is left
 pub taken_first : {A : Type 0} (test : A → Bool) (items : List A) (place : ℕ) (taken : Option A)
@@ -231,7 +242,8 @@ left_first origin (x ∷ items) left place (Some item) at there is =
 pub none_out : (origin : ℕ) (items : List Held) → find (is_of origin) items ≡ None → without origin items ≡ items
 none_out origin [] none = refl
 none_out origin (x ∷ items) none =
-    elim (is_of origin x) as (λ t. cond t (Some x) (find (is_of origin) items) ≡ None → cond t items (x ∷ without origin items) ≡ x ∷ items) [
+    elim (is_of origin x) as (λ t. cond t (Some x) (find (is_of origin) items) ≡ None →
+    cond t items (x ∷ without origin items) ≡ x ∷ items) [
       | true ↦ λ same. absurd cc
       | false ↦ λ later. ap (λ (rest : List Held). x ∷ rest) (none_out origin items later)
     ] none

@@ -1,5 +1,6 @@
 -- Replicas that are put in place of others, and logs that are applied to them.
-use Rattle.std.proofs.Common.{◌≡◌, ◌∙◌, ◌<◌, ℕ, zero, suc, Bool, true, false, List, [], ◌∷◌, ◌++◌, Option, Some, None, refl, sym, ap, subst, cond, arith}
+use Rattle.std.proofs.Common.{◌≡◌, ◌∙◌, ◌<◌, ℕ, zero, suc, Bool, true, false, List, [], ◌∷◌, ◌++◌, Option, Some, None}
+use Rattle.std.proofs.Common.{refl, sym, ap, subst, cond, arith}
 use Rattle.std.specs.Prelude.{slice_set, nat_lt, is_some, option_map}
 use Rattle.std.specs.List.{list_all}
 use Rattle.std.proofs.lemmas.Bool.Decides.{nat_tests}
@@ -35,7 +36,8 @@ same_through old mid new one two = record {
   each = λ group. two.each group ∙ one.each group;
 }
 
-pub later_stays : (old new : Replicas) (news : List GroupReplica) → AreOfSame old new → list_all (is_later_of old) news ≡ true
+pub later_stays : (old new : Replicas) (news : List GroupReplica) → AreOfSame old new →
+    list_all (is_later_of old) news ≡ true
     → list_all (is_later_of new) news ≡ true
 later_stays old new [] same all = refl
 later_stays old new (first ∷ news) same all =
@@ -51,7 +53,8 @@ all_but_last test (first ∷ news) new all =
     let rest = all_but_last test news new parts.1 in
     (and_both (test first) (list_all test news) parts.0 rest.0, rest.1)
 
-pub later_here : (server : Server) (ring : RingShape) (id : ℕ) (news : List GroupReplica) → server.ring ≡ ring → server.id ≡ id
+pub later_here : (server : Server) (ring : RingShape) (id : ℕ) (news : List GroupReplica) → server.ring ≡ ring →
+    server.id ≡ id
     → list_all (is_of_later ring id) news ≡ true → list_all (is_later_of server.others.items) news ≡ true
 later_here server ring id [] rings ids all = refl
 later_here server ring id (new ∷ news) rings ids all =
@@ -66,7 +69,8 @@ later_here server ring id (new ∷ news) rings ids all =
     and_both (is_later_of server.others.items new) (list_all (is_later_of server.others.items) news)
     (server.members new.group within ∙ member) (later_here server ring id news rings ids parts.1)
 
-pub empty_member : (ring : RingShape) (id partitions group : ℕ) → is_some (empty_at ring id partitions group) ≡ is_later_member ring group id
+pub empty_member : (ring : RingShape) (id partitions group : ℕ) →
+    is_some (empty_at ring id partitions group) ≡ is_later_member ring group id
 empty_member ring id partitions group =
     elim (is_later_member ring group id) as (λ t. is_some (cond t (Some (empty_held partitions)) None) ≡ t) [
       | true ↦ refl
@@ -87,6 +91,7 @@ applied_at replicas group log was same there =
     ∙ set_there replicas log.group was (option_map (applied log) (replica_at replicas log.group)) here
     ∙ ap (option_map (applied log)) here
 
-pub ready_replica : (slot : Option Held) (log : Logged) → may_apply_to slot log ≡ true → (was : Held) × (slot ≡ Some was)
+pub ready_replica : (slot : Option Held) (log : Logged) → may_apply_to slot log ≡ true →
+    (was : Held) × (slot ≡ Some was)
 ready_replica None log ready = absurd cc
 ready_replica (Some was) log ready = (was, refl)

@@ -1,5 +1,6 @@
 -- What a commit and the message of its visit ask for, by what holds of the slots.
-use Rattle.std.proofs.Common.{◌≡◌, ◌∙◌, ◌<◌, ◌^◌, ◌-◌, ◌&&◌, ◌||◌, not, ℕ, Bool, true, false, zero, suc, List, [], ◌∷◌, ◌++◌, Option, Some, None, refl, sym, ap, subst, cond, arith, length}
+use Rattle.std.proofs.Common.{◌≡◌, ◌∙◌, ◌<◌, ◌^◌, ◌-◌, ◌&&◌, ◌||◌, not, ℕ, Bool, true, false, zero, suc, List, [], ◌∷◌}
+use Rattle.std.proofs.Common.{◌++◌, Option, Some, None, refl, sym, ap, subst, cond, arith, length}
 use Rattle.std.specs.Prelude.{◌==◌, nat_lt, IfSome, slice_index}
 use Rattle.std.specs.List.{AllByRecursion, Any, list_all, list_any}
 use Rattle.std.proofs.Math.Logic.{∥∥₁_elim}
@@ -92,11 +93,14 @@ or_either false b is = is
 any_there : (earlier later : List Answer) (answer : Answer) (key : List ℕ) → answer.key ≡ key
     → list_any (is_key key) (earlier ++ answer ∷ later) ≡ true
 any_there [] later answer key same =
-    or_true (is_key key answer) (list_any (is_key key) later) (ap (λ (k : List ℕ). same_bytes k key) same ∙ same_itself key)
+    or_true (is_key key answer) (list_any (is_key key) later)
+    (ap (λ (k : List ℕ). same_bytes k key) same ∙ same_itself key)
 any_there (first ∷ earlier) later answer key same =
-    or_either (is_key key first) (list_any (is_key key) (earlier ++ answer ∷ later)) (any_there earlier later answer key same)
+    or_either (is_key key first) (list_any (is_key key) (earlier ++ answer ∷ later))
+    (any_there earlier later answer key same)
 
-turn_at : (asks : List Answer → Ask) (earlier later : List Answer) (answer : Answer) → AreInTurn asks (earlier ++ answer ∷ later)
+turn_at : (asks : List Answer → Ask) (earlier later : List Answer) (answer : Answer) →
+    AreInTurn asks (earlier ++ answer ∷ later)
     → Asks answer.key (asks earlier)
 turn_at asks [] later answer turn = turn.0
 turn_at asks (first ∷ earlier) later answer turn = turn_at (λ more. asks (first ∷ more)) earlier later answer turn.1
@@ -122,20 +126,25 @@ lent_write : (rule : Rule) (head : HeadState) (items : List HeldMessage) (worker
     → IsLent (ask rule slot.packet) running.answers write.key → is_lent head worker running.answers write ≡ true
 lent_write rule head items worker running slot unwounded write lent =
     let asks = ask rule slot.packet in
-    let turn : AreInTurn asks (lent.earlier ++ lent.answer ∷ lent.later) = subst (AreInTurn asks) lent.whole slot.turn in
+    let turn : AreInTurn asks (lent.earlier ++ lent.answer ∷ lent.later) =
+    subst (AreInTurn asks) lent.whole slot.turn in
     let same : lent.answer.key ≡ write.key =
-    asks_key (asks lent.earlier) write.key lent.answer.key lent.lent (turn_at asks lent.earlier lent.later lent.answer turn) in
-    let asked : asks lent.earlier ≡ Read lent.answer.key true = lent.lent ∙ ap (λ (k : List ℕ). Read k true) (sym same) in
+    asks_key (asks lent.earlier) write.key lent.answer.key lent.lent
+    (turn_at asks lent.earlier lent.later lent.answer turn) in
+    let asked : asks lent.earlier ≡ Read lent.answer.key true =
+    lent.lent ∙ ap (λ (k : List ℕ). Read k true) (sym same) in
     and_both (list_any (is_key write.key) running.answers)
     (holds_exclusively head.locks worker (partition_of head.partitions write.key))
     (ap (list_any (is_key write.key)) lent.whole ∙ any_there lent.earlier lent.later lent.answer write.key same)
     (subst (λ (k : List ℕ). holds_exclusively head.locks worker (partition_of head.partitions k) ≡ true) same
     ((slot.lent unwounded).each lent.earlier lent.later lent.answer lent.whole asked))
 
-all_lent : {A : Type 0} (P : A → Type 0) (test : A → Bool) (xs : List A) → ((x : A) → P x → test x ≡ true) → AllByRecursion P xs
+all_lent : {A : Type 0} (P : A → Type 0) (test : A → Bool) (xs : List A) → ((x : A) → P x → test x ≡ true) →
+    AllByRecursion P xs
     → list_all test xs ≡ true
 all_lent P test [] each all = refl
-all_lent {A} P test (x ∷ xs) each all = and_both (test x) (list_all test xs) (each x all.0) (all_lent P test xs each all.1)
+all_lent {A} P test (x ∷ xs) each all =
+    and_both (test x) (list_all test xs) (each x all.0) (all_lent P test xs each all.1)
 
 writes_lent : (rule : Rule) (head : HeadState) (items : List HeldMessage) (worker : ℕ) (running : Running) (end : End)
     → AreSlots rule head items → RunsUnwounded head worker running
@@ -145,7 +154,8 @@ writes_lent rule head items worker running end slots runs asked =
     let slot = slots.each worker running runs.slot in
     let ends = asked_there rule head items worker running (Finish end) slot asked in
     let next : ComesNext (ask rule slot.packet) running.answers (Finish end) =
-    subst (ComesNext (ask rule slot.packet) running.answers) ends (in_turn rule slot.packet running.answers slot.turn) in
+    subst (ComesNext (ask rule slot.packet) running.answers) ends
+    (in_turn rule slot.packet running.answers slot.turn) in
     and_both (keys_rise None end.writes.items) (list_all (is_lent head worker running.answers) end.writes.items) next.0
     (all_lent (λ (write : Write). IsLent (ask rule slot.packet) running.answers write.key)
     (is_lent head worker running.answers) end.writes.items
@@ -155,7 +165,8 @@ writes_lent rule head items worker running end slots runs asked =
 
 any_key : (key : List ℕ) (answers : List Answer) → list_any (is_key key) answers ≡ true → IsAnswered key answers
 any_key key answers any =
-    any_weaker (λ (a : Answer). is_key key a ≡ true) (λ (a : Answer). a.key ≡ key) answers (λ a is. bytes_same a.key key is)
+    any_weaker (λ (a : Answer). is_key key a ≡ true) (λ (a : Answer). a.key
+    ≡ key) answers (λ a is. bytes_same a.key key is)
     (Any-from_list_any (is_key key) answers any)
 
 pub each_of : {A : Type 0} (P : A → Type 0) (test : A → Bool) (xs : List A) → ((x : A) → test x ≡ true → P x)
@@ -165,14 +176,16 @@ each_of {A} P test (x ∷ xs) each all =
     let parts = both (test x) (list_all test xs) all in
     (each x parts.0, each_of P test xs each parts.1)
 
-pub its_writes : (rule : Rule) (head : HeadState) (items : List HeldMessage) (worker : ℕ) (running : Running) (end : End)
+pub its_writes : (rule : Rule) (head : HeadState) (items : List HeldMessage) (worker : ℕ) (running : Running)
+    (end : End)
     → ∥ AreSlots rule head items ∥₁ → RunsUnwounded head worker running
     → ask_of rule running (found running.packet items) ≡ Some (Finish end)
     → AreItsWrites head worker running end.writes.items
 its_writes rule head items worker running end slots runs asked =
     let lent : are_lent head worker running.answers end.writes.items ≡ true =
     ∥∥₁_elim slots (Bool-set _ _) (λ s. writes_lent rule head items worker running end s runs asked) in
-    let parts = both (keys_rise None end.writes.items) (list_all (is_lent head worker running.answers) end.writes.items) lent in
+    let parts = both (keys_rise None end.writes.items)
+    (list_all (is_lent head worker running.answers) end.writes.items) lent in
     let halves : (write : Write) → is_lent head worker running.answers write ≡ true
     → (list_any (is_key write.key) running.answers ≡ true)
     × (holds_exclusively head.locks worker (partition_of head.partitions write.key) ≡ true) =
@@ -180,15 +193,18 @@ its_writes rule head items worker running end slots runs asked =
     (holds_exclusively head.locks worker (partition_of head.partitions write.key)) is in
     record {
       rising = parts.0;
-      were_read = each_of (λ (write : Write). IsAnswered write.key running.answers) (is_lent head worker running.answers)
+      were_read = each_of (λ (write : Write). IsAnswered write.key running.answers)
+          (is_lent head worker running.answers)
           end.writes.items (λ write is. any_key write.key running.answers (halves write is).0) parts.1;
-      exclusive = each_of (λ (write : Write). holds_exclusively head.locks worker (partition_of head.partitions write.key) ≡ true)
+      exclusive = each_of (λ (write : Write). holds_exclusively head.locks worker
+          (partition_of head.partitions write.key) ≡ true)
           (is_lent head worker running.answers) end.writes.items (λ write is. (halves write is).1) parts.1;
     }
 
 -- ---- fewer answers than a visit may have
 
-reads_few : (rule : Rule) (head : HeadState) (items : List HeldMessage) (worker : ℕ) (running : Running) (key : List ℕ) (change : Bool)
+reads_few : (rule : Rule) (head : HeadState) (items : List HeldMessage) (worker : ℕ) (running : Running) (key : List ℕ)
+    (change : Bool)
     → AreSlots rule head items → RunsUnwounded head worker running
     → ask_of rule running (found running.packet items) ≡ Some (Read key change)
     → nat_lt (length running.answers) MOST_READS ≡ true
@@ -196,10 +212,12 @@ reads_few rule head items worker running key change slots runs asked =
     let slot = slots.each worker running runs.slot in
     let ends = asked_there rule head items worker running (Read key change) slot asked in
     let next : ComesNext (ask rule slot.packet) running.answers (Read key change) =
-    subst (ComesNext (ask rule slot.packet) running.answers) ends (in_turn rule slot.packet running.answers slot.turn) in
+    subst (ComesNext (ask rule slot.packet) running.answers) ends
+    (in_turn rule slot.packet running.answers slot.turn) in
     is_below (length running.answers) MOST_READS next.0
 
-pub few_answers : (rule : Rule) (head : HeadState) (items : List HeldMessage) (worker : ℕ) (running : Running) (key : List ℕ)
+pub few_answers : (rule : Rule) (head : HeadState) (items : List HeldMessage) (worker : ℕ) (running : Running)
+    (key : List ℕ)
     (change : Bool) → ∥ AreSlots rule head items ∥₁ → RunsUnwounded head worker running
     → ask_of rule running (found running.packet items) ≡ Some (Read key change)
     → length running.answers < MOST_READS
@@ -209,7 +227,8 @@ few_answers rule head items worker running key change slots runs asked =
 
 -- ---- what the slot's message is
 
-pub still_unvisited : (rule : Rule) (head : HeadState) (items : List HeldMessage) (worker : ℕ) (running : Running) (held : HeldMessage)
+pub still_unvisited : (rule : Rule) (head : HeadState) (items : List HeldMessage) (worker : ℕ) (running : Running)
+    (held : HeldMessage)
     → ∥ AreSlots rule head items ∥₁ → slot_at head.slots worker ≡ Some running → found running.packet items ≡ Some held
     → held.visited ≡ false
 still_unvisited rule head items worker running held slots runs there =
@@ -230,11 +249,13 @@ pub rises : (vector : List ℕ) (partition : ℕ) → may_rise vector ≡ true �
 rises vector partition may =
     below_is (number_at vector partition) (2 ^ 64 - 1) (at_least (λ n. nat_lt n (2 ^ 64 - 1)) vector partition may refl)
 
-carried_is : (touched : Bool) (number carried : ℕ) → ◌≡◌ {A = Option ℕ} (cond touched (Some number) None) (Some carried) → number ≡ carried
+carried_is : (touched : Bool) (number carried : ℕ) →
+    ◌≡◌ {A = Option ℕ} (cond touched (Some number) None) (Some carried) → number ≡ carried
 carried_is true number carried is = cc
 carried_is false number carried is = absurd cc
 
-pub log_rises : (group partitions : ℕ) (vector : List ℕ) (packet : ℕ) (answers : List Answer) (writes : List Write) (log : Logged)
+pub log_rises : (group partitions : ℕ) (vector : List ℕ) (packet : ℕ) (answers : List Answer) (writes : List Write)
+    (log : Logged)
     → IsLogOf group partitions vector packet answers writes log → may_rise vector ≡ true
     → (partition carried : ℕ) → partition < MOST_PARTITIONS → mark_at log.before partition ≡ Some carried
     → carried < 2 ^ 64 - 1
@@ -243,7 +264,8 @@ log_rises group partitions vector packet answers writes log is may partition car
     let there : f partition ≡ Some carried =
     sym (get_or-by_partition f partition None within)
     ∙ ap (λ (marks : List (Option ℕ)). mark_at marks partition) (sym is.before) ∙ marked in
-    subst (λ (n : ℕ). n < 2 ^ 64 - 1) (carried_is (is_touched partitions answers partition) (number_at vector partition) carried there)
+    subst (λ (n : ℕ). n < 2 ^ 64 - 1)
+    (carried_is (is_touched partitions answers partition) (number_at vector partition) carried there)
     (rises vector partition may)
 
 -- ---- logs and needs of other groups
@@ -259,7 +281,8 @@ and_last false b is = refl
 pub none_of_group : (group : ℕ) (log : Logged) (logs : List Logged) → log.group ≡ group
     → list_all (λ (other : Logged). not (other.group == group)) logs ≡ true → HasNone log logs
 none_of_group group log logs same all =
-    each_of (λ (other : Logged). is_log_of log.origin log.group other ≡ false) (λ (other : Logged). not (other.group == group)) logs
+    each_of (λ (other : Logged). is_log_of log.origin log.group other
+    ≡ false) (λ (other : Logged). not (other.group == group)) logs
     (λ other is. and_last (other.origin == log.origin) (other.group == log.group)
     (ap (λ (g : ℕ). other.group == g) same ∙ not_so (other.group == group) is)) all
 
@@ -270,7 +293,8 @@ no_need_of_group group log needs same all =
     (λ other is. ap (λ (g : ℕ). other.group == g) same ∙ not_so (other.group == group) is) all
 
 -- a message that is unvisited is without logs and needs of the group
-pub open_is : (group : ℕ) (held : HeldMessage) → held.visited ≡ false → is_open group held ≡ true → is_without group held ≡ true
+pub open_is : (group : ℕ) (held : HeldMessage) → held.visited ≡ false → is_open group held ≡ true →
+    is_without group held ≡ true
 open_is group held unvisited is = sym (ap (λ (b : Bool). b || is_without group held) unvisited) ∙ is
 
 -- ---- a slot whose visit ends
@@ -302,10 +326,12 @@ ending server worker packet end held bytes at unwounded there with_packet asked 
       asked = asked_of server worker slot.0 (Finish end) runs asked;
     }
 
-follows : (rule : Rule) (packet : List ℕ) (answers : List Answer) → FlowsAreFound → CanFollow packet (ask rule packet answers)
+follows : (rule : Rule) (packet : List ℕ) (answers : List Answer) → FlowsAreFound →
+    CanFollow packet (ask rule packet answers)
 unfolding ask
 follows rule packet answers flows =
-    elim (flow_found packet) as (λ (f : Option Flow). MatchOption f (¬ IsFlow packet) (λ flow. IsFlow packet × (flow ≡ flow_in packet))
+    elim (flow_found packet) as (λ (f : Option Flow). MatchOption f (¬ IsFlow packet) (λ flow. IsFlow packet
+    × (flow ≡ flow_in packet))
     → CanFollow packet (ask_by rule f answers)) [
       | None ↦ λ isnt. tt
       | Some flow ↦ λ is. can_follow packet (ask_by rule (Some flow) answers) is.0
@@ -321,46 +347,57 @@ may_change server worker end held bytes is flows =
     subst (CanFollow bytes) asks (follows server.rule bytes is.running.answers flows)
 
 left_here : (server : Server) (worker : ℕ) (end : End) (held : HeldMessage) (bytes : List ℕ) (log : Option Logged)
-    → (is : IsEnding server worker end held bytes) → IsLogLeft server.head (slot_at server.head.slots worker) end.writes.items log
+    → (is : IsEnding server worker end held bytes) →
+    IsLogLeft server.head (slot_at server.head.slots worker) end.writes.items log
     → IsLogLeft server.head (Some is.running) end.writes.items log
 left_here server worker end held bytes log is left =
     subst (λ (slot : Option Running). IsLogLeft server.head slot end.writes.items log) is.runs.slot left
 
-without_own : (server : Server) (worker : ℕ) (end : End) (held : HeldMessage) (bytes : List ℕ) → IsEnding server worker end held bytes
+without_own : (server : Server) (worker : ℕ) (end : End) (held : HeldMessage) (bytes : List ℕ) →
+    IsEnding server worker end held bytes
     → is_without server.id held ≡ true
 without_own server worker end held bytes is =
-    let unvisited = still_unvisited server.rule server.head server.held.items worker is.running held server.slots is.runs.slot is.there in
+    let unvisited = still_unvisited server.rule server.head server.held.items worker is.running held server.slots
+    is.runs.slot is.there in
     open_is server.id held unvisited
     (test_of_found (is_open server.id) (is_of is.running.packet) server.held.items held server.«open» is.there)
 
 pub log_is_new : (server : Server) (worker : ℕ) (end : End) (held : HeldMessage) (bytes : List ℕ) (log : Option Logged)
-    → IsEnding server worker end held bytes → IsLogLeft server.head (slot_at server.head.slots worker) end.writes.items log
+    → IsEnding server worker end held bytes →
+    IsLogLeft server.head (slot_at server.head.slots worker) end.writes.items log
     → IfSome log (λ log. HasNone log held.message.logs)
 log_is_new server worker end held bytes None is left = tt
 log_is_new server worker end held bytes (Some log) is left =
     let of = (left_here server worker end held bytes (Some log) is left).1 in
     let parts = both (list_all (λ (other : Logged). not (other.group == server.id)) held.message.logs)
-    (list_all (λ (other : Need). not (other.group == server.id)) held.message.needs) (without_own server worker end held bytes is) in
+    (list_all (λ (other : Need). not (other.group == server.id)) held.message.needs)
+    (without_own server worker end held bytes is) in
     none_of_group server.id log held.message.logs (of.group ∙ server.head_group) parts.0
 
 pub need_is_new : (server : Server) (worker : ℕ) (end : End) (held : HeldMessage) (bytes : List ℕ) (log : Option Logged)
-    → IsEnding server worker end held bytes → IsLogLeft server.head (slot_at server.head.slots worker) end.writes.items log
+    → IsEnding server worker end held bytes →
+    IsLogLeft server.head (slot_at server.head.slots worker) end.writes.items log
     → IfSome log (λ log. HasNoNeed (need_of_log log) held.message.needs)
 need_is_new server worker end held bytes None is left = tt
 need_is_new server worker end held bytes (Some log) is left =
     let of = (left_here server worker end held bytes (Some log) is left).1 in
     let parts = both (list_all (λ (other : Logged). not (other.group == server.id)) held.message.logs)
-    (list_all (λ (other : Need). not (other.group == server.id)) held.message.needs) (without_own server worker end held bytes is) in
+    (list_all (λ (other : Need). not (other.group == server.id)) held.message.needs)
+    (without_own server worker end held bytes is) in
     no_need_of_group server.id log held.message.needs (of.group ∙ server.head_group) parts.1
 
-pub log_may_rise : (server : Server) (worker : ℕ) (end : End) (held : HeldMessage) (bytes : List ℕ) (log : Option Logged)
-    → IsEnding server worker end held bytes → IsLogLeft server.head (slot_at server.head.slots worker) end.writes.items log
+pub log_may_rise : (server : Server) (worker : ℕ) (end : End) (held : HeldMessage) (bytes : List ℕ)
+    (log : Option Logged)
+    → IsEnding server worker end held bytes →
+    IsLogLeft server.head (slot_at server.head.slots worker) end.writes.items log
     → may_rise server.head.vector ≡ true
-    → IfSome log (λ log. (partition carried : ℕ) → partition < MOST_PARTITIONS → mark_at log.before partition ≡ Some carried
+    → IfSome log (λ log. (partition carried : ℕ) → partition < MOST_PARTITIONS →
+    mark_at log.before partition ≡ Some carried
     → has log.changed partition ≡ true → carried < 2 ^ 64 - 1)
 log_may_rise server worker end held bytes None is left may = tt
 log_may_rise server worker end held bytes (Some log) is left may =
     let of = (left_here server worker end held bytes (Some log) is left).1 in
     λ partition carried within marked changed.
-    log_rises server.head.group server.head.partitions server.head.vector is.running.packet is.running.answers end.writes.items log
+    log_rises server.head.group server.head.partitions server.head.vector is.running.packet is.running.answers
+    end.writes.items log
     of may partition carried within marked

@@ -1,5 +1,6 @@
 -- The log that is applied next is the one of its packet and group.
-use Rattle.std.proofs.Common.{◌≡◌, ◌∙◌, not, length, ℕ, Bool, true, false, List, [], ◌∷◌, Option, Some, None, refl, sym, ap, cond, arith}
+use Rattle.std.proofs.Common.{◌≡◌, ◌∙◌, not, length, ℕ, Bool, true, false, List, [], ◌∷◌, Option, Some, None, refl, sym}
+use Rattle.std.proofs.Common.{ap, cond, arith}
 use Rattle.std.specs.Prelude.{◌==◌, find}
 use Rattle.std.proofs.lemmas.Bool.{eq-eqb}
 use Rattle.std.proofs.lemmas.Bool.Decides.{nat_tests}
@@ -16,14 +17,16 @@ use Rattle.ftc_server.specs.Work.{is_packet_of, is_waiting, next_log, work_behin
 use Rattle.ftc_server.proofs.Finding.{both, and_both}
 
 -- it is the first of its name, it stands behind what is before the list, and it may be applied
-pub record IsNext (replicas : List (Option Held)) (last : Option (ℕ × ℕ)) (logs : List Logged) (log : Logged) : Type 0 where
+pub record IsNext (replicas : List (Option Held)) (last : Option (ℕ × ℕ)) (logs : List Logged)
+    (log : Logged) : Type 0 where
   pub there : find (is_log_of log.origin log.group) logs ≡ Some log
   pub behind : log_follows last log.origin log.group ≡ true
   pub lacking : is_had replicas log ≡ false
   pub allowed : may_apply replicas log ≡ true
 
 goes_on : (last : Option (ℕ × ℕ)) (first log : Logged) → log_follows last first.origin first.group ≡ true
-    → log_follows (Some (first.origin, first.group)) log.origin log.group ≡ true → log_follows last log.origin log.group ≡ true
+    → log_follows (Some (first.origin, first.group)) log.origin log.group ≡ true →
+    log_follows last log.origin log.group ≡ true
 goes_on None first log follows later = refl
 goes_on (Some last) first log follows later = grind (arith, nat_tests, follows, later)
 
@@ -32,25 +35,31 @@ another : (first log : Logged) → log_follows (Some (first.origin, first.group)
 another first log later = grind (arith, nat_tests, later)
 
 is_itself : (log : Logged) → is_log_of log.origin log.group log ≡ true
-is_itself log = and_both (log.origin == log.origin) (log.group == log.group) (eq-eqb log.origin log.origin refl) (eq-eqb log.group log.group refl)
+is_itself log = and_both (log.origin == log.origin) (log.group == log.group) (eq-eqb log.origin log.origin refl)
+    (eq-eqb log.group log.group refl)
 
-behind_first : (replicas : List (Option Held)) (last : Option (ℕ × ℕ)) (first : Logged) (logs : List Logged) (log : Logged)
+behind_first : (replicas : List (Option Held)) (last : Option (ℕ × ℕ)) (first : Logged) (logs : List Logged)
+    (log : Logged)
     → log_follows last first.origin first.group ≡ true → IsNext replicas (Some (first.origin, first.group)) logs log
     → IsNext replicas last (first ∷ logs) log
 behind_first replicas last first logs log follows next = record {
-  there = ap (λ (b : Bool). cond b (Some first) (find (is_log_of log.origin log.group) logs)) (another first log next.behind) ∙ next.there;
+  there = ap (λ (b : Bool). cond b (Some first) (find (is_log_of log.origin log.group) logs))
+      (another first log next.behind) ∙ next.there;
   behind = goes_on last first log follows next.behind;
   lacking = next.lacking;
   allowed = next.allowed;
 }
 
-pub next_is : (replicas : List (Option Held)) (waiting : Option ℕ) (last : Option (ℕ × ℕ)) (logs : List Logged) (log : Logged)
+pub next_is : (replicas : List (Option Held)) (waiting : Option ℕ) (last : Option (ℕ × ℕ)) (logs : List Logged)
+    (log : Logged)
     → logs_rise last logs ≡ true → next_log replicas waiting logs ≡ Some log → IsNext replicas last logs log
 next_is replicas waiting last [] log rising next = absurd cc
 next_is replicas waiting last (first ∷ logs) log rising next =
-    let parts = both (log_follows last first.origin first.group) (logs_rise (Some (first.origin, first.group)) logs) rising in
+    let parts = both (log_follows last first.origin first.group)
+    (logs_rise (Some (first.origin, first.group)) logs) rising in
     let later : (w : Option ℕ) → next_log replicas w logs ≡ Some log → IsNext replicas last (first ∷ logs) log = λ w is.
-    behind_first replicas last first logs log parts.0 (next_is replicas w (Some (first.origin, first.group)) logs log parts.1 is) in
+    behind_first replicas last first logs log parts.0
+    (next_is replicas w (Some (first.origin, first.group)) logs log parts.1 is) in
     elim (is_had replicas first) as (λ h. is_had replicas first ≡ h → cond h (next_log replicas waiting logs)
     (cond (is_packet_of waiting first) (next_log replicas waiting logs)
     (cond (may_apply replicas first) (Some first) (next_log replicas (Some first.origin) logs))) ≡ Some log
@@ -69,7 +78,8 @@ next_is replicas waiting last (first ∷ logs) log rising next =
                       let e : first ≡ log = cc in
                       record {
                         there = ap (λ (l : Logged). find (is_log_of l.origin l.group) (first ∷ logs)) (sym e)
-                            ∙ ap (λ (b : Bool). cond b (Some first) (find (is_log_of first.origin first.group) logs)) (is_itself first) ∙ same;
+                            ∙ ap (λ (b : Bool). cond b (Some first) (find (is_log_of first.origin first.group) logs))
+                            (is_itself first) ∙ same;
                         behind = ap (λ (l : Logged). log_follows last l.origin l.group) (sym e) ∙ parts.0;
                         lacking = ap (is_had replicas) (sym e) ∙ lacks;
                         allowed = ap (may_apply replicas) (sym e) ∙ may;
@@ -91,7 +101,8 @@ applies : (replicas : List (Option Held)) (held : HeldMessage) (next : Option Lo
     → work_behind replicas held next ≡ Some (Apply group packet)
     → (log : Logged) × (next ≡ Some log) × (log.group ≡ group) × (log.origin ≡ packet)
 applies replicas held (Some log) group packet is = (log, refl, cc, cc)
-applies replicas held None group packet is = absurd (no_apply (is_ready replicas held) (is_waiting held) held.by_ring group packet is)
+applies replicas held None group packet is =
+    absurd (no_apply (is_ready replicas held) (is_waiting held) held.by_ring group packet is)
 
 -- a log that is the work of a held message may be applied
 pub work_allowed : (server : Server) (origin group packet : ℕ) (held : HeldMessage)
@@ -99,12 +110,14 @@ pub work_allowed : (server : Server) (origin group packet : ℕ) (held : HeldMes
     → work_for server.others.items held ≡ Some (Apply group packet)
     → may_apply_in server origin group packet ≡ true
 work_allowed server origin group packet held there rising works =
-    let applied = applies server.others.items held (next_log server.others.items None held.message.logs) group packet works in
+    let applied = applies server.others.items held
+    (next_log server.others.items None held.message.logs) group packet works in
     let log = applied.0 in
     let next = next_is server.others.items None None held.message.logs log rising applied.1 in
     let named : log_in server origin group packet ≡ Some log =
     ap (log_of group packet) there
     ∙ ap (λ (g : ℕ). find (is_log_of packet g) held.message.logs) (sym applied.2)
     ∙ ap (λ (o : ℕ). find (is_log_of o log.group) held.message.logs) (sym applied.3) ∙ next.there in
-    let halves = both (not (length log.writes == 0)) (may_apply_to (replica_at server.others.items log.group) log) next.allowed in
+    let halves = both (not (length log.writes == 0))
+    (may_apply_to (replica_at server.others.items log.group) log) next.allowed in
     ap (may_apply_one server.others.items) named ∙ halves.1

@@ -1,5 +1,6 @@
 -- What each call leaves of the slots.
-use Rattle.std.proofs.Common.{◌≡◌, ◌≢◌, ◌∙◌, ◌||◌, ◌⊎◌, inl, inr, ℕ, zero, suc, Bool, true, false, List, [], ◌∷◌, ◌++◌, Option, Some, None, refl, sym, ap, subst, ⊎_elim, length, ◌<◌, option_map}
+use Rattle.std.proofs.Common.{◌≡◌, ◌≢◌, ◌∙◌, ◌||◌, ◌⊎◌, inl, inr, ℕ, zero, suc, Bool, true, false, List, [], ◌∷◌, ◌++◌}
+use Rattle.std.proofs.Common.{Option, Some, None, refl, sym, ap, subst, ⊎_elim, length, ◌<◌, option_map}
 use Rattle.std.specs.Prelude.{slice_set, ◌==◌, is_some, not, filter}
 use Rattle.std.proofs.lemmas.Bool.{cases_Bool, cases_eq, eq-eqb}
 use Rattle.std.specs.List.{list_any, list_all}
@@ -12,13 +13,16 @@ use Rattle.ftc_locks.specs.Locks.{holds_exclusively, conflicts, SameHoldings}
 use Rattle.ftc_mbox.specs.declared.rule.Rule.{Rule}
 use Rattle.ftc_mbox.specs.Ask.{ask}
 use Rattle.ftc_mbox.specs.InTurn.{Asks, AreInTurn}
-use Rattle.ftc_txn.specs.Slots.{Running, slot_at, begun, restarted, answered, wounded_by, wounded_at, wounded_of, packet_of, packet_at}
+use Rattle.ftc_txn.specs.Slots.{Running, slot_at, begun, restarted, answered, wounded_by, wounded_at, wounded_of}
+use Rattle.ftc_txn.specs.Slots.{packet_of, packet_at}
 use Rattle.ftc_txn.specs.Head.{HeadState, RunsUnwounded, next_age}
 use Rattle.ftc_txn.specs.Steps.{begins, restarts, HasRead, HasQuit, HasCommitted, Reads, Commits}
 use Rattle.ftc_txn.specs.declared.answers.HeadCommit.{HeadCommit}
-use Rattle.ftc_txn.specs.declared.answers.HeadCommit.TheVariants.{Done, Wounded as WoundedCommit, Idle as IdleCommit, NoMemory}
+use Rattle.ftc_txn.specs.declared.answers.HeadCommit.TheVariants.{Done, Wounded as WoundedCommit, Idle as IdleCommit}
+use Rattle.ftc_txn.specs.declared.answers.HeadCommit.TheVariants.{NoMemory}
 use Rattle.ftc_txn.specs.declared.answers.ReadAnswer.{ReadAnswer}
-use Rattle.ftc_txn.specs.declared.answers.ReadAnswer.TheVariants.{Value, Blocked, Wounded as WoundedRead, Idle as IdleRead, NotAsked}
+use Rattle.ftc_txn.specs.declared.answers.ReadAnswer.TheVariants.{Value, Blocked, Wounded as WoundedRead}
+use Rattle.ftc_txn.specs.declared.answers.ReadAnswer.TheVariants.{Idle as IdleRead, NotAsked}
 use Rattle.ftc_txn.proofs.Kept.{slot_other, slot_set, slot_within, none_or_some, same_holdings}
 use Rattle.ftc_txn.proofs.StayedHoldings.{own, changed}
 use Rattle.ftc_server.specs.declared.held.HeldMessage.{HeldMessage}
@@ -32,7 +36,8 @@ use Rattle.ftc_server.specs.declared.server.Server.{Server}
 use Rattle.ftc_server.specs.Looks.{ask_in, ask_of_slot}
 use Rattle.ftc_server.proofs.Working.{is_waiting_so}
 use Rattle.ftc_server.proofs.Finding.{found_changed, found_kept, found_without, true_false, both}
-use Rattle.ftc_server.specs.Slots.{IsSlot, AreSlots, ask_of, runs_packet, is_running, is_ready_one, slot_is_ready, slots_are_ready}
+use Rattle.ftc_server.specs.Slots.{IsSlot, AreSlots, ask_of, runs_packet, is_running, is_ready_one, slot_is_ready}
+use Rattle.ftc_server.specs.Slots.{slots_are_ready}
 
 abbrev Items : Type 0
 Items = List HeldMessage
@@ -40,14 +45,16 @@ Items = List HeldMessage
 -- ---- slots that run what they ran
 
 -- a slot runs the packet that it ran before, and is as it must be
-pub record IsFollowed (rule : Rule) (old new : HeadState) (items : Items) (worker : ℕ) (running : Running) : Type 0 where
+pub record IsFollowed (rule : Rule) (old new : HeadState) (items : Items) (worker : ℕ)
+    (running : Running) : Type 0 where
   pub before : Running
   pub was : slot_at old.slots worker ≡ Some before
   pub same : running.packet ≡ before.packet
   pub now : IsSlot rule new items worker running
 
 pub followed : (rule : Rule) (old new : HeadState) (items after : Items) → AreSlots rule old items
-    → ((worker : ℕ) (running : Running) → slot_at new.slots worker ≡ Some running → IsFollowed rule old new after worker running)
+    → ((worker : ℕ) (running : Running) → slot_at new.slots worker ≡ Some running →
+    IsFollowed rule old new after worker running)
     → AreSlots rule new after
 followed rule old new items after slots each = record {
   each = λ worker running runs. (each worker running runs).now;
@@ -60,7 +67,8 @@ followed rule old new items after slots each = record {
 -- it holds at least what it held, and its message is where it was
 pub kept_slot : (rule : Rule) (old new : HeadState) (items after : Items) (worker : ℕ) (running : Running)
     → new.partitions ≡ old.partitions
-    → ((partition : ℕ) → holds_exclusively old.locks worker partition ≡ true → holds_exclusively new.locks worker partition ≡ true)
+    → ((partition : ℕ) → holds_exclusively old.locks worker partition ≡ true →
+    holds_exclusively new.locks worker partition ≡ true)
     → ((held : HeldMessage) → found running.packet items ≡ Some held → found running.packet after ≡ Some held)
     → IsSlot rule old items worker running → IsSlot rule new after worker running
 kept_slot rule old new items after worker running partitions holds there slot = record {
@@ -79,30 +87,34 @@ kept_slot rule old new items after worker running partitions holds there slot = 
 
 -- nothing but the list of messages changes
 pub slots_stay : (rule : Rule) (head : HeadState) (items after : Items)
-    → ((worker : ℕ) (running : Running) → slot_at head.slots worker ≡ Some running → IsSlot rule head items worker running
+    → ((worker : ℕ) (running : Running) → slot_at head.slots worker ≡ Some running →
+    IsSlot rule head items worker running
     → found running.packet after ≡ found running.packet items)
     → AreSlots rule head items → AreSlots rule head after
-slots_stay rule head items after there slots = followed rule head head items after slots (λ worker running runs. record {
-  before = running;
-  was = runs;
-  same = refl;
-  now = kept_slot rule head head items after worker running refl (λ p is. is)
-      (λ held is. there worker running runs (slots.each worker running runs) ∙ is)
-      (slots.each worker running runs);
-})
+slots_stay rule head items after there slots =
+    followed rule head head items after slots (λ worker running runs. record {
+      before = running;
+      was = runs;
+      same = refl;
+      now = kept_slot rule head head items after worker running refl (λ p is. is)
+          (λ held is. there worker running runs (slots.each worker running runs) ∙ is)
+          (slots.each worker running runs);
+    })
 
 -- the same where only what is found stays found
 pub slots_found : (rule : Rule) (head : HeadState) (items after : Items)
     → ((worker : ℕ) (running : Running) (held : HeldMessage) → slot_at head.slots worker ≡ Some running
     → found running.packet items ≡ Some held → found running.packet after ≡ Some held)
     → AreSlots rule head items → AreSlots rule head after
-slots_found rule head items after there slots = followed rule head head items after slots (λ worker running runs. record {
-  before = running;
-  was = runs;
-  same = refl;
-  now = kept_slot rule head head items after worker running refl (λ p is. is) (λ held is. there worker running held runs is)
-      (slots.each worker running runs);
-})
+slots_found rule head items after there slots =
+    followed rule head head items after slots (λ worker running runs. record {
+      before = running;
+      was = runs;
+      same = refl;
+      now = kept_slot rule head head items after worker running refl (λ p is. is)
+          (λ held is. there worker running held runs is)
+          (slots.each worker running runs);
+    })
 
 -- ---- no answers, and one more
 
@@ -113,7 +125,8 @@ no_front : {A : Type 0} (earlier later : List A) (x : A) → [] ≡ earlier ++ x
 no_front [] later x same = absurd cc
 no_front (y ∷ earlier) later x same = absurd cc
 
-pub begun_slot : (rule : Rule) (head : HeadState) (items : Items) (worker packet age : ℕ) (held : HeldMessage) (bytes : List ℕ)
+pub begun_slot : (rule : Rule) (head : HeadState) (items : Items) (worker packet age : ℕ) (held : HeldMessage)
+    (bytes : List ℕ)
     → found packet items ≡ Some held → held.visited ≡ false → held.message.packet ≡ Some bytes
     → IsSlot rule head items worker (begun packet age)
 begun_slot rule head items worker packet age held bytes there unvisited with_packet = record {
@@ -155,14 +168,16 @@ cut {A} (z ∷ items) last (y ∷ earlier) x later same =
 -- ---- each call
 
 -- another slot than the one that a call writes
-pub others_follow : (rule : Rule) (old new : HeadState) (items : Items) (worker : ℕ) (slot : Option Running) → AreSlots rule old items
+pub others_follow : (rule : Rule) (old new : HeadState) (items : Items) (worker : ℕ) (slot : Option Running) →
+    AreSlots rule old items
     → new.slots ≡ slice_set old.slots worker slot → new.partitions ≡ old.partitions
     → ((other : ℕ) → other ≢ worker → SameHoldings old.locks new.locks other)
     → (other : ℕ) (running : Running) → other ≢ worker → slot_at new.slots other ≡ Some running
     → IsFollowed rule old new items other running
 others_follow rule old new items worker slot slots written partitions same other running differs runs =
     let was : slot_at old.slots other ≡ Some running =
-    sym (slot_other old.slots worker other slot differs) ∙ ap (λ (xs : List (Option Running)). slot_at xs other) (sym written) ∙ runs in
+    sym (slot_other old.slots worker other slot differs) ∙ ap (λ (xs : List (Option Running)). slot_at xs other)
+    (sym written) ∙ runs in
     record {
       before = running;
       was = was;
@@ -207,11 +222,13 @@ slots_idle rule old new items after worker slots written partitions same there =
 pub slots_quit : (rule : Rule) (old new : HeadState) (items : Items) (worker : ℕ) → HasQuit old new worker
     → AreSlots rule old items → AreSlots rule new items
 slots_quit rule old new items worker has slots =
-    slots_idle rule old new items items worker slots has.slots (ap (λ (h : HeadState). h.partitions) has.rest) has.locks.others
+    slots_idle rule old new items items worker slots has.slots
+    (ap (λ (h : HeadState). h.partitions) has.rest) has.locks.others
     (λ other running differs was. refl)
 
 -- the visit of what a slot runs is made, and its message is changed
-pub slots_commit : (rule : Rule) (old new : HeadState) (items : Items) (worker : ℕ) (running : Running) (writes : List Write)
+pub slots_commit : (rule : Rule) (old new : HeadState) (items : Items) (worker : ℕ) (running : Running)
+    (writes : List Write)
     (log : Option Logged) (change : HeldMessage → HeldMessage)
     → ((held : HeldMessage) → (change held).message.origin ≡ held.message.origin)
     → slot_at old.slots worker ≡ Some running → HasCommitted old new worker running writes log
@@ -220,11 +237,13 @@ slots_commit rule old new items worker running writes log change keeps runs has 
     slots_idle rule old new items (with_changed running.packet change items) worker slots has.slots
     (ap (λ (h : HeadState). h.partitions) has.rest) has.locks.others
     (λ other another differs was.
-    found_changed running.packet another.packet change items keeps (slots.once other worker another running differs was runs))
+    found_changed running.packet another.packet change items keeps
+    (slots.once other worker another running differs was runs))
 
 -- what a slot runs begins, or begins again
 pub slots_restart : (rule : Rule) (head : HeadState) (items : Items) (worker : ℕ) (running : Running)
-    → slot_at head.slots worker ≡ Some running → AreSlots rule head items → AreSlots rule (restarts head worker running) items
+    → slot_at head.slots worker ≡ Some running → AreSlots rule head items →
+    AreSlots rule (restarts head worker running) items
 slots_restart rule head items worker running runs slots =
     let new = restarts head worker running in
     let now : slot_at new.slots worker ≡ Some (restarted running) =
@@ -233,21 +252,24 @@ slots_restart rule head items worker running runs slots =
     followed rule head new items items slots (λ other again at.
     ⊎_elim
     (λ is.
-    let same : again ≡ restarted running = some_same again (restarted running) (sym at ∙ ap (λ (w : ℕ). slot_at new.slots w) is ∙ now) in
+    let same : again ≡ restarted running =
+    some_same again (restarted running) (sym at ∙ ap (λ (w : ℕ). slot_at new.slots w) is ∙ now) in
     record {
       before = running;
       was = ap (λ (w : ℕ). slot_at head.slots w) is ∙ runs;
       same = ap (λ (r : Running). r.packet) same;
       now = subst (λ (w : ℕ). IsSlot rule new items w again) (sym is)
           (subst (λ (r : Running). IsSlot rule new items worker r) (sym same)
-          (begun_slot rule new items worker running.packet running.age slot.held slot.packet slot.there slot.unvisited slot.with_packet));
+          (begun_slot rule new items worker running.packet running.age slot.held slot.packet slot.there slot.unvisited
+          slot.with_packet));
     })
     (λ differs. others_follow rule head new items worker (Some (restarted running)) slots refl refl
     (λ other _. same_holdings head.locks other) other again differs at)
     (cases_eq other worker))
 
 -- a slot that was idle begins a packet that no slot runs
-pub slots_begun : (rule : Rule) (head : HeadState) (items : Items) (worker packet : ℕ) (held : HeldMessage) (bytes : List ℕ)
+pub slots_begun : (rule : Rule) (head : HeadState) (items : Items) (worker packet : ℕ) (held : HeldMessage)
+    (bytes : List ℕ)
     → worker < length head.slots
     → ((other : ℕ) (running : Running) → slot_at head.slots other ≡ Some running → running.packet ≢ packet)
     → found packet items ≡ Some held → held.visited ≡ false → held.message.packet ≡ Some bytes
@@ -258,7 +280,8 @@ slots_begun rule head items worker packet held bytes within fresh there unvisite
     let now : slot_at new.slots worker ≡ Some start = slot_set head.slots worker (Some start) within in
     let own_is : (running : Running) → slot_at new.slots worker ≡ Some running → running ≡ start =
     λ running at. some_same running start (sym at ∙ now) in
-    let was : (other : ℕ) (running : Running) → other ≢ worker → slot_at new.slots other ≡ Some running → slot_at head.slots other ≡ Some running =
+    let was : (other : ℕ) (running : Running) → other ≢ worker → slot_at new.slots other ≡ Some running →
+    slot_at head.slots other ≡ Some running =
     λ other running differs at. sym (slot_other head.slots worker other (Some start) differs) ∙ at in
     record {
       each = λ other running at.
@@ -285,7 +308,8 @@ slots_begun rule head items worker packet held bytes within fresh there unvisite
           let same = own_is another (ap (λ (w : ℕ). slot_at new.slots w) (sym is) ∙ second) in
           λ packets. fresh one running (was one running isnt first)
           (packets ∙ ap (λ (r : Running). r.packet) same))
-          (λ isnt_two. slots.once one two running another differs (was one running isnt first) (was two another isnt_two second))
+          (λ isnt_two. slots.once one two running another differs (was one running isnt first)
+          (was two another isnt_two second))
           (cases_eq two worker))
           (cases_eq one worker);
     }
@@ -318,7 +342,8 @@ same_leave : (one other : List ℕ) (change leave : Bool) → Read one change �
 same_leave one other change leave same = cc
 
 -- one more answer, to what the rule asked for
-answered_slot : (rule : Rule) (old new : HeadState) (items : Items) (worker : ℕ) (running : Running) (key : List ℕ) (change : Bool)
+answered_slot : (rule : Rule) (old new : HeadState) (items : Items) (worker : ℕ) (running : Running) (key : List ℕ)
+    (change : Bool)
     (value : Option (List ℕ)) (slot : IsSlot rule old items worker running) → running.wounded ≡ None
     → ask rule slot.packet running.answers ≡ Read key change → HasRead old new worker running key change value
     → IsSlot rule new items worker (answered running (record { key = key; value = value }))
@@ -360,9 +385,11 @@ asked_there rule head items worker running asked slot is =
     (sym (ap (λ (f : Option HeldMessage). ask_of rule running f) slot.there
     ∙ ap (option_map (λ (bytes : List ℕ). ask rule bytes running.answers)) slot.with_packet) ∙ is)
 
-pub slots_read : (rule : Rule) (old new : HeadState) (items : Items) (worker : ℕ) (key : List ℕ) (change : Bool) (answer : ReadAnswer)
+pub slots_read : (rule : Rule) (old new : HeadState) (items : Items) (worker : ℕ) (key : List ℕ) (change : Bool)
+    (answer : ReadAnswer)
     → Reads old new worker key change answer
-    → ((running : Running) → RunsUnwounded old worker running → ask_of rule running (found running.packet items) ≡ Some (Read key change))
+    → ((running : Running) → RunsUnwounded old worker running →
+    ask_of rule running (found running.packet items) ≡ Some (Read key change))
     → AreSlots rule old items → AreSlots rule new items
 slots_read rule old new items worker key change (Value value) reads asked slots =
     let running = reads.0 in
@@ -411,7 +438,8 @@ slots_read rule old new items worker key change (Value value) reads asked slots 
 slots_read rule old new items worker key change (Blocked holder) reads asked slots =
     subst (λ (h : HeadState). AreSlots rule h items) (sym reads.3) slots
 slots_read rule old new items worker key change (WoundedRead by) reads asked slots =
-    subst (λ (h : HeadState). AreSlots rule h items) (sym reads.2) (slots_restart rule old items worker reads.0 reads.1.slot slots)
+    subst (λ (h : HeadState). AreSlots rule h items) (sym reads.2)
+    (slots_restart rule old items worker reads.0 reads.1.slot slots)
 slots_read rule old new items worker key change IdleRead reads asked slots =
     subst (λ (h : HeadState). AreSlots rule h items) (sym reads.1) slots
 slots_read rule old new items worker key change NotAsked reads asked slots = absurd reads
@@ -424,19 +452,23 @@ or_rest : (a b : Bool) → a || b ≡ false → b ≡ false
 or_rest true b is = absurd cc
 or_rest false b is = is
 
-runs_none : (slots : List (Option Running)) (packet worker : ℕ) (running : Running) → list_any (runs_packet packet) slots ≡ false
+runs_none : (slots : List (Option Running)) (packet worker : ℕ) (running : Running) →
+    list_any (runs_packet packet) slots ≡ false
     → slot_at slots worker ≡ Some running → running.packet == packet ≡ false
 runs_none [] packet worker running none runs = absurd cc
 runs_none (slot ∷ slots) packet zero running none runs =
-    elim slot as (λ (o : Option Running). o ≡ Some running → runs_packet packet o || list_any (runs_packet packet) slots ≡ false
+    elim slot as (λ (o : Option Running). o ≡ Some running →
+    runs_packet packet o || list_any (runs_packet packet) slots ≡ false
     → running.packet == packet ≡ false) [
       | None ↦ λ is _. absurd cc
       | Some another ↦ λ is either.
           let same : another ≡ running = cc in
-          ap (λ (r : Running). r.packet == packet) (sym same) ∙ or_none (another.packet == packet) (list_any (runs_packet packet) slots) either
+          ap (λ (r : Running). r.packet == packet) (sym same) ∙ or_none (another.packet == packet)
+          (list_any (runs_packet packet) slots) either
     ] runs none
 runs_none (slot ∷ slots) packet (suc worker) running none runs =
-    runs_none slots packet worker running (or_rest (runs_packet packet slot) (list_any (runs_packet packet) slots) none) runs
+    runs_none slots packet worker running
+    (or_rest (runs_packet packet slot) (list_any (runs_packet packet) slots) none) runs
 
 -- no slot runs the packet
 pub not_run : (head : HeadState) (packet : ℕ) → is_running head packet ≡ false
@@ -446,27 +478,33 @@ not_run head packet none worker running runs same =
     true_false (running.packet == packet) (eq-eqb running.packet packet same) isnt
 
 -- a slot that is wounded isn't asked anything
-pub wounded_apart : {A : Type 0} (head : HeadState) (worker : ℕ) (running : Running) → is_some (wounded_at head.slots worker) ≡ true
+pub wounded_apart : {A : Type 0} (head : HeadState) (worker : ℕ) (running : Running) →
+    is_some (wounded_at head.slots worker) ≡ true
     → RunsUnwounded head worker running → A
 wounded_apart head worker running some runs =
-    let none : is_some (wounded_at head.slots worker) ≡ false = ap (λ (o : Option Running). is_some (wounded_of o)) runs.slot ∙ ap (λ (w : Option ℕ). is_some w) runs.unwounded in
+    let none : is_some (wounded_at head.slots worker) ≡ false =
+    ap (λ (o : Option Running). is_some (wounded_of o)) runs.slot ∙ ap
+    (λ (w : Option ℕ). is_some w) runs.unwounded in
     true_false (is_some (wounded_at head.slots worker)) some none
 
 -- what a slot runs was wounded, so that its commit restarts it
-pub slots_restarted : (rule : Rule) (old new : HeadState) (items : Items) (worker : ℕ) (writes : List Write) (answer : HeadCommit)
+pub slots_restarted : (rule : Rule) (old new : HeadState) (items : Items) (worker : ℕ) (writes : List Write)
+    (answer : HeadCommit)
     → is_some (wounded_at old.slots worker) ≡ true → Commits old new worker writes answer
     → AreSlots rule old items → AreSlots rule new items
 slots_restarted rule old new items worker writes (Done log) some commits slots =
     wounded_apart old worker commits.0 some commits.1
 slots_restarted rule old new items worker writes (WoundedCommit by) some commits slots =
-    subst (λ (h : HeadState). AreSlots rule h items) (sym commits.2) (slots_restart rule old items worker commits.0 commits.1.slot slots)
+    subst (λ (h : HeadState). AreSlots rule h items) (sym commits.2)
+    (slots_restart rule old items worker commits.0 commits.1.slot slots)
 slots_restarted rule old new items worker writes IdleCommit some commits slots =
     subst (λ (h : HeadState). AreSlots rule h items) (sym commits.1) slots
 slots_restarted rule old new items worker writes NoMemory some commits slots =
     subst (λ (h : HeadState). AreSlots rule h items) (sym commits.2) slots
 
 -- messages that lack a log are dropped, but not those that slots run
-slot_ready : (replicas : List (Option Held)) (items : Items) (slots : List (Option Running)) (worker : ℕ) (running : Running)
+slot_ready : (replicas : List (Option Held)) (items : Items) (slots : List (Option Running)) (worker : ℕ)
+    (running : Running)
     → list_all (slot_is_ready replicas items) slots ≡ true → slot_at slots worker ≡ Some running
     → is_ready_one replicas (found running.packet items) ≡ true
 slot_ready replicas items [] worker running all runs = absurd cc
@@ -496,28 +534,34 @@ slots_without rule head items origin held there waiting slots =
     slots_stay rule head items (without origin items)
     (λ worker running runs slot.
     found_without origin running.packet items (λ same.
-    let here : held ≡ slot.held = some_same held slot.held (sym there ∙ ap (λ (o : ℕ). found o items) (sym same) ∙ slot.there) in
+    let here : held ≡ slot.held =
+    some_same held slot.held (sym there ∙ ap (λ (o : ℕ). found o items) (sym same) ∙ slot.there) in
     let waits : is_waiting slot.held ≡ true = is_waiting_so slot.held slot.packet slot.unvisited slot.with_packet in
     true_false (is_waiting slot.held) waits (ap is_waiting (sym here) ∙ waiting))) slots
 
 -- what the rule asks of a slot, where it is known what the slot runs
-pub asked_of : (server : Server) (worker : ℕ) (running : Running) (asked : Ask) → RunsUnwounded server.head worker running
+pub asked_of : (server : Server) (worker : ℕ) (running : Running) (asked : Ask) →
+    RunsUnwounded server.head worker running
     → ask_in server worker ≡ Some asked
     → ask_of server.rule running (found running.packet server.held.items) ≡ Some asked
 asked_of server worker running asked runs is = ap (ask_of_slot server) (sym runs.slot) ∙ is
 
 -- what a slot runs is asked something
 asked_slot : (server : Server) (worker : ℕ) (slot : Option Running) → slot_at server.head.slots worker ≡ slot
-    → AreSlots server.rule server.head server.held.items → is_some (packet_of slot) ≡ true → ask_of_slot server slot ≡ None → ⊥
+    → AreSlots server.rule server.head server.held.items → is_some (packet_of slot) ≡ true →
+    ask_of_slot server slot ≡ None → ⊥
 asked_slot server worker None is slots some none = absurd cc
 asked_slot server worker (Some running) is slots some none =
     let slot = slots.each worker running is in
-    let asks : ask_of server.rule running (found running.packet server.held.items) ≡ Some (ask server.rule slot.packet running.answers) =
+    let asks : ask_of server.rule running (found running.packet server.held.items)
+    ≡ Some (ask server.rule slot.packet running.answers) =
     ap (λ (f : Option HeldMessage). ask_of server.rule running f) slot.there
     ∙ ap (option_map (λ (bytes : List ℕ). ask server.rule bytes running.answers)) slot.with_packet in
-    none_or_some (ask_of server.rule running (found running.packet server.held.items)) (ask server.rule slot.packet running.answers) none asks
+    none_or_some (ask_of server.rule running (found running.packet server.held.items))
+    (ask server.rule slot.packet running.answers) none asks
 
-pub asked_somewhat : (server : Server) (worker : ℕ) → is_some (packet_at server.head.slots worker) ≡ true → ask_in server worker ≡ None
+pub asked_somewhat : (server : Server) (worker : ℕ) → is_some (packet_at server.head.slots worker) ≡ true →
+    ask_in server worker ≡ None
     → ∥ AreSlots server.rule server.head server.held.items ∥₁ → ⊥
 asked_somewhat server worker some none slots =
     ∥∥₁_elim slots (λ x y. absurd x) (λ s. asked_slot server worker (slot_at server.head.slots worker) refl s some none)
@@ -530,5 +574,6 @@ pub idle_slots : (rule : Rule) (head : HeadState) (items : Items) → ((worker :
     → AreSlots rule head items
 idle_slots rule head items idle = record {
   each = λ worker running runs. absurd (none_or_some (slot_at head.slots worker) running (idle worker) runs);
-  once = λ worker other running another differs runs others. absurd (none_or_some (slot_at head.slots worker) running (idle worker) runs);
+  once = λ worker other running another differs runs others. absurd
+      (none_or_some (slot_at head.slots worker) running (idle worker) runs);
 }

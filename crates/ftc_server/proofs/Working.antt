@@ -23,7 +23,8 @@ held_with replicas (Some held) work is = record { held = held; there = refl; wor
 last_is : (replicas : List (Option Held)) (held : HeldMessage) (log : Option Logged) (work : Work)
     → ((group packet : ℕ) → Apply group packet ≡ work → ⊥)
     → work_behind replicas held log ≡ Some work → last_work held ≡ work
-last_is replicas held (Some log) work other is = let e : Apply log.group log.origin ≡ work = cc in absurd (other log.group log.origin e)
+last_is replicas held (Some log) work other is = let e : Apply log.group log.origin ≡ work =
+    cc in absurd (other log.group log.origin e)
 last_is replicas held None work other is =
     elim (is_ready replicas held) as (λ t. cond t (Some (last_work held)) None ≡ Some work → last_work held ≡ work) [
       | true ↦ λ same. cc
@@ -47,14 +48,19 @@ carries_on : (waiting by_ring : Bool) → cond waiting Visit (cond by_ring Carry
 carries_on true by_ring is = absurd cc
 carries_on false by_ring is = refl
 
-pub visits : (replicas : List (Option Held)) (held : HeldMessage) → work_for replicas held ≡ Some Visit → is_waiting held ≡ true
-visits replicas held is = waits_for (is_waiting held) held.by_ring (last_of replicas held Visit (λ g p same. absurd cc) is)
+pub visits : (replicas : List (Option Held)) (held : HeldMessage) → work_for replicas held ≡ Some Visit →
+    is_waiting held ≡ true
+visits replicas held is = waits_for (is_waiting held) held.by_ring
+    (last_of replicas held Visit (λ g p same. absurd cc) is)
 
-pub sends : (replicas : List (Option Held)) (held : HeldMessage) → work_for replicas held ≡ Some Send → is_waiting held ≡ false
+pub sends : (replicas : List (Option Held)) (held : HeldMessage) → work_for replicas held ≡ Some Send →
+    is_waiting held ≡ false
 sends replicas held is = sends_on (is_waiting held) held.by_ring (last_of replicas held Send (λ g p same. absurd cc) is)
 
-pub carries : (replicas : List (Option Held)) (held : HeldMessage) → work_for replicas held ≡ Some Carry → is_waiting held ≡ false
-carries replicas held is = carries_on (is_waiting held) held.by_ring (last_of replicas held Carry (λ g p same. absurd cc) is)
+pub carries : (replicas : List (Option Held)) (held : HeldMessage) → work_for replicas held ≡ Some Carry →
+    is_waiting held ≡ false
+carries replicas held is =
+    carries_on (is_waiting held) held.by_ring (last_of replicas held Carry (λ g p same. absurd cc) is)
 
 -- a message whose packet waits for its visit
 pub record Waits (held : HeldMessage) : Type 0 where
@@ -76,4 +82,5 @@ waits held is =
 pub is_waiting_so : (held : HeldMessage) (packet : List ℕ) → held.visited ≡ false → held.message.packet ≡ Some packet
     → is_waiting held ≡ true
 is_waiting_so held packet unvisited with_packet =
-    ap (λ (b : Bool). not b && is_some held.message.packet) unvisited ∙ ap (λ (p : Option (List ℕ)). is_some p) with_packet
+    ap (λ (b : Bool). not b && is_some held.message.packet) unvisited ∙ ap
+    (λ (p : Option (List ℕ)). is_some p) with_packet

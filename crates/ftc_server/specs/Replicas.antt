@@ -1,5 +1,6 @@
 -- The replicas of a server, by group, and which logs they have.
-use Rattle.std.specs.Prelude.{ℕ, ◌≡◌, ◌-◌, ◌^◌, ◌==◌, ◌&&◌, Bool, true, false, not, nat_lt, List, length, Option, Some, None, is_some, slice_index_or, slice_set, option_map}
+use Rattle.std.specs.Prelude.{ℕ, ◌≡◌, ◌-◌, ◌^◌, ◌==◌, ◌&&◌, Bool, true, false, not, nat_lt, List, length, Option, Some}
+use Rattle.std.specs.Prelude.{None, is_some, slice_index_or, slice_set, option_map}
 use Rattle.std.specs.List.{list_all}
 use Rattle.ftc_vector.specs.Order.{is_ready as is_ready_at}
 use Rattle.ftc_vector.specs.Commits.{vector_of}

@@ -1,5 +1,6 @@
 -- What holds of the slots of a server between two calls.
-use Rattle.std.specs.Prelude.{ℕ, ◌≡◌, ◌≢◌, ◌++◌, ◌∷◌, ◌==◌, ◌&&◌, ◌||◌, Bool, true, false, not, List, Option, Some, None, option_map}
+use Rattle.std.specs.Prelude.{ℕ, ◌≡◌, ◌≢◌, ◌++◌, ◌∷◌, ◌==◌, ◌&&◌, ◌||◌, Bool, true, false, not, List, Option, Some}
+use Rattle.std.specs.Prelude.{None, option_map}
 use Rattle.std.specs.List.{list_all, list_any}
 use Rattle.ftc_base.specs.declared.ask.Answer.{Answer}
 use Rattle.ftc_base.specs.declared.ask.Ask.{Ask}
@@ -24,12 +25,16 @@ ask_of rule running None = None
 ask_of rule running (Some held) = option_map (λ bytes. ask rule bytes running.answers) held.message.packet
 
 -- what a slot runs holds the partition of each key exclusively that the rule asked for with leave to write there
-pub record HoldsLent (rule : Rule) (packet : List ℕ) (head : HeadState) (worker : ℕ) (answers : List Answer) : Type 0 where
-  pub each : (earlier later : List Answer) (answer : Answer) → answers ≡ earlier ++ answer ∷ later → ask rule packet earlier ≡ Read answer.key true → holds_exclusively head.locks worker (partition_of head.partitions answer.key) ≡ true
+pub record HoldsLent (rule : Rule) (packet : List ℕ) (head : HeadState) (worker : ℕ)
+    (answers : List Answer) : Type 0 where
+  pub each : (earlier later : List Answer) (answer : Answer) → answers ≡ earlier ++ answer ∷ later →
+      ask rule packet earlier ≡ Read answer.key true →
+      holds_exclusively head.locks worker (partition_of head.partitions answer.key) ≡ true
 
 -- A slot runs a held message that still has to be visited here, its answers are to what the rule asked in turn, and it
 -- holds what it was lent unless another took it.
-pub record IsSlot (rule : Rule) (head : HeadState) (items : List HeldMessage) (worker : ℕ) (running : Running) : Type 0 where
+pub record IsSlot (rule : Rule) (head : HeadState) (items : List HeldMessage) (worker : ℕ)
+    (running : Running) : Type 0 where
   pub held : HeldMessage
   pub there : found running.packet items ≡ Some held
   pub unvisited : held.visited ≡ false
@@ -40,8 +45,11 @@ pub record IsSlot (rule : Rule) (head : HeadState) (items : List HeldMessage) (w
 
 -- each slot that runs is so, and no two run one packet
 pub record AreSlots (rule : Rule) (head : HeadState) (items : List HeldMessage) : Type 0 where
-  pub each : (worker : ℕ) (running : Running) → slot_at head.slots worker ≡ Some running → IsSlot rule head items worker running
-  pub once : (worker other : ℕ) (running another : Running) → worker ≢ other → slot_at head.slots worker ≡ Some running → slot_at head.slots other ≡ Some another → running.packet ≢ another.packet
+  pub each : (worker : ℕ) (running : Running) → slot_at head.slots worker ≡ Some running →
+      IsSlot rule head items worker running
+  pub once : (worker other : ℕ) (running another : Running) → worker ≢ other →
+      slot_at head.slots worker ≡ Some running → slot_at head.slots other ≡ Some another →
+      running.packet ≢ another.packet
 
 -- some slot runs the packet
 abbrev pub runs_packet : ℕ → Option Running → Bool

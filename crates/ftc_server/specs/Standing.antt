@@ -1,5 +1,6 @@
 -- Where a server stands in the ring.
-use Rattle.std.specs.Prelude.{ℕ, ◌+◌, ◌-◌, ◌==◌, ◌&&◌, Bool, not, nat_le, List, filter, Option, Some, None, if◌then◌else◌}
+use Rattle.std.specs.Prelude.{ℕ, ◌+◌, ◌-◌, ◌==◌, ◌&&◌, Bool, not, nat_le, List, filter, Option, Some, None}
+use Rattle.std.specs.Prelude.{if◌then◌else◌}
 use Rattle.ftc_message.specs.Logged.{Logged}
 use Rattle.ftc_ring.specs.Ring.{RingShape, apart}
 use Rattle.ftc_replica.specs.Held.{Held}

@@ -1,5 +1,6 @@
 -- What each call does to a server.
-use Rattle.std.specs.Prelude.{ℕ, ◌≡◌, ◌++◌, ◌∷◌, ◌==◌, ◌<◌, ◌&&◌, Bool, nat_lt, List, [], length, filter, Option, Some, None, slice_set, if◌then◌else◌}
+use Rattle.std.specs.Prelude.{ℕ, ◌≡◌, ◌++◌, ◌∷◌, ◌==◌, ◌<◌, ◌&&◌, Bool, nat_lt, List, [], length, filter, Option, Some}
+use Rattle.std.specs.Prelude.{None, slice_set, if◌then◌else◌}
 use Rattle.ftc_base.specs.declared.ask.Write.{Write}
 use Rattle.ftc_base.specs.declared.ask.Finish.{Finish as End}
 use Rattle.ftc_base.specs.declared.ask.Ask.TheVariants.{Read, Finish}
@@ -14,7 +15,8 @@ use Rattle.ftc_txn.specs.Slots.{Running, slot_at}
 use Rattle.ftc_txn.specs.Head.{RunsUnwounded, RunsWounded}
 use Rattle.ftc_txn.specs.Steps.{Reads as HeadReads, HasCommitted, HasQuit as HasHeadQuit, begins, restarts}
 use Rattle.ftc_txn.specs.declared.answers.ReadAnswer.{ReadAnswer}
-use Rattle.ftc_txn.specs.declared.answers.ReadAnswer.TheVariants.{Value, Blocked, Wounded as WoundedRead, Idle as IdleRead, NotAsked}
+use Rattle.ftc_txn.specs.declared.answers.ReadAnswer.TheVariants.{Value, Blocked, Wounded as WoundedRead}
+use Rattle.ftc_txn.specs.declared.answers.ReadAnswer.TheVariants.{Idle as IdleRead, NotAsked}
 use Rattle.ftc_vector.specs.Commits.{by_group, all_merged, vector_of}
 use Rattle.ftc_vector.specs.Vector.{by_partition}
 use Rattle.ftc_server.specs.declared.answers.CommitAnswer.{CommitAnswer}
@@ -64,8 +66,8 @@ pub record HasQuit (old new : Server) (worker : ℕ) : Type 0 where
   pub head : HasHeadQuit old.head new.head worker
   pub rest : fields_of new ≡ record (fields_of old) { head = new.head }
 
--- The head answers a read. Where a slot runs something that isn't wounded, the rule asks for that key, with that leave to
--- write there.
+-- The head answers a read. Where a slot runs something that isn't wounded, the rule asks for that key, with that leave
+-- to write there.
 pub record HasRead (old new : Server) (worker : ℕ) (key : List ℕ) (answer : ReadAnswer) : Type 0 where
   pub change : Bool
   pub asked : (running : Running) → RunsUnwounded old.head worker running → ask_in old worker ≡ Some (Read key change)
@@ -96,8 +98,8 @@ with_kept writes (Some log) kept = if length writes == 0 then kept else kept ++ 
 abbrev pub with_written : RingShape → ℕ → List Write → List ℕ → List (List ℕ) → List (List ℕ)
 with_written ring id writes vector known = if length writes == 0 then known else with_own ring id id vector known
 
--- The visit of what a slot runs ends so: the head commits its writes, its log is kept where it writes something, and known where
--- no server may fail, and its message is visited in its place.
+-- The visit of what a slot runs ends so: the head commits its writes, its log is kept where it writes something, and
+-- known where no server may fail, and its message is visited in its place.
 pub record HasVisited (old new : Server) (worker : ℕ) (running : Running) (end : End) : Type 0 where
   pub log : Option Logged
   pub head : HasCommitted old.head new.head worker running end.writes.items log
@@ -108,8 +110,14 @@ pub record HasVisited (old new : Server) (worker : ℕ) (running : Running) (end
   pub packet : List ℕ
   pub with_packet : before.message.packet ≡ Some packet
   pub held : new.held.items
-      ≡ with_changed running.packet (visited_by (visit_of old.ring.failures log packet end.verdict before.message)) old.held.items
-  pub rest : fields_of new ≡ record (fields_of old) { head = new.head; own = new.own; known = new.known; held = new.held }
+      ≡ with_changed running.packet
+      (visited_by (visit_of old.ring.failures log packet end.verdict before.message)) old.held.items
+  pub rest : fields_of new ≡ record (fields_of old) {
+    head = new.head;
+    own = new.own;
+    known = new.known;
+    held = new.held;
+  }
 
 -- there may be more room for kept logs, and nothing else differs
 pub record HasOwnRoom (old new : Server) : Type 0 where
@@ -122,7 +130,8 @@ EndsVisit old new worker Done =
     (running : Running) × (end : End) × RunsUnwounded old.head worker running × (ask_in old worker ≡ Some (Finish end))
     × HasVisited old new worker running end
 EndsVisit old new worker (Wounded by) =
-    (running : Running) × RunsWounded old.head worker running by × (fields_of new ≡ record (fields_of old) { head = restarts old.head worker running })
+    (running : Running) × RunsWounded old.head worker running by
+    × (fields_of new ≡ record (fields_of old) { head = restarts old.head worker running })
 EndsVisit old new worker Idle = (slot_at old.head.slots worker ≡ None) × (fields_of new ≡ fields_of old)
 EndsVisit old new worker (Unfinished key) =
     (running : Running) × (change : Bool) × RunsUnwounded old.head worker running
@@ -148,12 +157,14 @@ abbrev pub withheld_of : Option HeldMessage → List Withheld
 withheld_of None = []
 withheld_of (Some held) = withheld_by held.message
 
--- The message leaves. At the first server the forwarder's logs have left with it, and at the last its packet is withheld.
+-- The message leaves. At the first server the forwarder's logs have left with it, and at the last its packet is
+-- withheld.
 pub record HasPassed (old new : Server) (origin : ℕ) : Type 0 where
   pub held : new.held.items ≡ without origin old.held.items
   pub forwarder : new.forwarder ≡ (if old.id == 0 then [] else old.forwarder)
   pub buffer : new.buffer.items
-      ≡ (if is_last old.ring old.id then old.buffer.items ++ withheld_of (found origin old.held.items) else old.buffer.items)
+      ≡ (if is_last old.ring old.id then old.buffer.items ++ withheld_of (found origin old.held.items)
+      else old.buffer.items)
   pub rest : fields_of new ≡ record (fields_of old) { held = new.held; forwarder = new.forwarder; buffer = new.buffer }
 
 -- the message ends, and its logs that go on are with the forwarder
@@ -177,7 +188,8 @@ with_installed (new ∷ replicas) others = slice_set (with_installed replicas ot
 -- what is known with them, where the server is the tail of their groups
 abbrev pub known_with : RingShape → ℕ → List GroupReplica → List (List ℕ) → List (List ℕ)
 known_with ring id [] known = known
-known_with ring id (new ∷ replicas) known = with_own ring id new.group new.replica.vector (known_with ring id replicas known)
+known_with ring id (new ∷ replicas) known =
+    with_own ring id new.group new.replica.vector (known_with ring id replicas known)
 
 pub record HasInstalled (old new : Server) (replicas : List GroupReplica) : Type 0 where
   pub others : new.others.items ≡ with_installed replicas old.others.items
@@ -205,7 +217,8 @@ empty_at ring server partitions group =
     if is_later_member ring group server then Some (empty_held partitions) else None
 
 -- A server to which nothing has happened.
-pub record IsOpening (ring : RingShape) (id : ℕ) (rule : Rule) (partitions : ℕ) (own : Held) (server : Server) : Type 0 where
+pub record IsOpening (ring : RingShape) (id : ℕ) (rule : Rule) (partitions : ℕ) (own : Held)
+    (server : Server) : Type 0 where
   pub ring_is : server.ring ≡ ring
   pub id_is : server.id ≡ id
   pub rule_is : server.rule ≡ rule
@@ -214,7 +227,8 @@ pub record IsOpening (ring : RingShape) (id : ℕ) (rule : Rule) (partitions : �
   pub vector : server.head.vector ≡ own.vector
   pub idle : (worker : ℕ) → slot_at server.head.slots worker ≡ None
   pub kept : server.own.items ≡ own.kept
-  pub others : (group : ℕ) → group < ring.servers → replica_at server.others.items group ≡ empty_at ring id partitions group
+  pub others : (group : ℕ) → group < ring.servers →
+      replica_at server.others.items group ≡ empty_at ring id partitions group
   pub known : server.known ≡ by_group (λ _. by_partition (λ _. 0))
   pub held : server.held.items ≡ []
   pub buffer : server.buffer.items ≡ []
@@ -224,9 +238,10 @@ pub record IsOpening (ring : RingShape) (id : ℕ) (rule : Rule) (partitions : �
 abbrev pub is_of_later : RingShape → ℕ → GroupReplica → Bool
 is_of_later ring id new = nat_lt new.group ring.servers && is_later_member ring new.group id
 
--- A server that begins anew, with these replicas and this knowledge. At a group's tail it knows what it has of the group. The kept
--- logs that it knows to be at their tails are dropped, and it holds nothing.
-pub record IsRevived (ring : RingShape) (id : ℕ) (rule : Rule) (partitions : ℕ) (own : Held) (replicas : List GroupReplica)
+-- A server that begins anew, with these replicas and this knowledge. At a group's tail it knows what it has of the
+-- group. The kept logs that it knows to be at their tails are dropped, and it holds nothing.
+pub record IsRevived (ring : RingShape) (id : ℕ) (rule : Rule) (partitions : ℕ) (own : Held)
+    (replicas : List GroupReplica)
     (known : List (List ℕ)) (server : Server) : Type 0 where
   pub ring_is : server.ring ≡ ring
   pub id_is : server.id ≡ id

@@ -1,5 +1,6 @@
 -- What is to be done with a held message.
-use Rattle.std.specs.Prelude.{ℕ, ◌==◌, ◌&&◌, Bool, false, not, List, [], ◌∷◌, Option, Some, None, is_some, find, if◌then◌else◌}
+use Rattle.std.specs.Prelude.{ℕ, ◌==◌, ◌&&◌, Bool, false, not, List, [], ◌∷◌, Option, Some, None, is_some, find}
+use Rattle.std.specs.Prelude.{if◌then◌else◌}
 use Rattle.ftc_message.specs.Logged.{Logged}
 use Rattle.ftc_replica.specs.Held.{Held}
 use Rattle.ftc_server.specs.declared.held.HeldMessage.{HeldMessage}
@@ -12,8 +13,8 @@ abbrev pub is_packet_of : Option ℕ → Logged → Bool
 is_packet_of None log = false
 is_packet_of (Some packet) log = log.origin == packet
 
--- The first log that is lacking and may be applied, where no lacking log of its packet stands before it. The logs of a packet
--- stand side by side, and `waiting` is the packet whose log was lacking and not to be applied, if any.
+-- The first log that is lacking and may be applied, where no lacking log of its packet stands before it. The logs of a
+-- packet stand side by side, and `waiting` is the packet whose log was lacking and not to be applied, if any.
 abbrev pub next_log : List (Option Held) → Option ℕ → List Logged → Option Logged
 next_log replicas waiting [] = None
 next_log replicas waiting (log ∷ logs) =

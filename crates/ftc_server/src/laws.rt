@@ -9,5 +9,6 @@ use ftc_base::limits::MOST_PARTITIONS;
 /// A vector's numbers may rise where none of them is the greatest.
 pub fn rising()
     ensures { (vector : List ℕ) → length vector ≡ MOST_PARTITIONS →
-        ((partition : ℕ) → partition < MOST_PARTITIONS → number_at vector partition < u64.MAX) → may_rise vector ≡ true }
+        ((partition : ℕ) → partition < MOST_PARTITIONS → number_at vector partition < u64.MAX) →
+        may_rise vector ≡ true }
 {}

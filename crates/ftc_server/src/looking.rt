@@ -1,6 +1,7 @@
 //! What is read off a server.
 
-ghost use Rattle.std.specs.Prelude.{◌≡◌, ◌<◌, ◌==◌, ℕ, true, false, None, Some, length, slice_get, IsNone, IfSome, ◌↔◌, option_map};
+ghost use Rattle.std.specs.Prelude.{◌≡◌, ◌<◌, ◌==◌, ℕ, true, false, None, Some, length, slice_get, IsNone, IfSome, ◌↔◌};
+ghost use Rattle.std.specs.Prelude.{option_map};
 ghost use Rattle.std.specs.Option.{option_copied};
 ghost use Rattle.ftc_txn.specs.Slots.{slot_at, packet_at, wounded_at};
 ghost use Rattle.ftc_txn.specs.Head.{ages_left};

@@ -6,7 +6,8 @@ ghost use Rattle.ftc_server.specs.declared.work.Work.TheVariants.{Send, Carry};
 ghost use Rattle.ftc_server.specs.Holding.{found};
 ghost use Rattle.ftc_server.specs.Standing.{is_last};
 ghost use Rattle.ftc_server.specs.State.{fields_of};
-ghost use Rattle.ftc_server.specs.Looks.{work_in, sent, sent_in, attached_in, onward_in, are_apart, are_apart_from, onward_apart};
+ghost use Rattle.ftc_server.specs.Looks.{work_in, sent, sent_in, attached_in, onward_in, are_apart, are_apart_from};
+ghost use Rattle.ftc_server.specs.Looks.{onward_apart};
 ghost use Rattle.ftc_server.specs.Steps.{withheld_by, HasBufferRoom, HasPassed, HasCarried, HasReleased};
 
 use crate::held::HeldMessage;

@@ -5,7 +5,8 @@ ghost use Rattle.std.specs.List.{list_all};
 ghost use Rattle.std.specs.Option.{option_copied};
 ghost use Rattle.ftc_base.specs.declared.limits.TheConstants.{MOST_SERVERS};
 ghost use Rattle.ftc_replica.specs.Held.{applied};
-ghost use Rattle.ftc_server.specs.Replicas.{replica_at, has_log, is_had, may_apply_to, may_apply, may_rise_in, with_applied, pruned, ArePruned, AreOfSame};
+ghost use Rattle.ftc_server.specs.Replicas.{replica_at, has_log, is_had, may_apply_to, may_apply, may_rise_in};
+ghost use Rattle.ftc_server.specs.Replicas.{with_applied, pruned, ArePruned, AreOfSame};
 
 use ftc_base::limits::MOST_SERVERS;
 use ftc_base::{NoMemory, ServerId};

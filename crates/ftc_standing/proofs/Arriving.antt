@@ -1,5 +1,7 @@
 -- How lists in the order of coming change.
-use Rattle.std.proofs.Common.{◌≡◌, ◌≢◌, ◌<◌, ◌≤◌, ◌==◌, ◌++◌, ◌∙◌, ℕ, Bool, true, false, not, List, [], ◌∷◌, filter, Option, Some, None, refl, sym, ap, subst, arith, if◌then◌else◌, eq-eqb, eqb-true, inl, inr}
+use Rattle.std.proofs.Common.{◌≡◌, ◌≢◌, ◌<◌, ◌≤◌, ◌==◌, ◌++◌, ◌∙◌, ℕ, Bool, true, false, not, List, [], ◌∷◌, filter}
+use Rattle.std.proofs.Common.{Option, Some, None, refl, sym, ap, subst, arith, if◌then◌else◌, eq-eqb, eqb-true, inl}
+use Rattle.std.proofs.Common.{inr}
 use Rattle.std.specs.List.{AllByRecursion}
 use Rattle.std.proofs.lemmas.Bool.{ne_eqb, cases_eq, true≢false}
 use Rattle.std.proofs.lemmas.Option.{none-some, same_Some}
@@ -64,7 +66,8 @@ pub later_without : {A : Type 0} (R : A → A → Type 0) (before : List A) (x :
     EachLater R (before ++ x ∷ after) → EachLater R (before ++ after)
 later_without R [] x after later = later.1
 later_without R (y ∷ before) x after later = (
-  all_both (R y) before after (all_front (R y) before (x ∷ after) later.0) (all_back (R y) before (x ∷ after) later.0).1,
+  all_both (R y) before after (all_front (R y) before (x ∷ after) later.0)
+      (all_back (R y) before (x ∷ after) later.0).1,
   later_without R before x after later.1,
 )
 
@@ -127,7 +130,8 @@ module _ {A : Type 0} (origin_of : A → ℕ) where
 
   pub kept_same : (x : A) (after : List A) (origin : ℕ) → origin_of x ≡ origin →
       kept_of origin_of origin (x ∷ after) ≡ Some x
-  kept_same x after origin is = ap (λ b. if b then Some x else kept_of origin_of origin after) (eq-eqb (origin_of x) origin is)
+  kept_same x after origin is =
+      ap (λ b. if b then Some x else kept_of origin_of origin after) (eq-eqb (origin_of x) origin is)
 
   pub kept_other : (x : A) (after : List A) (origin : ℕ) → origin_of x ≢ origin →
       kept_of origin_of origin (x ∷ after) ≡ kept_of origin_of origin after
@@ -219,7 +223,8 @@ module _ {M A : Type 0} (since : M → ℕ) (origin_of : A → ℕ) (Stands : �
 
       its : (message : M) × (there (origin_of item) ≡ Some message) × Stands (origin_of item) message kept_some.0
       its = there_of (origin_of item) (there (origin_of item)) kept_some.0
-          (subst (λ o. IsKeptAs Stands (origin_of item) (there (origin_of item)) o) kept_some.1 (are.each (origin_of item)))
+          (subst (λ o. IsKeptAs Stands (origin_of item) (there (origin_of item)) o) kept_some.1
+          (are.each (origin_of item)))
 
       none_in_front : kept_of origin_of (origin_of item) before ≡ None
       none_in_front = is_none (kept_of origin_of (origin_of item) before) (λ other found.
@@ -240,7 +245,8 @@ module _ {M A : Type 0} (since : M → ℕ) (origin_of : A → ℕ) (Stands : �
 
       pub there_here : (message : M) × (there (origin_of item) ≡ Some message) × Stands (origin_of item) message item
       there_here = there_of (origin_of item) (there (origin_of item)) item
-          (subst (λ o. IsKeptAs Stands (origin_of item) (there (origin_of item)) o) kept_here (are.each (origin_of item)))
+          (subst (λ o. IsKeptAs Stands (origin_of item) (there (origin_of item)) o) kept_here
+          (are.each (origin_of item)))
 
       none_left : kept_of origin_of (origin_of item) (before ++ after) ≡ None
       none_left = kept_front origin_of before after (origin_of item) none_in_front ∙ none_behind
@@ -253,7 +259,8 @@ module _ {M A : Type 0} (since : M → ℕ) (origin_of : A → ℕ) (Stands : �
           | inr differs ↦ left origin differs
         ];
         order = later_mapped Sooner
-            (λ earlier later. IsSooner since (with_at there (origin_of item) None) (origin_of earlier) (origin_of later))
+            (λ earlier later. IsSooner since (with_at there (origin_of item) None) (origin_of earlier)
+            (origin_of later))
             (λ x y sooner one other one_is other_is. sooner one other (was (origin_of x) one one_is)
             (was (origin_of y) other other_is)) (before ++ after) (later_without Sooner before item after are.order);
       }
@@ -266,15 +273,18 @@ module _ {M A : Type 0} (since : M → ℕ) (origin_of : A → ℕ) (Stands : �
               ] is
 
           gone : (origin : ℕ) → origin ≡ origin_of item →
-              IsKeptAs Stands origin (with_at there (origin_of item) None origin) (kept_of origin_of origin (before ++ after))
+              IsKeptAs Stands origin (with_at there (origin_of item) None origin)
+              (kept_of origin_of origin (before ++ after))
           gone origin same = subst (λ o. IsKeptAs Stands o (with_at there (origin_of item) None o)
               (kept_of origin_of o (before ++ after))) (sym same)
               (subst (λ b. IsKeptAs Stands (origin_of item) (if b then None else there (origin_of item))
-              (kept_of origin_of (origin_of item) (before ++ after))) (sym (eq-eqb (origin_of item) (origin_of item) refl))
+              (kept_of origin_of (origin_of item) (before ++ after)))
+              (sym (eq-eqb (origin_of item) (origin_of item) refl))
               (subst (λ o. IsKeptAs Stands (origin_of item) None o) (sym none_left) tt))
 
           left : (origin : ℕ) → origin ≢ origin_of item →
-              IsKeptAs Stands origin (with_at there (origin_of item) None origin) (kept_of origin_of origin (before ++ after))
+              IsKeptAs Stands origin (with_at there (origin_of item) None origin)
+              (kept_of origin_of origin (before ++ after))
           left origin differs = subst (λ b. IsKeptAs Stands origin (if b then None else there origin)
               (kept_of origin_of origin (before ++ after))) (sym (ne_eqb origin (origin_of item) differs))
               (subst (λ o. IsKeptAs Stands origin (there origin) o)
@@ -292,7 +302,8 @@ module _ {M A : Type 0} (since : M → ℕ) (origin_of : A → ℕ) (Stands : �
           | inr differs ↦ other origin differs
         ];
         order = later_mapped Sooner
-            (λ earlier later. IsSooner since (with_at there (origin_of item) (Some message)) (origin_of earlier) (origin_of later))
+            (λ earlier later. IsSooner since (with_at there (origin_of item) (Some message)) (origin_of earlier)
+            (origin_of later))
             (λ x y sooner one second one_is second_is.
             let first = was (origin_of x) one one_is in
             let last = was (origin_of y) second second_is in
@@ -324,7 +335,8 @@ module _ {M A : Type 0} (since : M → ℕ) (origin_of : A → ℕ) (Stands : �
           here origin same = subst (λ o. IsKeptAs Now o (with_at there (origin_of item) (Some message) o)
               (kept_of origin_of o (before ++ new ∷ after))) (sym same)
               (subst (λ b. IsKeptAs Now (origin_of item) (if b then Some message else there (origin_of item))
-              (kept_of origin_of (origin_of item) (before ++ new ∷ after))) (sym (eq-eqb (origin_of item) (origin_of item) refl))
+              (kept_of origin_of (origin_of item) (before ++ new ∷ after)))
+              (sym (eq-eqb (origin_of item) (origin_of item) refl))
               (subst (λ o. IsKeptAs Now (origin_of item) (Some message) o)
               (sym (kept_front origin_of before (new ∷ after) (origin_of item) none_in_front
               ∙ kept_same origin_of new after (origin_of item) same_origin)) stands))
@@ -399,19 +411,23 @@ module _ {M A : Type 0} (since : M → ℕ) (origin_of : A → ℕ) (Stands : �
             (subst (λ o. IsKeptAs Stands origin o (kept_of origin_of origin items)) none (are.each origin))
 
         here : (other : ℕ) → other ≡ origin →
-            IsKeptAs Stands other (with_at there origin (Some message) other) (kept_of origin_of other (items ++ item ∷ []))
+            IsKeptAs Stands other (with_at there origin (Some message) other)
+            (kept_of origin_of other (items ++ item ∷ []))
         here other same = subst (λ o. IsKeptAs Stands o (with_at there origin (Some message) o)
             (kept_of origin_of o (items ++ item ∷ []))) (sym same)
             (subst (λ o. IsKeptAs Stands origin o (kept_of origin_of origin (items ++ item ∷ []))) (sym at_origin)
             (subst (λ o. IsKeptAs Stands origin (Some message) o)
-            (sym (kept_front origin_of items (item ∷ []) origin not_kept ∙ kept_same origin_of item [] origin is)) stands))
+            (sym (kept_front origin_of items (item
+            ∷ []) origin not_kept ∙ kept_same origin_of item [] origin is)) stands))
 
         same_as : (other : ℕ) → other ≢ origin →
-            IsKeptAs Stands other (with_at there origin (Some message) other) (kept_of origin_of other (items ++ item ∷ []))
+            IsKeptAs Stands other (with_at there origin (Some message) other)
+            (kept_of origin_of other (items ++ item ∷ []))
         same_as other differs = subst (λ b. IsKeptAs Stands other (if b then Some message else there other)
             (kept_of origin_of other (items ++ item ∷ []))) (sym (ne_eqb other origin differs))
             (subst (λ o. IsKeptAs Stands other (there other) o)
-            (sym (kept_back origin_of items (item ∷ []) other (kept_other origin_of item [] other (λ e. differs (sym e ∙ is)))))
+            (sym (kept_back origin_of items (item
+            ∷ []) other (kept_other origin_of item [] other (λ e. differs (sym e ∙ is)))))
             (are.each other))
 
     -- the oldest is the first
@@ -555,7 +571,8 @@ module _ {M A : Type 0} (since : M → ℕ) (origin_of : A → ℕ) (Stands : �
               | true ↦ λ e. subst (λ o. IsKeptAs Stands origin None o)
                   (sym (none_left_of origin items (all_mapped IsThere (λ x. origin_of x ≡ origin → keeps x ≡ false)
                   (λ x x_there same.
-                  let same_message : m ≡ x_there.0 = same_Some m x_there.0 (sym is ∙ (ap there (sym same) ∙ x_there.1)) in
+                  let same_message : m ≡ x_there.0 =
+                  same_Some m x_there.0 (sym is ∙ (ap there (sym same) ∙ x_there.1)) in
                   agree (origin_of x) x_there.0 x x_there.1 refl x_there.2
                   ∙ ap not (ap gone (sym same_message) ∙ e))
                   items (all_there items are)))) tt

@@ -1,5 +1,6 @@
 -- What the last server withholds, and what the forwarder has, after the events that change it.
-use Rattle.std.proofs.Common.{◌≡◌, ◌+◌, ◌||◌, ◌&&◌, ◌++◌, ◌∙◌, ℕ, Bool, true, false, not, List, [], ◌∷◌, Option, Some, None, refl, sym, ap, subst, if◌then◌else◌, eq-eqb}
+use Rattle.std.proofs.Common.{◌≡◌, ◌+◌, ◌||◌, ◌&&◌, ◌++◌, ◌∙◌, ℕ, Bool, true, false, not, List, [], ◌∷◌, Option, Some}
+use Rattle.std.proofs.Common.{None, refl, sym, ap, subst, if◌then◌else◌, eq-eqb}
 use Rattle.std.proofs.lemmas.Bool.{true≢false}
 use Rattle.std.proofs.lemmas.Option.{none-some}
 use Rattle.ftc_edge.specs.declared.buffer.Withheld.{Withheld as WithheldPacket}
@@ -18,10 +19,12 @@ use Rattle.ftc_protocol.specs.Next.{next, withheld_of, withheld_packet, logs_of}
 use Rattle.ftc_ties.specs.Messages.{AreNeedsOf, onward}
 use Rattle.ftc_ties.proofs.Carrying.{logs_onward}
 use Rattle.ftc_standing.specs.Arrivals.{AreArrived}
-use Rattle.ftc_standing.specs.Stand.{IsSentAs, IsHeldAs, IsWithheldAs, AreHeld, AreWithheld, AreForwarded, time_of, packet_of, origin_of}
+use Rattle.ftc_standing.specs.Stand.{IsSentAs, IsHeldAs, IsWithheldAs, AreHeld, AreWithheld, AreForwarded, time_of}
+use Rattle.ftc_standing.specs.Stand.{packet_of, origin_of}
 use Rattle.ftc_standing.specs.View.{is_held_by, held_at, withheld_at}
 use Rattle.ftc_standing.proofs.Arriving.{added, taken_out, stays}
-use Rattle.ftc_standing.proofs.Lasting.{IsFirmState, needs_stay, needing_after, touching_some, withheld_stays, forwarded_stays}
+use Rattle.ftc_standing.proofs.Lasting.{IsFirmState, needs_stay, needing_after, touching_some, withheld_stays}
+use Rattle.ftc_standing.proofs.Lasting.{forwarded_stays}
 use Rattle.ftc_standing.proofs.Leaving.{logs_among}
 use Rattle.ftc_standing.proofs.Movements.{goes}
 use Rattle.ftc_standing.proofs.Events.{held_keeps}
@@ -69,7 +72,8 @@ module _ (c : Setting) (s : ChainState) (f : IsFirmState c s) (k : ℕ) (last : 
         none (Some withheld) is = false_no (subst (IsPast (servers c)) place
             (f.buffered.past p withheld message is there))
 
-    withheld_is : (packet : ℕ) → (next c s e).withheld packet ≡ with_at s.withheld p (withheld_packet s message message.packet) packet
+    withheld_is : (packet : ℕ) →
+        (next c s e).withheld packet ≡ with_at s.withheld p (withheld_packet s message message.packet) packet
     withheld_is packet = ap (λ withheld. withheld packet) now_is
         ∙ ap (λ o. with_at s.withheld p (withheld_of s o) packet) there
 
@@ -80,7 +84,8 @@ module _ (c : Setting) (s : ChainState) (f : IsFirmState c s) (k : ℕ) (last : 
         (λ packet withheld item at stands. withheld_stays c s f e legal packet withheld item
         (withheld_is packet ∙ with_at_cases (λ v. v ≡ Some withheld) s.withheld p
         (withheld_packet s message message.packet) packet
-        (λ same. absurd (none-some withheld (sym none_yet ∙ (sym (ap s.withheld same) ∙ (sym (at_last s packet) ∙ at)))))
+        (λ same. absurd (none-some withheld
+        (sym none_yet ∙ (sym (ap s.withheld same) ∙ (sym (at_last s packet) ∙ at)))))
         (λ ne. sym (at_last s packet) ∙ at)) stands) items are
 
     pub withheld_kept : message.packet ≡ None → (items : List WithheldPacket) → AreWithheld c s k items →
@@ -103,8 +108,10 @@ module _ (c : Setting) (s : ChainState) (f : IsFirmState c s) (k : ℕ) (last : 
         (λ packet. at_last (next c s e) packet ∙ (withheld_is packet
         ∙ (ap (λ o. with_at s.withheld p o packet) (ap (withheld_packet s message) has)
         ∙ with_at_cases (λ v. v ≡ with_at (withheld_at c s k) p (Some new) packet) s.withheld p (Some new) packet
-        (λ same. with_at_cases (λ v. Some new ≡ v) (withheld_at c s k) p (Some new) packet (λ _. refl) (λ ne. absurd (ne same)))
-        (λ ne. with_at_cases (λ v. s.withheld packet ≡ v) (withheld_at c s k) p (Some new) packet (λ same. absurd (ne same))
+        (λ same. with_at_cases (λ v. Some new ≡ v) (withheld_at c s k) p (Some new) packet (λ _. refl)
+        (λ ne. absurd (ne same)))
+        (λ ne. with_at_cases (λ v. s.withheld packet ≡ v) (withheld_at c s k) p (Some new) packet
+        (λ same. absurd (ne same))
         (λ _. sym (at_last s packet))))))
         (λ packet withheld kept_item at stands. stands) (items ++ item ∷ [])
         (added time_of packet_of (IsWithheldAs c (next c s e)) (withheld_at c s k) p new item items (kept items are)
@@ -151,7 +158,8 @@ module _ (c : Setting) (s : ChainState) (f : IsFirmState c s) (p : ℕ) (legal :
   forwarder_gets sent logs is are = forwarded_stays c s f carrying legal
       (λ group packet. s.forwarder group packet || (carried_one.logs group packet && not (is_tail c group 0)))
       (next c s carrying).forwarder (with_items is_earlier (onward c 0 sent.logs) logs)
-      (λ group packet. ap (λ o. s.forwarder group packet || (logs_of o group packet && not (is_tail c group 0))) legal.0.1)
+      (λ group packet. ap (λ o. s.forwarder group packet
+      || (logs_of o group packet && not (is_tail c group 0))) legal.0.1)
       (λ group packet there. there)
       (logs_among c s (λ group packet. carried_one.logs group packet && not (is_tail c group 0)) s.forwarder
       (onward c 0 sent.logs) logs (logs_onward c s 0 carried_one.logs sent.logs is.logs) are)

@@ -1,5 +1,7 @@
--- What stands for a server or a link after each event in which it has a part: what it holds, withholds, forwards or queues.
-use Rattle.std.proofs.Common.{◌≡◌, ◌+◌, ◌==◌, ◌&&◌, ◌++◌, ◌∙◌, ℕ, Bool, true, false, not, List, [], ◌∷◌, length, Option, Some, None, refl, sym, ap, subst, if◌then◌else◌, eq-eqb}
+-- What stands for a server or a link after each event in which it has a part: what it holds, withholds, forwards or
+-- queues.
+use Rattle.std.proofs.Common.{◌≡◌, ◌+◌, ◌==◌, ◌&&◌, ◌++◌, ◌∙◌, ℕ, Bool, true, false, not, List, [], ◌∷◌, length, Option}
+use Rattle.std.proofs.Common.{Some, None, refl, sym, ap, subst, if◌then◌else◌, eq-eqb}
 use Rattle.std.proofs.lemmas.Bool.{true≢false}
 use Rattle.std.proofs.lemmas.Option.{none-some, same_Some}
 use Rattle.ftc_base.specs.declared.limits.TheConstants.{MOST_SERVERS}
@@ -131,7 +133,8 @@ module _ (c : Setting) (s : ChainState) (f : IsFirmState c s) (e : Event) (legal
         new.logs ≡ with_items is_earlier carried (onward c k old.logs) →
         new.needs ≡ (if k + 1 == servers c then [] else old.needs) → new.commits ≡ known → IsLink c s k queue →
         IsLink c (next c s e) k (record queue { messages = queue.messages ++ new ∷ [] })
-    link_gets sends queue old new carried known same_gap is forwarded size knowing origin packet logs needs commits link_is =
+    link_gets sends queue old new carried known same_gap is forwarded size knowing origin packet logs needs commits
+        link_is =
         record {
           from = link_is.from;
           gap = link_is.gap ∙ sym same_gap;
@@ -174,12 +177,14 @@ module _ (c : Setting) (s : ChainState) (f : IsFirmState c s) (e : Event) (legal
           (λ at. ap (λ messages. where_it (is_queued_on k) (messages at)) now_is
           ∙ not_there (is_queued_on k) s.message p _
           (at_place (is_queued_on k) (s.message p) message (Held k visited false) false there place refl)
-          (ap (λ (b : Bool). where_it (is_queued_on k) (if b then sent_message c s k (s.message p) else None)) sends) at)
+          (ap (λ (b : Bool). where_it (is_queued_on k) (if b then sent_message c s k (s.message p)
+          else None)) sends) at)
           queue.messages link_is.queued;
     }
 
     -- the forwarder of server 0 is empty then, and others have none
-    pub forwarder_left : ((group packet : ℕ) → (next c s e).forwarder group packet ≡ (not (k == 0) && s.forwarder group packet)) →
+    pub forwarder_left : ((group packet : ℕ) →
+        (next c s e).forwarder group packet ≡ (not (k == 0) && s.forwarder group packet)) →
         (logs : List Logged) → AreForwarded c s k logs → AreForwarded c (next c s e) k (if k == 0 then [] else logs)
     forwarder_left forwarder_is logs are = elim (k == 0) as (λ b. k == 0 ≡ b →
         AreLogsOf c (next c s e) (if b then (next c s e).forwarder else no_visits) (if b then [] else logs)) [
@@ -207,7 +212,8 @@ module _ (c : Setting) (s : ChainState) (f : IsFirmState c s) (e : Event) (legal
 
   -- ---- what is queued to a server that crashes goes away
 
-  pub link_emptied : (link : ℕ) → ((origin : ℕ) → queued_on (next c s e) link origin ≡ None) → (queue : Queue) (gap : Bool) →
+  pub link_emptied : (link : ℕ) → ((origin : ℕ) → queued_on (next c s e) link origin ≡ None) →
+      (queue : Queue) (gap : Bool) →
       gap ≡ (next c s e).gap link → queue.from ≡ link →
       IsLink c (next c s e) link (record queue { messages = []; gap = gap })
   link_emptied link none queue gap is_gap from = record {
@@ -220,7 +226,8 @@ module _ (c : Setting) (s : ChainState) (f : IsFirmState c s) (e : Event) (legal
 at_it : (test : Where → Bool) (o : Option Message) (message : Message) → where_it test o ≡ Some message →
     (o ≡ Some message) × (test message.place ≡ true)
 at_it test None message is = absurd (none-some message is)
-at_it test (Some m) message is = elim (test m.place) as (λ b. test m.place ≡ b → (if b then Some m else None) ≡ Some message →
+at_it test (Some m) message is =
+    elim (test m.place) as (λ b. test m.place ≡ b → (if b then Some m else None) ≡ Some message →
     (Some m ≡ Some message) × (test message.place ≡ true)) [
       | true ↦ λ e same. (same, subst (λ (x : Message). test x.place ≡ true) (same_Some m message same) e)
       | false ↦ λ e none. absurd (none-some message none)
@@ -270,7 +277,8 @@ module _ (c : Setting) (s : ChainState) (f : IsFirmState c s) (link p : ℕ) (le
     pub oldest_stands : IsSentAs c s p message sent
     oldest_stands =
         let its = there_here since_of origin_of (IsSentAs c s) (queued_on s link) [] sent rest are in
-        let same : its.0 ≡ message = same_Some its.0 message (sym its.1 ∙ (ap (queued_on s link) oldest_is ∙ queued_there)) in
+        let same : its.0 ≡ message =
+        same_Some its.0 message (sym its.1 ∙ (ap (queued_on s link) oldest_is ∙ queued_there)) in
         subst (λ m. IsSentAs c s p m sent) same (subst (λ o. IsSentAs c s o its.0 sent) oldest_is its.2)
 
     pub link_taken : IsLink c (next c s taking) link (record queue { messages = rest })
@@ -300,6 +308,7 @@ module _ (c : Setting) (s : ChainState) (f : IsFirmState c s) (link p : ℕ) (le
       ∙ ap (λ (b : Bool). if b then Some taken else None) (eq-eqb receiver receiver refl)) origin)
       refl is.origin_is
       (record {
-        place = ap (λ v. Held receiver v (link + 1 == servers c)) (sym fresh) ∙ ap (Held receiver (visited item)) (sym ring);
+        place = ap (λ v. Held receiver v (link + 1 == servers c)) (sym fresh) ∙ ap (Held receiver (visited item))
+            (sym ring);
         as_sent = taken_stands (sent item) is;
       }) held

@@ -1,5 +1,7 @@
 -- What a server's replicas and what it knows become by an event in which it has a part.
-use Rattle.std.proofs.Common.{◌≡◌, ◌≢◌, ◌<◌, ◌++◌, ◌∙◌, ℕ, Bool, true, false, not, List, [], ◌∷◌, length, Option, Some, None, slice_set, inl, inr, refl, sym, ap, subst, arith, if◌then◌else◌, get_or-set_same, get_or-set_other}
+use Rattle.std.proofs.Common.{◌≡◌, ◌≢◌, ◌<◌, ◌++◌, ◌∙◌, ℕ, Bool, true, false, not, List, [], ◌∷◌, length, Option, Some}
+use Rattle.std.proofs.Common.{None, slice_set, inl, inr, refl, sym, ap, subst, arith, if◌then◌else◌, get_or-set_same}
+use Rattle.std.proofs.Common.{get_or-set_other}
 use Rattle.std.proofs.lemmas.Bool.{cases_eq, cases_lt, true≢false}
 use Rattle.std.proofs.lemmas.List.{get_or_past, length-set}
 use Rattle.std.proofs.lemmas.List.FromFn.{length-map-range_with_len}
@@ -31,12 +33,14 @@ use Rattle.ftc_ties.proofs.Asking.{need_known}
 use Rattle.ftc_ties.proofs.Informing.{take_learns}
 use Rattle.ftc_ties.proofs.Learning.{apply_tells_none, apply_learns}
 use Rattle.ftc_ties.proofs.Replicating.{vector_same}
-use Rattle.ftc_ties.proofs.Serving.{IsSteadyState, take_prunes, apply_leaves, apply_at_tail, others_stay, steady_next, tail_knows}
+use Rattle.ftc_ties.proofs.Serving.{IsSteadyState, take_prunes, apply_leaves, apply_at_tail, others_stay, steady_next}
+use Rattle.ftc_ties.proofs.Serving.{tail_knows}
 use Rattle.ftc_standing.specs.Stand.{IsReplicaSlot, AreReplicas, replica_of}
 
 pub size_merged : (one other : List (List ℕ)) → length (all_merged one other) ≡ MOST_SERVERS
 unfolding by_group
-size_merged one other = length-map-range_with_len (λ group. merged (vector_of one group) (vector_of other group)) 0 MOST_SERVERS
+size_merged one other = length-map-range_with_len
+    (λ group. merged (vector_of one group) (vector_of other group)) 0 MOST_SERVERS
 
 -- ---- kept logs may be dropped in two steps
 
@@ -67,7 +71,8 @@ is_false true never = absurd (never refl)
 is_false false never = refl
 
 -- a replica in a list of them that got another
-pub slots_set : (P : ℕ → Option Replicated → Type 0) (others : List (Option Replicated)) (group : ℕ) (new : Option Replicated) →
+pub slots_set : (P : ℕ → Option Replicated →
+    Type 0) (others : List (Option Replicated)) (group : ℕ) (new : Option Replicated) →
     group < length others → P group new → ((other : ℕ) → other ≢ group → P other (replica_of others other)) →
     (other : ℕ) → P other (replica_of (slice_set others group new) other)
 slots_set P others group new long here elsewhere other = elim (cases_eq other group) [
@@ -108,7 +113,8 @@ module _ (c : Setting) (s : ChainState) (h : IsSteadyState c s) where
           (need_of log.before log.changed) (above_first (vector_of known group) (vector_of told group))
           ((covered (vector_of known group) (need_of log.before log.changed)).0 covers)))
 
-      module _ (known_is : AreCommits c s (knows c s receiver) known) (told_is : AreCommits c s message.known told) where
+      module _ (known_is : AreCommits c s (knows c s receiver) known)
+          (told_is : AreCommits c s message.known told) where
         known_after : AreCommits c (next c s (Take link origin)) (knows c (next c s (Take link origin)) receiver)
             (all_merged known told)
         known_after = take_learns c s h link origin legal message there known told known_is told_is
@@ -118,8 +124,10 @@ module _ (c : Setting) (s : ChainState) (h : IsSteadyState c s) where
             IsReplicaAt c (next c s (Take link origin)) receiver group
             (pruned_by (vector_of (all_merged known told) group) held)
         replica_after group below member held is =
-            subst (λ (kept : List Logged). IsReplicaAt c (next c s (Take link origin)) receiver group (record held { kept = kept }))
-            (missing_twice (vector_of known group) (vector_of (all_merged known told) group) (more group below) held.kept)
+            subst (λ (kept : List Logged). IsReplicaAt c (next c s (Take link origin)) receiver group
+            (record held { kept = kept }))
+            (missing_twice (vector_of known group) (vector_of (all_merged known told) group)
+            (more group below) held.kept)
             (subst (λ v. IsReplicaAt c (next c s (Take link origin)) receiver group
             (pruned_by v (pruned_by (vector_of known group) held)))
             (sym (known_after group (few_servers group below)))
@@ -136,7 +144,8 @@ module _ (c : Setting) (s : ChainState) (h : IsSteadyState c s) where
         AreReplicas c s receiver own others known →
         AreReplicas c (next c s (Take link origin)) receiver own others (all_merged known told)
     replicas_told own others known told member told_is are = record {
-      own = replica_after known told are.known told_is receiver (h.tied.order.inside receiver receiver_up) member own are.own;
+      own = replica_after known told are.known told_is receiver
+          (h.tied.order.inside receiver receiver_up) member own are.own;
       others = λ group below. slot_after known told are.known told_is group below (replica_of others group)
           (are.others group below);
       size = size_merged known told;
@@ -159,11 +168,13 @@ module _ (c : Setting) (s : ChainState) (h : IsSteadyState c s) where
     -- what the list lacks isn't known
     uncovered : covers_log (vector_of known group) log ≡ false
     uncovered = is_false (covers_log (vector_of known group) log) (λ covers.
-        let told = (need_known c s h server group packet known are.known (few_servers group below) (need_of log.before log.changed)
+        let told = (need_known c s h server group packet known are.known (few_servers group below)
+        (need_of log.before log.changed)
         (record { log = log; log_of = log_of; group_is = group_is; origin_is = origin_is; marks_are = refl })).0
         ((covered (vector_of known group) (need_of log.before log.changed)).0 covers) in
         let has = told.changing legal.0.3 in
-        true≢false (sym ((h.tied.sound.known server group packet has).had server (h.tied.order.inside server up) up slot.0)
+        true≢false (sym ((h.tied.sound.known server group packet has).had server
+        (h.tied.order.inside server up) up slot.0)
         ∙ legal.0.4))
 
     after_pruned : pruned_by (vector_of known group) (applied log replica)
@@ -179,7 +190,8 @@ module _ (c : Setting) (s : ChainState) (h : IsSteadyState c s) where
       slot_is.0,
       slot_is.1,
       subst (λ v. IsReplicaAt c (next c s applying) server other (pruned_by v r)) (sym same)
-          (others_stay c s h server other (pruned_by (vector_of known other) r) slot_is.2 applying legal (λ both. differs both.1)),
+          (others_stay c s h server other (pruned_by (vector_of known other) r) slot_is.2 applying legal
+          (λ both. differs both.1)),
     )
 
     own_stays : (more : List (List ℕ)) → vector_of more server ≡ vector_of known server →
@@ -199,7 +211,8 @@ module _ (c : Setting) (s : ChainState) (h : IsSteadyState c s) where
             slot.0,
             slot.1,
             subst (λ (r : Replicated). IsReplicaAt c (next c s applying) server group r) (sym after_pruned)
-                (apply_leaves c s h server origin group packet legal (pruned_by (vector_of known group) replica) log log_of
+                (apply_leaves c s h server origin group packet legal
+                (pruned_by (vector_of known group) replica) log log_of
                 group_is origin_is up slot.0 slot.2 isnt),
           ))
           (λ other differs less. other_stays known other differs refl (replica_of others other) (are.others other less))
@@ -215,7 +228,8 @@ module _ (c : Setting) (s : ChainState) (h : IsSteadyState c s) where
     module _ (tail : is_tail c group server ≡ true) where
       at_tail : IsReplicaAt c (next c s applying) server group
           (pruned_by (applied log replica).vector (applied log (pruned_by (vector_of known group) replica)))
-      at_tail = apply_at_tail c s h server origin group packet legal (pruned_by (vector_of known group) replica) log log_of
+      at_tail = apply_at_tail c s h server origin group packet legal
+          (pruned_by (vector_of known group) replica) log log_of
           group_is origin_is up slot.0 slot.2 tail
 
       vector_is : (applied log replica).vector
@@ -223,8 +237,10 @@ module _ (c : Setting) (s : ChainState) (h : IsSteadyState c s) where
       vector_is = at_tail.vector
 
       known_is : AreCommits c (next c s applying) (knows c (next c s applying) server) raised
-      known_is = subst (λ v. AreCommits c (next c s applying) (knows c (next c s applying) server) (group_raised known group v))
-          (sym vector_is) (apply_learns c s h server origin group packet legal up below slot.0 tail known are.size are.known)
+      known_is = subst (λ v. AreCommits c (next c s applying) (knows c (next c s applying) server)
+          (group_raised known group v))
+          (sym vector_is) (apply_learns c s h server origin group packet legal up below slot.0 tail known are.size
+          are.known)
 
       within : group < length known
       within = let few = few_servers group below in let size = are.size in omega arith
@@ -233,7 +249,8 @@ module _ (c : Setting) (s : ChainState) (h : IsSteadyState c s) where
           covers_log (vector_of raised group) other ≡ true
       raised_covers other covers = subst (λ v. covers_log v other ≡ true)
           (sym (vector_of-raised known group (applied log replica).vector within))
-          ((covered (merged (vector_of known group) (applied log replica).vector) (need_of other.before other.changed)).1
+          ((covered (merged (vector_of known group) (applied log replica).vector)
+          (need_of other.before other.changed)).1
           (covered_above (vector_of known group) (merged (vector_of known group) (applied log replica).vector)
           (need_of other.before other.changed) (above_first (vector_of known group) (applied log replica).vector)
           ((covered (vector_of known group) (need_of other.before other.changed)).0 covers)))
@@ -250,9 +267,11 @@ module _ (c : Setting) (s : ChainState) (h : IsSteadyState c s) where
               tail_knows c (next c s applying) (steady_next c s h applying legal) server group q up slot.0 tail)
 
       here : IsReplicaAt c (next c s applying) server group (pruned_by (vector_of raised group) (applied log replica))
-      here = subst (λ (kept : List Logged). IsReplicaAt c (next c s applying) server group (record (applied log replica) { kept = kept }))
+      here = subst (λ (kept : List Logged). IsReplicaAt c (next c s applying) server group
+          (record (applied log replica) { kept = kept }))
           (ap (λ v. missing v (missing (vector_of known group) replica.kept ++ log ∷ [])) (sym own_vector)
-          ∙ (ap (missing (vector_of raised group)) (sym (missing_last (vector_of known group) log uncovered replica.kept))
+          ∙ (ap (missing (vector_of raised group))
+          (sym (missing_last (vector_of known group) log uncovered replica.kept))
           ∙ missing_twice (vector_of known group) (vector_of raised group) raised_covers (replica.kept ++ log ∷ [])))
           at_tail
 
@@ -264,7 +283,8 @@ module _ (c : Setting) (s : ChainState) (h : IsSteadyState c s) where
             others group (Some (applied log replica)) (is_within others group replica there)
             (λ _. (slot.0, slot.1, here))
             (λ other differs less. other_stays raised other differs
-            (vector_of-other known group other (applied log replica).vector differs) (replica_of others other) (are.others other less))
+            (vector_of-other known group other (applied log replica).vector differs) (replica_of others other)
+            (are.others other less))
             other less;
         size = length-set known group (merged (vector_of known group) (applied log replica).vector) ∙ are.size;
         known = known_is;

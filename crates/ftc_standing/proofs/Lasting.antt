@@ -1,6 +1,7 @@
 -- What stands for a message, a withheld packet, the forwarder's visits or a replica stands for it after an event that
 -- leaves it.
-use Rattle.std.proofs.Common.{◌≡◌, ◌<◌, ◌+◌, ◌==◌, ◌∙◌, ℕ, Bool, true, false, List, [], ◌∷◌, length, Option, Some, None, refl, sym, subst, eq-eqb, if◌then◌else◌}
+use Rattle.std.proofs.Common.{◌≡◌, ◌<◌, ◌+◌, ◌==◌, ◌∙◌, ℕ, Bool, true, false, List, [], ◌∷◌, length, Option, Some, None}
+use Rattle.std.proofs.Common.{refl, sym, subst, eq-eqb, if◌then◌else◌}
 use Rattle.std.specs.List.{AllByRecursion}
 use Rattle.std.proofs.lemmas.Bool.{or_left, or_right}
 use Rattle.std.proofs.lemmas.Option.{none-some}
@@ -35,8 +36,10 @@ use Rattle.ftc_ties.proofs.Informing.{commits_stay}
 use Rattle.ftc_ties.proofs.Lasting.{need_lasts}
 use Rattle.ftc_ties.proofs.Learning.{others_know}
 use Rattle.ftc_ties.proofs.Serving.{IsSteadyState, others_stay}
-use Rattle.ftc_standing.specs.Stand.{IsSentAs, IsHeldAs, IsWithheldAs, IsLink, IsReplicaSlot, AreReplicas, AreHeld, AreWithheld, AreForwarded, replica_of, since_of, origin_of, time_of, packet_of}
-use Rattle.ftc_standing.specs.View.{is_held_by, is_queued_on, where_it, held_at, queued_on, withheld_at, forwarded_at, IsLinkAsBefore}
+use Rattle.ftc_standing.specs.Stand.{IsSentAs, IsHeldAs, IsWithheldAs, IsLink, IsReplicaSlot, AreReplicas, AreHeld}
+use Rattle.ftc_standing.specs.Stand.{AreWithheld, AreForwarded, replica_of, since_of, origin_of, time_of, packet_of}
+use Rattle.ftc_standing.specs.View.{is_held_by, is_queued_on, where_it, held_at, queued_on, withheld_at, forwarded_at}
+use Rattle.ftc_standing.specs.View.{IsLinkAsBefore}
 use Rattle.ftc_standing.proofs.Arriving.{stays}
 
 -- what the laws of the protocol say of this state of a run and of those that follow
@@ -61,7 +64,8 @@ pub of_last : (b : Bool) (o : Option Withheld) (withheld : Withheld) → (if b t
 of_last true o withheld is = is
 of_last false o withheld is = absurd (none-some withheld is)
 
-pub touching_some : (trace : List Entry) (group packet : ℕ) → IsTouching trace group packet → IsSomeVisit trace group packet
+pub touching_some : (trace : List Entry) (group packet : ℕ) → IsTouching trace group packet →
+    IsSomeVisit trace group packet
 touching_some trace group packet there =
     stands_map (λ o. is_touching o ≡ true) (λ o. Unit {0}) (λ o _. tt) trace group packet there
 
@@ -121,7 +125,8 @@ module _ (c : Setting) (s : ChainState) (f : IsFirmState c s) (e : Event) (legal
         (needing_after.carried origin group new here needed).0) needs;
     size = size;
     commits = commits_stay c s f.steady e legal new.known sent.commits front
-        (λ group packet told. changing_some group packet ((tied_after.fronts.told origin new here).there group packet told))
+        (λ group packet told. changing_some group packet
+        ((tied_after.fronts.told origin new here).there group packet told))
         commits;
   }
 
@@ -149,7 +154,8 @@ module _ (c : Setting) (s : ChainState) (f : IsFirmState c s) (e : Event) (legal
   }
 
   -- the visits of the forwarder, where none comes
-  pub forwarded_stays : (one other : Visits) (logs : List Logged) → ((group packet : ℕ) → other group packet ≡ one group packet) →
+  pub forwarded_stays : (one other : Visits) (logs : List Logged) →
+      ((group packet : ℕ) → other group packet ≡ one group packet) →
       ((group packet : ℕ) → other group packet ≡ true → (next c s e).forwarder group packet ≡ true) →
       AreLogsOf c s one logs → AreLogsOf c (next c s e) other logs
   forwarded_stays one other logs same inside are =

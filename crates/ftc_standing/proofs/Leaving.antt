@@ -1,5 +1,6 @@
 -- What is sent on of a message that leaves a server.
-use Rattle.std.proofs.Common.{◌≡◌, ◌==◌, ◌||◌, ◌&&◌, ◌∙◌, ℕ, Bool, true, false, not, List, [], ◌∷◌, refl, ap, if◌then◌else◌}
+use Rattle.std.proofs.Common.{◌≡◌, ◌==◌, ◌||◌, ◌&&◌, ◌∙◌, ℕ, Bool, true, false, not, List, [], ◌∷◌, refl, ap}
+use Rattle.std.proofs.Common.{if◌then◌else◌}
 use Rattle.std.specs.List.{list_any}
 use Rattle.ftc_message.specs.declared.need.Need.{Need}
 use Rattle.ftc_message.specs.Logged.{Logged}
@@ -57,7 +58,8 @@ module _ (c : Setting) (s : ChainState) where
       AreLogsOf c s (λ group packet. other group packet || one group packet) (with_items is_earlier first second)
   logs_among one other first second are also = record {
     each = all-with_items (IsLogIn c.partitions s.trace) is_earlier first second are.each also.each;
-    names = λ group packet. any_with_items (λ (log : Logged). log.group == group && log.origin == packet) is_earlier first second
+    names = λ group packet. any_with_items (λ (log : Logged). log.group == group
+        && log.origin == packet) is_earlier first second
         ∙ (or_comm_of (names_log first group packet) (names_log second group packet)
         ∙ (ap (λ x. x || names_log first group packet) (also.names group packet)
         ∙ ap (λ x. other group packet || x) (are.names group packet)));
@@ -74,9 +76,11 @@ module _ (c : Setting) (s : ChainState) where
   }
     where
       joined : AreLogsOf c s
-          (λ group packet. (message.logs group packet && not (is_tail c group server)) || forwarded_at s server group packet)
+          (λ group packet. (message.logs group packet && not (is_tail c group server))
+          || forwarded_at s server group packet)
           (with_items is_earlier carried (onward c server logs))
-      joined = logs_among (forwarded_at s server) (λ group packet. message.logs group packet && not (is_tail c group server))
+      joined = logs_among (forwarded_at s server) (λ group packet. message.logs group packet
+          && not (is_tail c group server))
           carried (onward c server logs) forwarded (logs_onward c s server message.logs logs are)
 
       at_first : (group packet : ℕ) → forwarded_at s server group packet ≡ ((server == 0) && s.forwarder group packet)

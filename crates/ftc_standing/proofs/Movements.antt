@@ -1,5 +1,6 @@
 -- How a list of messages at a place changes by an event: one comes, one goes, one is changed, some go, all go.
-use Rattle.std.proofs.Common.{◌≡◌, ◌<◌, ◌++◌, ◌∙◌, ℕ, Bool, true, false, not, List, [], ◌∷◌, filter, Option, Some, None, refl, sym, ap, subst, if◌then◌else◌}
+use Rattle.std.proofs.Common.{◌≡◌, ◌<◌, ◌++◌, ◌∙◌, ℕ, Bool, true, false, not, List, [], ◌∷◌, filter, Option, Some, None}
+use Rattle.std.proofs.Common.{refl, sym, ap, subst, if◌then◌else◌}
 use Rattle.std.proofs.lemmas.Option.{none-some}
 use Rattle.ftc_journal.specs.declared.event.Event.{Event}
 use Rattle.ftc_serial.specs.Words.{with_at}
@@ -13,7 +14,8 @@ use Rattle.ftc_standing.specs.View.{where_it}
 use Rattle.ftc_standing.proofs.Arriving.{added, taken_out, replaced, stays, filtered, emptied, there_here, without_it}
 use Rattle.ftc_standing.proofs.Lasting.{IsFirmState, of_it}
 
-module _ (c : Setting) (s : ChainState) (f : IsFirmState c s) (e : Event) {A : Type 0} (org : A → ℕ) (test : Where → Bool)
+module _ (c : Setting) (s : ChainState) (f : IsFirmState c s) (e : Event) {A : Type 0} (org : A → ℕ) (test : Where →
+    Bool)
     (At After : ℕ → Message → A → Type 0)
     (keeps : (origin : ℕ) (message : Message) (item : A) → s.message origin ≡ Some message →
     (next c s e).message origin ≡ Some message → At origin message item → After origin message item) where

@@ -1,5 +1,6 @@
 -- What stands for the opening state.
-use Rattle.std.proofs.Common.{◌≡◌, ◌<◌, ◌+◌, ◌==◌, ◌∙◌, ℕ, true, false, List, [], length, Option, Some, None, refl, sym, ap, subst, if◌then◌else◌}
+use Rattle.std.proofs.Common.{◌≡◌, ◌<◌, ◌+◌, ◌==◌, ◌∙◌, ℕ, true, false, List, [], length, Option, Some, None, refl, sym}
+use Rattle.std.proofs.Common.{ap, subst, if◌then◌else◌}
 use Rattle.ftc_replica.specs.Held.{Held as Replicated}
 use Rattle.ftc_replica.specs.Kept.{missing}
 use Rattle.ftc_vector.specs.Commits.{vector_of}
@@ -10,7 +11,9 @@ use Rattle.ftc_protocol.specs.Known.{knows}
 use Rattle.ftc_ties.specs.Replica.{pruned_by}
 use Rattle.ftc_ties.specs.Servers.{AreCommits, IsReplicaAt}
 use Rattle.ftc_ties.proofs.Beginning.{begins, begins_knowing}
-use Rattle.ftc_standing.specs.Stand.{IsSentAs, IsHeldAs, IsWithheldAs, IsLink, HeldItem, ServerContents, IsServer, AreItems, AreWithheld, AreForwarded, IsReplicaSlot, IsEmptyReplica, IsEmptySlot, replica_of, since_of, origin_of, time_of, packet_of}
+use Rattle.ftc_standing.specs.Stand.{IsSentAs, IsHeldAs, IsWithheldAs, IsLink, HeldItem, ServerContents, IsServer}
+use Rattle.ftc_standing.specs.Stand.{AreItems, AreWithheld, AreForwarded, IsReplicaSlot, IsEmptyReplica, IsEmptySlot}
+use Rattle.ftc_standing.specs.Stand.{replica_of, since_of, origin_of, time_of, packet_of}
 use Rattle.ftc_standing.specs.View.{held_at, queued_on, withheld_at, forwarded_at}
 use Rattle.ftc_standing.proofs.Arriving.{emptied}
 use Rattle.ftc_standing.proofs.Fresh.{nothing_known, nothing_size}
@@ -27,10 +30,11 @@ module _ (c : Setting) (server : ℕ) where
   slot_begins group known (Some replica) is = (is.0, is.1, replica_begins group (vector_of known group) replica is.2)
 
   none_withheld : (packet : ℕ) → withheld_at c (opening c) server packet ≡ None
-  none_withheld packet = elim (server + 1 == servers c) as (λ b. (if b then (opening c).withheld packet else None) ≡ None) [
-    | true ↦ refl
-    | false ↦ refl
-  ]
+  none_withheld packet = elim (server + 1 == servers c) as (λ b. (if b then (opening c).withheld packet else None)
+      ≡ None) [
+        | true ↦ refl
+        | false ↦ refl
+      ]
 
   none_forwarded : (group packet : ℕ) → false ≡ forwarded_at (opening c) server group packet
   none_forwarded group packet = elim (server == 0) as (λ b. false ≡ (if b then no_visits else no_visits) group packet) [
@@ -51,7 +55,8 @@ module _ (c : Setting) (server : ℕ) where
     };
     held = subst (AreItems c (opening c) server) (sym held)
         (emptied since_of (λ (item : HeldItem). origin_of item.message)
-        (λ origin message (item : HeldItem). IsHeldAs c (opening c) server origin message item.visited item.by_ring item.message)
+        (λ origin message (item : HeldItem). IsHeldAs c
+        (opening c) server origin message item.visited item.by_ring item.message)
         (held_at (opening c) server) (λ origin. refl));
     withheld = subst (AreWithheld c (opening c) server) (sym withheld)
         (emptied time_of packet_of (IsWithheldAs c (opening c)) (withheld_at c (opening c) server) none_withheld);
@@ -59,7 +64,8 @@ module _ (c : Setting) (server : ℕ) where
         (record { each = tt; names = none_forwarded });
   }
 
-pub link_begins : (c : Setting) (link : ℕ) → IsLink c (opening c) link (record { from = link; messages = []; gap = false })
+pub link_begins : (c : Setting) (link : ℕ) →
+    IsLink c (opening c) link (record { from = link; messages = []; gap = false })
 link_begins c link = record {
   from = refl;
   gap = refl;

@@ -1,5 +1,7 @@
 -- What the receiver of a pull has then, and what it knows.
-use Rattle.std.proofs.Common.{◌≡◌, ◌≢◌, ◌<◌, ◌==◌, ◌&&◌, ◌++◌, ◌∙◌, ℕ, Bool, true, false, not, List, [], ◌∷◌, length, Option, Some, None, inl, inr, refl, sym, ap, subst, arith, if◌then◌else◌, eq-eqb, eqb-true}
+use Rattle.std.proofs.Common.{◌≡◌, ◌≢◌, ◌<◌, ◌==◌, ◌&&◌, ◌++◌, ◌∙◌, ℕ, Bool, true, false, not, List, [], ◌∷◌, length}
+use Rattle.std.proofs.Common.{Option, Some, None, inl, inr, refl, sym, ap, subst, arith, if◌then◌else◌, eq-eqb}
+use Rattle.std.proofs.Common.{eqb-true}
 use Rattle.std.proofs.lemmas.Bool.{cases_eq, cases_Bool, true≢false, and_parts}
 use Rattle.std.proofs.lemmas.List.{length-set, append_assoc, append-nil}
 use Rattle.std.proofs.lemmas.Option.{same_Some}
@@ -35,7 +37,8 @@ use Rattle.ftc_ties.proofs.Counting.{count_mono}
 use Rattle.ftc_ties.proofs.Learning.{tail_grows}
 use Rattle.ftc_ties.proofs.Replicating.{vector_same}
 use Rattle.ftc_ties.proofs.Serving.{IsSteadyState, others_stay, steady_next, tail_knows, known_had}
-use Rattle.ftc_standing.specs.Stand.{IsReplicaSlot, AreReplicas, ServerContents, IsServer, IsPulled, replica_kept, replica_of}
+use Rattle.ftc_standing.specs.Stand.{IsReplicaSlot, AreReplicas, ServerContents, IsServer, IsPulled, replica_kept}
+use Rattle.ftc_standing.specs.Stand.{replica_of}
 use Rattle.ftc_standing.proofs.Gaining.{few_servers, missing_twice}
 use Rattle.ftc_standing.proofs.Reviving.{kept_at}
 use Rattle.ftc_standing.proofs.Visiting.{missing_both}
@@ -45,7 +48,8 @@ applied_kept : (logs : List Logged) (held : Replicated) (kept : List Logged) →
     applied_all logs (record held { kept = kept }) ≡ record (applied_all logs held) { kept = kept ++ logs }
 applied_kept [] held kept = ap (λ (list : List Logged). record held { kept = list }) (sym (append-nil kept))
 applied_kept (log ∷ logs) held kept = applied_kept logs (applied log held) (kept ++ log ∷ [])
-    ∙ ap (λ (list : List Logged). record (applied_all logs (applied log held)) { kept = list }) (append_assoc kept (log ∷ []) logs)
+    ∙ ap (λ (list : List Logged). record (applied_all logs (applied log held)) { kept = list })
+    (append_assoc kept (log ∷ []) logs)
 
 -- what a greater vector lacks, a smaller one lacks
 missing_after : (less more : List ℕ) →
@@ -58,7 +62,8 @@ missing_after less more up (log ∷ logs) = elim (covers_log more log) as (λ b.
       | true ↦ λ e. missing_after less more up logs
       | false ↦ λ e. elim (cases_Bool (covers_log less log)) [
         | inl has ↦ absurd (true≢false (sym (up log has) ∙ e))
-        | inr hasnt ↦ ap (λ (b : Bool). if not b then log ∷ missing less (missing more logs) else missing less (missing more logs)) hasnt
+        | inr hasnt ↦ ap (λ (b : Bool). if not b then log ∷ missing less (missing more logs)
+            else missing less (missing more logs)) hasnt
             ∙ ap (λ (rest : List Logged). log ∷ rest) (missing_after less more up logs)
       ]
     ] refl
@@ -66,7 +71,8 @@ missing_after less more up (log ∷ logs) = elim (covers_log more log) as (λ b.
 covers_up : (one other : List ℕ) → IsBelow one other → (log : Logged) → covers_log one log ≡ true →
     covers_log other log ≡ true
 covers_up one other less log has = (covered other (need_of log.before log.changed)).1
-    (covered_above one other (need_of log.before log.changed) less ((covered one (need_of log.before log.changed)).0 has))
+    (covered_above one other (need_of log.before log.changed) less
+    ((covered one (need_of log.before log.changed)).0 has))
 
 module _ (c : Setting) (s : ChainState) (h : IsSteadyState c s) where
   -- a set that another has has smaller numbers
@@ -76,7 +82,8 @@ module _ (c : Setting) (s : ChainState) (h : IsSteadyState c s) where
     each = λ i within.
         let first : number_at (vector_in c.partitions s.trace group one) i ≡ count_of c.partitions s.trace group one i =
         get_or-by_partition (count_of c.partitions s.trace group one) i 0 within in
-        let second : number_at (vector_in c.partitions s.trace group other) i ≡ count_of c.partitions s.trace group other i =
+        let second : number_at (vector_in c.partitions s.trace group other) i
+        ≡ count_of c.partitions s.trace group other i =
         get_or-by_partition (count_of c.partitions s.trace group other) i 0 within in
         let less = count_mono c.partitions group i s.trace one other (λ q _ there. inside q there) in
         omega arith;
@@ -201,7 +208,10 @@ module _ (c : Setting) (s : ChainState) (h : IsSteadyState c s) (link : ℕ) (le
           (pruned_by (vector_of from.known group) theirs) mine_at.2 theirs_at tail
 
       at_tail_so : IsReplicaAt c (next c s pulling) receiver group
-          (record pulled { kept = missing pulled.vector (missing (vector_of contents.known group) mine.kept ++ lacking) })
+          (record pulled {
+            kept = missing pulled.vector (missing (vector_of contents.known group) mine.kept
+                ++ lacking);
+          })
       at_tail_so = subst (λ (r : Replicated). IsReplicaAt c (next c s pulling) receiver group (pruned_by r.vector r))
           same_pruned at_tail
 
@@ -209,7 +219,8 @@ module _ (c : Setting) (s : ChainState) (h : IsSteadyState c s) (link : ℕ) (le
       vector_now = at_tail_so.vector
 
       grows : (g q : ℕ) → s.lists receiver g q ≡ true → (next c s pulling).lists receiver g q ≡ true
-      grows g q there = with_at_cases (λ (v : Visits). v g q ≡ true) s.lists receiver (pulled_list c s link receiver) receiver
+      grows g q there = with_at_cases (λ (v : Visits). v g q ≡ true) s.lists receiver
+          (pulled_list c s link receiver) receiver
           (λ _. either (is_shared c g link receiver) refl) (λ ne. there)
         where
           either : (b : Bool) → is_shared c g link receiver ≡ b →
@@ -220,7 +231,8 @@ module _ (c : Setting) (s : ChainState) (h : IsSteadyState c s) (link : ℕ) (le
       known_now : AreCommits c (next c s pulling) (knows c (next c s pulling) receiver) raised
       known_now = subst (λ v. AreCommits c (next c s pulling) (knows c (next c s pulling) receiver)
           (group_raised contents.known group v)) (sym vector_now)
-          (tail_grows c s h pulling legal receiver group inside mine_at.0 tail legal.0.1 (λ g q. refl) grows contents.known
+          (tail_grows c s h pulling legal receiver group inside mine_at.0 tail legal.0.1
+          (λ g q. refl) grows contents.known
           is.replicas.size is.replicas.known)
 
       within : group < length contents.known
@@ -237,14 +249,17 @@ module _ (c : Setting) (s : ChainState) (h : IsSteadyState c s) (link : ℕ) (le
       own_vector = known_now group few
           ∙ (vector_same c.partitions group s.trace (knows c (next c s pulling) receiver group)
           ((next c s pulling).lists receiver group)
-          (λ q. tail_knows c (next c s pulling) (steady_next c s h pulling legal) receiver group q legal.0.1 mine_at.0 tail)
+          (λ q. tail_knows c (next c s pulling)
+          (steady_next c s h pulling legal) receiver group q legal.0.1 mine_at.0 tail)
           ∙ sym vector_now)
 
       pub pulled_at_tail : IsReplicaAt c (next c s pulling) receiver group (pruned_by (vector_of raised group) pulled)
-      pulled_at_tail = subst (λ (kept : List Logged). IsReplicaAt c (next c s pulling) receiver group (record pulled { kept = kept }))
+      pulled_at_tail = subst (λ (kept : List Logged). IsReplicaAt c (next c s pulling) receiver group
+          (record pulled { kept = kept }))
           (ap (λ v. missing v (missing (vector_of contents.known group) mine.kept ++ lacking)) (sym own_vector)
           ∙ (ap (missing (vector_of raised group)) (sym pruned_is)
-          ∙ missing_twice (vector_of contents.known group) (vector_of raised group) raised_covers pulled.kept)) at_tail_so
+          ∙ missing_twice (vector_of contents.known group)
+          (vector_of raised group) raised_covers pulled.kept)) at_tail_so
 
   -- a group that they don't share, or what nothing came of
   stays_at : (group : ℕ) (more : List (List ℕ)) → vector_of more group ≡ vector_of contents.known group →
@@ -266,7 +281,8 @@ module _ (c : Setting) (s : ChainState) (h : IsSteadyState c s) (link : ℕ) (le
   module _ (later : List (Option Replicated)) (tail : ℕ) (tail_inside : tail < servers c)
       (tail_is : is_tail c tail receiver ≡ true) (tail_shared : is_shared c tail link receiver ≡ true)
       (pulls : IsPulled c link contents from later) (mine theirs : Replicated)
-      (mine_is : replica_of contents.later tail ≡ Some mine) (theirs_is : replica_kept link from tail ≡ Some theirs) where
+      (mine_is : replica_of contents.later tail ≡ Some mine) (theirs_is : replica_kept link from tail
+      ≡ Some theirs) where
     abbrev pub known_after : List (List ℕ)
     known_after = group_raised contents.known tail (applied_all (missing mine.vector theirs.kept) mine).vector
 
@@ -286,13 +302,17 @@ module _ (c : Setting) (s : ChainState) (h : IsSteadyState c s) (link : ℕ) (le
           slot.1,
           elim (cases_eq group tail) [
             | inl same ↦
-                let mine_same : got.0 ≡ mine = same_Some got.0 mine (sym got.2 ∙ (ap (replica_of contents.later) same ∙ mine_is)) in
-                let theirs_same : got.1 ≡ theirs = same_Some got.1 theirs (sym got.3 ∙ (ap (replica_kept link from) same ∙ theirs_is)) in
+                let mine_same : got.0 ≡ mine =
+                same_Some got.0 mine (sym got.2 ∙ (ap (replica_of contents.later) same ∙ mine_is)) in
+                let theirs_same : got.1 ≡ theirs =
+                same_Some got.1 theirs (sym got.3 ∙ (ap (replica_kept link from) same ∙ theirs_is)) in
                 subst (λ g. IsReplicaAt c (next c s pulling) receiver g (pruned_by (vector_of known_after g)
                 (applied_all (missing got.0.vector got.1.kept) got.0))) (sym same)
-                (subst (λ (r : Replicated). IsReplicaAt c (next c s pulling) receiver tail (pruned_by (vector_of known_after tail)
+                (subst (λ (r : Replicated). IsReplicaAt c (next c s pulling) receiver tail
+                (pruned_by (vector_of known_after tail)
                 (applied_all (missing r.vector got.1.kept) r))) (sym mine_same)
-                (subst (λ (r : Replicated). IsReplicaAt c (next c s pulling) receiver tail (pruned_by (vector_of known_after tail)
+                (subst (λ (r : Replicated). IsReplicaAt c (next c s pulling) receiver tail
+                (pruned_by (vector_of known_after tail)
                 (applied_all (missing mine.vector r.kept) mine))) (sym theirs_same)
                 (pulled_at_tail tail tail_inside tail_shared mine theirs mine_is theirs_is tail_is)))
             | inr differs ↦
@@ -317,7 +337,8 @@ module _ (c : Setting) (s : ChainState) (h : IsSteadyState c s) (link : ℕ) (le
       own = subst (λ v. IsReplicaAt c (next c s pulling) receiver receiver (pruned_by v contents.head))
           (sym (vector_of-other contents.known tail receiver (applied_all (missing mine.vector theirs.kept) mine).vector
           (λ e. true≢false (sym (subst (λ g. is_shared c g link receiver ≡ true) (sym e) tail_shared) ∙ own_apart))))
-          (others_stay c s h receiver receiver (pruned_by (vector_of contents.known receiver) contents.head) is.replicas.own
+          (others_stay c s h receiver receiver
+          (pruned_by (vector_of contents.known receiver) contents.head) is.replicas.own
           pulling legal (λ both. true≢false (sym both.1 ∙ own_apart)));
       others = λ group inside. slot_after group inside (is_shared c group link receiver) refl;
       size = length-set contents.known tail

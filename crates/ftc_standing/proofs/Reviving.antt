@@ -1,5 +1,6 @@
 -- A new server in the place of one that is down.
-use Rattle.std.proofs.Common.{◌≡◌, ◌<◌, ◌+◌, ◌-◌, ◌==◌, ◌∙◌, ℕ, Bool, true, false, List, [], length, Option, Some, None, inl, inr, refl, sym, ap, subst, arith, nat_le, if◌then◌else◌, eqb-true, eq-eqb, le-leb}
+use Rattle.std.proofs.Common.{◌≡◌, ◌<◌, ◌+◌, ◌-◌, ◌==◌, ◌∙◌, ℕ, Bool, true, false, List, [], length, Option, Some, None}
+use Rattle.std.proofs.Common.{inl, inr, refl, sym, ap, subst, arith, nat_le, if◌then◌else◌, eqb-true, eq-eqb, le-leb}
 use Rattle.std.proofs.lemmas.Bool.{true≢false, cases_eq, ne_eqb}
 use Rattle.std.proofs.lemmas.List.{length-set}
 use Rattle.std.proofs.lemmas.Option.{same_Some}
@@ -34,7 +35,9 @@ use Rattle.ftc_ties.specs.Servers.{IsReplicaAt, AreCommits}
 use Rattle.ftc_ties.proofs.Committing.{recover_leaves}
 use Rattle.ftc_ties.proofs.Learning.{recover_learns}
 use Rattle.ftc_ties.proofs.Serving.{IsSteadyState}
-use Rattle.ftc_standing.specs.Stand.{IsReplicaSlot, AreReplicas, IsHeldAs, HeldItem, AreItems, AreWithheld, AreForwarded, IsWithheldAs, ServerContents, IsServer, IsRevived, replica_kept, got_by, replica_of, since_of, origin_of, time_of, packet_of}
+use Rattle.ftc_standing.specs.Stand.{IsReplicaSlot, AreReplicas, IsHeldAs, HeldItem, AreItems, AreWithheld}
+use Rattle.ftc_standing.specs.Stand.{AreForwarded, IsWithheldAs, ServerContents, IsServer, IsRevived, replica_kept}
+use Rattle.ftc_standing.specs.Stand.{got_by, replica_of, since_of, origin_of, time_of, packet_of}
 use Rattle.ftc_standing.specs.View.{is_held_by, where_it, held_at, withheld_at}
 use Rattle.ftc_standing.proofs.Arriving.{emptied}
 use Rattle.ftc_standing.proofs.Gaining.{few_servers, missing_twice, size_merged}
@@ -73,12 +76,14 @@ module _ (c : Setting) (s : ChainState) (h : IsSteadyState c s) (k : ℕ) (undon
 
   pub held_none : AreItems c (next c s recovering) k []
   held_none = emptied since_of (λ (item : HeldItem). origin_of item.message)
-      (λ origin message (item : HeldItem). IsHeldAs c (next c s recovering) k origin message item.visited item.by_ring item.message)
+      (λ origin message (item : HeldItem). IsHeldAs c
+      (next c s recovering) k origin message item.visited item.by_ring item.message)
       (held_at (next c s recovering) k)
       (λ origin. none_held (s.message origin) (λ m there. h.tied.order.awake origin m there))
 
   pub withheld_none : AreWithheld c (next c s recovering) k []
-  withheld_none = emptied time_of packet_of (IsWithheldAs c (next c s recovering)) (withheld_at c (next c s recovering) k)
+  withheld_none = emptied time_of packet_of (IsWithheldAs c (next c s recovering))
+      (withheld_at c (next c s recovering) k)
       (λ packet. elim (k + 1 == servers c) as (λ b. k + 1 == servers c ≡ b →
       (if b then s.withheld packet else None) ≡ None) [
         | true ↦ λ e. is_none (s.withheld packet) (λ withheld there.
@@ -94,7 +99,8 @@ module _ (c : Setting) (s : ChainState) (h : IsSteadyState c s) (k : ℕ) (undon
     names = λ group packet. elim (k == 0) as (λ b. k == 0 ≡ b →
         false ≡ (if b then s.forwarder else no_visits) group packet) [
           | true ↦ λ e. none (s.forwarder group packet) (λ there.
-              true≢false (sym (h.tied.order.forwarded group packet there).0 ∙ (ap s.up (sym (eqb-true k 0 e)) ∙ is_down)))
+              true≢false (sym (h.tied.order.forwarded group packet there).0 ∙
+              (ap s.up (sym (eqb-true k 0 e)) ∙ is_down)))
           | false ↦ λ e. refl
         ] refl;
   }
@@ -108,7 +114,8 @@ module _ (c : Setting) (s : ChainState) (h : IsSteadyState c s) (k : ℕ) (undon
   module _ (first second : List (List ℕ)) (first_is : AreCommits c s (knows c s before) first)
       (second_is : AreCommits c s (knows c s behind) second) (tail : ℕ) (tail_inside : tail < servers c)
       (tail_is : is_tail c tail k ≡ true) (tail_vector : List ℕ)
-      (tail_vector_is : tail_vector ≡ vector_in c.partitions (next c s recovering).trace tail ((next c s recovering).lists k tail)) where
+      (tail_vector_is : tail_vector
+      ≡ vector_in c.partitions (next c s recovering).trace tail ((next c s recovering).lists k tail)) where
     abbrev pub told : List (List ℕ)
     told = group_raised (all_merged first second) tail tail_vector
 
@@ -122,7 +129,8 @@ module _ (c : Setting) (s : ChainState) (h : IsSteadyState c s) (k : ℕ) (undon
 
     above : (group : ℕ) → group < servers c → (log : Logged) →
         covers_log (vector_of (source_known group) group) log ≡ true → covers_log (vector_of told group) log ≡ true
-    above group below log covers = raised_covers (merged_covers (nat_le (apart (servers c) before k) (apart (servers c) group k)) covers)
+    above group below log covers =
+        raised_covers (merged_covers (nat_le (apart (servers c) before k) (apart (servers c) group k)) covers)
       where
         few : group < MOST_SERVERS
         few = few_servers c s h group below
@@ -130,14 +138,17 @@ module _ (c : Setting) (s : ChainState) (h : IsSteadyState c s) (k : ℕ) (undon
         by_cover : (one other : List ℕ) → IsBelow one other → covers_log one log ≡ true →
             covers_log other log ≡ true
         by_cover one other less has = (covered other (need_of log.before log.changed)).1
-            (covered_above one other (need_of log.before log.changed) less ((covered one (need_of log.before log.changed)).0 has))
+            (covered_above one other (need_of log.before log.changed) less
+            ((covered one (need_of log.before log.changed)).0 has))
 
         merged_covers : (b : Bool) → covers_log (vector_of (if b then first else second) group) log ≡ true →
             covers_log (vector_of (all_merged first second) group) log ≡ true
-        merged_covers true has = subst (λ v. covers_log v log ≡ true) (sym (vector_of-all_merged first second group few))
+        merged_covers true has = subst (λ v. covers_log v log
+            ≡ true) (sym (vector_of-all_merged first second group few))
             (by_cover (vector_of first group) (merged (vector_of first group) (vector_of second group))
             (above_first (vector_of first group) (vector_of second group)) has)
-        merged_covers false has = subst (λ v. covers_log v log ≡ true) (sym (vector_of-all_merged first second group few))
+        merged_covers false has = subst (λ v. covers_log v log
+            ≡ true) (sym (vector_of-all_merged first second group few))
             (by_cover (vector_of second group) (merged (vector_of first group) (vector_of second group))
             (above_second (vector_of first group) (vector_of second group)) has)
 
@@ -148,7 +159,8 @@ module _ (c : Setting) (s : ChainState) (h : IsSteadyState c s) (k : ℕ) (undon
               covers_log (vector_of told g) log ≡ true) (sym same)
               (λ at. subst (λ v. covers_log v log ≡ true)
               (sym (vector_of-raised (all_merged first second) tail tail_vector within))
-              (by_cover (vector_of (all_merged first second) tail) (merged (vector_of (all_merged first second) tail) tail_vector)
+              (by_cover (vector_of (all_merged first second) tail)
+              (merged (vector_of (all_merged first second) tail) tail_vector)
               (above_first (vector_of (all_merged first second) tail) tail_vector) at)) has
           | inr differs ↦ subst (λ v. covers_log v log ≡ true)
               (sym (vector_of-other (all_merged first second) tail group tail_vector differs)) has
@@ -168,11 +180,13 @@ module _ (c : Setting) (s : ChainState) (h : IsSteadyState c s) (k : ℕ) (undon
         (subst (λ v. IsReplicaAt c (next c s recovering) k group
         (pruned_by v (pruned_by (vector_of (source_known group) group) replica)))
         (sym (told_is group (few_servers c s h group below)))
-        (recover_leaves c s h k undone legal group member (pruned_by (vector_of (source_known group) group) replica) is))
+        (recover_leaves c s h k undone legal group member
+        (pruned_by (vector_of (source_known group) group) replica) is))
 
     pub replicas_got : (head : Replicated) (later : List (Option Replicated)) →
         IsReplicaAt c (next c s recovering) k k (pruned_by (vector_of told k) head) →
-        ((group : ℕ) → group < servers c → IsReplicaSlot c (next c s recovering) k told group (replica_of later group)) →
+        ((group : ℕ) → group < servers c →
+        IsReplicaSlot c (next c s recovering) k told group (replica_of later group)) →
         AreReplicas c (next c s recovering) k head later told
     replicas_got head later own others = record {
       own = own;
@@ -194,12 +208,14 @@ pub kept_at : (c : Setting) (s : ChainState) (server : ℕ) (contents : ServerCo
 kept_at c s server contents is group below replica there = elim (cases_eq group server) [
   | inl same ↦
       let own : contents.head ≡ replica = same_Some contents.head replica
-      (sym (ap (λ (b : Bool). if b then Some contents.head else replica_of contents.later group) (eq-eqb group server same)) ∙ there) in
+      (sym (ap (λ (b : Bool). if b then Some contents.head
+      else replica_of contents.later group) (eq-eqb group server same)) ∙ there) in
       subst (λ g. IsReplicaAt c s server g (pruned_by (vector_of contents.known g) replica)) (sym same)
       (subst (λ (r : Replicated). IsReplicaAt c s server server (pruned_by (vector_of contents.known server) r)) own
       is.replicas.own)
   | inr differs ↦ (subst (IsReplicaSlot c s server contents.known group)
-      (sym (ap (λ (b : Bool). if b then Some contents.head else replica_of contents.later group) (ne_eqb group server differs))
+      (sym (ap (λ (b : Bool). if b then Some contents.head
+      else replica_of contents.later group) (ne_eqb group server differs))
       ∙ there) (is.replicas.others group below)).2
 ]
 
@@ -224,24 +240,28 @@ module _ (c : Setting) (s : ChainState) (h : IsSteadyState c s) (k : ℕ) (undon
 
   tail_member : is_member c revived.tail k ≡ true
   tail_member = le-leb (apart (servers c) revived.tail k) c.failures
-      (let at : apart (servers c) revived.tail k ≡ c.failures = eqb-true (apart (servers c) revived.tail k) c.failures revived.tail_is in
+      (let at : apart (servers c) revived.tail k
+      ≡ c.failures = eqb-true (apart (servers c) revived.tail k) c.failures revived.tail_is in
       omega arith)
 
   vector_is : revived.tail_replica.vector
-      ≡ vector_in c.partitions (next c s (Recover k undone)).trace revived.tail ((next c s (Recover k undone)).lists k revived.tail)
+      ≡ vector_in c.partitions (next c s (Recover k undone)).trace revived.tail
+      ((next c s (Recover k undone)).lists k revived.tail)
   vector_is = (recover_leaves c s h k undone legal revived.tail tail_member _
       (got_at revived.tail revived.tail_inside revived.tail_replica revived.tail_got)).vector
 
   got_now : (group : ℕ) → group < servers c → is_member c group k ≡ true → (replica : Replicated) →
       got_by c s k first second group ≡ Some replica → IsReplicaAt c (next c s (Recover k undone)) k group
       (pruned_by (vector_of (told c s h k undone legal first.known second.known first_is.replicas.known
-      second_is.replicas.known revived.tail revived.tail_inside revived.tail_is revived.tail_replica.vector vector_is) group) replica)
+      second_is.replicas.known revived.tail revived.tail_inside revived.tail_is revived.tail_replica.vector vector_is)
+      group) replica)
   got_now group below member replica there = replica_got c s h k undone legal first.known second.known
       first_is.replicas.known second_is.replicas.known revived.tail revived.tail_inside revived.tail_is
       revived.tail_replica.vector vector_is group below member replica (got_at group below replica there)
 
   slot_now : (group : ℕ) → group < servers c → IsReplicaSlot c (next c s (Recover k undone)) k
-      (group_raised (all_merged first.known second.known) revived.tail revived.tail_replica.vector) group (replica_of new.later group)
+      (group_raised (all_merged first.known second.known) revived.tail revived.tail_replica.vector) group
+      (replica_of new.later group)
   slot_now group below = elim (revived.later group below) [
     | inl none ↦ subst (IsReplicaSlot c (next c s (Recover k undone)) k
         (group_raised (all_merged first.known second.known) revived.tail revived.tail_replica.vector) group)
@@ -256,9 +276,12 @@ module _ (c : Setting) (s : ChainState) (h : IsSteadyState c s) (k : ℕ) (undon
     replicas = subst (AreReplicas c (next c s (Recover k undone)) k new.head new.later) (sym revived.known)
         (replicas_got c s h k undone legal first.known second.known first_is.replicas.known second_is.replicas.known
         revived.tail revived.tail_inside revived.tail_is revived.tail_replica.vector vector_is new.head new.later
-        (got_now k (is_inside c s h k undone legal) (own_group c k (is_inside c s h k undone legal)) new.head revived.head)
+        (got_now k (is_inside c s h k undone legal)
+        (own_group c k (is_inside c s h k undone legal)) new.head revived.head)
         slot_now);
     held = subst (AreItems c (next c s (Recover k undone)) k) (sym revived.held) (held_none c s h k undone legal);
-    withheld = subst (AreWithheld c (next c s (Recover k undone)) k) (sym revived.withheld) (withheld_none c s h k undone legal);
-    forwarded = subst (AreForwarded c (next c s (Recover k undone)) k) (sym revived.forwarded) (forwarded_none c s h k undone legal);
+    withheld = subst (AreWithheld c (next c s (Recover k undone)) k) (sym revived.withheld)
+        (withheld_none c s h k undone legal);
+    forwarded = subst (AreForwarded c (next c s (Recover k undone)) k) (sym revived.forwarded)
+        (forwarded_none c s h k undone legal);
   }

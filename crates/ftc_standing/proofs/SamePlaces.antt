@@ -1,9 +1,11 @@
 -- What an event leaves as it was at the servers and on the links in which it has no part.
-use Rattle.std.proofs.Common.{◌≡◌, ◌≢◌, ◌+◌, ◌==◌, ◌||◌, ◌&&◌, ◌∙◌, ℕ, Bool, true, false, not, List, length, Option, Some, None, refl, sym, ap, arith, if◌then◌else◌, eq-eqb, eqb-true, inl, inr}
+use Rattle.std.proofs.Common.{◌≡◌, ◌≢◌, ◌+◌, ◌==◌, ◌||◌, ◌&&◌, ◌∙◌, ℕ, Bool, true, false, not, List, length, Option}
+use Rattle.std.proofs.Common.{Some, None, refl, sym, ap, arith, if◌then◌else◌, eq-eqb, eqb-true, inl, inr}
 use Rattle.std.specs.List.{list_any}
 use Rattle.std.proofs.lemmas.Bool.{ne_eqb, true≢false}
 use Rattle.ftc_journal.specs.declared.event.Event.{Event}
-use Rattle.ftc_journal.specs.declared.event.Event.TheVariants.{Apply, Carry, Crash, Enter, Lose, Pass, Propagate, Pull, Recover, Release, Take, Visit}
+use Rattle.ftc_journal.specs.declared.event.Event.TheVariants.{Apply, Carry, Crash, Enter, Lose, Pass, Propagate, Pull}
+use Rattle.ftc_journal.specs.declared.event.Event.TheVariants.{Recover, Release, Take, Visit}
 use Rattle.ftc_ring.specs.Ring.{next_of}
 use Rattle.ftc_serial.specs.Words.{with_at}
 use Rattle.ftc_serial.proofs.Functions.{with_at_cases}
@@ -13,12 +15,14 @@ use Rattle.ftc_protocol.specs.State.{Where, Held, Queued, Message, Withheld, Cha
 use Rattle.ftc_protocol.specs.Trace.{has_each}
 use Rattle.ftc_protocol.specs.Recovery.{following_live, is_dropped, is_dropped_at, gaps_at}
 use Rattle.ftc_protocol.specs.Legal.{IsLegal, is_sent}
-use Rattle.ftc_protocol.specs.Next.{next, fresh_message, taken_message, visited_message, visited_at, sent_message, drop_if, is_at, is_away, withheld_of, outcome_at, is_news}
+use Rattle.ftc_protocol.specs.Next.{next, fresh_message, taken_message, visited_message, visited_at, sent_message}
+use Rattle.ftc_protocol.specs.Next.{drop_if, is_at, is_away, withheld_of, outcome_at, is_news}
 use Rattle.ftc_ties.specs.Servers.{IsElsewhere}
 use Rattle.ftc_ties.proofs.Serving.{IsSteadyState}
 use Rattle.ftc_journal.specs.declared.event.VisitName.{VisitName}
 use Rattle.ftc_standing.proofs.Arriving.{without_it}
-use Rattle.ftc_standing.specs.View.{is_held_by, is_queued_on, where_it, held_at, queued_on, withheld_at, forwarded_at, IsBesideServer, IsBesideLink, IsAsBefore, IsLinkAsBefore}
+use Rattle.ftc_standing.specs.View.{is_held_by, is_queued_on, where_it, held_at, queued_on, withheld_at, forwarded_at}
+use Rattle.ftc_standing.specs.View.{IsBesideServer, IsBesideLink, IsAsBefore, IsLinkAsBefore}
 
 pub is_none : {A : Type 0} (o : Option A) → ((x : A) → o ≡ Some x → ⊥) → o ≡ None
 is_none None never = refl
@@ -35,7 +39,8 @@ not_there test message origin o was is other =
 -- where one comes there, or goes
 pub comes_there : (test : Where → Bool) (message : ℕ → Option Message) (origin : ℕ) (o v : Option Message) →
     where_it test o ≡ v → (other : ℕ) →
-    where_it test (with_at message origin o other) ≡ with_at (λ (other : ℕ). where_it test (message other)) origin v other
+    where_it test (with_at message origin o other)
+    ≡ with_at (λ (other : ℕ). where_it test (message other)) origin v other
 comes_there test message origin o v is other =
     elim (other == origin) as (λ b. where_it test (if b then o else message other)
     ≡ (if b then v else where_it test (message other))) [
@@ -49,7 +54,8 @@ pub at_place : (test : Where → Bool) (o : Option Message) (message : Message) 
     where_it test o ≡ (if b then Some message else None)
 at_place test o message place b there at is =
     ap (where_it test) there
-    ∙ (ap (λ (w : Where). if test w then Some message else None) at ∙ ap (λ (x : Bool). if x then Some message else None) is)
+    ∙ (ap (λ (w : Where). if test w then Some message else None) at ∙ ap (λ (x : Bool). if x then Some message
+    else None) is)
 
 -- where a test of what goes away says nothing of the place, it makes no difference there
 pub drops_none : (test : Where → Bool) (gone : Message → Bool) (o : Option Message) →
@@ -159,7 +165,8 @@ module _ (c : Setting) (s : ChainState) (h : IsSteadyState c s) where
       ]
 
   held_by_other : (server k p : ℕ) (message : Message) (visited by_ring : Bool) → server ≢ k →
-      s.message p ≡ Some message → message.place ≡ Held k visited by_ring → where_it (is_held_by server) (s.message p) ≡ None
+      s.message p ≡ Some message → message.place ≡ Held k visited by_ring →
+      where_it (is_held_by server) (s.message p) ≡ None
   held_by_other server k p message visited by_ring differs there place =
       at_place (is_held_by server) (s.message p) message (Held k visited by_ring) false there place
       (ne_eqb k server (λ e. differs (sym e)))
@@ -168,7 +175,8 @@ module _ (c : Setting) (s : ChainState) (h : IsSteadyState c s) where
       message.place ≡ Held k false by_ring →
       where_it (is_held_by server) (visited_message c k p (outcome_at c s k p) (Some message)) ≡ None
   visited_elsewhere server k p message by_ring differs place =
-      ap (λ (w : Where). if is_held_by server (visited_at w) then visited_message c k p (outcome_at c s k p) (Some message)
+      ap (λ (w : Where). if is_held_by server (visited_at w) then
+      visited_message c k p (outcome_at c s k p) (Some message)
       else None) place
       ∙ ap (λ (b : Bool). if b then visited_message c k p (outcome_at c s k p) (Some message) else None)
       (ne_eqb k server (λ e. differs (sym e)))
@@ -238,7 +246,8 @@ module _ (c : Setting) (s : ChainState) (h : IsSteadyState c s) where
             with_at_cases (λ v. v ≡ s.withheld packet) s.withheld p
             (if k + 1 == servers c then o else s.withheld p) packet
             (λ same. ap (λ (b : Bool). if b then o else s.withheld p)
-            (ne_eqb (k + 1) (servers c) (λ f. differs (omega (arith, f, last)))) ∙ ap s.withheld (sym same)) (λ ne. refl)
+            (ne_eqb (k + 1) (servers c) (λ f. differs (omega (arith, f, last)))) ∙ ap s.withheld (sym same))
+            (λ ne. refl)
         | false ↦ λ e. refl
       ] refl
 
@@ -327,7 +336,8 @@ module _ (c : Setting) (s : ChainState) (h : IsSteadyState c s) where
   visited_unqueued : (link k p : ℕ) (message : Message) (by_ring : Bool) → message.place ≡ Held k false by_ring →
       where_it (is_queued_on link) (visited_message c k p (outcome_at c s k p) (Some message)) ≡ None
   visited_unqueued link k p message by_ring place =
-      ap (λ (w : Where). if is_queued_on link (visited_at w) then visited_message c k p (outcome_at c s k p) (Some message)
+      ap (λ (w : Where). if is_queued_on link (visited_at w) then
+      visited_message c k p (outcome_at c s k p) (Some message)
       else None) place
 
   sent_unqueued : (k link : ℕ) → link ≢ k → (o : Option Message) →
@@ -463,7 +473,8 @@ recovery_empties c s k undone link ends origin = gone (s.message origin)
           | true ↦ λ e. refl
           | false ↦ λ e. elim (is_queued_on link message.place) as (λ b. is_queued_on link message.place ≡ b →
               (if b then Some message else None) ≡ None) [
-                | true ↦ λ queued. absurd (true≢false (sym (eq-eqb (next_of (servers c) link) (following_live c s k) ends)
+                | true ↦ λ queued. absurd
+                    (true≢false (sym (eq-eqb (next_of (servers c) link) (following_live c s k) ends)
                     ∙ (sym (ap (is_dropped_at c s (following_live c s k) message.logs)
                     (link_is link message.place queued)) ∙ e)))
                 | false ↦ λ _. refl
@@ -502,7 +513,8 @@ recovery_drops c s k undone origin = left (s.message origin)
               let dropped : is_dropped c s (following_live c s k) message
               ≡ not (has_each c.partitions s.trace (s.lists (following_live c s k)) message.logs) =
               ap (is_dropped_at c s (following_live c s k) message.logs) at.2
-              ∙ ap (λ (b : Bool). b && not (has_each c.partitions s.trace (s.lists (following_live c s k)) message.logs))
+              ∙ ap (λ (b : Bool). b && not
+              (has_each c.partitions s.trace (s.lists (following_live c s k)) message.logs))
               (eq-eqb (following_live c s k) (following_live c s k) refl) in
               ap (λ (b : Bool). where_it (is_held_by (following_live c s k)) (if b then None else Some message)) dropped
               ∙ kept_where (not (has_each c.partitions s.trace (s.lists (following_live c s k)) message.logs)) held

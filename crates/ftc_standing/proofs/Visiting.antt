@@ -1,5 +1,7 @@
 -- What a server's replicas, what it knows and the visited message become by a visit there.
-use Rattle.std.proofs.Common.{◌≡◌, ◌≢◌, ◌<◌, ◌==◌, ◌||◌, ◌&&◌, ◌++◌, ◌∙◌, ℕ, Bool, true, false, not, nat_lt, zero, suc, List, [], ◌∷◌, length, Option, Some, None, inl, inr, refl, sym, ap, subst, arith, if◌then◌else◌, eq-eqb, eqb-true, lt-ltb}
+use Rattle.std.proofs.Common.{◌≡◌, ◌≢◌, ◌<◌, ◌==◌, ◌||◌, ◌&&◌, ◌++◌, ◌∙◌, ℕ, Bool, true, false, not, nat_lt, zero, suc}
+use Rattle.std.proofs.Common.{List, [], ◌∷◌, length, Option, Some, None, inl, inr, refl, sym, ap, subst, arith}
+use Rattle.std.proofs.Common.{if◌then◌else◌, eq-eqb, eqb-true, lt-ltb}
 use Rattle.std.specs.Option.{is_some}
 use Rattle.std.proofs.lemmas.Bool.{cases_eq, ne_eqb, true≢false, or_left}
 use Rattle.std.proofs.lemmas.List.{length-set}
@@ -47,7 +49,8 @@ use Rattle.ftc_ties.proofs.Replicating.{vector_same}
 use Rattle.ftc_ties.proofs.Serving.{IsSteadyState, others_stay, steady_next, tail_knows, or_none}
 use Rattle.ftc_standing.specs.Stand.{IsReplicaSlot, AreReplicas, IsSentAs, replica_of, logs_with, need_by, needs_with}
 use Rattle.ftc_standing.proofs.Gaining.{missing_twice, missing_last, few_servers}
-use Rattle.ftc_standing.proofs.Lasting.{IsFirmState, tied_after, needing_after, touching_some, changing_some, needs_stay}
+use Rattle.ftc_standing.proofs.Lasting.{IsFirmState, tied_after, needing_after, touching_some, changing_some}
+use Rattle.ftc_standing.proofs.Lasting.{needs_stay}
 use Rattle.ftc_standing.proofs.Leaving.{any_with_item}
 
 pub missing_both : (vector : List ℕ) (logs others : List Logged) →
@@ -113,7 +116,8 @@ module _ (c : Setting) (s : ChainState) (h : IsSteadyState c s) (k p w : ℕ) (l
     own = visit_stays c s h k p w legal (pruned_by (vector_of known k) own) up member are.own unchanging;
     others = λ group below. other_stays known group (λ _. refl) (replica_of others group) (are.others group below);
     size = are.size;
-    known = knows_stay c s h visiting legal k known (λ g q. ap (λ (b : Bool). s.known k g q || (is_tail c g k && b)) (same g q))
+    known = knows_stay c s h visiting legal k known (λ g q. ap (λ (b : Bool). s.known k g q
+        || (is_tail c g k && b)) (same g q))
         are.known;
   }
     where
@@ -153,16 +157,19 @@ module _ (c : Setting) (s : ChainState) (h : IsSteadyState c s) (k p w : ℕ) (l
           })).0 ((covered (vector_of known k) (need_of log.before log.changed)).0 covers) in
           let knows_it : (s.known k k p || (is_tail c k k && (next c s visiting).lists k k p)) ≡ true =
           told.changing (inl (refl, refl, changes)) in
-          let before : s.known k k p ≡ true = sym (or_none (s.known k k p) (is_tail c k k && (next c s visiting).lists k k p)
+          let before : s.known k k p ≡ true =
+          sym (or_none (s.known k k p) (is_tail c k k && (next c s visiting).lists k k p)
           (ap (λ (b : Bool). b && (next c s visiting).lists k k p) isnt)) ∙ knows_it in
           let stood = (h.tied.fronts.known k).there k p before in
-          new.tied.trace.0 (stands_map (λ o. is_changing c.partitions o ≡ true) (λ o. Unit {0}) (λ o u. tt) s.trace k p stood))
+          new.tied.trace.0 (stands_map (λ o. is_changing c.partitions o ≡ true) (λ o. Unit {0})
+          (λ o u. tt) s.trace k p stood))
 
       pub replicas_committed : AreReplicas c (next c s visiting) k after others known
       replicas_committed = record {
         own = subst (λ (kept : List Logged). IsReplicaAt c (next c s visiting) k k (record after { kept = kept }))
             (sym (missing_last (vector_of known k) log uncovered own.kept))
-            (visit_leaves c s h k p w legal (pruned_by (vector_of known k) own) up member are.own changes log made isnt);
+            (visit_leaves c s h k p w legal
+            (pruned_by (vector_of known k) own) up member are.own changes log made isnt);
         others = λ group below. other_stays known group (λ _. refl) (replica_of others group) (are.others group below);
         size = are.size;
         known = known_after;
@@ -175,10 +182,12 @@ module _ (c : Setting) (s : ChainState) (h : IsSteadyState c s) (k p w : ℕ) (l
 
       at_tail : IsReplicaAt c (next c s visiting) k k
           (pruned_by after.vector (committed c.partitions outcome log (pruned_by (vector_of known k) own)))
-      at_tail = visit_at_tail c s h k p w legal (pruned_by (vector_of known k) own) up member are.own changes log made tail
+      at_tail = visit_at_tail c s h k p w legal
+          (pruned_by (vector_of known k) own) up member are.own changes log made tail
 
       known_raised : AreCommits c (next c s visiting) (knows c (next c s visiting) k) raised
-      known_raised = subst (λ v. AreCommits c (next c s visiting) (knows c (next c s visiting) k) (group_raised known k v))
+      known_raised = subst (λ v. AreCommits c (next c s visiting) (knows c (next c s visiting) k)
+          (group_raised known k v))
           (sym at_tail.vector)
           (tail_grows c s h visiting legal k k inside member tail up (λ g q. refl)
           (λ g q there. kept s.lists k k p (is_changing c.partitions outcome) k g q there) known are.size are.known)
@@ -186,10 +195,12 @@ module _ (c : Setting) (s : ChainState) (h : IsSteadyState c s) (k p w : ℕ) (l
       within : k < length known
       within = let few = few_servers c s h k inside in let size = are.size in omega arith
 
-      more : (other : Logged) → covers_log (vector_of known k) other ≡ true → covers_log (vector_of raised k) other ≡ true
+      more : (other : Logged) → covers_log (vector_of known k) other ≡ true →
+          covers_log (vector_of raised k) other ≡ true
       more other covers = subst (λ v. covers_log v other ≡ true) (sym (vector_of-raised known k after.vector within))
           ((covered (merged (vector_of known k) after.vector) (need_of other.before other.changed)).1
-          (covered_above (vector_of known k) (merged (vector_of known k) after.vector) (need_of other.before other.changed)
+          (covered_above (vector_of known k) (merged (vector_of known k) after.vector)
+          (need_of other.before other.changed)
           (above_first (vector_of known k) after.vector)
           ((covered (vector_of known k) (need_of other.before other.changed)).0 covers)))
 
@@ -209,7 +220,8 @@ module _ (c : Setting) (s : ChainState) (h : IsSteadyState c s) (k p w : ℕ) (l
             (missing_twice (vector_of known k) (vector_of raised k) more own.kept)
             ∙ sym (missing_both (vector_of raised k) own.kept (log ∷ []))))) at_tail;
         others = λ group below. other_stays raised group
-            (λ differs. vector_of-other known k group after.vector differs) (replica_of others group) (are.others group below);
+            (λ differs. vector_of-other known k group after.vector differs) (replica_of others group)
+            (are.others group below);
         size = length-set known k (merged (vector_of known k) after.vector) ∙ are.size;
         known = known_raised;
       }
@@ -249,7 +261,8 @@ module _ (c : Setting) (s : ChainState) (f : IsFirmState c s) (k p w : ℕ) (leg
     logs_before = logs_stay c s f.steady visiting_it legal message.logs before.logs
         (λ group packet carried. touching_some (next c s visiting_it).trace group packet
         ((tied_after c s f visiting_it legal).sound.logs p group packet visited_one visited_here
-        (or_left (message.logs group packet) (just k p (is_touching its_outcome && nat_lt 0 c.failures) group packet) carried)))
+        (or_left (message.logs group packet)
+        (just k p (is_touching its_outcome && nat_lt 0 c.failures) group packet) carried)))
         stands.logs
 
     is_own : (one : Logged) → log ≡ Some one → (group packet : ℕ) →
@@ -268,7 +281,8 @@ module _ (c : Setting) (s : ChainState) (f : IsFirmState c s) (k p w : ℕ) (leg
         untouched b is group packet = sym (or_none (message.logs group packet) (just k p b group packet)
             (ap (λ x. (group == k) && (packet == p) && x) is ∙ and_no ((group == k) && (packet == p))))
 
-        unchanged : (b : Bool) → b ≡ false → AreLogsOf c (next c s visiting_it) (union message.logs (just k p b)) before.logs
+        unchanged : (b : Bool) → b ≡ false →
+            AreLogsOf c (next c s visiting_it) (union message.logs (just k p b)) before.logs
         unchanged b is = record {
           each = logs_before.each;
           names = λ group packet. logs_before.names group packet ∙ untouched b is group packet;
@@ -283,7 +297,8 @@ module _ (c : Setting) (s : ChainState) (f : IsFirmState c s) (k p w : ℕ) (leg
         sent_on (suc n) is = lt-ltb 0 (suc n) (omega arith)
 
         by_log : (o : Option Logged) → log ≡ o → AreLogsOf c (next c s visiting_it)
-            (union message.logs (just k p (is_touching its_outcome && nat_lt 0 c.failures))) (logs_with c.failures o before.logs)
+            (union message.logs (just k p (is_touching its_outcome && nat_lt 0 c.failures)))
+            (logs_with c.failures o before.logs)
         by_log None is = unchanged (is_touching its_outcome && nat_lt 0 c.failures)
             (ap (λ x. x && nat_lt 0 c.failures) (sym touched ∙ ap (λ o. is_some o) is))
         by_log (Some one) is = elim (c.failures == 0) as (λ b. c.failures == 0 ≡ b → AreLogsOf c (next c s visiting_it)
@@ -295,13 +310,15 @@ module _ (c : Setting) (s : ChainState) (f : IsFirmState c s) (k p w : ℕ) (leg
                 each = all-with_item (IsLogIn c.partitions (next c s visiting_it).trace) is_earlier one before.logs
                     (logged one is).0 logs_before.each;
                 names = λ group packet.
-                    any_with_item (λ (log : Logged). log.group == group && log.origin == packet) is_earlier one before.logs
+                    any_with_item (λ (log : Logged). log.group == group
+                    && log.origin == packet) is_earlier one before.logs
                     ∙ (ap (λ x. x || names_log before.logs group packet) (is_own one is group packet)
                     ∙ (ap (λ x. ((group == k) && (packet == p)) || x) (logs_before.names group packet)
                     ∙ (or_comm_two ((group == k) && (packet == p)) (message.logs group packet)
                     ∙ ap (λ x. message.logs group packet || x) (sym (and_yes ((group == k) && (packet == p))
                     (is_touching its_outcome && nat_lt 0 c.failures)
-                    (ap (λ x. x && nat_lt 0 c.failures) (sym touched ∙ ap (λ o. is_some o) is) ∙ sent_on c.failures some))))));
+                    (ap (λ x. x && nat_lt 0 c.failures)
+                    (sym touched ∙ ap (λ o. is_some o) is) ∙ sent_on c.failures some))))));
               }
             ] refl
 
@@ -310,7 +327,8 @@ module _ (c : Setting) (s : ChainState) (f : IsFirmState c s) (k p w : ℕ) (leg
     needs_before packet forwarded = needs_stay c s f visiting_it legal p message.needs before.needs
         (λ group needed. touching_some (next c s visiting_it).trace group p
         ((needing_after c s f visiting_it legal).carried p group visited_one visited_here
-        (ap (λ (o : Option (List ℕ)). is_some o && (message.needs group || ((group == k) && is_touching its_outcome))) forwarded
+        (ap (λ (o : Option (List ℕ)). is_some o
+        && (message.needs group || ((group == k) && is_touching its_outcome))) forwarded
         ∙ or_left (message.needs group) ((group == k) && is_touching its_outcome) needed)).0) stands.needs
 
     pub needs_visited : AreNeedsOf c (next c s visiting_it) p visited_one.needs
@@ -330,8 +348,17 @@ module _ (c : Setting) (s : ChainState) (f : IsFirmState c s) (k p w : ℕ) (leg
             let own = logged one is in
             record {
               each = all-with_item (λ (need : Need). need.group < MOST_SERVERS
-                  × IsNeedIn c.partitions (next c s visiting_it).trace need.group p need.marks) is_lower (need_by one) before.needs
-                  (small own.1, record { log = one; log_of = own.0; group_is = refl; origin_is = own.2; marks_are = refl })
+                  × IsNeedIn c.partitions (next c s visiting_it).trace need.group p need.marks) is_lower
+                  (need_by one) before.needs (
+                    small own.1,
+                    record {
+                      log = one;
+                      log_of = own.0;
+                      group_is = refl;
+                      origin_is = own.2;
+                      marks_are = refl;
+                    },
+                  )
                   (needs_before packet forwarded).each;
               names = λ group. any_with_item (λ (need : Need). need.group == group) is_lower (need_by one) before.needs
                   ∙ (ap (λ x. x || needs_of before.needs group) (ap (λ x. x == group) own.1 ∙ eqb_swap k group)
@@ -367,7 +394,9 @@ module _ (c : Setting) (s : ChainState) (f : IsFirmState c s) (k p w : ℕ) (leg
       needs = subst (AreNeedsOf c (next c s visiting_it) p visited_one.needs) (sym needs) needs_visited;
       size = ap length commits ∙ stands.size;
       commits = subst (AreCommits c (next c s visiting_it) message.known) (sym commits)
-          (commits_stay c s f.steady visiting_it legal message.known before.commits (f.steady.tied.fronts.told p message there)
+          (commits_stay c s f.steady visiting_it legal message.known before.commits
+          (f.steady.tied.fronts.told p message there)
           (λ group packet told. changing_some c s f visiting_it legal group packet
-          (((tied_after c s f visiting_it legal).fronts.told p visited_one visited_here).there group packet told)) stands.commits);
+          (((tied_after c s f visiting_it legal).fronts.told p visited_one visited_here).there group packet told))
+          stands.commits);
     }

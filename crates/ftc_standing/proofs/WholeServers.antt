@@ -1,11 +1,14 @@
 -- A whole server after each event in which it has a part.
-use Rattle.std.proofs.Common.{◌≡◌, ◌≢◌, ◌<◌, ◌+◌, ◌==◌, ◌++◌, ◌∙◌, ℕ, Bool, true, false, not, List, [], ◌∷◌, filter, length, Option, Some, None, slice_set, refl, sym, ap, subst, arith, if◌then◌else◌, eq-eqb, le-leb}
+use Rattle.std.proofs.Common.{◌≡◌, ◌≢◌, ◌<◌, ◌+◌, ◌==◌, ◌++◌, ◌∙◌, ℕ, Bool, true, false, not, List, [], ◌∷◌, filter}
+use Rattle.std.proofs.Common.{length, Option, Some, None, slice_set, refl, sym, ap, subst, arith, if◌then◌else◌, eq-eqb}
+use Rattle.std.proofs.Common.{le-leb}
 use Rattle.std.specs.Option.{is_some}
 use Rattle.std.proofs.lemmas.Bool.{ne_eqb}
 use Rattle.std.proofs.lemmas.Option.{same_Some}
 use Rattle.ftc_edge.specs.declared.buffer.Withheld.{Withheld as WithheldPacket}
 use Rattle.ftc_journal.specs.declared.event.Event.{Event}
-use Rattle.ftc_journal.specs.declared.event.Event.TheVariants.{Apply, Carry, Enter, Propagate, Pull, Recover, Release, Take, Visit}
+use Rattle.ftc_journal.specs.declared.event.Event.TheVariants.{Apply, Carry, Enter, Propagate, Pull, Recover, Release}
+use Rattle.ftc_journal.specs.declared.event.Event.TheVariants.{Take, Visit}
 use Rattle.ftc_journal.specs.declared.event.VisitName.{VisitName}
 use Rattle.ftc_link.specs.Queue.{Queue}
 use Rattle.ftc_message.specs.declared.message.Message.{Message as SentMessage}
@@ -33,7 +36,9 @@ use Rattle.ftc_protocol.specs.Trace.{has_each}
 use Rattle.ftc_ties.specs.Servers.{AreCommits, IsElsewhere, is_shared}
 use Rattle.ftc_ties.proofs.Serving.{steady_next}
 use Rattle.ftc_ties.proofs.Lasting.{commit_logs}
-use Rattle.ftc_standing.specs.Stand.{IsSentAs, IsHeldAs, IsLink, HeldItem, item_of, AreItems, AreReplicas, AreWithheld, IsServerOf, IsServer, ServerContents, IsPulled, IsBegun, IsVisited, replica_kept, packet_of, replica_of, since_of, origin_of}
+use Rattle.ftc_standing.specs.Stand.{IsSentAs, IsHeldAs, IsLink, HeldItem, item_of, AreItems, AreReplicas, AreWithheld}
+use Rattle.ftc_standing.specs.Stand.{IsServerOf, IsServer, ServerContents, IsPulled, IsBegun, IsVisited, replica_kept}
+use Rattle.ftc_standing.specs.Stand.{packet_of, replica_of, since_of, origin_of}
 use Rattle.ftc_standing.specs.View.{IsBesideServer, is_held_by, where_it, held_at, forwarded_at, withheld_at}
 use Rattle.ftc_standing.proofs.Arriving.{there_here}
 use Rattle.ftc_standing.proofs.Buffering.{held_carried, forwarder_gets, withheld_released, withheld_kept, withheld_gets}
@@ -43,8 +48,10 @@ use Rattle.ftc_standing.proofs.Gaining.{receiver_up, replicas_told, replicas_app
 use Rattle.ftc_standing.proofs.Lasting.{IsFirmState, replicas_stay, held_stay, withheld_stay, forwarded_stay, of_it}
 use Rattle.ftc_standing.proofs.Movements.{changes, some_go}
 use Rattle.ftc_standing.proofs.Pulling.{replicas_pulled}
-use Rattle.ftc_standing.proofs.SamePlaces.{elsewhere, server_as_before, none_entering, none_begun, comes_there, at_place, recovery_drops}
-use Rattle.ftc_standing.proofs.Visiting.{replicas_unchanged, replicas_committed, replicas_committed_alone, visited_one, visited_stands}
+use Rattle.ftc_standing.proofs.SamePlaces.{elsewhere, server_as_before, none_entering, none_begun, comes_there}
+use Rattle.ftc_standing.proofs.SamePlaces.{at_place, recovery_drops}
+use Rattle.ftc_standing.proofs.Visiting.{replicas_unchanged, replicas_committed, replicas_committed_alone, visited_one}
+use Rattle.ftc_standing.proofs.Visiting.{visited_stands}
 
 -- a server heads its own group
 own_member : (c : Setting) (k : ℕ) → k < servers c → is_member c k k ≡ true
@@ -69,7 +76,8 @@ module _ (c : Setting) (s : ChainState) (f : IsFirmState c s) (server : ℕ) (he
   stands_still e legal beside =
       let before = server_as_before c s f.steady e legal server beside in
       record {
-        replicas = replicas_stay c s f e legal server (elsewhere c s f.steady e server beside) head later commits is.replicas;
+        replicas = replicas_stay c s f e legal server
+            (elsewhere c s f.steady e server beside) head later commits is.replicas;
         held = held_stay c s f e legal server before.held visited_of ring_of message_of items is.held;
         withheld = withheld_stay c s f e legal server before.withheld buffer is.withheld;
         forwarded = forwarded_stay c s f e legal server before.forwarded carried is.forwarded;
@@ -91,7 +99,8 @@ module _ (c : Setting) (s : ChainState) (f : IsFirmState c s) (head : Replicated
     replicas = replicas_told_nothing c s f e legal 0 (f.steady.tied.order.inside 0 up) out
         (steady_next c s f.steady e legal) head later commits is.replicas;
     held = held_begins c s f e legal p packet none now_is (λ (item : HeldItem). item.visited)
-        (λ (item : HeldItem). item.by_ring) (λ (item : HeldItem). item.message) (item_of false false sent) items refl refl
+        (λ (item : HeldItem). item.by_ring) (λ (item : HeldItem). item.message)
+        (item_of false false sent) items refl refl
         begun.origin_is begun.packet_is begun.no_logs begun.no_needs (ap length begun.no_commits ∙ nothing_size)
         (subst (AreCommits c s no_visits) (sym begun.no_commits) (knows_nothing c s)) is.held;
     withheld = withheld_stay c s f e legal 0 withheld buffer is.withheld;
@@ -129,8 +138,10 @@ module _ (c : Setting) (s : ChainState) (f : IsFirmState c s) (head : Replicated
             (own_member c (next_of (servers c) link) (f.steady.tied.order.inside (next_of (servers c) link) up))
             stands.commits is.replicas;
         held = held_taken c s f link p legal (λ (item : HeldItem). item.visited) (λ (item : HeldItem). item.by_ring)
-            (λ (item : HeldItem). item.message) (item_of false (link + 1 == servers c) sent) items refl refl stands is.held;
-        withheld = withheld_stay c s f (Take link p) legal (next_of (servers c) link) (λ packet. refl) buffer is.withheld;
+            (λ (item : HeldItem). item.message)
+            (item_of false (link + 1 == servers c) sent) items refl refl stands is.held;
+        withheld = withheld_stay c s f (Take link p) legal (next_of (servers c) link)
+            (λ packet. refl) buffer is.withheld;
         forwarded = forwarded_stay c s f (Take link p) legal (next_of (servers c) link) (λ group packet. refl) carried
             is.forwarded;
       }
@@ -141,7 +152,8 @@ module _ (c : Setting) (s : ChainState) (f : IsFirmState c s) (server origin gro
     (log : Logged) (log_of : IsLogIn c.partitions s.trace log) (group_is : log.group ≡ group)
     (origin_is : log.origin ≡ packet) (head : Replicated) (later : List (Option Replicated)) (commits : List (List ℕ))
     (items : List HeldItem) (buffer : List WithheldPacket) (carried : List Logged) (replica : Replicated)
-    (there : replica_of later group ≡ Some replica) (is : IsServerOf c s server head later commits items buffer carried) where
+    (there : replica_of later group
+    ≡ Some replica) (is : IsServerOf c s server head later commits items buffer carried) where
   abbrev applying : Event
   applying = Apply server origin group packet
 
@@ -162,12 +174,14 @@ module _ (c : Setting) (s : ChainState) (f : IsFirmState c s) (server origin gro
       (replicas_applied c s f.steady server origin group packet legal up below log log_of group_is origin_is head later
       commits replica there is.replicas isnt)
 
-  pub applies_at_tail : is_tail c group server ≡ true → (server ≡ group → ⊥) → IsServerOf c (next c s applying) server head
+  pub applies_at_tail : is_tail c group server ≡ true → (server ≡ group → ⊥) →
+      IsServerOf c (next c s applying) server head
       (slice_set later group (Some (applied log replica))) (group_raised commits group (applied log replica).vector)
       items buffer carried
   applies_at_tail tail other = with_replicas (slice_set later group (Some (applied log replica)))
       (group_raised commits group (applied log replica).vector)
-      (replicas_applied_at_tail c s f.steady server origin group packet legal up below log log_of group_is origin_is head
+      (replicas_applied_at_tail c s f.steady server origin group packet legal up below log log_of group_is origin_is
+      head
       later commits replica there is.replicas tail other)
 
 -- the visit of a held message is made
@@ -192,7 +206,8 @@ module _ (c : Setting) (s : ChainState) (f : IsFirmState c s) (k p w : ℕ) (leg
   its : (m : Message) × (held_at s k (origin_of item.message) ≡ Some m)
       × IsHeldAs c s k (origin_of item.message) m item.visited item.by_ring item.message
   its = there_here since_of (λ (one : HeldItem). origin_of one.message)
-      (λ origin message (one : HeldItem). IsHeldAs c s k origin message one.visited one.by_ring one.message) (held_at s k)
+      (λ origin message (one : HeldItem). IsHeldAs c s k origin message one.visited one.by_ring one.message)
+      (held_at s k)
       before item after stands_at
 
   held_there : held_at s k p ≡ Some message
@@ -219,7 +234,8 @@ module _ (c : Setting) (s : ChainState) (f : IsFirmState c s) (k p w : ℕ) (leg
 
   sent_stands : IsSentAs c (next c s visiting) p new sent
   sent_stands = visited_stands c s f k p w legal message legal.0.3 item.message sent was.as_sent log touched logged
-      (visited.origin_is ∙ was.as_sent.origin_is) visited.packet_is visited.logs_are visited.needs_are visited.commits_are
+      (visited.origin_is ∙ was.as_sent.origin_is) visited.packet_is visited.logs_are visited.needs_are
+      visited.commits_are
 
   new_place : new.place ≡ Held k true item.by_ring
   new_place = ap visited_at was.place
@@ -228,11 +244,13 @@ module _ (c : Setting) (s : ChainState) (f : IsFirmState c s) (k p w : ℕ) (leg
   unfolding its
   held_after = changes c s f visiting (λ (one : HeldItem). origin_of one.message) (is_held_by k)
       (λ origin message (one : HeldItem). IsHeldAs c s k origin message one.visited one.by_ring one.message)
-      (λ origin message (one : HeldItem). IsHeldAs c (next c s visiting) k origin message one.visited one.by_ring one.message)
+      (λ origin message (one : HeldItem). IsHeldAs c
+      (next c s visiting) k origin message one.visited one.by_ring one.message)
       (held_keeps c s f visiting legal k (λ (one : HeldItem). one.visited) (λ (one : HeldItem). one.by_ring)
       (λ (one : HeldItem). one.message)) before item (item_of true item.by_ring sent) after new stands_at
       (visited.origin_is ∙ refl) (ap (λ (m : Message). m.since) (sym same))
-      (λ at. comes_there (is_held_by k) s.message p (visited_message c k p (outcome_at c s k p) (s.message p)) (Some new)
+      (λ at. comes_there (is_held_by k) s.message p (visited_message c k p (outcome_at c s k p) (s.message p))
+      (Some new)
       (ap (λ o. where_it (is_held_by k) (visited_message c k p (outcome_at c s k p) o)) legal.0.3
       ∙ (ap (λ place. if is_held_by k place then Some new else None) new_place
       ∙ ap (λ (b : Bool). if b then Some new else None) (eq-eqb k k refl))) at
@@ -242,7 +260,8 @@ module _ (c : Setting) (s : ChainState) (f : IsFirmState c s) (k p w : ℕ) (leg
 
   with_replicas_of : (own : Replicated) (known : List (List ℕ)) →
       AreReplicas c (next c s visiting) k own later known →
-      IsServerOf c (next c s visiting) k own later known (before ++ item_of true item.by_ring sent ∷ after) buffer carried
+      IsServerOf c (next c s visiting) k own later known (before ++ item_of true item.by_ring sent
+      ∷ after) buffer carried
   with_replicas_of own known are = record {
     replicas = are;
     held = held_after;
@@ -253,12 +272,14 @@ module _ (c : Setting) (s : ChainState) (f : IsFirmState c s) (k p w : ℕ) (leg
   member : is_member c k k ≡ true
   member = own_member c k (f.steady.tied.order.inside k up)
 
-  pub visits_only : is_changing c.partitions (outcome_at c s k p) ≡ false → IsServerOf c (next c s visiting) k head later
+  pub visits_only : is_changing c.partitions (outcome_at c s k p) ≡ false →
+      IsServerOf c (next c s visiting) k head later
       commits (before ++ item_of true item.by_ring sent ∷ after) buffer carried
   visits_only unchanging = with_replicas_of head commits
       (replicas_unchanged c s f.steady k p w legal up member head later commits is.replicas unchanging)
 
-  module _ (changing : is_changing c.partitions (outcome_at c s k p) ≡ true) (one : Logged) (one_is : log ≡ Some one) where
+  module _ (changing : is_changing c.partitions (outcome_at c s k p) ≡ true) (one : Logged) (one_is : log
+      ≡ Some one) where
     pub visits : is_tail c k k ≡ false → IsServerOf c (next c s visiting) k
         (committed c.partitions (outcome_at c s k p) one head) later commits
         (before ++ item_of true item.by_ring sent ∷ after) buffer carried
@@ -290,7 +311,8 @@ module _ (c : Setting) (s : ChainState) (f : IsFirmState c s) (head : Replicated
     pub leaving_is : IsSentAs c s p message item.message
     leaving_is =
         let its = there_here since_of (λ (one : HeldItem). origin_of one.message)
-        (λ origin message (one : HeldItem). IsHeldAs c s k origin message one.visited one.by_ring one.message) (held_at s k)
+        (λ origin message (one : HeldItem). IsHeldAs c s k origin message one.visited one.by_ring one.message)
+        (held_at s k)
         before item after stands_before in
         let held_there : held_at s k p ≡ Some message = at_place (is_held_by k) (s.message p) message
         (Held k leaves.visited false) true leaves.there leaves.held (eq-eqb k k refl) in
@@ -302,7 +324,8 @@ module _ (c : Setting) (s : ChainState) (f : IsFirmState c s) (head : Replicated
         IsServerOf c (next c s e) k head later commits (before ++ after) packets (if k == 0 then [] else carried)
     with_buffer packets are = record {
       replicas = replicas_stay c s f e legal k out head later commits is.replicas;
-      held = held_leaves c s f e legal k p lost (ap (λ (state : ChainState). state.message) after_is) message leaves.visited
+      held = held_leaves c s f e legal k p lost
+          (ap (λ (state : ChainState). state.message) after_is) message leaves.visited
           leaves.there leaves.held (λ (one : HeldItem). one.visited) (λ (one : HeldItem). one.by_ring)
           (λ (one : HeldItem). one.message) before item after origin is.held;
       withheld = are;
@@ -321,20 +344,28 @@ module _ (c : Setting) (s : ChainState) (f : IsFirmState c s) (head : Replicated
         (if k == 0 then [] else carried)
     leaves_on isnt = with_buffer buffer (withheld_stay c s f e legal k
         (λ packet. ap (λ (b : Bool). if b then (next c s e).withheld packet else None) (ne_eqb (k + 1) (servers c) isnt)
-        ∙ sym (ap (λ (b : Bool). if b then s.withheld packet else None) (ne_eqb (k + 1) (servers c) isnt))) buffer is.withheld)
+        ∙ sym (ap (λ (b : Bool). if b then s.withheld packet
+        else None) (ne_eqb (k + 1) (servers c) isnt))) buffer is.withheld)
 
     -- from the last server, without a packet, or with one
     pub leaves_empty : k + 1 ≡ servers c → item.message.packet ≡ None → IsServerOf c (next c s e) k head later commits
         (before ++ after) buffer (if k == 0 then [] else carried)
-    leaves_empty last none = with_buffer buffer (withheld_kept c s f k last e legal p message leaves.visited leaves.there
+    leaves_empty last none = with_buffer buffer
+        (withheld_kept c s f k last e legal p message leaves.visited leaves.there
         leaves.held (withheld_now last) (sym leaving_is.packet ∙ none) buffer is.withheld)
 
     pub leaves_packet : k + 1 ≡ servers c → (bytes : List ℕ) → item.message.packet ≡ Some bytes →
         IsServerOf c (next c s e) k head later commits (before ++ after)
-        (buffer ++ record { packet = p; bytes = bytes; needs = item.message.needs } ∷ []) (if k == 0 then [] else carried)
-    leaves_packet last bytes has = with_buffer (buffer ++ record { packet = p; bytes = bytes; needs = item.message.needs } ∷ [])
+        (buffer ++ record { packet = p; bytes = bytes; needs = item.message.needs } ∷ []) (if k == 0 then []
+        else carried)
+    leaves_packet last bytes has =
+        with_buffer (buffer ++ record { packet = p; bytes = bytes; needs = item.message.needs } ∷ [])
         (withheld_gets c s f k last e legal p message leaves.visited leaves.there leaves.held (withheld_now last) bytes
-        (sym leaving_is.packet ∙ has) (record { packet = p; bytes = bytes; needs = item.message.needs }) buffer refl refl
+        (sym leaving_is.packet ∙ has) (record {
+          packet = p;
+          bytes = bytes;
+          needs = item.message.needs;
+        }) buffer refl refl
         leaving_is.needs is.withheld)
 
   -- the forwarder takes the message's logs on
@@ -345,7 +376,8 @@ module _ (c : Setting) (s : ChainState) (f : IsFirmState c s) (head : Replicated
   carries p legal origin is =
       let message : Message = legal.0.0 in
       let its = there_here since_of (λ (one : HeldItem). origin_of one.message)
-      (λ origin message (one : HeldItem). IsHeldAs c s 0 origin message one.visited one.by_ring one.message) (held_at s 0)
+      (λ origin message (one : HeldItem). IsHeldAs c s 0 origin message one.visited one.by_ring one.message)
+      (held_at s 0)
       before item after is.held in
       let held_there : held_at s 0 p ≡ Some message = at_place (is_held_by 0) (s.message p) message
       (Held 0 legal.0.2 true) true legal.0.1 legal.0.3 refl in
@@ -385,15 +417,21 @@ pub pulls_all : (c : Setting) (s : ChainState) (f : IsFirmState c s) (link tail 
       later = later;
       known = group_raised contents.known tail (applied_all (missing mine.vector theirs.kept) mine).vector;
     })
-pulls_all c s f link tail legal contents from later mine theirs inside tail_is shared pulls mine_is theirs_is is sender = record {
-  replicas = replicas_pulled c s f.steady link legal contents from is sender later tail inside tail_is shared pulls mine theirs
-      mine_is theirs_is;
-  held = held_stay c s f (Pull link) legal (next_of (servers c) link) (λ origin. refl) (λ (one : HeldItem). one.visited)
-      (λ (one : HeldItem). one.by_ring) (λ (one : HeldItem). one.message) contents.held is.held;
-  withheld = withheld_stay c s f (Pull link) legal (next_of (servers c) link) (λ packet. refl) contents.withheld is.withheld;
-  forwarded = forwarded_stay c s f (Pull link) legal (next_of (servers c) link) (λ group packet. refl) contents.forwarded
-      is.forwarded;
-}
+pulls_all c s f link tail legal contents from later mine theirs inside tail_is shared pulls mine_is theirs_is is
+    sender = record {
+      replicas = replicas_pulled c s f.steady link legal contents from is sender later tail inside tail_is shared pulls
+          mine
+          theirs
+          mine_is theirs_is;
+      held = held_stay c s f (Pull link) legal (next_of (servers c) link) (λ origin. refl)
+          (λ (one : HeldItem). one.visited)
+          (λ (one : HeldItem). one.by_ring) (λ (one : HeldItem). one.message) contents.held is.held;
+      withheld = withheld_stay c s f (Pull link) legal (next_of (servers c) link)
+          (λ packet. refl) contents.withheld is.withheld;
+      forwarded = forwarded_stay c s f (Pull link) legal (next_of (servers c) link)
+          (λ group packet. refl) contents.forwarded
+          is.forwarded;
+    }
 
 -- the live server after one that is replaced drops what lacks a visit
 pub drops_unready : (c : Setting) (s : ChainState) (f : IsFirmState c s) (k : ℕ) (undone : List VisitName)
@@ -402,12 +440,15 @@ pub drops_unready : (c : Setting) (s : ChainState) (f : IsFirmState c s) (k : �
     ((message : Message) (item : HeldItem) → s.message item.message.origin ≡ Some message →
     stays item ≡ has_each c.partitions s.trace (s.lists (following_live c s k)) message.logs) →
     IsServer c s (following_live c s k) contents →
-    IsServer c (next c s (Recover k undone)) (following_live c s k) (record contents { held = filter stays contents.held })
+    IsServer c (next c s (Recover k undone)) (following_live c s k)
+    (record contents { held = filter stays contents.held })
 drops_unready c s f k undone legal contents stays differs meaning is = record {
   replicas = replicas_stay c s f (Recover k undone) legal (following_live c s k) (λ group. differs) contents.head
       contents.later contents.known is.replicas;
-  held = some_go c s f (Recover k undone) (λ (one : HeldItem). origin_of one.message) (is_held_by (following_live c s k))
-      (λ origin message (one : HeldItem). IsHeldAs c s (following_live c s k) origin message one.visited one.by_ring one.message)
+  held = some_go c s f (Recover k undone) (λ (one : HeldItem). origin_of one.message)
+      (is_held_by (following_live c s k))
+      (λ origin message (one : HeldItem). IsHeldAs c s
+      (following_live c s k) origin message one.visited one.by_ring one.message)
       (λ origin message (one : HeldItem). IsHeldAs c (next c s (Recover k undone)) (following_live c s k) origin message
       one.visited one.by_ring one.message)
       (held_keeps c s f (Recover k undone) legal (following_live c s k) (λ (one : HeldItem). one.visited)
@@ -417,8 +458,10 @@ drops_unready c s f k undone legal contents stays differs meaning is = record {
       (ap s.message same ∙ of_it (is_held_by (following_live c s k)) (s.message origin) message there)
       ∙ sym (not_twice (has_each c.partitions s.trace (s.lists (following_live c s k)) message.logs)))
       (recovery_drops c s k undone) contents.held is.held;
-  withheld = withheld_stay c s f (Recover k undone) legal (following_live c s k) (λ packet. refl) contents.withheld is.withheld;
-  forwarded = forwarded_stay c s f (Recover k undone) legal (following_live c s k) (λ group packet. refl) contents.forwarded
+  withheld = withheld_stay c s f (Recover k undone) legal (following_live c s k)
+      (λ packet. refl) contents.withheld is.withheld;
+  forwarded = forwarded_stay c s f (Recover k undone) legal (following_live c s k)
+      (λ group packet. refl) contents.forwarded
       is.forwarded;
 }
   where

@@ -1,5 +1,7 @@
--- For which state of the protocol servers and links stand: what messages, replicas, vectors and logs mean as sets of visits.
-use Rattle.std.specs.Prelude.{ℕ, ◌≡◌, ◌<◌, ◌+◌, ◌⊎◌, ◌==◌, Bool, true, false, List, [], length, Option, Some, None, slice_index_or, nat_le, if◌then◌else◌}
+-- For which state of the protocol servers and links stand: what messages, replicas, vectors and logs mean as sets of
+-- visits.
+use Rattle.std.specs.Prelude.{ℕ, ◌≡◌, ◌<◌, ◌+◌, ◌⊎◌, ◌==◌, Bool, true, false, List, [], length, Option, Some, None}
+use Rattle.std.specs.Prelude.{slice_index_or, nat_le, if◌then◌else◌}
 use Rattle.std.specs.FinMap.{empty}
 use Rattle.std.specs.Option.{is_some}
 use Rattle.ftc_base.specs.declared.limits.TheConstants.{MOST_SERVERS}
@@ -63,8 +65,10 @@ time_of withheld = withheld.since
 abbrev pub packet_of : WithheldPacket → ℕ
 packet_of kept = kept.packet
 
--- what a server holds, in the order of taking: of each item whether it was visited and came by the ring link, and the message
-abbrev pub AreHeld : {A : Type 0} → (A → Bool) → (A → Bool) → (A → SentMessage) → Setting → ChainState → ℕ → List A → Type 0
+-- what a server holds, in the order of taking: of each item whether it was visited and came by the ring link, and the
+-- message
+abbrev pub AreHeld : {A : Type 0} → (A → Bool) → (A → Bool) → (A → SentMessage) → Setting → ChainState → ℕ → List A →
+    Type 0
 AreHeld visited by_ring sent setting state server items =
     AreArrived since_of (λ item. origin_of (sent item))
     (λ origin message item. IsHeldAs setting state server origin message (visited item) (by_ring item) (sent item))
@@ -109,7 +113,8 @@ AreForwarded setting state server logs = AreLogsOf setting state (forwarded_at s
 
 -- ---- replicas
 
--- The replica of a group at a later member. When its kept logs are dropped that are known at the tail is the server's affair.
+-- The replica of a group at a later member. When its kept logs are dropped that are known at the tail is the server's
+-- affair.
 abbrev pub IsReplicaSlot : Setting → ChainState → ℕ → List (List ℕ) → ℕ → Option Replicated → Type 0
 IsReplicaSlot setting state server known group None = (is_member setting group server ≡ false) ⊎ (group ≡ server)
 IsReplicaSlot setting state server known group (Some replica) =
@@ -151,7 +156,8 @@ pub record IsBegun (origin : ℕ) (packet : Option (List ℕ)) (sent : SentMessa
   pub no_commits : sent.commits ≡ by_group (λ group. by_partition (λ partition. 0))
 
 -- what the visit of its packet makes of it: the log is that of the visit, where it touched something
-pub record IsVisited (failures : ℕ) (outcome : Outcome) (log : Option Logged) (before after : SentMessage) : Type 0 where
+pub record IsVisited (failures : ℕ) (outcome : Outcome) (log : Option Logged)
+    (before after : SentMessage) : Type 0 where
   pub origin_is : after.origin ≡ before.origin
   pub packet_is : after.packet ≡ outcome.packet
   pub logs_are : after.logs ≡ logs_with failures log before.logs
@@ -178,8 +184,8 @@ pub record IsServerOf (setting : Setting) (state : ChainState) (server : ℕ) (h
   pub withheld : AreWithheld setting state server buffer
   pub forwarded : AreForwarded setting state server carried
 
--- what a server keeps: its own group's replica and those of the groups that it is a later member of, what it knows, what
--- it holds, the packets of its buffer and the logs of its forwarder
+-- what a server keeps: its own group's replica and those of the groups that it is a later member of, what it knows,
+-- what it holds, the packets of its buffer and the logs of its forwarder
 pub record ServerContents : Type 0 where
   pub head : Replicated
   pub later : List (Option Replicated)
@@ -198,9 +204,10 @@ IsServer setting state server contents =
 abbrev pub replica_kept : ℕ → ServerContents → ℕ → Option Replicated
 replica_kept server contents group = if group == server then Some contents.head else replica_of contents.later group
 
--- what the receiver of a link has after it pulled: of each group that both ends share, its replica with the logs that it
--- lacks and the sender keeps, applied in the order of keeping
-pub record IsPulled (setting : Setting) (link : ℕ) (contents sender : ServerContents) (later : List (Option Replicated)) :
+-- what the receiver of a link has after it pulled: of each group that both ends share, its replica with the logs that
+-- it lacks and the sender keeps, applied in the order of keeping
+pub record IsPulled (setting : Setting) (link : ℕ) (contents sender : ServerContents)
+    (later : List (Option Replicated)) :
     Type 0 where
   pub shared : (group : ℕ) → group < servers setting →
       is_shared setting group link (next_of (servers setting) link) ≡ true →
@@ -215,12 +222,13 @@ pub record IsPulled (setting : Setting) (link : ℕ) (contents sender : ServerCo
 -- else that of the live server after it
 abbrev pub got_by : Setting → ChainState → ℕ → ServerContents → ServerContents → ℕ → Option Replicated
 got_by setting state server previous following group =
-    if nat_le (apart (servers setting) (previous_live setting state server) server) (apart (servers setting) group server)
+    if nat_le (apart (servers setting) (previous_live setting state server) server)
+    (apart (servers setting) group server)
     then replica_kept (previous_live setting state server) previous group
     else replica_kept (following_live setting state server) following group
 
--- a new server: it has what it gets of its groups, knows what the two live servers know and its own replica of the group
--- whose tail it is, and holds nothing
+-- a new server: it has what it gets of its groups, knows what the two live servers know and its own replica of the
+-- group whose tail it is, and holds nothing
 pub record IsRevived (setting : Setting) (state : ChainState) (server : ℕ) (previous following new : ServerContents) :
     Type 0 where
   pub head : got_by setting state server previous following server ≡ Some new.head

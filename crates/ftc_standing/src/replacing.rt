@@ -17,7 +17,8 @@ ghost use Rattle.ftc_protocol.specs.Legal.{IsLegal};
 ghost use Rattle.ftc_protocol.specs.Next.{next};
 ghost use Rattle.ftc_protocol.specs.Run.{IsRunState};
 ghost use Rattle.ftc_ties.specs.Servers.{is_shared};
-ghost use Rattle.ftc_standing.specs.Stand.{ServerContents, HeldItem, IsServer, IsLink, IsPulled, IsRevived, replica_of, replica_kept};
+ghost use Rattle.ftc_standing.specs.Stand.{ServerContents, HeldItem, IsServer, IsLink, IsPulled, IsRevived, replica_of};
+ghost use Rattle.ftc_standing.specs.Stand.{replica_kept};
 
 use ftc_protocol::{needs_of_packets, withheld_packets};
 use ftc_ties::every_state_tied;

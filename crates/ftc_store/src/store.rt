@@ -29,7 +29,11 @@ impl Model for Store {
 
     ghost coded = { stored_code };
 
-    ghost view = { λ store. record { content = map.from_entries store.held.entries; partitions = store.partitions; spare = spare store.held } };
+    ghost view = { λ store. record {
+      content = map.from_entries store.held.entries;
+      partitions = store.partitions;
+      spare = spare store.held;
+    } };
 }
 
 impl Store {

@@ -1,11 +1,13 @@
 -- Taps that are told one record after another, and some of which leave.
-use Rattle.std.proofs.Common.{◌≡◌, inl, inr, ℕ, zero, suc, ◌+◌, ◌<◌, ◌++◌, ◌∷◌, [], List, Bool, true, false, length, take, get_or, refl, ap, sym, ◌∙◌, subst, append-nil, arith}
+use Rattle.std.proofs.Common.{◌≡◌, inl, inr, ℕ, zero, suc, ◌+◌, ◌<◌, ◌++◌, ◌∷◌, [], List, Bool, true, false, length}
+use Rattle.std.proofs.Common.{take, get_or, refl, ap, sym, ◌∙◌, subst, append-nil, arith}
 use Rattle.std.specs.Prelude.{not, cond}
 use Rattle.std.specs.List.{AllZip, AllByRecursion}
 use Rattle.std.proofs.lemmas.List.Elements.{recursion_from_All}
 use Rattle.ftc_base.specs.declared.released.Released.{Released}
 use Rattle.ftc_outside.specs.Tap.{Face, WasTold}
-use Rattle.ftc_stream.specs.Taps.{AreTold, AreToldInPart, AreToldShort, AreLeft, AreLeftInPart, staying, StaysIfConstant}
+use Rattle.ftc_stream.specs.Taps.{AreTold, AreToldInPart, AreToldShort, AreLeft, AreLeftInPart, staying}
+use Rattle.ftc_stream.specs.Taps.{StaysIfConstant}
 use Rattle.ftc_stream.specs.LeavingLaws.{left_none, left_on, left_in_part_on}
 
 -- a constant tap stays, so one that leaves is none

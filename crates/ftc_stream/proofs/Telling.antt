@@ -1,5 +1,6 @@
 -- Taps that are told a record, one after another.
-use Rattle.std.proofs.Common.{◌≡◌, ℕ, ◌+◌, ◌<◌, ◌≤◌, ◌++◌, ◌∷◌, [], List, Bool, true, false, take, drop, get_or, set, length, refl, ap, sym, ◌∙◌, subst, arith, add-one, drop-cons, append_assoc, append-nil}
+use Rattle.std.proofs.Common.{◌≡◌, ℕ, ◌+◌, ◌<◌, ◌≤◌, ◌++◌, ◌∷◌, [], List, Bool, true, false, take, drop, get_or, set}
+use Rattle.std.proofs.Common.{length, refl, ap, sym, ◌∙◌, subst, arith, add-one, drop-cons, append_assoc, append-nil}
 use Rattle.std.specs.Prelude.{not, suc, map, Result, Ok, Err, OnErr, cond}
 use Rattle.std.specs.List.{AllZip, remove}
 use Rattle.std.proofs.lemmas.Grind.{common_steps}

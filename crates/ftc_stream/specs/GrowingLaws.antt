@@ -1,5 +1,6 @@
 -- Laws of what a file gains, record by record.
-use Rattle.std.proofs.Common.{◌≡◌, inl, inr, ℕ, ◌++◌, [], List, take, drop, length, refl, ap, sym, subst, ◌∙◌, append_assoc, append-nil, arith}
+use Rattle.std.proofs.Common.{◌≡◌, inl, inr, ℕ, ◌++◌, [], List, take, drop, length, refl, ap, sym, subst, ◌∙◌}
+use Rattle.std.proofs.Common.{append_assoc, append-nil, arith}
 use Rattle.std.specs.Prelude.{Some, None, unwrap_or}
 use Rattle.std.specs.List.{flat_map}
 use Rattle.std.proofs.lemmas.Grind.{common_steps, flat_map-append}

@@ -1,5 +1,6 @@
 -- Laws of taps that are told one record after another, and some of which leave.
-use Rattle.std.proofs.Common.{◌≡◌, inl, inr, ◌++◌, ◌∷◌, [], List, Bool, true, false, refl, ap, sym, ◌∙◌, subst, append_assoc, append-nil}
+use Rattle.std.proofs.Common.{◌≡◌, inl, inr, ◌++◌, ◌∷◌, [], List, Bool, true, false, refl, ap, sym, ◌∙◌, subst}
+use Rattle.std.proofs.Common.{append_assoc, append-nil}
 use Rattle.std.specs.Prelude.{Some}
 use Rattle.ftc_base.specs.declared.released.Released.{Released}
 use Rattle.ftc_outside.specs.Tap.{Face, WasTold}

@@ -6,7 +6,8 @@ use Rattle.ftc_outside.specs.Tap.{Face}
 use Rattle.ftc_pcap.specs.declared.capture.Capture.{Capture}
 use Rattle.ftc_stream.specs.Flow.{Flow, since}
 use Rattle.ftc_stream.specs.Records.{records}
-use Rattle.ftc_stream.specs.GrowingLaws.{grown_start, grown_more, grown_part_more, absent_before, added_none, since_more, added_more, others_on}
+use Rattle.ftc_stream.specs.GrowingLaws.{grown_start, grown_more, grown_part_more, absent_before, added_none}
+use Rattle.ftc_stream.specs.GrowingLaws.{since_more, added_more, others_on}
 use Rattle.ftc_stream.specs.LeavingLaws.{left_start, left_more, left_part_more}
 use Rattle.ftc_stream.specs.Pages.{Went, Broke}
 use Rattle.ftc_stream.specs.declared.fault.PutFault.{PutFault}

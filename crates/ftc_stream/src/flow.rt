@@ -1,6 +1,7 @@
 //! A ring from the chain to the writer.
 
-ghost use Rattle.std.specs.Prelude.{◌≡◌, ◌≢◌, ◌<◌, ◌≤◌, ◌++◌, ◌∷◌, [], None, length, vec_len, vec_capacity, IfOk, OnOk, OnErr, IsErrOf, codes};
+ghost use Rattle.std.specs.Prelude.{◌≡◌, ◌≢◌, ◌<◌, ◌≤◌, ◌++◌, ◌∷◌, [], None, length, vec_len, vec_capacity, IfOk, OnOk};
+ghost use Rattle.std.specs.Prelude.{OnErr, IsErrOf, codes};
 ghost use Rattle.ftc_outside.specs.Desk.{SameButAt, HasServed};
 ghost use Rattle.ftc_stream.specs.Records.{writable, records, HasGrownBy, HasGrownInPart};
 ghost use Rattle.ftc_stream.specs.Taps.{AreLeft, AreToldInPart, AreLeftInPart};
@@ -81,7 +82,8 @@ fn put_next<D: Desk>(
     ensures grown { D.tells desk.old →
         OnOk result (HasGrownBy out.now (records capture.now (item ∷ [])) (D.file desk.old) (D.file desk.new)) }
     ensures told { OnOk result (
-        AreLeft (writable capture.now (item ∷ [])) (⟦<Taps as Seen>⟧.faces taps.old) (⟦<Taps as Seen>⟧.faces taps.new)) }
+        AreLeft (writable capture.now (item ∷ [])) (⟦<Taps as Seen>⟧.faces taps.old)
+        (⟦<Taps as Seen>⟧.faces taps.new)) }
     ensures part { D.tells desk.old →
         OnErr result (HasGrownInPart out.now capture.now [] (D.file desk.old) (D.file desk.new)) }
     ensures told_in_part { OnErr result (

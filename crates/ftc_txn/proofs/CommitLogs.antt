@@ -1,5 +1,6 @@
 -- The log of a commit: when it may be applied, what it does to the vector, and that it marks something.
-use Rattle.std.proofs.Common.{◌≡◌, ◌≢◌, ◌<◌, ◌≤◌, ℕ, Bool, true, false, List, [], ◌∷◌, Option, Some, None, refl, sym, ap, subst, ◌∙◌, arith, if◌then◌else◌}
+use Rattle.std.proofs.Common.{◌≡◌, ◌≢◌, ◌<◌, ◌≤◌, ℕ, Bool, true, false, List, [], ◌∷◌, Option, Some, None, refl, sym}
+use Rattle.std.proofs.Common.{ap, subst, ◌∙◌, arith, if◌then◌else◌}
 use Rattle.std.specs.Prelude.{◌||◌, ◌==◌, IsSome}
 use Rattle.std.proofs.lemmas.Bool.{eq-eqb}
 use Rattle.ftc_base.specs.declared.ask.Answer.{Answer}
@@ -26,12 +27,15 @@ carried_is : (touched : Bool) (number carried : ℕ) → (if touched then Some n
 carried_is true number carried is = cc
 carried_is false number carried is = absurd cc
 
-module _ (group partitions : ℕ) (vector : List ℕ) (packet : ℕ) (answers : List Answer) (writes : List Write) (log : Logged)
+module _ (group partitions : ℕ) (vector : List ℕ) (packet : ℕ) (answers : List Answer) (writes : List Write)
+    (log : Logged)
     (of : IsLogOf group partitions vector packet answers writes log) where
-  has_number : (p carried : ℕ) → p < MOST_PARTITIONS → mark_at log.before p ≡ Some carried → number_at vector p ≡ carried
+  has_number : (p carried : ℕ) → p < MOST_PARTITIONS → mark_at log.before p ≡ Some carried →
+      number_at vector p ≡ carried
   has_number p carried within marked =
       carried_is (is_touched partitions answers p) (number_at vector p) carried
-      (sym (mark_of partitions answers vector p within) ∙ ap (λ (marks : List (Option ℕ)). mark_at marks p) (sym of.before) ∙ marked)
+      (sym (mark_of partitions answers vector p within) ∙ ap (λ (marks : List (Option ℕ)). mark_at marks p)
+      (sym of.before) ∙ marked)
 
   pub log_ready : IsReady vector log.before log.changed
   log_ready = record {
@@ -54,7 +58,8 @@ unfolding is_touched
 first_touched partitions answer answers =
     rw (eq-eqb (partition_of partitions answer.key) (partition_of partitions answer.key) refl) refl
 
-pub marks_some : (partitions : ℕ) (vector : List ℕ) (answers : List Answer) → 1 ≤ partitions → partitions ≤ MOST_PARTITIONS
+pub marks_some : (partitions : ℕ) (vector : List ℕ) (answers : List Answer) → 1 ≤ partitions →
+    partitions ≤ MOST_PARTITIONS
     → answers ≢ [] → MarksSome (numbers_before partitions answers vector)
 marks_some partitions vector [] some within isnt = absurd (isnt refl)
 marks_some partitions vector (answer ∷ answers) some within isnt =
@@ -62,11 +67,15 @@ marks_some partitions vector (answer ∷ answers) some within isnt =
     record {
       some = (
         partition_of partitions answer.key,
-        rw (mark_of partitions (answer ∷ answers) vector (partition_of partitions answer.key) low, first_touched partitions answer answers) refl,
+        rw (
+          mark_of partitions (answer ∷ answers) vector (partition_of partitions answer.key) low,
+          first_touched partitions answer answers,
+        ) refl,
       );
     }
 
-pub log_marks_some : (group partitions : ℕ) (vector : List ℕ) (packet : ℕ) (answers : List Answer) (writes : List Write) (log : Logged)
+pub log_marks_some : (group partitions : ℕ) (vector : List ℕ) (packet : ℕ) (answers : List Answer) (writes : List Write)
+    (log : Logged)
     → IsLogOf group partitions vector packet answers writes log → 1 ≤ partitions → partitions ≤ MOST_PARTITIONS
     → answers ≢ [] → MarksSome log.before
 log_marks_some group partitions vector packet answers writes log of some within isnt =

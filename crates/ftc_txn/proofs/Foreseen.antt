@@ -23,7 +23,8 @@ module _ (group partitions : ℕ) (vector : List ℕ) (packet : ℕ) (answers : 
   pub as_foreseen : (made foreseen : Option Logged) → IsNone made ↔ (answers ≡ []) → IfSome made IsLog
       → IsNone foreseen ↔ (answers ≡ []) → IfSome foreseen IsLog → made ≡ foreseen
   as_foreseen None None none is no_other other = refl
-  as_foreseen None (Some foreseen) none is no_other other = let clash : true ≡ false = no_other.1 (none.0 refl) in absurd cc
+  as_foreseen None (Some foreseen) none is no_other other = let clash : true ≡ false = no_other.1 (none.0 refl) in
+      absurd cc
   as_foreseen (Some made) None none is no_other other = let clash : true ≡ false = none.1 (no_other.0 refl) in absurd cc
   as_foreseen (Some made) (Some foreseen) none is no_other other =
       let e = one_log made foreseen is other in λ i. Some (e i)

@@ -7,7 +7,8 @@ use Rattle.ftc_message.specs.Logged.{Logged}
 use Rattle.ftc_txn.specs.Touched.{is_changed, numbers_before}
 
 -- its group and packet, the numbers before of the touched partitions, the changed partitions, and its writes
-pub record IsLogOf (of_group partitions : ℕ) (vector : List ℕ) (packet : ℕ) (answers : List Answer) (made : List Write) (log : Logged) : Type 0 where
+pub record IsLogOf (of_group partitions : ℕ) (vector : List ℕ) (packet : ℕ) (answers : List Answer) (made : List Write)
+    (log : Logged) : Type 0 where
   pub group : log.group ≡ of_group
   pub origin : log.origin ≡ packet
   pub before : log.before ≡ numbers_before partitions answers vector

@@ -1,5 +1,6 @@
 -- Whole lists of calls, and the serial execution that they amount to.
-use Rattle.std.specs.Prelude.{◌≡◌, ◌<◌, ◌↔◌, ◌++◌, ◌==◌, ℕ, Bool, List, [], ◌∷◌, length, Option, Some, None, IsNone, IfSome, IsSomeAnd, if◌then◌else◌}
+use Rattle.std.specs.Prelude.{◌≡◌, ◌<◌, ◌↔◌, ◌++◌, ◌==◌, ℕ, Bool, List, [], ◌∷◌, length, Option, Some, None, IsNone}
+use Rattle.std.specs.Prelude.{IfSome, IsSomeAnd, if◌then◌else◌}
 use Rattle.std.specs.List.{AllByRecursion}
 use Rattle.std.specs.FinMap.{get}
 use Rattle.ftc_base.specs.declared.ask.Answer.{Answer}
@@ -32,7 +33,8 @@ caller (Quit worker) = worker
 
 -- from old, the call may be answered so and leave new
 abbrev pub Step : HeadState → Call → HeadState → Type 0
-Step old (Begin worker packet) new = (worker < length old.slots) × (slot_at old.slots worker ≡ None) × (new ≡ begins old worker packet)
+Step old (Begin worker packet) new = (worker < length old.slots) × (slot_at old.slots worker ≡ None)
+    × (new ≡ begins old worker packet)
 Step old (Read worker key change answer) new = Reads old new worker key change answer
 Step old (Commit worker writes answer) new = Commits old new worker writes answer
 Step old (Quit worker) new = HasQuit old new worker
@@ -54,36 +56,48 @@ with_visit visits worker visit other = if other == worker then visit else visits
 -- a visit has read once more
 abbrev pub read_on : List ℕ → Option (List ℕ) → Option Visit → Option Visit
 read_on key value None = None
-read_on key value (Some visit) = Some (record visit { answers = visit.answers ++ (record { key = key; value = value }) ∷ [] })
+read_on key value (Some visit) =
+    Some (record visit { answers = visit.answers ++ (record { key = key; value = value }) ∷ [] })
 
 -- a visit begins again
 abbrev pub read_anew : Option Visit → Option Visit
 read_anew None = None
 read_anew (Some visit) = Some (record visit { answers = [] })
 
--- a visit commits at once: all that it read is what the content has now, and the log, if it read anything, is of that visit,
--- these writes and this vector
-pub record CommitsNow (group partitions : ℕ) (content : Content) (vector : List ℕ) (visit : Visit) (writes : List Write) (log : Option Logged) : Type 0 where
+-- a visit commits at once: all that it read is what the content has now, and the log, if it read anything, is of that
+-- visit, these writes and this vector
+pub record CommitsNow (group partitions : ℕ) (content : Content) (vector : List ℕ) (visit : Visit) (writes : List Write)
+    (log : Option Logged) : Type 0 where
   pub current : AllByRecursion (λ answer. get content answer.key ≡ answer.value) visit.answers
   pub no_log : IsNone log ↔ (visit.answers ≡ [])
   pub logged : IfSome log (IsLogOf group partitions vector visit.packet visit.answers writes)
 
--- without slots, locks and ages: visits read what they please, and each commit acts at once on the content and the vector,
--- which nothing else changes
+-- without slots, locks and ages: visits read what they please, and each commit acts at once on the content and the
+-- vector, which nothing else changes
 abbrev pub IsSerial : ℕ → ℕ → Content → List ℕ → (ℕ → Option Visit) → List Call → Content → List ℕ → Type 0
-IsSerial group partitions content vector visits [] last_content last_vector = (last_content ≡ content) × (last_vector ≡ vector)
+IsSerial group partitions content vector visits [] last_content last_vector =
+    (last_content ≡ content) × (last_vector ≡ vector)
 IsSerial group partitions content vector visits (Begin worker packet ∷ calls) last_content last_vector =
-    IsSerial group partitions content vector (with_visit visits worker (Some (record { packet = packet; answers = [] }))) calls last_content last_vector
-IsSerial group partitions content vector visits (Read worker key change (Value value) ∷ calls) last_content last_vector =
-    IsSerial group partitions content vector (with_visit visits worker (read_on key value (visits worker))) calls last_content last_vector
-IsSerial group partitions content vector visits (Read worker key change (WoundedRead by) ∷ calls) last_content last_vector =
-    IsSerial group partitions content vector (with_visit visits worker (read_anew (visits worker))) calls last_content last_vector
+    IsSerial group partitions content vector
+    (with_visit visits worker (Some (record { packet = packet; answers = [] }))) calls last_content last_vector
+IsSerial group partitions content vector visits (Read worker key change (Value value)
+    ∷ calls) last_content last_vector =
+    IsSerial group partitions content vector
+    (with_visit visits worker (read_on key value (visits worker))) calls last_content last_vector
+IsSerial group partitions content vector visits (Read worker key change (WoundedRead by)
+    ∷ calls) last_content last_vector =
+    IsSerial group partitions content vector
+    (with_visit visits worker (read_anew (visits worker))) calls last_content last_vector
 IsSerial group partitions content vector visits (Read worker key change answer ∷ calls) last_content last_vector =
     IsSerial group partitions content vector visits calls last_content last_vector
 IsSerial group partitions content vector visits (Commit worker writes (Done log) ∷ calls) last_content last_vector =
-    IsSomeAnd (visits worker) (λ visit. CommitsNow group partitions content vector visit writes log) × IsSerial group partitions (written writes content) (vector_after partitions writes vector) (with_visit visits worker None) calls last_content last_vector
-IsSerial group partitions content vector visits (Commit worker writes (WoundedCommit by) ∷ calls) last_content last_vector =
-    IsSerial group partitions content vector (with_visit visits worker (read_anew (visits worker))) calls last_content last_vector
+    IsSomeAnd (visits worker) (λ visit. CommitsNow group partitions content vector visit writes log)
+    × IsSerial group partitions (written writes content) (vector_after partitions writes vector)
+    (with_visit visits worker None) calls last_content last_vector
+IsSerial group partitions content vector visits (Commit worker writes (WoundedCommit by)
+    ∷ calls) last_content last_vector =
+    IsSerial group partitions content vector
+    (with_visit visits worker (read_anew (visits worker))) calls last_content last_vector
 IsSerial group partitions content vector visits (Commit worker writes answer ∷ calls) last_content last_vector =
     IsSerial group partitions content vector visits calls last_content last_vector
 IsSerial group partitions content vector visits (Quit worker ∷ calls) last_content last_vector =

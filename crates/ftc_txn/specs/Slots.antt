@@ -5,7 +5,8 @@ use Rattle.ftc_base.specs.declared.ask.Answer.{Answer}
 use Rattle.ftc_txn.specs.declared.turn.Turn.{Turn}
 use Rattle.ftc_txn.specs.declared.turn.Turn.TheVariants.{Idle, Wounded, Unwounded}
 
--- a slot that isn't idle runs for a packet with an age, has these answers, in order, and possibly was wounded by a worker
+-- a slot that isn't idle runs for a packet with an age, has these answers, in order, and possibly was wounded by a
+-- worker
 pub record Running : Type 0 where
   pub packet : ℕ
   pub age : ℕ
@@ -53,12 +54,21 @@ packet_at slots worker = packet_of (slot_at slots worker)
 abbrev pub IsTurn : Option Running → Turn → Type 0
 IsTurn slot Idle = slot ≡ None
 IsTurn slot (Wounded by) = (running : Running) × (slot ≡ Some running) × (running.wounded ≡ Some by)
-IsTurn slot (Unwounded age) = (running : Running) × (slot ≡ Some running) × (running.wounded ≡ None) × (running.age ≡ age)
+IsTurn slot (Unwounded age) = (running : Running) × (slot ≡ Some running) × (running.wounded ≡ None)
+    × (running.age ≡ age)
 
 abbrev pub answer_code : Coded Answer
 answer_code =
-    code_by (List ℕ × Option (List ℕ)) (coded× (coded_list coded_ℕ) (coded_option (coded_list coded_ℕ))) (λ a. (a.key, a.value)) (λ p. record { key = p.0; value = p.1 }) (λ _. refl)
+    code_by (List ℕ × Option (List ℕ)) (coded× (coded_list coded_ℕ) (coded_option (coded_list coded_ℕ)))
+    (λ a. (a.key, a.value)) (λ p. record { key = p.0; value = p.1 }) (λ _. refl)
 
 abbrev pub running_code : Coded Running
 running_code =
-    code_by (ℕ × (ℕ × (List Answer × Option ℕ))) (coded× coded_ℕ (coded× coded_ℕ (coded× (coded_list answer_code) (coded_option coded_ℕ)))) (λ r. (r.packet, (r.age, (r.answers, r.wounded)))) (λ p. record { packet = p.0; age = p.1.0; answers = p.1.1.0; wounded = p.1.1.1 }) (λ _. refl)
+    code_by (ℕ × (ℕ × (List Answer × Option ℕ)))
+    (coded× coded_ℕ (coded× coded_ℕ (coded× (coded_list answer_code) (coded_option coded_ℕ))))
+    (λ r. (r.packet, (r.age, (r.answers, r.wounded)))) (λ p. record {
+      packet = p.0;
+      age = p.1.0;
+      answers = p.1.1.0;
+      wounded = p.1.1.1;
+    }) (λ _. refl)

@@ -1,20 +1,24 @@
 -- What each call may answer, and what it leaves.
-use Rattle.std.specs.Prelude.{◌≡◌, ◌≢◌, ◌<◌, ◌↔◌, ◌||◌, ℕ, Bool, true, false, List, [], Option, Some, None, IsNone, IfSome, slice_set}
+use Rattle.std.specs.Prelude.{◌≡◌, ◌≢◌, ◌<◌, ◌↔◌, ◌||◌, ℕ, Bool, true, false, List, [], Option, Some, None, IsNone}
+use Rattle.std.specs.Prelude.{IfSome, slice_set}
 use Rattle.std.specs.List.{AllByRecursion}
 use Rattle.std.specs.FinMap.{get}
 use Rattle.ftc_base.specs.declared.ask.Write.{Write}
 use Rattle.ftc_base.specs.Partition.{partition_of}
 use Rattle.ftc_store.specs.Store.{written}
-use Rattle.ftc_locks.specs.Locks.{Locks, holds, holds_exclusively, age_of, conflicts, HoldsNothing, SameHolding, SameHoldings, IsOldestInTheWay}
+use Rattle.ftc_locks.specs.Locks.{Locks, holds, holds_exclusively, age_of, conflicts, HoldsNothing, SameHolding}
+use Rattle.ftc_locks.specs.Locks.{SameHoldings, IsOldestInTheWay}
 use Rattle.ftc_message.specs.Logged.{Logged}
 use Rattle.ftc_txn.specs.Slots.{Running, slot_at, begun, restarted, answered, wounded_by}
 use Rattle.ftc_txn.specs.Head.{HeadState, RunsUnwounded, RunsWounded, next_age}
 use Rattle.ftc_txn.specs.Touched.{vector_after}
 use Rattle.ftc_txn.specs.Logs.{IsLogOf}
 use Rattle.ftc_txn.specs.declared.answers.ReadAnswer.{ReadAnswer}
-use Rattle.ftc_txn.specs.declared.answers.ReadAnswer.TheVariants.{Value, Blocked, Wounded as WoundedRead, Idle as IdleRead, NotAsked}
+use Rattle.ftc_txn.specs.declared.answers.ReadAnswer.TheVariants.{Value, Blocked, Wounded as WoundedRead}
+use Rattle.ftc_txn.specs.declared.answers.ReadAnswer.TheVariants.{Idle as IdleRead, NotAsked}
 use Rattle.ftc_txn.specs.declared.answers.HeadCommit.{HeadCommit}
-use Rattle.ftc_txn.specs.declared.answers.HeadCommit.TheVariants.{Done, Wounded as WoundedCommit, Idle as IdleCommit, NoMemory}
+use Rattle.ftc_txn.specs.declared.answers.HeadCommit.TheVariants.{Done, Wounded as WoundedCommit, Idle as IdleCommit}
+use Rattle.ftc_txn.specs.declared.answers.HeadCommit.TheVariants.{NoMemory}
 
 -- an idle slot begins a transaction, with the next age
 abbrev pub begins : HeadState → ℕ → ℕ → HeadState
@@ -34,7 +38,8 @@ pub record IsGranted (old new : Locks) (worker age partition : ℕ) (change : Bo
   pub with_age : age_of new worker ≡ age
   pub own : (p : ℕ) → p ≢ partition → SameHolding old new worker p
   pub wounded : (other : ℕ) → conflicts old worker partition change other ≡ true → HoldsNothing new other
-  pub others : (other : ℕ) → other ≢ worker → conflicts old worker partition change other ≡ false → SameHoldings old new other
+  pub others : (other : ℕ) → other ≢ worker → conflicts old worker partition change other ≡ false →
+      SameHoldings old new other
   pub partitions : new.partitions ≡ old.partitions
 
 -- the worker holds nothing any more, and every other holding is as before
@@ -43,19 +48,23 @@ pub record IsFreed (old new : Locks) (worker : ℕ) : Type 0 where
   pub others : (other : ℕ) → other ≢ worker → SameHoldings old new other
   pub partitions : new.partitions ≡ old.partitions
 
--- a read is answered with what the content has: the slot holds the key's partition and has one more answer, and those that
--- were in its way are wounded
-pub record HasRead (old new : HeadState) (worker : ℕ) (running : Running) (key : List ℕ) (change : Bool) (value : Option (List ℕ)) : Type 0 where
+-- a read is answered with what the content has: the slot holds the key's partition and has one more answer, and those
+-- that were in its way are wounded
+pub record HasRead (old new : HeadState) (worker : ℕ) (running : Running) (key : List ℕ) (change : Bool)
+    (value : Option (List ℕ)) : Type 0 where
   pub read : value ≡ get old.content key
   pub locks : IsGranted old.locks new.locks worker running.age (partition_of old.partitions key) change
   pub answered : slot_at new.slots worker ≡ Some (answered running (record { key = key; value = value }))
-  pub wounded : (other : ℕ) → conflicts old.locks worker (partition_of old.partitions key) change other ≡ true → slot_at new.slots other ≡ wounded_by worker (slot_at old.slots other)
-  pub others : (other : ℕ) → other ≢ worker → conflicts old.locks worker (partition_of old.partitions key) change other ≡ false → slot_at new.slots other ≡ slot_at old.slots other
+  pub wounded : (other : ℕ) → conflicts old.locks worker (partition_of old.partitions key) change other ≡ true →
+      slot_at new.slots other ≡ wounded_by worker (slot_at old.slots other)
+  pub others : (other : ℕ) → other ≢ worker → conflicts old.locks worker (partition_of old.partitions key) change other
+      ≡ false → slot_at new.slots other ≡ slot_at old.slots other
   pub rest : new ≡ record old { locks = new.locks; slots = new.slots }
 
 -- a commit: each answer is what the content had just before, the writes are made, each changed partition's number is
 -- raised by 1, the locks are freed and the slot is idle; there is a log where there are answers
-pub record HasCommitted (old new : HeadState) (worker : ℕ) (running : Running) (writes : List Write) (log : Option Logged) : Type 0 where
+pub record HasCommitted (old new : HeadState) (worker : ℕ) (running : Running) (writes : List Write)
+    (log : Option Logged) : Type 0 where
   pub current : AllByRecursion (λ answer. get old.content answer.key ≡ answer.value) running.answers
   pub content : new.content ≡ written writes old.content
   pub vector : new.vector ≡ vector_after old.partitions writes old.vector
@@ -85,7 +94,8 @@ Reads old new worker key change (Value value) =
     (running : Running) × RunsUnwounded old worker running × HasRead old new worker running key change value
 -- an older one is in the way
 Reads old new worker key change (Blocked holder) =
-    (running : Running) × RunsUnwounded old worker running × IsOldestInTheWay old.locks worker running.age (partition_of old.partitions key) change holder × (new ≡ old)
+    (running : Running) × RunsUnwounded old worker running
+    × IsOldestInTheWay old.locks worker running.age (partition_of old.partitions key) change holder × (new ≡ old)
 Reads old new worker key change (WoundedRead by) =
     (running : Running) × RunsWounded old worker running by × (new ≡ restarts old worker running)
 Reads old new worker key change IdleRead = (slot_at old.slots worker ≡ None) × (new ≡ old)

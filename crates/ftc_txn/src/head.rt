@@ -1,6 +1,7 @@
 //! The head of a group: one server's own store, vector, locks and slots.
 
-ghost use Rattle.std.specs.Prelude.{◌≡◌, ◌<◌, ◌≤◌, ℕ, true, Option, Some, None, IsNone, IfSome, OnOk, OnErr, ◌↔◌, length};
+ghost use Rattle.std.specs.Prelude.{◌≡◌, ◌<◌, ◌≤◌, ℕ, true, Option, Some, None, IsNone, IfSome, OnOk, OnErr, ◌↔◌};
+ghost use Rattle.std.specs.Prelude.{length};
 ghost use Rattle.ftc_locks.specs.Locks.{HoldsNothing, IsLockTable};
 ghost use Rattle.ftc_vector.specs.Vector.{number_at};
 ghost use Rattle.ftc_message.specs.Logged.{Logged};
@@ -43,9 +44,26 @@ impl Model for Head {
 
     ghost coded = { head_code };
 
-    ghost view = { λ h. record { group = h.group; content = h.store.content; partitions = h.partitions; vector = h.vector; locks = h.locks; slots = h.slots; last = h.last } };
+    ghost view = { λ h. record {
+      group = h.group;
+      content = h.store.content;
+      partitions = h.partitions;
+      vector = h.vector;
+      locks = h.locks;
+      slots = h.slots;
+      last = h.last;
+    } };
 
-    ghost invariant = { λ h. (h.store.partitions ≡ h.partitions) × (h.locks.partitions ≡ h.partitions) × IsHead (record { group = h.group; content = h.store.content; partitions = h.partitions; vector = h.vector; locks = h.locks; slots = h.slots; last = h.last }) };
+    ghost invariant = { λ h. (h.store.partitions ≡ h.partitions) × (h.locks.partitions ≡ h.partitions)
+        × IsHead (record {
+          group = h.group;
+          content = h.store.content;
+          partitions = h.partitions;
+          vector = h.vector;
+          locks = h.locks;
+          slots = h.slots;
+          last = h.last;
+        }) };
 }
 
 impl Head {
@@ -206,7 +224,8 @@ impl Head {
         requires writes { (running : Running) → RunsUnwounded self.old worker running →
             AreItsWrites self.old worker running writes.now.items }
         requires numbers { (partition : ℕ) → partition < MOST_PARTITIONS →
-            is_changed self.old.partitions writes.now.items partition ≡ true → number_at self.old.vector partition < u64.MAX }
+            is_changed self.old.partitions writes.now.items partition ≡ true →
+            number_at self.old.vector partition < u64.MAX }
         ensures { Commits self.old self.new worker writes.now.items result }
     {
         match self.slots.turn(worker) {
@@ -224,7 +243,8 @@ impl Head {
         requires writes { (running : Running) × RunsUnwounded self.old worker running
             × AreItsWrites self.old worker running writes.now.items }
         requires numbers { (partition : ℕ) → partition < MOST_PARTITIONS →
-            is_changed self.old.partitions writes.now.items partition ≡ true → number_at self.old.vector partition < u64.MAX }
+            is_changed self.old.partitions writes.now.items partition ≡ true →
+            number_at self.old.vector partition < u64.MAX }
         ensures { Commits self.old self.new worker writes.now.items result }
     {
         let log = self.log_of(worker, writes);
@@ -240,7 +260,8 @@ impl Head {
         requires writes { (running : Running) × RunsUnwounded self.old worker running
             × AreItsWrites self.old worker running writes.now.items }
         requires numbers { (partition : ℕ) → partition < MOST_PARTITIONS →
-            is_changed self.old.partitions writes.now.items partition ≡ true → number_at self.old.vector partition < u64.MAX }
+            is_changed self.old.partitions writes.now.items partition ≡ true →
+            number_at self.old.vector partition < u64.MAX }
         ensures ok { OnOk result ((log : Option Logged) → WouldLog self.old worker writes.now.items log →
             Commits self.old self.new worker writes.now.items (Done log)) }
         ensures err { OnErr result (self.new ≡ self.old) }

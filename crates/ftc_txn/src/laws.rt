@@ -25,8 +25,10 @@ pub fn holdings()
     ensures runs_before { (old new : HeadState) (call : Call) (worker : ℕ) (running : Running) →
         Step old call new → worker ≢ caller call → RunsUnwounded new worker running → RunsUnwounded old worker running }
     ensures stay { (old new : HeadState) (call : Call) (worker : ℕ) (running : Running) →
-        Step old call new → worker ≢ caller call → RunsUnwounded new worker running → SameHoldings old.locks new.locks worker }
-    ensures own { (old new : HeadState) (worker partition : ℕ) (running : Running) (key : List ℕ) (change : Bool) (value : Option (List ℕ)) →
+        Step old call new → worker ≢ caller call → RunsUnwounded new worker running →
+        SameHoldings old.locks new.locks worker }
+    ensures own { (old new : HeadState) (worker partition : ℕ) (running : Running) (key : List ℕ) (change : Bool)
+        (value : Option (List ℕ)) →
         HasRead old new worker running key change value →
         holds_exclusively old.locks worker partition ≡ true → holds_exclusively new.locks worker partition ≡ true }
     ensures changed { (old new : HeadState) (worker : ℕ) (running : Running) (key : List ℕ) (value : Option (List ℕ)) →
@@ -45,14 +47,19 @@ pub fn transactions()
 /// A commit's log may be applied where the vector was, and raises it as the commit did. From then on the
 /// vector covers it. Where anything was read, it marks a partition.
 pub fn logs()
-    ensures ready { (group partitions : ℕ) (vector : List ℕ) (packet : ℕ) (answers : List Answer) (writes : List Write) (log : Logged) →
+    ensures ready { (group partitions : ℕ) (vector : List ℕ) (packet : ℕ) (answers : List Answer) (writes : List Write)
+        (log : Logged) →
         IsLogOf group partitions vector packet answers writes log → IsReady vector log.before log.changed }
-    ensures raised { (group partitions : ℕ) (vector : List ℕ) (packet : ℕ) (answers : List Answer) (writes : List Write) (log : Logged) →
-        IsLogOf group partitions vector packet answers writes log → vector_after partitions writes vector ≡ raised vector log.changed }
-    ensures covered { (group partitions : ℕ) (vector : List ℕ) (packet : ℕ) (answers : List Answer) (writes : List Write) (log : Logged) →
+    ensures raised { (group partitions : ℕ) (vector : List ℕ) (packet : ℕ) (answers : List Answer) (writes : List Write)
+        (log : Logged) →
+        IsLogOf group partitions vector packet answers writes log →
+        vector_after partitions writes vector ≡ raised vector log.changed }
+    ensures covered { (group partitions : ℕ) (vector : List ℕ) (packet : ℕ) (answers : List Answer)
+        (writes : List Write) (log : Logged) →
         IsLogOf group partitions vector packet answers writes log →
         IsCovered (vector_after partitions writes vector) (need_of log.before log.changed) }
-    ensures marks { (group partitions : ℕ) (vector : List ℕ) (packet : ℕ) (answers : List Answer) (writes : List Write) (log : Logged) →
+    ensures marks { (group partitions : ℕ) (vector : List ℕ) (packet : ℕ) (answers : List Answer) (writes : List Write)
+        (log : Logged) →
         IsLogOf group partitions vector packet answers writes log → 1 ≤ partitions → partitions ≤ MOST_PARTITIONS →
         answers ≢ [] → MarksSome log.before }
 {}

@@ -1,6 +1,7 @@
 //! The slots of a server.
 
-ghost use Rattle.std.specs.Prelude.{◌≡◌, ◌<◌, ℕ, true, false, Some, None, IsTrue, length, is_some, slice_set, if◌then◌else◌, IfSome, IsNone, ◌↔◌};
+ghost use Rattle.std.specs.Prelude.{◌≡◌, ◌<◌, ℕ, true, false, Some, None, IsTrue, length, is_some, slice_set};
+ghost use Rattle.std.specs.Prelude.{if◌then◌else◌, IfSome, IsNone, ◌↔◌};
 ghost use Rattle.std.specs.List.{list_any};
 ghost use Rattle.std.specs.Option.{ForSome};
 ghost use Rattle.ftc_base.specs.Sets.{has};
@@ -60,7 +61,8 @@ fn restart(slot: &mut Option<Transaction>)
 /// What a slot runs has one more answer.
 fn add(slot: &mut Option<Transaction>, key: &Key, value: &Option<Value>)
     requires { ForSome slot.old (λ running. length running.answers < MOST_READS) }
-    ensures { IfSome slot.old (λ running. slot.new ≡ Some (answered running (record { key = key.now; value = value.now }))) }
+    ensures { IfSome slot.old (λ running. slot.new
+        ≡ Some (answered running (record { key = key.now; value = value.now }))) }
 {
     match slot {
         Some(transaction) => transaction.add(key, value),
@@ -114,7 +116,8 @@ impl Slots {
     pub(crate) fn add(&mut self, worker: WorkerId, key: &Key, value: &Option<Value>)
         requires { ForSome (slot_at self.old worker) (λ running. length running.answers < MOST_READS) }
         ensures { IfSome (slot_at self.old worker) (λ running.
-            self.new ≡ slice_set self.old worker (Some (answered running (record { key = key.now; value = value.now })))) }
+            self.new ≡ slice_set self.old worker
+            (Some (answered running (record { key = key.now; value = value.now })))) }
     {
         add(&mut self.running[usize::from(worker.number())], key, value);
     }

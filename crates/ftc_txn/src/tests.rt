@@ -67,7 +67,8 @@ fn foreseen(head: &Head, worker: WorkerId) -> Option<Log> {
 
 /// Commits one write, of a key that was read with leave to change it.
 fn commit_one(head: &mut Head, worker: WorkerId, write: Write) -> HeadCommit
-    requires { (running : Running) → RunsUnwounded head.old worker running → AreItsWrites head.old worker running (write ∷ []) }
+    requires { (running : Running) → RunsUnwounded head.old worker running →
+        AreItsWrites head.old worker running (write ∷ []) }
 {
     let partition = partition_of(&write.key, head.store().partitions());
     if head.vector().at(partition) == u64::MAX {

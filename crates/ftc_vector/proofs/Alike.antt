@@ -16,4 +16,5 @@ pub told_other : (a b : List (List ℕ)) (group : ℕ) → pointwise nat_eq (vec
     → pointwise (pointwise nat_eq) a b ≡ false
 told_other a b group differs =
     false_from_ne_true _ (λ told. differs ((slice_eq-Decides Decides-eqb _ _ _ refl).1
-    (ap (λ (vectors : List (List ℕ)). vector_of vectors group) ((slice_eq-Decides (λ one other. slice_eq-Decides Decides-eqb one other _ refl) a b _ refl).0 told))))
+    (ap (λ (vectors : List (List ℕ)). vector_of vectors group)
+    ((slice_eq-Decides (λ one other. slice_eq-Decides Decides-eqb one other _ refl) a b _ refl).0 told))))

@@ -21,7 +21,10 @@ zeros_are = record {
   bounds = λ p.
       elim (cases_lt p MOST_PARTITIONS) [
         | inl within ↦ omega (arith, get_or-by_partition {A = ℕ} (λ _. 0) p 0 within)
-        | inr past ↦ omega (arith, get_or_past {X = ℕ} (by_partition (λ _. 0)) p 0 (omega (arith, length-by_partition {A = ℕ} (λ _. 0))))
+        | inr past ↦ omega (
+          arith,
+          get_or_past {X = ℕ} (by_partition (λ _. 0)) p 0 (omega (arith, length-by_partition {A = ℕ} (λ _. 0))),
+        )
       ];
 }
 
@@ -34,7 +37,8 @@ unfolding by_group
 vector_of-by_group f group within = get_or-map-range_with_len f 0 MOST_SERVERS group group [] within (zero-add group)
 
 -- behind the last vector each has zeros, and it has them itself
-pub held_behind : (vectors : List (List ℕ)) (group : ℕ) → AreHeld vectors → length vectors ≤ group + 1 → held_of vectors group ≡ zeros
+pub held_behind : (vectors : List (List ℕ)) (group : ℕ) → AreHeld vectors → length vectors ≤ group + 1 →
+    held_of vectors group ≡ zeros
 held_behind vectors group held behind =
     elim (cases_lt group (length vectors)) [
       | inl within ↦ held.last group (omega (arith, within, behind))
@@ -71,7 +75,9 @@ pub all_merged_is : (old other new : List (List ℕ))
     → ((group : ℕ) → group < MOST_SERVERS → held_of new group ≡ merged (held_of old group) (held_of other group))
     → by_group (held_of new) ≡ all_merged (by_group (held_of old)) (by_group (held_of other))
 all_merged_is old other new each =
-    same_groups _ _ (length-by_group (held_of new)) (length-by_group (λ group. merged (vector_of (by_group (held_of old)) group) (vector_of (by_group (held_of other)) group)))
+    same_groups _ _ (length-by_group (held_of new))
+    (length-by_group (λ group. merged (vector_of (by_group (held_of old)) group)
+    (vector_of (by_group (held_of other)) group)))
     (λ group within. rw (
       vector_of-by_group (held_of new) group within,
       vector_of-all_merged (by_group (held_of old)) (by_group (held_of other)) group within,
@@ -85,7 +91,13 @@ pub raised_is : (old new : List (List ℕ)) (group : ℕ) (vector : List ℕ) �
     → by_group (held_of new) ≡ group_raised (by_group (held_of old)) group vector
 raised_is old new group vector within own others =
     let size : length (by_group (held_of old)) ≡ MOST_SERVERS = length-by_group (held_of old) in
-    same_groups _ _ (length-by_group (held_of new)) (omega (arith, length-set (by_group (held_of old)) group (merged (vector_of (by_group (held_of old)) group) vector), size))
+    same_groups _ _ (length-by_group (held_of new))
+    (omega (
+      arith,
+      length-set (by_group (held_of old)) group
+          (merged (vector_of (by_group (held_of old)) group) vector),
+      size,
+    ))
     (λ one before.
     elim (cases_eq one group) [
       | inl same ↦ rw same (rw (
@@ -107,7 +119,8 @@ none_of_zeros = refl
 -- beside zeros a vector is the greater one
 merged_with_zeros : (vector : List ℕ) → IsVector vector → merged zeros vector ≡ vector
 merged_with_zeros vector is =
-    sym (by_partition-from (λ partition. max (number_at zeros partition) (number_at vector partition)) vector 0 is.size (λ p within.
+    sym (by_partition-from (λ partition. max (number_at zeros partition) (number_at vector partition)) vector 0 is.size
+    (λ p within.
     let none : number_at zeros p ≡ 0 = get_or-by_partition {A = ℕ} (λ _. 0) p 0 within in
     omega (arith, none)))
 

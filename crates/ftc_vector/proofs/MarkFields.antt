@@ -8,7 +8,8 @@ use Rattle.std.proofs.Math.Bool.{beq}
 use Rattle.std.specs.Cmp.Lexicographic.{pointwise, pointwise_decides}
 use Rattle.std.specs.Option.{option_eq}
 use Rattle.std.proofs.lemmas.Bool.{cases_eq, cases_lt, false_from_ne_true}
-use Rattle.std.proofs.lemmas.List.{length-set, get_or-set_same, get_or-set_other, get_or_past, get_or-replicate, length-replicate}
+use Rattle.std.proofs.lemmas.List.{length-set, get_or-set_same, get_or-set_other, get_or_past, get_or-replicate}
+use Rattle.std.proofs.lemmas.List.{length-replicate}
 use Rattle.ftc_base.specs.declared.limits.TheConstants.{MOST_PARTITIONS}
 use Rattle.ftc_vector.specs.Vector.{number_at, mark_at, AreMarks, IsEnd}
 use Rattle.ftc_vector.specs.Marked.{mark_in, marks_in, AreMarked, numbers_again, flags_again}
@@ -18,7 +19,8 @@ pub mark_there : (numbers : List ℕ) (marked : List Bool) (partition : ℕ) →
     → mark_at (marks_in numbers marked) partition ≡ mark_in numbers marked partition
 mark_there numbers marked partition within = get_or-by_partition (mark_in numbers marked) partition None within
 
-some_number : (is_marked : Bool) (number other : ℕ) → (if is_marked then Some number else None) ≡ Some other → number ≡ other
+some_number : (is_marked : Bool) (number other : ℕ) → (if is_marked then Some number else None) ≡ Some other →
+    number ≡ other
 some_number true number other is = cc
 some_number false number other is = absurd cc
 
@@ -28,14 +30,22 @@ marks_are numbers marked end are = record {
   size = length-by_partition (mark_in numbers marked);
   bounds = λ p number is.
       elim (cases_lt p MOST_PARTITIONS) [
-        | inl within ↦ omega (arith, are.bounds p, some_number (slice_index_or marked p false) (number_at numbers p) number (sym (mark_there numbers marked p within) ∙ is))
-        | inr past ↦ let none : None ≡ Some number = sym (get_or_past (marks_in numbers marked) p None (omega (arith, past, length-by_partition (mark_in numbers marked)))) ∙ is in absurd cc
+        | inl within ↦ omega (
+          arith,
+          are.bounds p,
+          some_number (slice_index_or marked p false) (number_at numbers p) number
+              (sym (mark_there numbers marked p within) ∙ is),
+        )
+        | inr past ↦ let none : None ≡ Some number =
+            sym (get_or_past (marks_in numbers marked) p None
+            (omega (arith, past, length-by_partition (mark_in numbers marked)))) ∙ is in absurd cc
       ];
 }
 
 pub marks_set : (numbers : List ℕ) (marked : List Bool) (end partition number : ℕ) → AreMarked numbers marked end
     → partition < MOST_PARTITIONS
-    → marks_in (slice_set numbers partition number) (slice_set marked partition true) ≡ slice_set (marks_in numbers marked) partition (Some number)
+    → marks_in (slice_set numbers partition number) (slice_set marked partition true)
+    ≡ slice_set (marks_in numbers marked) partition (Some number)
 marks_set numbers marked end partition number are within =
     let size : length (marks_in numbers marked) ≡ MOST_PARTITIONS = length-by_partition (mark_in numbers marked) in
     sym (by_partition-from (mark_in (slice_set numbers partition number) (slice_set marked partition true))
@@ -57,7 +67,8 @@ marks_set numbers marked end partition number are within =
     ]))
 
 pub mark_where : (numbers : List ℕ) (marked : List Bool) (partition : ℕ) → partition < MOST_PARTITIONS
-    → slice_index_or marked partition false ≡ true → Some (number_at numbers partition) ≡ mark_at (marks_in numbers marked) partition
+    → slice_index_or marked partition false ≡ true →
+    Some (number_at numbers partition) ≡ mark_at (marks_in numbers marked) partition
 mark_where numbers marked partition within is = rw (mark_there numbers marked partition within, is) refl
 
 pub mark_nowhere : (numbers : List ℕ) (marked : List Bool) (partition : ℕ) → partition < MOST_PARTITIONS
@@ -81,30 +92,41 @@ none_marked = record {
     no_flag p =
         elim (cases_lt p MOST_PARTITIONS) [
           | inl within ↦ get_or-replicate MOST_PARTITIONS p false false within
-          | inr past ↦ get_or_past (replicate MOST_PARTITIONS false) p false (omega (arith, past, length-replicate {A = Bool} MOST_PARTITIONS false))
+          | inr past ↦ get_or_past (replicate MOST_PARTITIONS false) p false
+              (omega (arith, past, length-replicate {A = Bool} MOST_PARTITIONS false))
         ]
 
     no_mark : (p : ℕ) → mark_at (marks_in (replicate MOST_PARTITIONS 0) (replicate MOST_PARTITIONS false)) p ≡ None
     no_mark p =
         elim (cases_lt p MOST_PARTITIONS) [
-          | inl within ↦ sym (mark_nowhere (replicate MOST_PARTITIONS 0) (replicate MOST_PARTITIONS false) p within (no_flag p))
+          | inl within ↦ sym (mark_nowhere (replicate MOST_PARTITIONS 0) (replicate MOST_PARTITIONS false) p within
+              (no_flag p))
           | inr past ↦ get_or_past (marks_in (replicate MOST_PARTITIONS 0) (replicate MOST_PARTITIONS false)) p None
-              (omega (arith, past, length-by_partition (mark_in (replicate MOST_PARTITIONS 0) (replicate MOST_PARTITIONS false))))
+              (omega (
+                arith,
+                past,
+                length-by_partition
+                    (mark_in (replicate MOST_PARTITIONS 0) (replicate MOST_PARTITIONS false)),
+              ))
         ]
 
     all_zero : (p : ℕ) → number_at (replicate MOST_PARTITIONS 0) p ≡ 0
     all_zero p =
         elim (cases_lt p MOST_PARTITIONS) [
           | inl within ↦ get_or-replicate MOST_PARTITIONS p 0 0 within
-          | inr past ↦ get_or_past (replicate MOST_PARTITIONS 0) p 0 (omega (arith, past, length-replicate {A = ℕ} MOST_PARTITIONS 0))
+          | inr past ↦ get_or_past (replicate MOST_PARTITIONS 0) p 0
+              (omega (arith, past, length-replicate {A = ℕ} MOST_PARTITIONS 0))
         ]
 
 marks_decide : (x y : Option ℕ) → Decides (option_eq nat_eq x y) (x ≡ y)
 marks_decide None None = (λ _. refl, λ _. refl)
 marks_decide None (Some y) = (λ is. absurd cc, λ is. absurd cc)
 marks_decide (Some x) None = (λ is. absurd cc, λ is. absurd cc)
-marks_decide (Some x) (Some y) =
-    (λ is. ap (λ (z : ℕ). Some z) ((unsigned_Decides x y).0 is), λ is. (unsigned_Decides x y).1 (let e : x ≡ y = cc in e))
+marks_decide (Some x) (Some y) = (
+  λ is. ap (λ (z : ℕ). Some z) ((unsigned_Decides x y).0 is),
+  λ is. (unsigned_Decides x y).1 (let e : x ≡ y = cc in
+      e),
+)
 
 -- marks with the same fields are told to be the same
 pub told_same_marks : (a b : List (Option ℕ)) → a ≡ b → pointwise (option_eq nat_eq) a b ≡ true
@@ -115,7 +137,8 @@ told_other_marks a b differ = false_from_ne_true _ (λ told. differ ((pointwise_
 
 -- where the numbers are the same, the flags tell
 pub told_by_flags : (numbers other_numbers : List ℕ) (marked other_marked : List Bool) (told : Bool)
-    (end other_end : ℕ) → AreMarked numbers marked end → AreMarked other_numbers other_marked other_end → numbers ≡ other_numbers → told ≡ pointwise beq marked other_marked
+    (end other_end : ℕ) → AreMarked numbers marked end → AreMarked other_numbers other_marked other_end →
+    numbers ≡ other_numbers → told ≡ pointwise beq marked other_marked
     → told ≡ pointwise (option_eq nat_eq) (marks_in numbers marked) (marks_in other_numbers other_marked)
 told_by_flags numbers other_numbers marked other_marked true end other_end are others same told =
     let flags : marked ≡ other_marked = (pointwise_decides booleans_Decides marked other_marked).0 (sym told) in
@@ -123,18 +146,21 @@ told_by_flags numbers other_numbers marked other_marked true end other_end are o
 told_by_flags numbers other_numbers marked other_marked false end other_end are others same told =
     sym (told_other_marks (marks_in numbers marked) (marks_in other_numbers other_marked) (λ alike.
     let flags : marked ≡ other_marked = sym (flags_again numbers marked end are)
-    ∙ ap (λ (marks : List (Option ℕ)). map is_some marks) alike ∙ flags_again other_numbers other_marked other_end others in
+    ∙ ap (λ (marks : List (Option ℕ)). map is_some marks) alike ∙ flags_again other_numbers other_marked other_end
+    others in
     let so : false ≡ true = told ∙ (pointwise_decides booleans_Decides marked other_marked).1 flags in
     absurd cc))
 
 -- where the numbers differ, the marks do
 pub told_by_numbers : (numbers other_numbers : List ℕ) (marked other_marked : List Bool)
-    (end other_end : ℕ) → AreMarked numbers marked end → AreMarked other_numbers other_marked other_end → false ≡ pointwise nat_eq numbers other_numbers
+    (end other_end : ℕ) → AreMarked numbers marked end → AreMarked other_numbers other_marked other_end →
+    false ≡ pointwise nat_eq numbers other_numbers
     → pointwise (option_eq nat_eq) (marks_in numbers marked) (marks_in other_numbers other_marked) ≡ false
 told_by_numbers numbers other_numbers marked other_marked end other_end are others told =
     told_other_marks (marks_in numbers marked) (marks_in other_numbers other_marked) (λ alike.
     let same : numbers ≡ other_numbers = sym (numbers_again numbers marked end are)
-    ∙ ap (λ (marks : List (Option ℕ)). map (λ mark. unwrap_or mark 0) marks) alike ∙ numbers_again other_numbers other_marked other_end others in
+    ∙ ap (λ (marks : List (Option ℕ)). map
+    (λ mark. unwrap_or mark 0) marks) alike ∙ numbers_again other_numbers other_marked other_end others in
     let so : false ≡ true = told ∙ (pointwise_decides unsigned_Decides numbers other_numbers).1 same in
     absurd cc)
 
@@ -180,7 +206,8 @@ are_set numbers marked end partition number are within small = record {
             (are.none p (sym (get_or-set_other marked partition p true false differs) ∙ unmarked))
       ];
   ends = rw (marks_set numbers marked end partition number are within)
-      (end_set (marks_in numbers marked) end partition number (length-by_partition (mark_in numbers marked)) are.ends within);
+      (end_set (marks_in numbers marked) end partition number
+      (length-by_partition (mark_in numbers marked)) are.ends within);
 }
   where
     marked_there : (p : ℕ) → p ≡ partition → slice_index_or (slice_set marked partition true) p false ≡ false → ⊥

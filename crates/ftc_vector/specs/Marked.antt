@@ -1,5 +1,6 @@
 -- Marks as a number and a flag for each partition, and the number behind the last that is marked.
-use Rattle.std.specs.Prelude.{◌≡◌, ◌<◌, ◌≤◌, ◌+◌, ◌^◌, ℕ, Bool, true, false, List, [], ◌∷◌, Option, Some, None, length, map, is_some, unwrap_or, slice_index_or, if◌then◌else◌}
+use Rattle.std.specs.Prelude.{◌≡◌, ◌<◌, ◌≤◌, ◌+◌, ◌^◌, ℕ, Bool, true, false, List, [], ◌∷◌, Option, Some, None, length}
+use Rattle.std.specs.Prelude.{map, is_some, unwrap_or, slice_index_or, if◌then◌else◌}
 use Rattle.std.proofs.Common.{◌∙◌, zero, suc, inl, inr, refl, sym, ap, arith, zero-add, get_or}
 use Rattle.std.proofs.lemmas.Bool.{cases_lt, cases_eq}
 use Rattle.std.proofs.lemmas.List.{ext_get_or, length-map, get_or-map, get_or_past}
@@ -9,7 +10,8 @@ use Rattle.ftc_vector.specs.Vector.{by_partition, number_at, mark_at, IsEnd}
 
 -- the numbers of the marked partitions
 abbrev pub mark_in : List ℕ → List Bool → ℕ → Option ℕ
-mark_in numbers marked partition = if slice_index_or marked partition false then Some (number_at numbers partition) else None
+mark_in numbers marked partition = if slice_index_or marked partition false then Some (number_at numbers partition)
+    else None
 
 abbrev pub marks_in : List ℕ → List Bool → List (Option ℕ)
 marks_in numbers marked = by_partition (mark_in numbers marked)
@@ -41,7 +43,8 @@ mark_is : (numbers : List ℕ) (marked : List Bool) (partition : ℕ) → partit
     → get_or (marks_in numbers marked) partition None ≡ mark_in numbers marked partition
 unfolding by_partition
 mark_is numbers marked partition within =
-    get_or-map-range_with_len (mark_in numbers marked) 0 MOST_PARTITIONS partition partition None within (zero-add partition)
+    get_or-map-range_with_len (mark_in numbers marked) 0 MOST_PARTITIONS partition partition None within
+    (zero-add partition)
 
 number_again : (number : ℕ) (is_marked : Bool) → (is_marked ≡ false → number ≡ 0)
     → unwrap_or (if is_marked then Some number else None) 0 ≡ number
@@ -58,8 +61,11 @@ pub numbers_again : (numbers : List ℕ) (marked : List Bool) (end : ℕ) → Ar
 numbers_again numbers marked end are =
     ext_get_or 0 (map (λ mark. unwrap_or mark 0) (marks_in numbers marked)) numbers
     (length-map (marks_in numbers marked) (λ mark. unwrap_or mark 0) ∙ size numbers marked ∙ sym are.size)
-    (λ k within. get_or-map (λ mark. unwrap_or mark 0) (marks_in numbers marked) k None 0 (omega (arith, within, length-map (marks_in numbers marked) (λ mark. unwrap_or mark 0)))
-    ∙ ap (λ (mark : Option ℕ). unwrap_or mark 0) (mark_is numbers marked k (omega (arith, within, length-map (marks_in numbers marked) (λ mark. unwrap_or mark 0), size numbers marked)))
+    (λ k within. get_or-map (λ mark. unwrap_or mark 0) (marks_in numbers marked) k None 0
+    (omega (arith, within, length-map (marks_in numbers marked) (λ mark. unwrap_or mark 0)))
+    ∙ ap (λ (mark : Option ℕ). unwrap_or mark 0)
+    (mark_is numbers marked k
+    (omega (arith, within, length-map (marks_in numbers marked) (λ mark. unwrap_or mark 0), size numbers marked)))
     ∙ number_again (number_at numbers k) (slice_index_or marked k false) (are.none k))
 
 pub flags_again : (numbers : List ℕ) (marked : List Bool) (end : ℕ) → AreMarked numbers marked end
@@ -67,8 +73,15 @@ pub flags_again : (numbers : List ℕ) (marked : List Bool) (end : ℕ) → AreM
 flags_again numbers marked end are =
     ext_get_or false (map is_some (marks_in numbers marked)) marked
     (length-map (marks_in numbers marked) is_some ∙ size numbers marked ∙ sym are.flag_size)
-    (λ k within. get_or-map is_some (marks_in numbers marked) k None false (omega (arith, within, length-map (marks_in numbers marked) is_some))
-    ∙ ap (λ (mark : Option ℕ). is_some mark) (mark_is numbers marked k (omega (arith, within, length-map (marks_in numbers marked) is_some, size numbers marked)))
+    (λ k within. get_or-map is_some (marks_in numbers marked) k None false
+    (omega (arith, within, length-map (marks_in numbers marked) is_some))
+    ∙ ap (λ (mark : Option ℕ). is_some mark)
+    (mark_is numbers marked k (omega (
+      arith,
+      within,
+      length-map (marks_in numbers marked) is_some,
+      size numbers marked,
+    )))
     ∙ flag_again (number_at numbers k) (slice_index_or marked k false))
 
 -- behind the end there is no mark
@@ -78,7 +91,8 @@ beyond_end (Some number ∷ marks) zero behind = let some : end_of marks + 1 ≤
 beyond_end (Some number ∷ marks) (suc partition) behind =
     let more : end_of marks + 1 ≤ suc partition = behind in beyond_end marks partition (omega (arith, more))
 beyond_end (None ∷ marks) zero behind = refl
-beyond_end (None ∷ marks) (suc partition) behind = beyond_end marks partition (behind_one (end_of marks) partition behind)
+beyond_end (None ∷ marks) (suc partition) behind =
+    beyond_end marks partition (behind_one (end_of marks) partition behind)
   where
     behind_one : (end partition : ℕ) → one_behind end ≤ suc partition → end ≤ partition
     behind_one zero partition behind = omega arith
@@ -120,7 +134,8 @@ end_again marks end is =
     later : (end : ℕ) → end_of marks < end → IsEnd marks end → end_of marks ≡ end
     later zero less is = absurd (omega (arith, less))
     later (suc before) less is =
-        absurd (clash (mark_at marks before) (beyond_end marks before (omega (arith, less))) (is.last before (omega arith)))
+        absurd (clash (mark_at marks before) (beyond_end marks before (omega (arith, less)))
+        (is.last before (omega arith)))
 
     earlier : (other : ℕ) → end_of marks ≡ other → end ≤ end_of marks → (end_of marks ≡ end → ⊥) → end_of marks ≡ end
     earlier zero same more differs = absurd (differs (omega (arith, same, more)))
@@ -128,7 +143,8 @@ end_again marks end is =
         absurd (clash (mark_at marks before) (is.beyond before (end_before before same more differs))
         (before_end marks before (same ∙ omega arith)))
       where
-        end_before : (before : ℕ) → end_of marks ≡ suc before → end ≤ end_of marks → (end_of marks ≡ end → ⊥) → end ≤ before
+        end_before : (before : ℕ) → end_of marks ≡ suc before → end ≤ end_of marks → (end_of marks ≡ end → ⊥) →
+            end ≤ before
         end_before before same more differs =
             elim (cases_lt before end) [
               | inl past ↦ absurd (differs (omega (arith, past, same, more)))

@@ -39,11 +39,13 @@ merged a b = by_partition (λ partition. max (number_at a partition) (number_at 
 
 -- the number of each changed partition is raised by 1
 abbrev pub raised : List ℕ → ℕ → List ℕ
-raised vector changed = by_partition (λ partition. if has changed partition then number_at vector partition + 1 else number_at vector partition)
+raised vector changed = by_partition (λ partition. if has changed partition then number_at vector partition + 1
+    else number_at vector partition)
 
 -- the numbers of the touched partitions
 abbrev pub marks_of : List ℕ → ℕ → List (Option ℕ)
-marks_of vector touched = by_partition (λ partition. if has touched partition then Some (number_at vector partition) else None)
+marks_of vector touched = by_partition (λ partition. if has touched partition then Some (number_at vector partition)
+    else None)
 
 -- what a log that carries this number needs, where it changes the partition and where it doesn't
 abbrev pub need_at : Option ℕ → Bool → Option ℕ

@@ -1,6 +1,7 @@
 //! Laws about vectors, needs and merging, which every caller may rest on.
 
-ghost use Rattle.std.specs.Prelude.{◌≡◌, ◌≢◌, ◌<◌, ◌+◌, ◌↔◌, ℕ, List, Option, Some, None, true, max, length, if◌then◌else◌};
+ghost use Rattle.std.specs.Prelude.{◌≡◌, ◌≢◌, ◌<◌, ◌+◌, ◌↔◌, ℕ, List, Option, Some, None, true, max, length};
+ghost use Rattle.std.specs.Prelude.{if◌then◌else◌};
 ghost use Rattle.ftc_base.specs.Sets.{has};
 ghost use Rattle.ftc_vector.specs.Vector.{by_partition, number_at, mark_at, merged, raised, marks_of, need_at, need_of};
 ghost use Rattle.ftc_vector.specs.Order.{IsReady, IsCovered, IsBelow, is_ready, covers};

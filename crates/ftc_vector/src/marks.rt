@@ -35,9 +35,17 @@ impl Model for Marks {
 
     ghost invariant = { λ marks. AreMarked marks.numbers marks.marked marks.end };
 
-    ghost inverse = { λ marks. record { numbers = map (λ mark. unwrap_or mark 0) marks; marked = map is_some marks; end = end_of marks } };
+    ghost inverse = { λ marks. record {
+      numbers = map (λ mark. unwrap_or mark 0) marks;
+      marked = map is_some marks;
+      end = end_of marks;
+    } };
 
-    ghost inverse_ok = { λ marks are. rw (numbers_again marks.numbers marks.marked marks.end are, flags_again marks.numbers marks.marked marks.end are, end_again (marks_in marks.numbers marks.marked) marks.end are.ends) refl };
+    ghost inverse_ok = { λ marks are. rw (
+      numbers_again marks.numbers marks.marked marks.end are,
+      flags_again marks.numbers marks.marked marks.end are,
+      end_again (marks_in marks.numbers marks.marked) marks.end are.ends,
+    ) refl };
 }
 
 impl Marks {

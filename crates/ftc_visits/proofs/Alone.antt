@@ -1,8 +1,11 @@
 -- Which visits are undone by themselves.
-use Rattle.std.proofs.Common.{◌≡◌, ◌≢◌, ℕ, ◌<◌, ◌≤◌, ◌==◌, ◌&&◌, ◌||◌, ◌↔◌, true, false, not, cond, List, length, Option, Some, None, inl, inr, refl, sym, subst, ◌∙◌, arith, eqb-true, le-leb, lt-ltb, ltb-true}
+use Rattle.std.proofs.Common.{◌≡◌, ◌≢◌, ℕ, ◌<◌, ◌≤◌, ◌==◌, ◌&&◌, ◌||◌, ◌↔◌, true, false, not, cond, List, length}
+use Rattle.std.proofs.Common.{Option, Some, None, inl, inr, refl, sym, subst, ◌∙◌, arith, eqb-true, le-leb, lt-ltb}
+use Rattle.std.proofs.Common.{ltb-true}
 use Rattle.std.specs.Prelude.{nat_le, nat_lt}
 use Rattle.std.specs.List.{list_all}
-use Rattle.std.proofs.lemmas.Bool.{true≢false, or_cases, or_left, or_right, and_parts, and_from, cases_lt, eqb-false, false_from_ne_true, not-true, not_from_false}
+use Rattle.std.proofs.lemmas.Bool.{true≢false, or_cases, or_left, or_right, and_parts, and_from, cases_lt, eqb-false}
+use Rattle.std.proofs.lemmas.Bool.{false_from_ne_true, not-true, not_from_false}
 use Rattle.ftc_base.specs.declared.limits.TheConstants.{MOST_PARTITIONS}
 use Rattle.ftc_message.specs.Logged.{Logged}
 use Rattle.ftc_replica.specs.Held.{Held as Replicated}

@@ -1,5 +1,8 @@
 -- One pass over the visits finds those that are undone, and one drops them.
-use Rattle.std.proofs.Common.{◌≡◌, ℕ, ◌<◌, ◌≤◌, ◌==◌, ◌&&◌, ◌||◌, ◌↔◌, ◌⊎◌, ◌+◌, ◌++◌, zero, suc, add-one, append_assoc, append-nil, drop-cons, drop_of_length-le, get_or, length, nat_cmp, Bool, true, false, not, cond, List, [], ◌∷◌, map, filter, drop, Some, inl, inr, refl, sym, ap, subst, ◌∙◌, arith, eqb-true, eq-eqb, ltb-true}
+use Rattle.std.proofs.Common.{◌≡◌, ℕ, ◌<◌, ◌≤◌, ◌==◌, ◌&&◌, ◌||◌, ◌↔◌, ◌⊎◌, ◌+◌, ◌++◌, zero, suc, add-one, append_assoc}
+use Rattle.std.proofs.Common.{append-nil, drop-cons, drop_of_length-le, get_or, length, nat_cmp, Bool, true, false, not}
+use Rattle.std.proofs.Common.{cond, List, [], ◌∷◌, map, filter, drop, Some, inl, inr, refl, sym, ap, subst, ◌∙◌, arith}
+use Rattle.std.proofs.Common.{eqb-true, eq-eqb, ltb-true}
 use Rattle.std.specs.Prelude.{slice_get}
 use Rattle.std.specs.Ordering.{is_eq}
 use Rattle.std.specs.declared.cmp.Ordering.TheVariants.{Less, Equal, Greater}
@@ -8,7 +11,8 @@ use Rattle.std.specs.BTreeSet.{BTreeSet, contains}
 use Rattle.std.specs.BTreeMap.{is_at}
 use Rattle.std.proofs.lemmas.Option.{slice_get_within, get_or_from_slice_get}
 use Rattle.std.specs.List.{AllByRecursion}
-use Rattle.std.proofs.lemmas.Bool.{true≢false, or_cases, or_left, or_right, and_parts, false_from_ne_true, ne_eqb, eqb-false}
+use Rattle.std.proofs.lemmas.Bool.{true≢false, or_cases, or_left, or_right, and_parts, false_from_ne_true, ne_eqb}
+use Rattle.std.proofs.lemmas.Bool.{eqb-false}
 use Rattle.ftc_serial.specs.Words.{AnyOf, EachLater}
 use Rattle.ftc_serial.proofs.Functions.{any_of_all}
 use Rattle.ftc_journal.specs.declared.event.VisitName.{VisitName}

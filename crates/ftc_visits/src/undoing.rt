@@ -13,7 +13,8 @@ ghost use Rattle.ftc_protocol.specs.Recovery.{previous_live, following_live, und
 ghost use Rattle.ftc_protocol.specs.Run.{IsRunState};
 ghost use Rattle.ftc_refinement.specs.Contents.{IsServerAt};
 ghost use Rattle.ftc_visits.specs.Made.{AreMade};
-ghost use Rattle.ftc_visits.specs.Undoing.{is_between, is_reached, is_undone_alone, undone_from, is_of, is_first, without};
+ghost use Rattle.ftc_visits.specs.Undoing.{is_between, is_reached, is_undone_alone, undone_from, is_of, is_first};
+ghost use Rattle.ftc_visits.specs.Undoing.{without};
 
 use crate::visit::{MadeVisit, Mark};
 use crate::visits::MadeVisits;

@@ -1,5 +1,6 @@
 -- A text that is accepted spells beats.
-use Rattle.std.proofs.Common.{◌≡◌, ℕ, ◌+◌, ◌≤◌, Bool, true, false, List, [], ◌∷◌, ◌++◌, length, Result, Ok, Err, refl, ap, subst, arith, length-append}
+use Rattle.std.proofs.Common.{◌≡◌, ℕ, ◌+◌, ◌≤◌, Bool, true, false, List, [], ◌∷◌, ◌++◌, length, Result, Ok, Err, refl}
+use Rattle.std.proofs.Common.{ap, subst, arith, length-append}
 use Rattle.std.specs.Prelude.{◌&&◌, nat_le, nat_lt, codes}
 use Rattle.std.specs.Str.{bytes_eq}
 use Rattle.std.proofs.lemmas.Bool.Decides.{nat_tests}
@@ -16,7 +17,8 @@ use Rattle.ftc_watch.specs.declared.fault.BeatsCause.TheVariants.{Header, Word, 
 use Rattle.ftc_watch.specs.declared.fault.BeatsFault.{BeatsFault}
 use Rattle.ftc_watch.specs.Members.{are_below, rises_from, set_of}
 use Rattle.ftc_watch.specs.Beats.{BeatsShape, IsTick, AreTicks, IsBeats}
-use Rattle.ftc_watch.specs.Grammar.{header, numbers_from, tick_in, tick_of, last_of, room, with_line, ended, placed, ticks_from, ticks_in, ticks_of, beats_of}
+use Rattle.ftc_watch.specs.Grammar.{header, numbers_from, tick_in, tick_of, last_of, room, with_line, ended, placed}
+use Rattle.ftc_watch.specs.Grammar.{ticks_from, ticks_in, ticks_of, beats_of}
 use Rattle.ftc_watch.proofs.Sets.{members_below}
 use Rattle.ftc_watch.proofs.Ticks.{ticks_push}
 

@@ -1,5 +1,6 @@
 -- The plain text of beats reads as those beats.
-use Rattle.std.proofs.Common.{◌≡◌, ℕ, zero, suc, ◌+◌, ◌≤◌, ◌<◌, Bool, true, false, List, [], ◌∷◌, ◌++◌, length, Result, Ok, inl, refl, sym, ap, subst, ◌∙◌, arith, rules, length-append, append-nil, append_assoc}
+use Rattle.std.proofs.Common.{◌≡◌, ℕ, zero, suc, ◌+◌, ◌≤◌, ◌<◌, Bool, true, false, List, [], ◌∷◌, ◌++◌, length, Result}
+use Rattle.std.proofs.Common.{Ok, inl, refl, sym, ap, subst, ◌∙◌, arith, rules, length-append, append-nil, append_assoc}
 use Rattle.std.specs.Prelude.{◌&&◌, ◌||◌, nat_le, nat_lt, codes, decimal, map, filter}
 use Rattle.std.specs.List.{AllByRecursion, join_with_byte, range_with_len}
 use Rattle.std.proofs.lemmas.Bool.Decides.{nat_tests}
@@ -17,7 +18,8 @@ use Rattle.ftc_watch.specs.declared.fault.BeatsCause.TheVariants.{TooMany}
 use Rattle.ftc_watch.specs.Members.{are_below, rises_from, with_member, with_members, set_of}
 use Rattle.ftc_watch.specs.Beats.{BeatsShape, IsTick, AreTicks, IsBeats}
 use Rattle.ftc_watch.specs.Plain.{members_of, tick_words, ticks_text, beats_text}
-use Rattle.ftc_watch.specs.Grammar.{header, number_word, numbers_from, tick_in, tick_of, last_of, room, with_line, placed, ticks_from, ticks_in, ticks_of, beats_of}
+use Rattle.ftc_watch.specs.Grammar.{header, number_word, numbers_from, tick_in, tick_of, last_of, room, with_line}
+use Rattle.ftc_watch.specs.Grammar.{placed, ticks_from, ticks_in, ticks_of, beats_of}
 use Rattle.ftc_watch.proofs.Sets.{has-with_member}
 use Rattle.ftc_watch.proofs.Reading.{one_line, begun}
 

@@ -1,5 +1,6 @@
 -- A server that beats at each tick is never fenced.
-use Rattle.std.proofs.Common.{◌≡◌, ◌≢◌, ℕ, ◌≤◌, Bool, true, false, Option, Some, None, List, [], ◌∷◌, ◌++◌, refl, sym, ap, ◌∙◌, arith}
+use Rattle.std.proofs.Common.{◌≡◌, ◌≢◌, ℕ, ◌≤◌, Bool, true, false, Option, Some, None, List, [], ◌∷◌, ◌++◌, refl, sym}
+use Rattle.std.proofs.Common.{ap, ◌∙◌, arith}
 use Rattle.std.specs.Prelude.{◌==◌, if◌then◌else◌}
 use Rattle.std.specs.List.{AllByRecursion}
 use Rattle.std.proofs.lemmas.Bool.Decides.{nat_tests}
@@ -11,7 +12,8 @@ use Rattle.ftc_script.specs.Steps.{with_at}
 use Rattle.ftc_script.specs.declared.statement.Statement.TheVariants.{Crash, Recover}
 use Rattle.ftc_watch.specs.declared.tick.Tick.{Tick}
 use Rattle.ftc_watch.specs.Fenced.{IsNoCrashOf}
-use Rattle.ftc_watch.specs.Watch.{Watching, at_start, missed_of, recover_at, count_at, fence_at, judge_at, at_each, servers_of, recover_all, count_all, tick_on, ticks_on, watch_of}
+use Rattle.ftc_watch.specs.Watch.{Watching, at_start, missed_of, recover_at, count_at, fence_at, judge_at, at_each}
+use Rattle.ftc_watch.specs.Watch.{servers_of, recover_all, count_all, tick_on, ticks_on, watch_of}
 
 -- the server has missed no tick, and no line fences it
 record IsClean (k : ℕ) (w : Watching) : Type 0 where

@@ -1,5 +1,6 @@
 -- The held lines that a tick adds.
-use Rattle.std.proofs.Common.{◌≡◌, ℕ, zero, suc, ◌+◌, ◌≤◌, ◌<◌, Bool, true, false, Option, Some, None, List, [], ◌∷◌, ◌++◌, refl, sym, ap, ◌∙◌, arith, append-nil, append_assoc}
+use Rattle.std.proofs.Common.{◌≡◌, ℕ, zero, suc, ◌+◌, ◌≤◌, ◌<◌, Bool, true, false, Option, Some, None, List, [], ◌∷◌}
+use Rattle.std.proofs.Common.{◌++◌, refl, sym, ap, ◌∙◌, arith, append-nil, append_assoc}
 use Rattle.std.specs.Prelude.{◌==◌, if◌then◌else◌}
 use Rattle.std.specs.List.{range_with_len}
 use Rattle.std.proofs.lemmas.Bool.Decides.{nat_tests}
@@ -11,7 +12,8 @@ use Rattle.ftc_script.specs.declared.statement.Statement.TheVariants.{Recover}
 use Rattle.ftc_watch.specs.declared.held.Held.{Held}
 use Rattle.ftc_watch.specs.declared.tick.Tick.{Tick}
 use Rattle.ftc_watch.specs.Fenced.{earlier, held_line, held_in}
-use Rattle.ftc_watch.specs.Watch.{Watching, recover_at, count_at, fence_at, judge_at, at_each, servers_of, recover_all, count_all, tick_on}
+use Rattle.ftc_watch.specs.Watch.{Watching, recover_at, count_at, fence_at, judge_at, at_each, servers_of, recover_all}
+use Rattle.ftc_watch.specs.Watch.{count_all, tick_on}
 use Rattle.ftc_watch.proofs.Sound.{all_up, count_live, judge_others}
 use Rattle.ftc_watch.proofs.Rows.{judges_missed}
 use Rattle.ftc_watch.proofs.Exact.{judges_before, alike_at}

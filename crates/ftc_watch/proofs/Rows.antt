@@ -1,5 +1,6 @@
 -- A server that is fenced has missed as many ticks in a row as the limit.
-use Rattle.std.proofs.Common.{◌≡◌, ℕ, zero, suc, ◌+◌, ◌≤◌, ◌<◌, Bool, true, false, Option, Some, None, List, [], ◌∷◌, ◌++◌, inl, inr, refl, sym, ap, subst, ◌∙◌, arith}
+use Rattle.std.proofs.Common.{◌≡◌, ℕ, zero, suc, ◌+◌, ◌≤◌, ◌<◌, Bool, true, false, Option, Some, None, List, [], ◌∷◌}
+use Rattle.std.proofs.Common.{◌++◌, inl, inr, refl, sym, ap, subst, ◌∙◌, arith}
 use Rattle.std.specs.Prelude.{◌==◌, if◌then◌else◌}
 use Rattle.std.specs.List.{range_with_len}
 use Rattle.std.proofs.Math.Nat.{eq-or-lt_of_le}
@@ -11,7 +12,8 @@ use Rattle.ftc_script.specs.Steps.{with_at}
 use Rattle.ftc_script.specs.declared.statement.Statement.TheVariants.{Recover}
 use Rattle.ftc_watch.specs.declared.tick.Tick.{Tick}
 use Rattle.ftc_watch.specs.Fenced.{row_after, row_from}
-use Rattle.ftc_watch.specs.Watch.{Watching, at_start, missed_of, recover_at, count_at, fence_at, judge_at, at_each, servers_of, recover_all, count_all, judge_all, tick_on, ticks_on}
+use Rattle.ftc_watch.specs.Watch.{Watching, at_start, missed_of, recover_at, count_at, fence_at, judge_at, at_each}
+use Rattle.ftc_watch.specs.Watch.{servers_of, recover_all, count_all, judge_all, tick_on, ticks_on}
 use Rattle.ftc_watch.proofs.Sound.{all_up, count_live, judge_others}
 
 -- a recovery leaves no more missed than before

@@ -1,5 +1,6 @@
 -- How many lines come of some ticks.
-use Rattle.std.proofs.Common.{◌≡◌, ℕ, ◌+◌, ◌*◌, ◌≤◌, true, false, Option, Some, None, List, [], ◌∷◌, ◌++◌, length, sym, ap, subst, ◌∙◌, arith, length-append}
+use Rattle.std.proofs.Common.{◌≡◌, ℕ, ◌+◌, ◌*◌, ◌≤◌, true, false, Option, Some, None, List, [], ◌∷◌, ◌++◌, length, sym}
+use Rattle.std.proofs.Common.{ap, subst, ◌∙◌, arith, length-append}
 use Rattle.std.specs.Prelude.{◌==◌, if◌then◌else◌}
 use Rattle.std.proofs.lemmas.List.FromFn.{length-range_with_len}
 use Rattle.ftc_ring.specs.Ring.{RingShape}
@@ -9,7 +10,8 @@ use Rattle.ftc_script.specs.declared.statement.Statement.TheVariants.{Crash, Rec
 use Rattle.ftc_watch.specs.declared.held.Held.{Held}
 use Rattle.ftc_watch.specs.declared.tick.Tick.{Tick}
 use Rattle.ftc_watch.specs.Watcher.{Kept, known}
-use Rattle.ftc_watch.specs.Watch.{Watching, at_start, recover_at, count_at, fence_at, judge_at, at_each, servers_of, recover_all, count_all, judge_all, tick_on, ticks_on, watch_of}
+use Rattle.ftc_watch.specs.Watch.{Watching, at_start, recover_at, count_at, fence_at, judge_at, at_each, servers_of}
+use Rattle.ftc_watch.specs.Watch.{recover_all, count_all, judge_all, tick_on, ticks_on, watch_of}
 
 -- the lines of both kinds
 abbrev lines_in : Watching → ℕ

@@ -1,5 +1,6 @@
 -- The script of a watch may be done line after line.
-use Rattle.std.proofs.Common.{◌≡◌, ℕ, zero, suc, ◌+◌, ◌≤◌, ◌<◌, Bool, true, false, Option, Some, None, List, [], ◌∷◌, ◌++◌, inl, inr, refl, sym, ap, subst, ◌∙◌, arith}
+use Rattle.std.proofs.Common.{◌≡◌, ℕ, zero, suc, ◌+◌, ◌≤◌, ◌<◌, Bool, true, false, Option, Some, None, List, [], ◌∷◌}
+use Rattle.std.proofs.Common.{◌++◌, inl, inr, refl, sym, ap, subst, ◌∙◌, arith}
 use Rattle.std.specs.Prelude.{◌==◌, if◌then◌else◌}
 use Rattle.std.specs.List.{AllByRecursion, range_with_len}
 use Rattle.std.proofs.Math.Nat.{eq-or-lt_of_le}
@@ -17,7 +18,8 @@ use Rattle.ftc_script.specs.Plain.{steps_in}
 use Rattle.ftc_script.proofs.InTurn.{live_push, last_push, steps_push, keeps}
 use Rattle.ftc_watch.specs.declared.tick.Tick.{Tick}
 use Rattle.ftc_watch.specs.Beats.{AreTicks}
-use Rattle.ftc_watch.specs.Watch.{Watching, at_start, recover_at, count_at, fence_at, judge_at, at_each, recover_all, count_all, tick_on, ticks_on, watch_of}
+use Rattle.ftc_watch.specs.Watch.{Watching, at_start, recover_at, count_at, fence_at, judge_at, at_each, recover_all}
+use Rattle.ftc_watch.specs.Watch.{count_all, tick_on, ticks_on, watch_of}
 
 -- a line of a crash or a recovery of a server, with numbers that aren't long
 abbrev pub IsMove : Statement → Type 0

@@ -1,5 +1,6 @@
 -- The lines that a tick adds.
-use Rattle.std.proofs.Common.{◌≡◌, ℕ, zero, suc, ◌+◌, ◌≤◌, ◌<◌, Bool, true, false, Option, Some, None, List, [], ◌∷◌, ◌++◌, refl, sym, ap, ◌∙◌, arith, append-nil, append_assoc}
+use Rattle.std.proofs.Common.{◌≡◌, ℕ, zero, suc, ◌+◌, ◌≤◌, ◌<◌, Bool, true, false, Option, Some, None, List, [], ◌∷◌}
+use Rattle.std.proofs.Common.{◌++◌, refl, sym, ap, ◌∙◌, arith, append-nil, append_assoc}
 use Rattle.std.specs.Prelude.{◌==◌, not, map, filter, if◌then◌else◌}
 use Rattle.std.specs.List.{range_with_len}
 use Rattle.std.proofs.lemmas.Bool.Decides.{nat_tests}
@@ -10,7 +11,8 @@ use Rattle.ftc_script.specs.declared.statement.Statement.{Statement}
 use Rattle.ftc_script.specs.declared.statement.Statement.TheVariants.{Crash, Recover}
 use Rattle.ftc_watch.specs.declared.tick.Tick.{Tick}
 use Rattle.ftc_watch.specs.Fenced.{downs_in}
-use Rattle.ftc_watch.specs.Watch.{Watching, recover_at, fence_at, judge_at, at_each, servers_of, recover_all, count_all, tick_on}
+use Rattle.ftc_watch.specs.Watch.{Watching, recover_at, fence_at, judge_at, at_each, servers_of, recover_all, count_all}
+use Rattle.ftc_watch.specs.Watch.{tick_on}
 use Rattle.ftc_watch.proofs.Sound.{same_server, all_up, count_live, count_script, judge_others}
 use Rattle.ftc_watch.proofs.Exact.{judges_before}
 

@@ -1,10 +1,14 @@
 -- The names that a command is given are names.
-use Rattle.std.proofs.Common.{◌≡◌, refl, ℕ, Bool, true, false, ◌&&◌, ◌||◌, ◌++◌, List, [], ◌∷◌, Option, Some, None, if◌then◌else◌}
+use Rattle.std.proofs.Common.{◌≡◌, refl, ℕ, Bool, true, false, ◌&&◌, ◌||◌, ◌++◌, List, [], ◌∷◌, Option, Some, None}
+use Rattle.std.proofs.Common.{if◌then◌else◌}
 use Rattle.std.specs.Prelude.{option_and_then, option_map}
 use Rattle.std.specs.List.{list_all}
 use Rattle.std.specs.Str.{bytes_eq}
 use Rattle.ftc_words.specs.Given.{is_name}
-use Rattle.ftc_words.specs.Command.{Named, Mode, Command, run, check, Place, name, number, Read, with_name, with_number, number_in, read_at, names_of, is_plain, Form, run_form, check_form, make_form, ports_form, watch_form, forms, named, six_of, named_by, are_distinct, of_form, of_word}
+use Rattle.ftc_words.specs.Command.{Named, Mode, Command, run, check, Place, name, number, Read, with_name, with_number}
+use Rattle.ftc_words.specs.Command.{number_in, read_at, names_of, is_plain, Form, run_form, check_form, make_form}
+use Rattle.ftc_words.specs.Command.{ports_form, watch_form, forms, named, six_of, named_by, are_distinct, of_form}
+use Rattle.ftc_words.specs.Command.{of_word}
 
 abbrev Names : List (List ℕ) → Type 0
 Names words = list_all is_name words ≡ true

@@ -1,9 +1,11 @@
 -- A command with two options and names takes all words of the form.
-use Rattle.std.proofs.Common.{◌≡◌, refl, sym, ℕ, Bool, true, false, not, ◌&&◌, ◌==◌, List, [], ◌∷◌, Option, Some, None, codes, subst, fold, if◌then◌else◌, ◌⊎◌, inl, inr}
+use Rattle.std.proofs.Common.{◌≡◌, refl, sym, ℕ, Bool, true, false, not, ◌&&◌, ◌==◌, List, [], ◌∷◌, Option, Some, None}
+use Rattle.std.proofs.Common.{codes, subst, fold, if◌then◌else◌, ◌⊎◌, inl, inr}
 use Rattle.std.specs.Str.{bytes_eq}
 use Rattle.std.proofs.lemmas.Slice.Eq.{bytes_eq-Decides}
 use Rattle.clap.specs.Words.{App, Row, Rule, Text, new_app, new_rule, takes, with_rule}
-use Rattle.clap.specs.Walk.{Held, Walk, Waiting, idle, option, positional, walked, walk_from, settled_rows, nothing_held}
+use Rattle.clap.specs.Walk.{Held, Walk, Waiting, idle, option, positional, walked, walk_from, settled_rows}
+use Rattle.clap.specs.Walk.{nothing_held}
 use Rattle.clap.specs.Simple.{Shape, built}
 use Rattle.clap.specs.Takes.{built_takes, settle_passes, turn_passes, walk_passes}
 use Rattle.clap.specs.declared.builder.ArgAction.TheVariants.{Append}
@@ -44,9 +46,16 @@ abbrev held_in : List Row → Option (Text × List Text) → Held
 held_in rows pending = record { rows = rows; pending = pending; skip = 0 }
 
 abbrev at : List Row → Option (Text × List Text) → Waiting → Walk
-at rows pending waiting = record { held = held_in rows pending; waiting = waiting; position = 1; is_trailing = false; stopped = None }
+at rows pending waiting = record {
+  held = held_in rows pending;
+  waiting = waiting;
+  position = 1;
+  is_trailing = false;
+  stopped = None;
+}
 
-settles : (rows : List Row) (p : Option (Which × Text)) → settle_passes top.rules false (held_in rows (pending_of p)) ≡ true
+settles : (rows : List Row) (p : Option (Which × Text)) →
+    settle_passes top.rules false (held_in rows (pending_of p)) ≡ true
 unfolding clap_on_literals
 settles rows None = refl
 settles rows (Some (of_workers, v)) = refl
@@ -91,7 +100,8 @@ awaits (ready rows p named) = false
 awaits (await rows o) = true
 
 -- a word that is no option goes to the names
-name_passes : (rows : List Row) (p : Option (Which × Text)) (named : Bool) (b : ℕ) (bs : List ℕ) → (b == 45) ≡ false → turn_passes top [] (at rows (pending_of p) (wait named)) (b ∷ bs) ≡ true
+name_passes : (rows : List Row) (p : Option (Which × Text)) (named : Bool) (b : ℕ) (bs : List ℕ) → (b == 45) ≡ false →
+    turn_passes top [] (at rows (pending_of p) (wait named)) (b ∷ bs) ≡ true
 unfolding clap_on_literals
 name_passes rows None true b bs differs = rw (differs, differs) refl
 name_passes rows None false b bs differs = rw (differs, differs) refl
@@ -103,7 +113,8 @@ name_passes rows (Some (of_names, v)) true b bs differs = rw (differs, differs) 
 name_passes rows (Some (of_names, v)) false b bs differs = rw (differs, differs) refl
 
 name_walks : (rows : List Row) (p : Option (Which × Text)) (named : Bool) (b : ℕ) (bs : List ℕ) → (b == 45) ≡ false
-    → walked top.rules [] (at rows (pending_of p) (wait named)) (b ∷ bs) ≡ walk_of (ready (settled_rows top.rules (pending_of p) rows) (Some (of_names, b ∷ bs)) true)
+    → walked top.rules [] (at rows (pending_of p) (wait named)) (b ∷ bs)
+    ≡ walk_of (ready (settled_rows top.rules (pending_of p) rows) (Some (of_names, b ∷ bs)) true)
 unfolding clap_on_literals
 name_walks rows None true b bs differs = rw (differs, differs) refl
 name_walks rows None false b bs differs = rw (differs, differs) refl
@@ -119,7 +130,8 @@ abbrev word_of : Bool → Text
 word_of true = codes "--workers"
 word_of false = codes "--alone"
 
-option_passes : (rows : List Row) (p : Option (Which × Text)) (named o : Bool) → turn_passes top [] (at rows (pending_of p) (wait named)) (word_of o) ≡ true
+option_passes : (rows : List Row) (p : Option (Which × Text)) (named o : Bool) →
+    turn_passes top [] (at rows (pending_of p) (wait named)) (word_of o) ≡ true
 unfolding clap_on_literals
 option_passes rows None true true = refl
 option_passes rows None true false = refl
@@ -139,7 +151,8 @@ option_passes rows (Some (of_names, v)) false true = refl
 option_passes rows (Some (of_names, v)) false false = refl
 
 option_walks : (rows : List Row) (p : Option (Which × Text)) (named o : Bool)
-    → walked top.rules [] (at rows (pending_of p) (wait named)) (word_of o) ≡ walk_of (await (settled_rows top.rules (pending_of p) rows) o)
+    → walked top.rules [] (at rows (pending_of p) (wait named)) (word_of o)
+    ≡ walk_of (await (settled_rows top.rules (pending_of p) rows) o)
 unfolding clap_on_literals
 option_walks rows p true true = refl
 option_walks rows p true false = refl
@@ -147,7 +160,8 @@ option_walks rows p false true = refl
 option_walks rows p false false = refl
 
 -- the value of an option
-value_passes : (rows : List Row) (o : Bool) (b : ℕ) (bs : List ℕ) → (b == 45) ≡ false → turn_passes top [] (walk_of (await rows o)) (b ∷ bs) ≡ true
+value_passes : (rows : List Row) (o : Bool) (b : ℕ) (bs : List ℕ) → (b == 45) ≡ false →
+    turn_passes top [] (walk_of (await rows o)) (b ∷ bs) ≡ true
 unfolding clap_on_literals
 value_passes rows true b bs differs = rw (differs, differs) refl
 value_passes rows false b bs differs = rw (differs, differs) refl
@@ -166,7 +180,8 @@ Settled k = (k.stopped ≡ None) × (settle_passes top.rules false k.held ≡ tr
 abbrev Good : Walk → List Text → Type 0
 Good k words = (walk_passes top [] k words ≡ true) × Settled (fold (walked top.rules []) k words)
 
-step : (k next : Walk) (word : Text) (words : List Text) → turn_passes top [] k word ≡ true → walked top.rules [] k word ≡ next → Good next words → Good k (word ∷ words)
+step : (k next : Walk) (word : Text) (words : List Text) → turn_passes top [] k word ≡ true →
+    walked top.rules [] k word ≡ next → Good next words → Good k (word ∷ words)
 unfolding walk_passes
 step k next word words passes is good = (
   all_of _ _ passes (subst (λ (w : Walk). walk_passes top [] w words ≡ true) (sym is) good.0),
@@ -179,7 +194,8 @@ pick true y l r n c d e is = inl (refl, right (not l) c is)
 pick false true l r n c d e is = inr (inl (refl, right (not r) d is))
 pick false false l r n c d e is = inr (inr (left n e is, right n e is))
 
-goes : (words : List Text) (s : State) (workers-seen alone-seen : Bool) → is_formed (awaits s) workers-seen alone-seen words ≡ true → Good (walk_of s) words
+goes : (words : List Text) (s : State) (workers-seen alone-seen : Bool) →
+    is_formed (awaits s) workers-seen alone-seen words ≡ true → Good (walk_of s) words
 unfolding walk_passes
 goes [] (ready rows p true) w a is = (refl, (refl, settles rows p))
 goes [] (ready rows p false) w a is = (refl, (refl, settles rows p))
@@ -187,25 +203,34 @@ goes [] (await rows o) w a is = cc
 goes ([] ∷ words) (await rows o) w a is = cc
 goes ((b ∷ bs) ∷ words) (await rows o) w a is =
     let differs = not_true (b == 45) (left (not (b == 45)) (is_formed false w a words) is) in
-    step (walk_of (await rows o)) (walk_of (ready rows (Some (chosen o, b ∷ bs)) false)) (b ∷ bs) words (value_passes rows o b bs differs) (value_walks rows o b bs differs)
+    step (walk_of (await rows o)) (walk_of (ready rows (Some (chosen o, b ∷ bs)) false)) (b
+    ∷ bs) words (value_passes rows o b bs differs) (value_walks rows o b bs differs)
     (goes words (ready rows (Some (chosen o, b ∷ bs)) false) w a (right (not (b == 45)) (is_formed false w a words) is))
 goes ([] ∷ words) (ready rows p named) w a is = cc
 goes ((b ∷ bs) ∷ words) (ready rows p named) w a is =
     let now : List Row = settled_rows top.rules (pending_of p) rows in
-    elim (pick (bytes_eq (b ∷ bs) (codes "--workers")) (bytes_eq (b ∷ bs) (codes "--alone")) w a (not (b == 45)) (is_formed true true a words) (is_formed true w true words) (is_formed false w a words) is) [
+    elim (pick (bytes_eq (b ∷ bs) (codes "--workers")) (bytes_eq (b ∷ bs) (codes "--alone")) w a (not (b == 45))
+    (is_formed true true a words) (is_formed true w true words) (is_formed false w a words) is) [
       | inl h ↦ let same = (bytes_eq-Decides (b ∷ bs) (codes "--workers")).0 h.0 in
           subst (λ (word : Text). Good (at rows (pending_of p) (wait named)) (word ∷ words)) (sym same)
-          (step (at rows (pending_of p) (wait named)) (walk_of (await now true)) (word_of true) words (option_passes rows p named true) (option_walks rows p named true) (goes words (await now true) true a h.1))
+          (step (at rows (pending_of p) (wait named)) (walk_of (await now true)) (word_of true) words
+          (option_passes rows p named true) (option_walks rows p named true)
+          (goes words (await now true) true a h.1))
       | inr more ↦ elim more [
         | inl h ↦ let same = (bytes_eq-Decides (b ∷ bs) (codes "--alone")).0 h.0 in
             subst (λ (word : Text). Good (at rows (pending_of p) (wait named)) (word ∷ words)) (sym same)
-            (step (at rows (pending_of p) (wait named)) (walk_of (await now false)) (word_of false) words (option_passes rows p named false) (option_walks rows p named false) (goes words (await now false) w true h.1))
+            (step (at rows (pending_of p) (wait named)) (walk_of (await now false)) (word_of false) words
+            (option_passes rows p named false) (option_walks rows p named false)
+            (goes words (await now false) w true h.1))
         | inr h ↦ let differs = not_true (b == 45) h.0 in
-            step (at rows (pending_of p) (wait named)) (walk_of (ready now (Some (of_names, b ∷ bs)) true)) (b ∷ bs) words (name_passes rows p named b bs differs) (name_walks rows p named b bs differs) (goes words (ready now (Some (of_names, b ∷ bs)) true) w a h.1)
+            step (at rows (pending_of p) (wait named)) (walk_of (ready now (Some (of_names, b ∷ bs)) true)) (b
+            ∷ bs) words (name_passes rows p named b bs differs) (name_walks rows p named b bs differs)
+            (goes words (ready now (Some (of_names, b ∷ bs)) true) w a h.1)
       ]
     ]
 
-from_good : (words : List Text) → Good (walk_from nothing_held) words → built_takes (built app) nothing_held words ≡ true
+from_good : (words : List Text) → Good (walk_from nothing_held) words →
+    built_takes (built app) nothing_held words ≡ true
 from_good words good = rw (good.1.0, good.0, good.1.1) refl
 
 pub takes_form : (words : List Text) → has_form words ≡ true → takes app words ≡ true

@@ -1,5 +1,6 @@
 -- The commands, the form of the words of each, and the command that words are.
-use Rattle.std.specs.Prelude.{ℕ, ◌≤◌, ◌<◌, ◌-◌, Bool, true, false, not, ◌&&◌, ◌||◌, ◌++◌, List, [], ◌∷◌, Option, Some, None, Ok, Err, codes, if◌then◌else◌, option_and_then, option_map, nat_le}
+use Rattle.std.specs.Prelude.{ℕ, ◌≤◌, ◌<◌, ◌-◌, Bool, true, false, not, ◌&&◌, ◌||◌, ◌++◌, List, [], ◌∷◌, Option, Some}
+use Rattle.std.specs.Prelude.{None, Ok, Err, codes, if◌then◌else◌, option_and_then, option_map, nat_le}
 use Rattle.std.specs.List.{list_any}
 use Rattle.std.specs.Str.{bytes_eq}
 use Rattle.ftc_base.specs.Number.{number_of}
@@ -55,7 +56,8 @@ read_at [] [] = Some (record { numbers = []; names = [] })
 read_at [] (w ∷ ws) = None
 read_at (p ∷ ps) [] = None
 read_at (name ∷ ps) (w ∷ ws) = option_map (with_name w) (read_at ps ws)
-read_at (number least most ∷ ps) (w ∷ ws) = option_and_then (λ n. option_map (with_number n) (read_at ps ws)) (number_in least most w)
+read_at (number least most ∷ ps) (w ∷ ws) =
+    option_and_then (λ n. option_map (with_number n) (read_at ps ws)) (number_in least most w)
 
 -- ---- the options
 
@@ -64,7 +66,8 @@ abbrev pub move_of : Option (List ℕ × List ℕ) → Option (Option (ℕ × Li
 move_of None = Some None
 move_of (Some (k, file)) = option_map (λ server. Some (server, file)) (number_in 0 (MOST_SERVERS - 1) k)
 
--- of `--workers` and `--alone` there is at most one, and `--move` stands beside `--alone` alone; there is at least one worker
+-- of `--workers` and `--alone` there is at most one, and `--move` stands beside `--alone` alone; there is at least one
+-- worker
 abbrev pub mode_from : Option (List ℕ) → Option (List ℕ) → Option (List ℕ × List ℕ) → Option Mode
 mode_from None None None = Some plain
 mode_from None None (Some moved) = None
@@ -100,7 +103,8 @@ abbrev pub six_names : List Place
 six_names = name ∷ name ∷ name ∷ name ∷ name ∷ name ∷ []
 
 abbrev pub named : List (List ℕ) → Option Named
-named (a ∷ b ∷ c ∷ d ∷ e ∷ f ∷ []) = Some (record { chain = a; script = b; capture = c; out = d; journal = e; report = f })
+named (a ∷ b ∷ c ∷ d ∷ e ∷ f ∷ []) =
+    Some (record { chain = a; script = b; capture = c; out = d; journal = e; report = f })
 named _ = None
 
 abbrev pub run_made : List ℕ → List (List ℕ) → Mode → Option Command
@@ -133,15 +137,30 @@ check_form = record { word = codes "check"; places = six_names; has_options = fa
 
 -- make N SEED CAPTURE
 abbrev pub make_form : Form
-make_form = record { word = codes "make"; places = number 1 MOST_RECORDS ∷ number 0 4294967295 ∷ name ∷ []; has_options = false; made = make_made }
+make_form = record {
+  word = codes "make";
+  places = number 1 MOST_RECORDS ∷ number 0 4294967295 ∷ name ∷ [];
+  has_options = false;
+  made = make_made;
+}
 
 -- ports CHAIN CAPTURE JOURNAL K
 abbrev pub ports_form : Form
-ports_form = record { word = codes "ports"; places = name ∷ name ∷ name ∷ number 0 (MOST_SERVERS - 1) ∷ []; has_options = false; made = ports_made }
+ports_form = record {
+  word = codes "ports";
+  places = name ∷ name ∷ name ∷ number 0 (MOST_SERVERS - 1) ∷ [];
+  has_options = false;
+  made = ports_made;
+}
 
 -- watch LIMIT CHAIN CAPTURE BEATS SCRIPT
 abbrev pub watch_form : Form
-watch_form = record { word = codes "watch"; places = number 1 MOST_MISSED ∷ name ∷ name ∷ name ∷ name ∷ []; has_options = false; made = watch_made }
+watch_form = record {
+  word = codes "watch";
+  places = number 1 MOST_MISSED ∷ name ∷ name ∷ name ∷ name ∷ [];
+  has_options = false;
+  made = watch_made;
+}
 
 abbrev pub forms : List Form
 forms = run_form ∷ check_form ∷ make_form ∷ ports_form ∷ watch_form ∷ []
@@ -187,7 +206,8 @@ are_distinct (w ∷ ws) = not (list_any (bytes_eq w) ws) && are_distinct ws
 abbrev pub of_form : Form → Mode → List (List ℕ) → Option Command
 of_form form mode words =
     if form.has_options || is_plain mode
-    then option_and_then (λ read. if are_distinct (names_of mode ++ read.names) then form.made read.numbers read.names mode else None) (read_at form.places words)
+    then option_and_then (λ read. if are_distinct (names_of mode ++ read.names) then
+    form.made read.numbers read.names mode else None) (read_at form.places words)
     else None
 
 abbrev pub of_word : List Form → List ℕ → Mode → List (List ℕ) → Option Command

@@ -6,7 +6,8 @@ use Rattle.ftc_words.specs.Given.{is_name}
 -- the words without `--move` and its two values; so many words are still passed over
 abbrev pub others_from : ℕ → List (List ℕ) → List (List ℕ)
 others_from skipped [] = []
-others_from zero (word ∷ words) = if bytes_eq word (codes "--move") then others_from 2 words else word ∷ others_from 0 words
+others_from zero (word ∷ words) = if bytes_eq word (codes "--move") then others_from 2 words
+    else word ∷ others_from 0 words
 others_from (suc more) (word ∷ words) = others_from more words
 
 -- what clap is handed of the words of a command

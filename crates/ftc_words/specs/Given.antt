@@ -1,5 +1,6 @@
 -- The words behind a command's own: options with their values, and others.
-use Rattle.std.specs.Prelude.{ℕ, Bool, true, false, not, ◌&&◌, ◌++◌, ◌==◌, List, [], ◌∷◌, length, map, nat_lt, Option, Some, None, is_some, option_and_then, codes, if◌then◌else◌}
+use Rattle.std.specs.Prelude.{ℕ, Bool, true, false, not, ◌&&◌, ◌++◌, ◌==◌, List, [], ◌∷◌, length, map, nat_lt, Option}
+use Rattle.std.specs.Prelude.{Some, None, is_some, option_and_then, codes, if◌then◌else◌}
 use Rattle.std.specs.Str.{bytes_eq}
 use Rattle.std.specs.Borrow.{Bor}
 
@@ -44,7 +45,8 @@ word_taken given w =
     if bytes_eq w (codes "--workers") then option_taken (is_some given.workers) workers given
     else (if bytes_eq w (codes "--alone") then option_taken (is_some given.schedule) schedule given
     else (if bytes_eq w (codes "--move") then option_taken (is_some given.moved) server given
-    else (if is_name w && nat_lt (length given.plain) most_plain then Some (record given { plain = given.plain ++ w ∷ [] }) else None)))
+    else (if is_name w && nat_lt (length given.plain) most_plain then
+    Some (record given { plain = given.plain ++ w ∷ [] }) else None)))
 
 -- a value of an option
 abbrev pub value_taken : Awaited → Given → List ℕ → Given

@@ -5,7 +5,9 @@ ghost use Rattle.std.specs.List.{list_all, list_any};
 ghost use Rattle.std.specs.Str.{bytes_eq};
 ghost use Rattle.ftc_words.specs.Given.{is_name, texts_of};
 ghost use Rattle.ftc_words.specs.Shown.{shown, named_of, shown_move, shown_mode, sorted_of};
-ghost use Rattle.ftc_words.specs.Command.{number_in, named, names_of, move_of, workers, mode_of, are_distinct, of_form, run_form, check_form, make_form, ports_form, watch_form, plain, of_word, forms, spelled, six_of, files_of, named_by, AreWorkers, IsWithin};
+ghost use Rattle.ftc_words.specs.Command.{number_in, named, names_of, move_of, workers, mode_of, are_distinct, of_form};
+ghost use Rattle.ftc_words.specs.Command.{run_form, check_form, make_form, ports_form, watch_form, plain, of_word};
+ghost use Rattle.ftc_words.specs.Command.{forms, spelled, six_of, files_of, named_by, AreWorkers, IsWithin};
 
 use crate::command::{Command, Mode, Move, Names};
 use crate::limits::MOST_MISSED;

@@ -63,7 +63,8 @@ impl<'a> Sorted<'a> {
 
     /// Takes an option, unless it came before.
     fn take_option(&mut self, came: bool, awaited: Awaited<'a>) -> bool
-        ensures taken { option_taken came (awaited_of awaited.entry) (sorted_of self.old) ≡ if_taken result (sorted_of self.new) }
+        ensures taken { option_taken came (awaited_of awaited.entry) (sorted_of self.old)
+            ≡ if_taken result (sorted_of self.new) }
         ensures plain { (sorted_of self.new).plain ≡ (sorted_of self.old).plain }
     {
         if !came {
@@ -75,7 +76,8 @@ impl<'a> Sorted<'a> {
     /// Takes an option, or a word of the command.
     fn take_word(&mut self, word: &'a str) -> bool
         ensures taken { word_taken (sorted_of self.old) word.now ≡ if_taken result (sorted_of self.new) }
-        ensures named { list_all spec_is_name (sorted_of self.old).plain ≡ true → list_all spec_is_name (sorted_of self.new).plain ≡ true }
+        ensures named { list_all spec_is_name (sorted_of self.old).plain ≡ true →
+            list_all spec_is_name (sorted_of self.new).plain ≡ true }
     {
         if word == "--workers" {
             let came = self.workers.is_some();
@@ -115,7 +117,8 @@ impl<'a> Sorted<'a> {
     /// Takes the next word, and tells whether it could.
     fn take(&mut self, word: &'a str) -> bool
         ensures taken { taken (sorted_of self.old) word.now ≡ if_taken result (sorted_of self.new) }
-        ensures named { list_all spec_is_name (sorted_of self.old).plain ≡ true → list_all spec_is_name (sorted_of self.new).plain ≡ true }
+        ensures named { list_all spec_is_name (sorted_of self.old).plain ≡ true →
+            list_all spec_is_name (sorted_of self.new).plain ≡ true }
     {
         if let Awaited::Any = self.awaited {
             return self.take_word(word);

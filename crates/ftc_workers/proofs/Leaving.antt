@@ -1,5 +1,6 @@
 -- What the calls on a chain leave of it, for the latch.
-use Rattle.std.proofs.Common.{◌≡◌, ◌+◌, ◌++◌, ◌∷◌, ℕ, List, Option, false, refl, ap, sym, ◌∙◌, arith, Result, Ok, Err, OnOk, OnErr}
+use Rattle.std.proofs.Common.{◌≡◌, ◌+◌, ◌++◌, ◌∷◌, ℕ, List, Option, false, refl, ap, sym, ◌∙◌, arith, Result, Ok, Err}
+use Rattle.std.proofs.Common.{OnOk, OnErr}
 use Rattle.std.proofs.Math.Logic.{∥∥₁_elim}
 use Rattle.std.specs.Coded.{Coded-set, coded_ℕ}
 use Rattle.ftc_journal.specs.declared.event.Event.{Event}

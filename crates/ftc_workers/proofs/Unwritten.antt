@@ -68,4 +68,5 @@ module _ {S A E : Type 0} (went : S → S → Type 0) (broke : S → S → E →
   left_where (Ok answer) cause a b ended records others old mid new tells same left is = absurd cc
   left_where (Err fault) cause a b ended records others old mid new tells same left is =
       subst (λ (list : List Released). AreLeft list old new) (sym same)
-      (subst (λ (taps : List Face). AreLeft records old taps) (sym left) (tells fault ended (same_cause fault cause is)))
+      (subst (λ (taps : List Face). AreLeft records old taps) (sym left)
+      (tells fault ended (same_cause fault cause is)))

@@ -1,7 +1,7 @@
 //! When the writer is told to write.
 
-/// So many packets are sent before the writer is told to write while workers have something to do. To wake a thread costs
-/// as much as several packets do.
+/// So many packets are sent before the writer is told to write while workers have something to do. To wake a thread
+/// costs as much as several packets do.
 const BATCH: u32 = 1024;
 
 /// What was sent and isn't written.

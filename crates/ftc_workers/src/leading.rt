@@ -43,7 +43,8 @@ impl Lead {
         }
     }
 
-    /// A worker may be held for long. True where another is to be woken, which takes its place if it still is held then.
+    /// A worker may be held for long. True where another is to be woken, which takes its place if it still is held
+    /// then.
     pub fn hold(&mut self, worker: WorkerId) -> bool {
         if self.leader != Some(worker) {
             return false;

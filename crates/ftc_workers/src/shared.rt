@@ -1,9 +1,9 @@
 //! The one latch, and what tells of changes under it.
 //!
-//! One worker at a time looks for jobs, and does one after the other: two would only stand in each other's way under the
-//! latch. Where it may be held for long, before a gate that isn't open or by an older transaction, it wakes another, which
-//! looks for jobs in its place if it still is held then. A worker that comes back from a visit looks itself, unless another
-//! does. So wherever a job can be done, a worker is awake that looks for one, or comes to.
+//! One worker at a time looks for jobs, and does one after the other: two would only stand in each other's way under
+//! the latch. Where it may be held for long, before a gate that isn't open or by an older transaction, it wakes
+//! another, which looks for jobs in its place if it still is held then. A worker that comes back from a visit looks
+//! itself, unless another does. So wherever a job can be done, a worker is awake that looks for one, or comes to.
 
 ghost use Rattle.std.specs.Prelude.{◌≡◌, ◌<◌, ◌+◌};
 
@@ -140,8 +140,8 @@ pub fn free<L: Run>(shared: &Shared<'_, L>) {
     shared.freed.notify_all();
 }
 
-/// Takes the message of a frame that was read, where it may still be taken, and sends what was released. False where there
-/// was no memory.
+/// Takes the message of a frame that was read, where it may still be taken, and sends what was released. False where
+/// there was no memory.
 pub fn take<L: Run, R: Wait>(
     rt: &R,
     shared: &Shared<'_, L>,

@@ -1,5 +1,5 @@
-//! Calls on a chain as a list, and what came of them. So a test is a table, and its proof carries no chain along from call
-//! to call.
+//! Calls on a chain as a list, and what came of them. So a test is a table, and its proof carries no chain along from
+//! call to call.
 
 use crate::tests::doing::{
     begin, commit, foreign_plan, frame, lines, lists, look, plan_for_c, plan_of, quit, read, reads,

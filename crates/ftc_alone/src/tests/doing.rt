@@ -1,4 +1,5 @@
-//! Calls on a chain, made where what they require is so. Most say nothing of what comes of them: the tests look at that.
+//! Calls on a chain, made where what they require is so. Most say nothing of what comes of them: the tests look at
+//! that.
 
 ghost use Rattle.std.specs.Prelude.{◌≡◌, true};
 ghost use Rattle.ftc_journal.specs.declared.job.Job.{Job as AJob};

@@ -1,6 +1,7 @@
 //! What goes away with messages and withheld packets.
 
-ghost use Rattle.std.specs.Prelude.{ℕ, ◌≡◌, ◌<◌, ◌≤◌, ◌&&◌, not, length, Some, None, is_some, option_map, slice_set, if◌then◌else◌};
+ghost use Rattle.std.specs.Prelude.{ℕ, ◌≡◌, ◌<◌, ◌≤◌, ◌&&◌, not, length, Some, None, is_some, option_map, slice_set};
+ghost use Rattle.std.specs.Prelude.{if◌then◌else◌};
 ghost use Rattle.ftc_serial.specs.Trace.{names};
 ghost use Rattle.ftc_protocol.specs.declared.fate.Fate.TheVariants as became;
 ghost use Rattle.ftc_machine.specs.declared.state.message.Message.{Message as AMessage};

@@ -4,7 +4,9 @@ ghost use Rattle.std.specs.Prelude.{◌≡◌, ◌<◌};
 ghost use Rattle.std.specs.List.{list_any, list_all};
 ghost use Rattle.ftc_vector.specs.Commits.{vector_of};
 ghost use Rattle.ftc_machine.specs.Slots.{has_such, slot_at};
-ghost use Rattle.ftc_machine.specs.LegalityTests.{is_ready, is_older, may_take, may_add, is_in_turn, carries, may_apply, may_visit, may_leave, sends, may_pass, may_lose, may_carry, footprints_of, list_of};
+ghost use Rattle.ftc_machine.specs.LegalityTests.{is_ready, is_older, may_take, may_add, is_in_turn, carries};
+ghost use Rattle.ftc_machine.specs.LegalityTests.{may_apply, may_visit, may_leave, sends, may_pass, may_lose};
+ghost use Rattle.ftc_machine.specs.LegalityTests.{may_carry, footprints_of, list_of};
 
 use crate::state::MachineState;
 use crate::state::message::Message;

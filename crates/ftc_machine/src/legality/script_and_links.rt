@@ -10,7 +10,9 @@ ghost use Rattle.ftc_machine.specs.declared.state.message.Message.{Message as AM
 ghost use Rattle.ftc_machine.specs.declared.state.message.Withheld.{Withheld as AWithheld};
 ghost use Rattle.ftc_protocol.specs.Changes.{is_some_list};
 ghost use Rattle.ftc_machine.specs.Slots.{has_such, slot_at};
-ghost use Rattle.ftc_machine.specs.LegalityTests.{lines_left, first_of, may_enter, is_crash, is_recovery, may_crash, may_recover, may_pull, all_below, is_begun, is_stalled, may_propagate};
+ghost use Rattle.ftc_machine.specs.LegalityTests.{lines_left, first_of, may_enter, is_crash, is_recovery, may_crash};
+ghost use Rattle.ftc_machine.specs.LegalityTests.{may_recover, may_pull, all_below, is_begun, is_stalled};
+ghost use Rattle.ftc_machine.specs.LegalityTests.{may_propagate};
 
 use crate::state::MachineState;
 use crate::state::message::{Message, Withheld};

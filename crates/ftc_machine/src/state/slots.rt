@@ -1,6 +1,7 @@
 //! Items by number.
 
-ghost use Rattle.std.specs.Prelude.{◌≡◌, ◌<◌, ℕ, Bool, Option, false, Some, None, length, OnOk, OnSome, option_map, slice_set, [], if◌then◌else◌};
+ghost use Rattle.std.specs.Prelude.{◌≡◌, ◌<◌, ℕ, Bool, Option, false, Some, None, length, OnOk, OnSome, option_map};
+ghost use Rattle.std.specs.Prelude.{slice_set, [], if◌then◌else◌};
 ghost use Rattle.std.specs.List.{list_any};
 ghost use Rattle.ftc_machine.specs.Slots.{slot_at, has_such};
 

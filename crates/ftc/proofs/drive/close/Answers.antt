@@ -23,9 +23,11 @@ chain_after-requires c =
     let packets : List (List ℕ) = bytes_of_packets texts.capture.packets in
     let setting : Setting = setting_of texts.spec packets texts.script in
     let run : ChainRun = c.args.chain in
-    let right : IsSetting setting = c.accepted.ensures.setting texts.spec packets texts.script c.rules.ensures.bounds c.ring.ensures.accepted
+    let right : IsSetting setting =
+    c.accepted.ensures.setting texts.spec packets texts.script c.rules.ensures.bounds c.ring.ensures.accepted
     c.requires.ring (c.requires.packets ∙ sym (bytes_count texts.capture.packets)) in
-    let steps : c.in_ok-trace.trace ≡ trace_of run.journal = c.in_ok-trace.ensures ∙ ap trace_of c.journal-journal.ensures.same in
+    let steps : c.in_ok-trace.trace ≡ trace_of run.journal =
+    c.in_ok-trace.ensures ∙ ap trace_of c.journal-journal.ensures.same in
     subst (λ (taken : List Step). IsSome (serial_run texts.spec.rules (serial_opening packets) taken)) (sym steps)
     (has_end setting run.journal c.serial_of_a_run.ensures ∣ right ∣₁
     (subst (λ (of : Setting). ∥ IsRun of run.journal ∥₁) c.requires.setting c.journal-journal.ensures.run))
@@ -36,11 +38,15 @@ returns-clause-finished c =
     let packets : List (List ℕ) = bytes_of_packets texts.capture.packets in
     let setting : Setting = setting_of texts.spec packets texts.script in
     let run : ChainRun = c.args.chain in
-    let right : IsSetting setting = c.accepted.ensures.setting texts.spec packets texts.script c.rules.ensures.bounds c.ring.ensures.accepted
+    let right : IsSetting setting =
+    c.accepted.ensures.setting texts.spec packets texts.script c.rules.ensures.bounds c.ring.ensures.accepted
     c.requires.ring (c.requires.packets ∙ sym (bytes_count texts.capture.packets)) in
-    let steps : c.in_ok-trace.trace ≡ trace_of run.journal = c.in_ok-trace.ensures ∙ ap trace_of c.journal-journal.ensures.same in
+    let steps : c.in_ok-trace.trace ≡ trace_of run.journal =
+    c.in_ok-trace.ensures ∙ ap trace_of c.journal-journal.ensures.same in
     finished_run setting run (serial_state c.in_ok-serial.serial) c.requires.setting right c.journal-journal.ensures.run
     c.requires.finished
-    (subst (λ (taken : List Step). serial_run texts.spec.rules (serial_opening packets) taken ≡ Some (serial_state c.in_ok-serial.serial)) steps
+    (subst (λ (taken : List Step). serial_run texts.spec.rules (serial_opening packets) taken
+    ≡ Some (serial_state c.in_ok-serial.serial)) steps
     c.in_ok-serial.ensures.state)
-    (subst (λ (events : List Event). AllByRecursion (IsEvent version.Second) events) c.journal-journal.ensures.same c.numbers_fit.ensures)
+    (subst (λ (events : List Event). AllByRecursion
+    (IsEvent version.Second) events) c.journal-journal.ensures.same c.numbers_fit.ensures)

@@ -17,7 +17,8 @@ close-requires c =
       packets = c.requires.packets;
       setting = kept ∙ ap setting_in c.in_ok-chain.ensures.new;
       finished = driven_is_finished c.drive.ensures.run run c.args.texts.now.schedule.items
-          (subst (λ (of : Setting). ∥ IsDrive of c.args.texts.now.schedule.items run.journal ∥₁) (sym kept) c.in_ok-run.ensures.ok);
+          (subst (λ (of : Setting). ∥ IsDrive of c.args.texts.now.schedule.items run.journal ∥₁)
+          (sym kept) c.in_ok-run.ensures.ok);
     }
 
 pub returns-clause-chosen : goal.returns-clause-chosen
@@ -26,6 +27,8 @@ returns-clause-chosen c =
     let setting : Setting = setting_of texts.spec (bytes_of_packets texts.capture.packets) texts.script in
     let run : ChainRun = c.run.new.chain in
     let chosen : ∥ IsDrive setting texts.schedule.items run.journal ∥₁ =
-    subst (λ (of : Setting). ∥ IsDrive of texts.schedule.items run.journal ∥₁) (ap setting_in c.in_ok-chain.ensures.new) c.in_ok-run.ensures.ok in
+    subst (λ (of : Setting). ∥ IsDrive of texts.schedule.items run.journal ∥₁)
+    (ap setting_in c.in_ok-chain.ensures.new) c.in_ok-run.ensures.ok in
     IfOk-weaker c.close.result _ _ (λ driven same.
-    subst (λ (events : List Event). ∥ IsDrive setting texts.schedule.items events ∥₁) (sym same) chosen) c.close.ensures.journal
+    subst (λ (events : List Event). ∥ IsDrive setting texts.schedule.items events ∥₁)
+    (sym same) chosen) c.close.ensures.journal

@@ -8,5 +8,6 @@ use Rattle.ftc.proofs.fates.fates_by_place.Given as goal
 
 abbrev pub invariant-loop-packet : goal.invariant-loop-packet
 invariant-loop-packet l = record {
-  fates : (fate : ℕ → Fate) → AreFatesOf (serial_state l.serial).place fate → l.fates ≡ map fate (range_with_len 0 l.packet);
+  fates : (fate : ℕ → Fate) → AreFatesOf (serial_state l.serial).place fate →
+      l.fates ≡ map fate (range_with_len 0 l.packet);
 }

@@ -15,7 +15,8 @@ fates_by_place-requires c =
     let texts = c.args.texts.now in
     let setting : Setting = setting_of texts.spec (bytes_of_packets texts.capture.packets) texts.script in
     let same : c.len.result ≡ count setting = c.len.ensures.same ∙ sym (bytes_count texts.capture.packets) in
-    λ packet below. places_there setting c.args.journal.now.items (serial_state c.args.serial.now) c.requires.finished packet
+    λ packet below. places_there setting c.args.journal.now.items
+    (serial_state c.args.serial.now) c.requires.finished packet
     (subst (λ (packets : ℕ). packet < packets) same below)
 
 pub fates_of-requires : goal.fates_of-requires

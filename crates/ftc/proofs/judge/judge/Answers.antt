@@ -16,10 +16,15 @@ returns-in-Ok-Yes-clause-judges g c = λ tells.
     let files = c.in-Ok.files in
     let packets = bytes_of_packets files.capture.packets in
     let setting : Setting = setting_of files.spec packets files.script in
-    let is : IsSetting setting = c.accepted.ensures.setting files.spec packets files.script c.rules.ensures.bounds c.in-Ok.ensures.right c.in-Ok.ensures.ring (c.in-Ok.ensures.packets ∙ sym (bytes_count files.capture.packets)) in
-    let told : IsVerdict setting files.capture c.as_slice-out.result.now files.journal.items c.as_slice-report.result.now c.in-Ok-Yes.field-0 = c.in-Ok-Yes.ensures in
-    let yes : IsVerdict setting files.capture c.as_slice-out.result.now files.journal.items c.as_slice-report.result.now Yes = rw c.in-Ok-Yes.field-0-is at told in
-    let verdict : IsVerdict setting files.capture files.out files.journal.items files.report Yes = rw (← c.as_slice-out.ensures, ← c.as_slice-report.ensures) yes in
+    let is : IsSetting setting =
+    c.accepted.ensures.setting files.spec packets files.script c.rules.ensures.bounds c.in-Ok.ensures.right
+    c.in-Ok.ensures.ring (c.in-Ok.ensures.packets ∙ sym (bytes_count files.capture.packets)) in
+    let told : IsVerdict setting files.capture c.as_slice-out.result.now files.journal.items
+    c.as_slice-report.result.now c.in-Ok-Yes.field-0 = c.in-Ok-Yes.ensures in
+    let yes : IsVerdict setting files.capture c.as_slice-out.result.now files.journal.items c.as_slice-report.result.now
+    Yes = rw c.in-Ok-Yes.field-0-is at told in
+    let verdict : IsVerdict setting files.capture files.out files.journal.items files.report Yes =
+    rw (← c.as_slice-out.ensures, ← c.as_slice-report.ensures) yes in
     record {
       judged = record {
         chain = files.spec;
@@ -32,7 +37,9 @@ returns-in-Ok-Yes-clause-judges g c = λ tells.
         verdict_right = verdict;
       };
       sound = sound_throughout c.every_moment.ensures setting is files.journal.items verdict.whole.run;
-      visited = c.right_runs.ensures.visited setting is files.capture files.out files.journal.items files.report verdict;
-      settled = λ packet below. c.right_runs.ensures.settled setting is files.capture files.out files.journal.items files.report verdict packet (rw (bytes_count files.capture.packets) below);
+      visited = c.right_runs.ensures.visited setting is files.capture files.out files.journal.items files.report
+          verdict;
+      settled = λ packet below. c.right_runs.ensures.settled setting is files.capture files.out files.journal.items
+          files.report verdict packet (rw (bytes_count files.capture.packets) below);
       causes = λ packet number below. c.losses.ensures.place setting files.journal.items packet number;
     }

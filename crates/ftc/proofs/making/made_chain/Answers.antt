@@ -11,7 +11,8 @@ unreachable-requires c =
     let text : c.as_bytes.result.now ≡ made_text = c.as_bytes.ensures.value in
     let fault = c.in-Err-Bad.field-0-0 in
     no_fault fault (subst (λ (t : List ℕ). chain_of t ≡ Err fault) text
-    (fault_told Chain ChainFault (λ one. chain_of c.as_bytes.result.now ≡ Err one) c.in-Err-Bad.field-0 c.in-Err-Bad.ensures.bad fault
+    (fault_told Chain ChainFault (λ one. chain_of c.as_bytes.result.now
+    ≡ Err one) c.in-Err-Bad.field-0 c.in-Err-Bad.ensures.bad fault
     c.in-Err-Bad.field-0-is))
 
 pub returns-in-Ok : goal.returns-in-Ok

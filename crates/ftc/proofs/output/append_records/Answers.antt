@@ -15,7 +15,9 @@ returns-in_err-flush_long-clause-refused g c = λ t held was.
     let (before, is, sum) = sofar.written t held was in
     let whole = whole_is record_of items c.loop-packet.packet-index front before c.loop-packet.piece sum in
     on_err c.from_residual.result _
-    (may_hold (g.D.Desk.file c.args.desk.now c.args.name.now) _ _ before c.loop-packet.piece (flat_map record_of (drop c.loop-packet.packet-index items)) (front ++ flat_map record_of items) is whole (c.in_err-flush_long.ensures.refused (sofar.tells t)))
+    (may_hold (g.D.Desk.file c.args.desk.now c.args.name.now) _ _ before c.loop-packet.piece
+    (flat_map record_of (drop c.loop-packet.packet-index items)) (front ++ flat_map record_of items) is whole
+    (c.in_err-flush_long.ensures.refused (sofar.tells t)))
 
 pub returns-in_err-add_record-clause-refused : goal.returns-in_err-add_record-clause-refused
 returns-in_err-add_record-clause-refused g c = λ t held was.
@@ -34,12 +36,18 @@ loop-packet-preserved g c =
     let sofar = c.loop-packet.invariant in
     let items = c.args.released.now in
     let record_of = released_record c.args.capture.now in
-    let there = slice_get_read items (length items) c.loop-packet.packet-index c.packet-item.result refl (search rules) c.packet-item.is in
+    let there = slice_get_read items (length items) c.loop-packet.packet-index c.packet-item.result refl
+    (search rules) c.packet-item.is in
     record {
       written = λ t held was.
           let (before, is, sum) = sofar.written t held was in
-          let (after, now, same) = c.in_ok-flush_long.ensures.moved (sofar.tells t) before is in
-          (after, now, ap (λ (piece : List ℕ). after ++ piece) c.in_ok-add_record.ensures.ok ∙ next_is record_of items c.loop-packet.packet-index c.packet-item.result (held ++ c.args.first) after c.flush_long.new.piece there (same ∙ sum));
+          let (after, now, same) = c.in_ok-flush_long.ensures.moved (sofar.tells t) before is in (
+            after,
+            now,
+            ap (λ (piece : List ℕ). after
+                ++ piece) c.in_ok-add_record.ensures.ok ∙ next_is record_of items c.loop-packet.packet-index
+                c.packet-item.result (held ++ c.args.first) after c.flush_long.new.piece there (same ∙ sum),
+          );
       others = search rules;
       tells = search rules;
       count = search rules;
@@ -55,7 +63,10 @@ returns-clause-refused g c = λ t held was.
     let front = held ++ c.args.first in
     let (before, is, sum) = sofar.written t held was in
     let whole = whole_is record_of items c.loop-packet.packet-index front before c.loop-packet.piece sum in
-    on_err_weaker c.append.result (λ cut. may_hold (g.D.Desk.file c.args.desk.now c.args.name.now) _ _ before c.loop-packet.piece (flat_map record_of (drop c.loop-packet.packet-index items)) (front ++ flat_map record_of items) is whole (rw c.as_slice.ensures at cut)) (c.append.ensures.refused (sofar.tells t))
+    on_err_weaker c.append.result
+    (λ cut. may_hold (g.D.Desk.file c.args.desk.now c.args.name.now) _ _ before c.loop-packet.piece
+    (flat_map record_of (drop c.loop-packet.packet-index items)) (front ++ flat_map record_of items) is whole
+    (rw c.as_slice.ensures at cut)) (c.append.ensures.refused (sofar.tells t))
 
 pub returns-in_err-flush_long-clause-absent : goal.returns-in_err-flush_long-clause-absent
 returns-in_err-flush_long-clause-absent g c = λ t s failed.

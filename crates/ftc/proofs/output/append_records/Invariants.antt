@@ -7,7 +7,10 @@ use Rattle.ftc.proofs.output.append_records.Given as goal
 
 abbrev pub invariant-loop-packet : goal.invariant-loop-packet
 invariant-loop-packet g l = record {
-  written : g.D.Desk.tells l.fn.desk → (held : List ℕ) → g.D.Desk.file l.fn.desk l.name ≡ Some held → (before : List ℕ) × (g.D.Desk.file l.desk l.name ≡ Some before) × (before ++ l.piece ≡ (held ++ l.fn.first) ++ flat_map (released_record l.capture) (take l.packet-index l.released));
+  written : g.D.Desk.tells l.fn.desk → (held : List ℕ) → g.D.Desk.file l.fn.desk l.name ≡ Some held →
+      (before : List ℕ) × (g.D.Desk.file l.desk l.name ≡ Some before)
+      × (before ++ l.piece ≡ (held ++ l.fn.first)
+      ++ flat_map (released_record l.capture) (take l.packet-index l.released));
   others : g.D.Desk.tells l.fn.desk → SameButAt l.name (g.D.Desk.file l.fn.desk) (g.D.Desk.file l.desk);
   tells : g.D.Desk.tells l.fn.desk → g.D.Desk.tells l.desk;
   count : g.D.Desk.faults l.fn.desk ≤ g.D.Desk.faults l.desk;

@@ -26,13 +26,18 @@ returns-in_err-journal-clause-refused g c = λ t.
     let to_second : SameFiles old second = λ name. c.fetch_capture.ensures.files t-first name ∙ to_first name in
     let chain_right : HasChain c.args.names.chain.now old c.in_ok-spec.spec = c.in_ok-spec.ensures.accepted t in
     let capture_right : HasCapture c.args.names.capture.now old c.in_ok-capture.capture =
-    capture_before c.args.names.capture.now old first c.in_ok-capture.capture to_first (c.in_ok-capture.ensures.accepted t-first) in
-    let refused : IfErr c.from_residual-in_err-journal.result (IsTextRefused (g.D.Desk.sound c.fetch_capture.new.desk) second
+    capture_before c.args.names.capture.now old first c.in_ok-capture.capture to_first
+    (c.in_ok-capture.ensures.accepted t-first) in
+    let refused : IfErr c.from_residual-in_err-journal.result
+    (IsTextRefused (g.D.Desk.sound c.fetch_capture.new.desk) second
     c.args.names.journal.now IsWrongJournal) = search (rules, c.fetch_journal.ensures.refused t-second) in
-    IfErr-weaker c.from_residual-in_err-journal.result _ _ (λ ending is. port_journal_refused (g.D.Desk.sound c.args.desk.now)
+    IfErr-weaker c.from_residual-in_err-journal.result _ _
+    (λ ending is. port_journal_refused (g.D.Desk.sound c.args.desk.now)
     (ports_by c.args.names) c.args.server old c.in_ok-spec.spec c.in_ok-capture.capture ending chain_right capture_right
-    (refused_before (g.D.Desk.sound c.args.desk.now) (g.D.Desk.sound c.fetch_capture.new.desk) old second c.args.names.journal.now
-    IsWrongJournal ending (λ s. c.fetch_capture.ensures.served.sound_on (c.fetch_chain.ensures.served.sound_on s)) to_second is)) refused
+    (refused_before (g.D.Desk.sound c.args.desk.now)
+    (g.D.Desk.sound c.fetch_capture.new.desk) old second c.args.names.journal.now
+    IsWrongJournal ending (λ s. c.fetch_capture.ensures.served.sound_on
+    (c.fetch_chain.ensures.served.sound_on s)) to_second is)) refused
 
 pub returns-clause-refused : goal.returns-clause-refused
 returns-clause-refused g c = λ t.
@@ -45,15 +50,22 @@ returns-clause-refused g c = λ t.
     let to_second : SameFiles old second = λ name. c.fetch_capture.ensures.files t-first name ∙ to_first name in
     let chain_right : HasChain c.args.names.chain.now old c.in_ok-spec.spec = c.in_ok-spec.ensures.accepted t in
     let capture_right : HasCapture c.args.names.capture.now old c.in_ok-capture.capture =
-    capture_before c.args.names.capture.now old first c.in_ok-capture.capture to_first (c.in_ok-capture.ensures.accepted t-first) in
+    capture_before c.args.names.capture.now old first c.in_ok-capture.capture to_first
+    (c.in_ok-capture.ensures.accepted t-first) in
     let journal_right : HasJournal c.args.names.journal.now old c.in_ok-journal.journal.items =
-    journal_before c.args.names.journal.now old second c.in_ok-journal.journal.items to_second (c.in_ok-journal.ensures.accepted t-second) in
+    journal_before c.args.names.journal.now old second c.in_ok-journal.journal.items to_second
+    (c.in_ok-journal.ensures.accepted t-second) in
     let why : (cause : PortsCause) → c.in-Err.refusal ≡ refuse.Bad cause
-    → IsCause c.in_ok-spec.spec.rules (bytes_of_packets c.in_ok-capture.capture.packets) (trace_of c.in_ok-journal.journal.items) c.args.server cause =
-    λ cause is. subst (λ (steps : List Step). IsCause c.in_ok-spec.spec.rules (bytes_of_packets c.in_ok-capture.capture.packets) steps
+    → IsCause c.in_ok-spec.spec.rules (bytes_of_packets c.in_ok-capture.capture.packets)
+    (trace_of c.in_ok-journal.journal.items) c.args.server cause =
+    λ cause is. subst (λ (steps : List Step). IsCause c.in_ok-spec.spec.rules
+    (bytes_of_packets c.in_ok-capture.capture.packets) steps
     c.args.server cause) c.in_ok-trace.ensures (cause_told (List PortLine)
-    (IsCause c.in_ok-spec.spec.rules (bytes_of_packets c.in_ok-capture.capture.packets) c.in_ok-trace.trace c.args.server) c.in-Err.refusal c.in-Err.ensures.bad cause is) in
-    rw c.from.ensures (table_refused (g.D.Desk.sound c.args.desk.now) (ports_by c.args.names) c.args.server old c.in_ok-spec.spec
+    (IsCause c.in_ok-spec.spec.rules
+    (bytes_of_packets c.in_ok-capture.capture.packets) c.in_ok-trace.trace c.args.server) c.in-Err.refusal
+    c.in-Err.ensures.bad cause is) in
+    rw c.from.ensures (table_refused (g.D.Desk.sound c.args.desk.now)
+    (ports_by c.args.names) c.args.server old c.in_ok-spec.spec
     c.in_ok-capture.capture c.in_ok-journal.journal.items c.in-Err.refusal chain_right capture_right journal_right why)
 
 pub returns-in-Ok-clause-accepted : goal.returns-in-Ok-clause-accepted
@@ -67,9 +79,11 @@ returns-in-Ok-clause-accepted g c = λ t.
     let to_second : SameFiles old second = λ name. c.fetch_capture.ensures.files t-first name ∙ to_first name in
     let chain_right : HasChain c.args.names.chain.now old c.in_ok-spec.spec = c.in_ok-spec.ensures.accepted t in
     let capture_right : HasCapture c.args.names.capture.now old c.in_ok-capture.capture =
-    capture_before c.args.names.capture.now old first c.in_ok-capture.capture to_first (c.in_ok-capture.ensures.accepted t-first) in
+    capture_before c.args.names.capture.now old first c.in_ok-capture.capture to_first
+    (c.in_ok-capture.ensures.accepted t-first) in
     let journal_right : HasJournal c.args.names.journal.now old c.in_ok-journal.journal.items =
-    journal_before c.args.names.journal.now old second c.in_ok-journal.journal.items to_second (c.in_ok-journal.ensures.accepted t-second) in
+    journal_before c.args.names.journal.now old second c.in_ok-journal.journal.items to_second
+    (c.in_ok-journal.ensures.accepted t-second) in
     record {
       chain = c.in_ok-spec.spec;
       capture = c.in_ok-capture.capture;
@@ -77,6 +91,7 @@ returns-in-Ok-clause-accepted g c = λ t.
       chain_right = chain_right;
       capture_right = capture_right;
       journal_right = journal_right;
-      table = subst (λ (steps : List Step). IsTableOf c.in_ok-spec.spec.rules (bytes_of_packets c.in_ok-capture.capture.packets) steps
+      table = subst (λ (steps : List Step). IsTableOf c.in_ok-spec.spec.rules
+          (bytes_of_packets c.in_ok-capture.capture.packets) steps
           c.args.server c.in-Ok.lines) c.in_ok-trace.ensures c.in-Ok.ensures.table;
     }

@@ -22,7 +22,8 @@ returns-in_err-worked-clause-refused g c = λ t.
     let new : Files = g.D.Desk.file c.work.new.desk in
     let first = c.write_front.ensures.served.tells_on t in
     on_err c.from_residual-in_err-worked.result _
-    (inl (elsewhere out old new (others_on out old mid new (c.write_front.ensures.others t) (c.work.ensures.others first))))
+    (inl (elsewhere out old new
+    (others_on out old mid new (c.write_front.ensures.others t) (c.work.ensures.others first))))
 
 pub returns-in_err-worked-clause-safe : goal.returns-in_err-worked-clause-safe
 returns-in_err-worked-clause-safe g c = λ t s failed.
@@ -54,7 +55,8 @@ returns-in_err-complete-clause-safe g c = λ t s failed.
     let there = grown_file out capture.header put (g.D.Desk.file c.write_front.new.desk) (g.D.Desk.file c.work.new.desk)
     (c.in_ok-write_front.ensures.written t) (c.in_ok-worked.ensures.grown first) in
     not_absent (g.D.Desk.file c.work.new.desk out) _ there
-    (c.complete.ensures.absent second (c.work.ensures.served.sound_on (c.write_front.ensures.served.sound_on s)) (search rules))
+    (c.complete.ensures.absent second (c.work.ensures.served.sound_on (c.write_front.ensures.served.sound_on s))
+    (search rules))
 
 pub returns-clause-done : goal.returns-clause-done
 returns-clause-done g c = λ t.
@@ -72,8 +74,10 @@ returns-clause-done g c = λ t.
     let third = c.complete.ensures.served.tells_on second in
     let put = records texts.capture c.in_ok-worked.worked.put in
     let there = c.in_ok-complete.ensures.written second
-    (grown_file out texts.capture.header put begun mid (c.in_ok-write_front.ensures.written t) (c.in_ok-worked.ensures.grown first)) in
-    let before = others_on out old mid whole (others_on out old begun mid (c.write_front.ensures.others t) (c.work.ensures.others first))
+    (grown_file out texts.capture.header put begun mid (c.in_ok-write_front.ensures.written t)
+    (c.in_ok-worked.ensures.grown first)) in
+    let before = others_on out old mid whole
+    (others_on out old begun mid (c.write_front.ensures.others t) (c.work.ensures.others first))
     (c.complete.ensures.others second) in
     on_ok_both c.write_texts.result _ _ _ (λ written plain.
     has_written (named_of c.args.names) c.requires.apart.written texts.spec texts.capture texts.script IsAny
@@ -97,8 +101,10 @@ returns-clause-refused g c = λ t.
     let third = c.complete.ensures.served.tells_on second in
     let put = records texts.capture c.in_ok-worked.worked.put in
     let there = c.in_ok-complete.ensures.written second
-    (grown_file out texts.capture.header put begun mid (c.in_ok-write_front.ensures.written t) (c.in_ok-worked.ensures.grown first)) in
-    let before = others_on out old mid whole (others_on out old begun mid (c.write_front.ensures.others t) (c.work.ensures.others first))
+    (grown_file out texts.capture.header put begun mid (c.in_ok-write_front.ensures.written t)
+    (c.in_ok-worked.ensures.grown first)) in
+    let before = others_on out old mid whole
+    (others_on out old begun mid (c.write_front.ensures.others t) (c.work.ensures.others first))
     (c.complete.ensures.others second) in
     on_err_more c.write_texts.result _ _ (λ cut. inr (
     has_begun (named_of c.args.names) c.requires.apart.written texts.spec texts.capture texts.script IsAny

@@ -4,7 +4,8 @@ use Rattle.ftc.proofs.Refusing.{ends_refused}
 use Rattle.ftc.proofs.top.run_names.Goals as goal
 
 pub returns-in-Err-clause-ends : goal.returns-in-Err-clause-ends
-returns-in-Err-clause-ends g c = λ t. ends_refused _ _ _ _ _ _ _ c.in-Err.status (c.in-Err.ensures.refused t) (c.in-Err.ensures.files t)
+returns-in-Err-clause-ends g c =
+    λ t. ends_refused _ _ _ _ _ _ _ c.in-Err.status (c.in-Err.ensures.refused t) (c.in-Err.ensures.files t)
 
 pub returns-in-Ok-run_texts-clause-ends : goal.returns-in-Ok-run_texts-clause-ends
 returns-in-Ok-run_texts-clause-ends g c = λ t.
@@ -36,6 +37,7 @@ returns-clause-ends g c = λ t.
     let texts = c.in-Ok.texts in
     rw c.from.ensures (ended_cut laws _ _ _ c.requires.apart texts.spec texts.capture texts.script
     texts.schedule.items (c.in-Ok.ensures.accepted t) _ _ _ _ (c.in-Ok.ensures.files t) _
-    c.in-Err-run_texts.error (λ s same. c.in-Err-run_texts.ensures.safe told (c.in-Ok.ensures.served.sound_on s) (ap Err same))
+    c.in-Err-run_texts.error (λ s same. c.in-Err-run_texts.ensures.safe told (c.in-Ok.ensures.served.sound_on s)
+    (ap Err same))
     (λ same. c.in-Err-run_texts.ensures.failed told (ap Err same))
     (c.in-Err-run_texts.ensures.refused told))

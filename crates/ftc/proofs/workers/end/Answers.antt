@@ -14,5 +14,6 @@ close-requires c =
       packets = c.requires.packets;
       setting = kept ∙ c.requires.setting;
       finished = ended_is_finished c.finish.ensures.finished run c.args.chain.journal
-          (subst (λ (of : Setting). ∥ IsFinish of c.args.chain.journal run.journal ∥₁) (sym kept) c.in_ok-finish.ensures.ok);
+          (subst (λ (of : Setting). ∥ IsFinish of c.args.chain.journal run.journal ∥₁)
+          (sym kept) c.in_ok-finish.ensures.ok);
     }

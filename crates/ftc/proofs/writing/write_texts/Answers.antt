@@ -15,7 +15,8 @@ pub returns-in_err-write_journal-clause-refused : goal.returns-in_err-write_jour
 returns-in_err-write_journal-clause-refused g c = λ t.
     let texts = c.args.texts.now in
     let events = c.args.driven.now.chain.journal in
-    let left = lines_of (map (λ tap. (goal.Tap-dyn g (tap.vtable, tap.value)).face tap.value) c.args.taps.now.list.items) in
+    let left = lines_of (map
+    (λ tap. (goal.Tap-dyn g (tap.vtable, tap.value)).face tap.value) c.args.taps.now.list.items) in
     let setting = setting_of texts.spec (bytes_of_packets texts.capture.packets) texts.script in
     on_err c.from_residual.result _
     (journal_cut (named_of c.args.names) c.requires.apart (spelling events) (report_of setting events) left
@@ -26,7 +27,8 @@ pub returns-in_err-lines-clause-refused : goal.returns-in_err-lines-clause-refus
 returns-in_err-lines-clause-refused g c = λ t.
     let texts = c.args.texts.now in
     let events = c.args.driven.now.chain.journal in
-    let left = lines_of (map (λ tap. (goal.Tap-dyn g (tap.vtable, tap.value)).face tap.value) c.args.taps.now.list.items) in
+    let left = lines_of (map
+    (λ tap. (goal.Tap-dyn g (tap.vtable, tap.value)).face tap.value) c.args.taps.now.list.items) in
     let setting = setting_of texts.spec (bytes_of_packets texts.capture.packets) texts.script in
     on_err c.from_residual-in_err-lines.result _
     (journal_alone (named_of c.args.names) c.requires.apart (spelling events) (report_of setting events) left
@@ -37,7 +39,8 @@ pub returns-in_err-report-clause-refused : goal.returns-in_err-report-clause-ref
 returns-in_err-report-clause-refused g c = λ t.
     let texts = c.args.texts.now in
     let events = c.args.driven.now.chain.journal in
-    let left = lines_of (map (λ tap. (goal.Tap-dyn g (tap.vtable, tap.value)).face tap.value) c.args.taps.now.list.items) in
+    let left = lines_of (map
+    (λ tap. (goal.Tap-dyn g (tap.vtable, tap.value)).face tap.value) c.args.taps.now.list.items) in
     let setting = setting_of texts.spec (bytes_of_packets texts.capture.packets) texts.script in
     on_err c.from_residual-in_err-report.result _
     (journal_alone (named_of c.args.names) c.requires.apart (spelling events) (report_of setting events) left
@@ -48,7 +51,8 @@ pub returns-clause-refused : goal.returns-clause-refused
 returns-clause-refused g c = λ t.
     let texts = c.args.texts.now in
     let events = c.args.driven.now.chain.journal in
-    let left = lines_of (map (λ tap. (goal.Tap-dyn g (tap.vtable, tap.value)).face tap.value) c.args.taps.now.list.items) in
+    let left = lines_of (map
+    (λ tap. (goal.Tap-dyn g (tap.vtable, tap.value)).face tap.value) c.args.taps.now.list.items) in
     let told = c.write_journal.ensures.served.tells_on t in
     let setting = setting_of texts.spec (bytes_of_packets texts.capture.packets) texts.script in
     on_err_more c.write_text.result _ _
@@ -57,5 +61,6 @@ returns-clause-refused g c = λ t.
     (rw c.journal.ensures.same at (c.in_ok-write_journal.ensures.written t))
     (c.write_journal.ensures.others t) (c.write_text.ensures.others told) c.in_ok-report.report
     (c.in_ok-report.ensures ∙ ap (λ (lines : List (List ℕ)). report_of setting events lines)
-    c.in_ok-lines.ensures.lines) (subst (AllByRecursion HasNoFeed) c.in_ok-lines.ensures.lines c.in_ok-lines.ensures.alone))
+    c.in_ok-lines.ensures.lines)
+    (subst (AllByRecursion HasNoFeed) c.in_ok-lines.ensures.lines c.in_ok-lines.ensures.alone))
     (c.write_text.ensures.refused told)

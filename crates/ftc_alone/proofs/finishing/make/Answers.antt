@@ -13,14 +13,17 @@ use Rattle.ftc_alone.proofs.finishing.make.Goals as goal
 
 pub visit-requires : goal.visit-requires
 visit-requires c =
-    subst (λ (job : Job). ∥ IsLegalJob (setting_in c.args.chain.now) (chain_state c.args.chain.now) job ∥₁) c.in-Visit.is c.requires
+    subst (λ (job : Job). ∥ IsLegalJob (setting_in c.args.chain.now)
+    (chain_state c.args.chain.now) job ∥₁) c.in-Visit.is c.requires
 
 pub returns : goal.returns
 returns c =
     let other : is_visit c.args.job.now ≡ false = isnt_visit c.args.job.now c.in_default.not-Visit in
     record {
-      ok = on_ok c.step.result (∥ HasMade FINISHING_SLOT c.args.job.now c.args.chain.now c.step.new.self ∥₁) (∥ HasMade c.args.worker c.args.job.now c.args.chain.now c.step.new.self ∥₁)
-          (λ made. ∥∥₁_map made (made_in FINISHING_SLOT c.args.worker c.args.job.now c.args.chain.now c.step.new.self other))
+      ok = on_ok c.step.result (∥ HasMade FINISHING_SLOT c.args.job.now c.args.chain.now c.step.new.self ∥₁)
+          (∥ HasMade c.args.worker c.args.job.now c.args.chain.now c.step.new.self ∥₁)
+          (λ made. ∥∥₁_map made (made_in FINISHING_SLOT c.args.worker c.args.job.now c.args.chain.now c.step.new.self
+          other))
           c.step.ensures.ok;
       err = refused_but c.step.result c.args.chain.now c.step.new.self c.step.ensures.err;
       idle = idle_stepped c.step.result c.args.job.now c.args.chain.now c.step.new.self c.step.ensures.heads

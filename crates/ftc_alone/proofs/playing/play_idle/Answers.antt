@@ -11,9 +11,11 @@ pub returns-in_err-play_one-clause-err : goal.returns-in_err-play_one-clause-err
 returns-in_err-play_one-clause-err c =
     let first : ChainRun = c.args.chain.now in let events : List Event = c.args.schedule.now.items in
     let some : ∥ HasPlayedSome c.as_slice-event-items.result.now first c.loop-event.chain ∥₁ =
-    ∥∥₁_map c.loop-event.invariant.0 (played_some c.as_slice-event-items.result.now c.loop-event.event-index first c.loop-event.chain) in
+    ∥∥₁_map c.loop-event.invariant.0
+    (played_some c.as_slice-event-items.result.now c.loop-event.event-index first c.loop-event.chain) in
     on_any_err c.from_residual.result (∥ HasPlayedSome events first c.play_one.new.chain ∥₁)
-    (∥∥₁_map (subst (λ (es : List Event). ∥ HasPlayedSome es first c.loop-event.chain ∥₁) c.as_slice-event-items.ensures some)
+    (∥∥₁_map (subst (λ (es : List Event). ∥ HasPlayedSome es first c.loop-event.chain ∥₁) c.as_slice-event-items.ensures
+    some)
     (some_before events first c.loop-event.chain c.play_one.new.chain c.in_err-play_one.ensures.err))
 
 pub returns-in_err-play_one-clause-idle : goal.returns-in_err-play_one-clause-idle
@@ -21,9 +23,12 @@ returns-in_err-play_one-clause-idle c = c.play_one.ensures.idle c.loop-event.inv
 
 pub loop-event-preserved : goal.loop-event-preserved
 loop-event-preserved c =
-    let first : ChainRun = c.args.chain.now in let now : ChainRun = c.loop-event.chain in let new : ChainRun = c.play_one.new.chain in
+    let first : ChainRun = c.args.chain.now in let now : ChainRun = c.loop-event.chain in let new : ChainRun =
+    c.play_one.new.chain in
     let items : List Event = c.as_slice-event-items.result.now in
-    let taken : take (c.loop-event.event-index + 1) items ≡ take c.loop-event.event-index items ++ c.event-item.result ∷ [] = one_taken_more items c.loop-event.event-index c.event-item.result c.loop-event-test.true c.event-item.is in (
+    let taken : take (c.loop-event.event-index + 1) items ≡ take c.loop-event.event-index items ++ c.event-item.result
+    ∷ [] = one_taken_more items c.loop-event.event-index c.event-item.result c.loop-event-test.true c.event-item.is
+    in (
       subst (λ (es : List Event). ∥ HasPlayed es first new ∥₁) (sym taken)
           (∥∥₁_map₂ c.loop-event.invariant.0 c.in_ok-play_one.ensures.ok
           (played_on (take c.loop-event.event-index items) (c.event-item.result ∷ []) first now new)),

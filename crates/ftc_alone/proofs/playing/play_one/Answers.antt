@@ -16,11 +16,14 @@ returns-then-legal-clause-ok c =
     let is : job_of c.args.event.now ≡ Some job = sym c.job_of.ensures ∙ c.in-Some.is in
     let legal : ∥ IsLegalJob (setting_in old) (chain_state old) job ∥₁ = c.legal.ensures.yes c.if-legal.true in
     on_ok c.make.result (∥ HasMade c.slot_of.result job old new ∥₁) (∥ HasPlayed (c.args.event.now ∷ []) old new ∥₁)
-    (λ made. ∥∥₁_map₂ legal (subst (λ (slot : ℕ). ∥ HasMade slot job old new ∥₁) c.slot_of.ensures made) (played_one c.args.event.now job old new is))
+    (λ made. ∥∥₁_map₂ legal (subst (λ (slot : ℕ). ∥ HasMade slot job old new ∥₁) c.slot_of.ensures made)
+    (played_one c.args.event.now job old new is))
     c.make.ensures.ok
 
 pub returns-else-legal-clause-ok : goal.returns-else-legal-clause-ok
 returns-else-legal-clause-ok c =
     let old : ChainRun = c.args.chain.now in
     let is : job_of c.args.event.now ≡ Some c.in-Some.job = sym c.job_of.ensures ∙ c.in-Some.is in
-    ∣ passed_over c.args.event.now old (λ job same legal. c.legal.ensures.no c.if-legal.false (subst (IsLegalJob (setting_in old) (chain_state old)) (one_job job c.in-Some.job (sym same ∙ is)) legal)) ∣₁
+    ∣ passed_over c.args.event.now old
+    (λ job same legal. c.legal.ensures.no c.if-legal.false
+    (subst (IsLegalJob (setting_in old) (chain_state old)) (one_job job c.in-Some.job (sym same ∙ is)) legal)) ∣₁

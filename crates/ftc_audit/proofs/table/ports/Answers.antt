@@ -25,7 +25,8 @@ pub returns-clause-table : goal.returns-clause-table
 returns-clause-table c =
     let is : is_nat (slice_get c.rules.result.now c.args.server) ≡ true = cc in
     (read c.args.spec.now.rules (bytes_of_packets c.args.packets.now) c.args.trace.now c.args.server
-    (serial_state c.in-Ok.serial) c.store.result.now.content c.as_slice.result.now c.in_ok-pairs.pairs c.in_ok-lines.lines
+    (serial_state c.in-Ok.serial) c.store.result.now.content c.as_slice.result.now c.in_ok-pairs.pairs
+    c.in_ok-lines.lines
     c.rules.ensures.bounds.rules c.are_of_bytes.ensures
     (nat_there c.args.spec.now.rules c.rules.result.now c.args.server c.rules.ensures.same is) c.in-Ok.ensures.state
     c.store.ensures c.in_ok-pairs.ensures c.as_slice.ensures c.in_ok-lines.ensures.moved
@@ -35,7 +36,8 @@ pub returns-clause-apart : goal.returns-clause-apart
 returns-clause-apart c =
     let is : is_nat (slice_get c.rules.result.now c.args.server) ≡ true = cc in
     (read c.args.spec.now.rules (bytes_of_packets c.args.packets.now) c.args.trace.now c.args.server
-    (serial_state c.in-Ok.serial) c.store.result.now.content c.as_slice.result.now c.in_ok-pairs.pairs c.in_ok-lines.lines
+    (serial_state c.in-Ok.serial) c.store.result.now.content c.as_slice.result.now c.in_ok-pairs.pairs
+    c.in_ok-lines.lines
     c.rules.ensures.bounds.rules c.are_of_bytes.ensures
     (nat_there c.args.spec.now.rules c.rules.result.now c.args.server c.rules.ensures.same is) c.in-Ok.ensures.state
     c.store.ensures c.in_ok-pairs.ensures c.as_slice.ensures c.in_ok-lines.ensures.moved
@@ -45,7 +47,8 @@ pub returns-clause-named : goal.returns-clause-named
 returns-clause-named c =
     let is : is_nat (slice_get c.rules.result.now c.args.server) ≡ true = cc in
     (read c.args.spec.now.rules (bytes_of_packets c.args.packets.now) c.args.trace.now c.args.server
-    (serial_state c.in-Ok.serial) c.store.result.now.content c.as_slice.result.now c.in_ok-pairs.pairs c.in_ok-lines.lines
+    (serial_state c.in-Ok.serial) c.store.result.now.content c.as_slice.result.now c.in_ok-pairs.pairs
+    c.in_ok-lines.lines
     c.rules.ensures.bounds.rules c.are_of_bytes.ensures
     (nat_there c.args.spec.now.rules c.rules.result.now c.args.server c.rules.ensures.same is) c.in-Ok.ensures.state
     c.store.ensures c.in_ok-pairs.ensures c.as_slice.ensures c.in_ok-lines.ensures.moved

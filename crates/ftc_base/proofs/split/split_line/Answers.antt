@@ -11,4 +11,5 @@ returns-in-empty-clause-line c =
 pub returns-in-len1-up-clause-line : goal.returns-in-len1-up-clause-line
 returns-in-len1-up-clause-line c =
     let some : 0 < length c.args.text.now = grind (arith, common_steps) in
-    line_before_feed _ _ _ _ c.line_len.ensures.length c.split_at.ensures.front c.split_at.ensures.back some c.in-len1-up.len_at_least
+    line_before_feed _ _ _ _ c.line_len.ensures.length c.split_at.ensures.front c.split_at.ensures.back some
+    c.in-len1-up.len_at_least

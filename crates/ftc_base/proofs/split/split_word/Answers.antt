@@ -14,9 +14,11 @@ returns-then-is_empty-clause-none c =
 pub returns-clause-word : goal.returns-clause-word
 returns-clause-word c =
     let some : 0 < length c.split_at.result.1.now = grind (arith, common_steps) in
-    word_found _ _ _ _ _ _ c.blanks_len.ensures.length c.split_at.ensures.back some c.letters_len.ensures.length c.split_at-2.ensures.front c.split_at-2.ensures.back
+    word_found _ _ _ _ _ _ c.blanks_len.ensures.length c.split_at.ensures.back some c.letters_len.ensures.length
+    c.split_at-2.ensures.front c.split_at-2.ensures.back
 
 pub returns-clause-shorter : goal.returns-clause-shorter
 returns-clause-shorter c =
     let some : 0 < length c.split_at.result.1.now = grind (arith, common_steps) in
-    word_taken _ _ _ _ _ c.blanks_len.ensures.length c.split_at.ensures.back some c.letters_len.ensures.length c.split_at-2.ensures.back
+    word_taken _ _ _ _ _ c.blanks_len.ensures.length c.split_at.ensures.back some c.letters_len.ensures.length
+    c.split_at-2.ensures.back

@@ -33,7 +33,11 @@ returns-clause-released c setting is =
     let done = c.in_default.ensures.none refl setting _
     (is_run_state setting now releasing.course_is) releasing.course_is.stands in
     all_made setting c.args.course.now now
-    (record { journal = now.journal; network = c.release.new.self; outlet = now.outlet }) releasing refl refl done.0 done.1
+    (record {
+      journal = now.journal;
+      network = c.release.new.self;
+      outlet = now.outlet;
+    }) releasing refl refl done.0 done.1
 
 pub returns-clause-heads : goal.returns-clause-heads
 returns-clause-heads c server = c.release.ensures.heads server ∙ c.loop-freed.invariant.3 server

@@ -10,7 +10,8 @@ loop-line-preserved-then-not-is_tap_line c =
       ordered = omega arith;
       within = stays_within c.args.report.now c.loop-line.from c.in-Some.line c.in-Some.ensures.line;
       between = between_next c.args.report.now c.loop-line.from c.in-Some.line c.in-Some.ensures.line;
-      front = next_other c.args.report.now c.loop-line.from c.in-Some.line c.in-Some.ensures.line some c.loop-line.invariant.between (sym c.is_tap_line.ensures ∙ c.if-not-is_tap_line.true);
+      front = next_other c.args.report.now c.loop-line.from c.in-Some.line c.in-Some.ensures.line some
+          c.loop-line.invariant.between (sym c.is_tap_line.ensures ∙ c.if-not-is_tap_line.true);
     }
 
 pub loop-line-preserved : goal.loop-line-preserved
@@ -21,5 +22,7 @@ loop-line-preserved c =
       ordered = omega (arith, goes_on c.args.report.now c.loop-line.from c.in-Some.line c.in-Some.ensures.line);
       within = stays_within c.args.report.now c.loop-line.from c.in-Some.line c.in-Some.ensures.line;
       between = between_next c.args.report.now c.loop-line.from c.in-Some.line c.in-Some.ensures.line;
-      front = next_tap c.args.report.now c.loop-line.from c.loop-line.end c.in-Some.line c.in-Some.ensures.line some c.loop-line.invariant.between c.loop-line.invariant.front (sym c.is_tap_line.ensures ∙ c.if-not-is_tap_line.false);
+      front = next_tap c.args.report.now c.loop-line.from c.loop-line.end c.in-Some.line c.in-Some.ensures.line some
+          c.loop-line.invariant.between c.loop-line.invariant.front
+          (sym c.is_tap_line.ensures ∙ c.if-not-is_tap_line.false);
     }

@@ -17,7 +17,8 @@ returns-in-Some c = on_ok c.push.result _ _ (λ grown setting state rest.
     c.may_pull.result (Pull link) c.in_ok-add_if.ensures (λ test. (refl, (may.0 test, tt)))
     (λ job of legal. (of, may.1 (subst (IsLegalJob setting state) (sym of) legal.0))))
     (adds_found runs setting state (λ (origin : ℕ). Take link origin) c.oldest_at.result (λ origin. tt)
-    (λ origin. c.oldest_at.ensures setting state origin rest) c.add_if.new.jobs c.push.new.self c.in-Some.origin c.in-Some.is
+    (λ origin. c.oldest_at.ensures setting state origin rest) c.add_if.new.jobs c.push.new.self c.in-Some.origin
+    c.in-Some.is
     grown)) c.push.ensures.ok
 
 pub returns-in-None : goal.returns-in-None

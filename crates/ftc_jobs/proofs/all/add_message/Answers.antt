@@ -40,5 +40,6 @@ returns c = on_ok c.add_if-4.result _ _ (λ grown setting state packets live res
     (Carry origin) grown (λ test. ((refl, (carry.0 test).0), ((carry.0 test).1, tt)))
     (λ job of legal. (of.0, carry.1 (of.1, subst (IsLegalJob setting state) (sym of.0) legal.0))))
     (λ group packet legal. apply_of_message live server origin group packet message there
-    ((c.which_applies.ensures setting state server origin group packet live resting.run resting.none_due up.at).1 legal)))
+    ((c.which_applies.ensures setting state server origin group packet live resting.run resting.none_due up.at).1
+    legal)))
     c.add_if-4.ensures

@@ -14,5 +14,7 @@ returns-then-is_running c setting state rest =
 
 pub returns : goal.returns
 returns c setting state rest =
-    let may = c.may_visit.ensures setting state rest in
-    ((λ test. (may.0 test, sym (c.is_running.ensures setting state rest.stands) ∙ c.if-is_running.false)), (λ both. may.1 both.0))
+    let may = c.may_visit.ensures setting state rest in (
+      (λ test. (may.0 test, sym (c.is_running.ensures setting state rest.stands) ∙ c.if-is_running.false)),
+      (λ both. may.1 both.0),
+    )

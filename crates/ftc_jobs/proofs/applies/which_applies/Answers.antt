@@ -7,9 +7,11 @@ pub returns : goal.returns
 returns c setting state server origin group packet old run none is =
     let order = c.order_of_a_state.ensures setting state run in
     let trace = (c.every_state_tied.ensures setting state run).trace in
-    let say = λ (log : Logged) (replica : Held) (of_log : Rattle.ftc_ties.specs.Logs.IsLogIn setting.partitions state.trace log).
+    let say = λ (log : Logged) (replica : Held)
+    (of_log : Rattle.ftc_ties.specs.Logs.IsLogIn setting.partitions state.trace log).
     c.what_vectors_say.ensures.had setting state server log replica run of_log in
-    let ready = λ (log : Logged) (replica : Held) (of_log : Rattle.ftc_ties.specs.Logs.IsLogIn setting.partitions state.trace log).
+    let ready = λ (log : Logged) (replica : Held)
+    (of_log : Rattle.ftc_ties.specs.Logs.IsLogIn setting.partitions state.trace log).
     c.what_vectors_say.ensures.ready setting state server log replica run of_log in (
       (λ test. (
         may_happen setting state server origin group packet old order trace is say ready c.order_tests.ensures.ready

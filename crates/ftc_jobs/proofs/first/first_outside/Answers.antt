@@ -13,7 +13,8 @@ returns-in-Some-first_enter-clause-some c setting state rest no_pull idle no_tak
 
 pub returns-clause-some : goal.returns-clause-some
 returns-clause-some c =
-    IfSome_then c.first_propagate.result c.first_propagate.ensures.some (λ job turn setting state rest no_pull idle no_take.
+    IfSome_then c.first_propagate.result c.first_propagate.ensures.some
+    (λ job turn setting state rest no_pull idle no_take.
     turn setting state c.args.script.now rest no_pull idle no_take
     (c.in_default.ensures.none refl setting state c.args.packets rest)
     (c.in_default-first_enter.ensures.none refl setting state rest))

@@ -5,7 +5,8 @@ use Rattle.ftc_jobs.proofs.legal.may_propagate.Goals as goal
 
 pub returns-in-Some : goal.returns-in-Some
 returns-in-Some c setting state script rest =
-    found_same (IsLegalJob setting state (job.Propagate c.args.origin)) c.propagating.result c.in-Some.next c.args.origin
+    found_same (IsLegalJob setting state
+    (job.Propagate c.args.origin)) c.propagating.result c.in-Some.next c.args.origin
     c.in-Some.is (c.propagating.ensures setting state script rest c.args.origin)
 
 pub returns-in-None : goal.returns-in-None

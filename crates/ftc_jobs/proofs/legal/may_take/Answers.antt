@@ -20,5 +20,6 @@ returns-in-Some c setting state rest =
 
 pub returns-in-None : goal.returns-in-None
 returns-in-None c setting state rest =
-    found_none (IsLegalJob setting state (job.Take c.args.link c.args.origin)) c.oldest_at.result c.args.origin c.in-None.is
+    found_none (IsLegalJob setting state
+    (job.Take c.args.link c.args.origin)) c.oldest_at.result c.args.origin c.in-None.is
     (c.oldest_at.ensures setting state c.args.origin rest)

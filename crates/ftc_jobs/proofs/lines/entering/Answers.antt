@@ -27,11 +27,13 @@ returns-in-None c setting state rest packet =
         refl,
         few,
         none_for state.lines state.entered order
-            (λ line next at. none-some line (sym c.in-None.is ∙ (c.next_line.ensures setting state c.args.packets rest line).1 (next, at))),
+            (λ line next at. none-some line
+            (sym c.in-None.is ∙ (c.next_line.ensures setting state c.args.packets rest line).1 (next, at))),
       ),
       λ other. rest.resting.none_due,
     ) in (
-      (λ same. subst (λ (n : ℕ). IsLegalJob setting state (job.Enter n)) (sym entered_is ∙ same_Some network.entered packet same)
+      (λ same. subst (λ (n : ℕ). IsLegalJob setting state (job.Enter n))
+          (sym entered_is ∙ same_Some network.entered packet same)
           legal),
       (λ it. ap (λ (n : ℕ). Some n) (entered_is ∙ sym it.0.0)),
     )

@@ -32,6 +32,7 @@ returns c setting state origin rest =
             (same_Some sent.origin origin (sym said ∙ same))
             (c.what_a_link_offers.ensures.oldest setting state link queue sent others rest.run rest.none_due is some)),
         (λ legal. said ∙ ap (λ (o : ℕ). Some o)
-            (sym (c.what_a_link_offers.ensures.only setting state link origin queue sent others rest.run is some legal))),
+            (sym (c.what_a_link_offers.ensures.only setting state link origin queue sent others rest.run is some
+            legal))),
       )
     ] refl told

@@ -5,13 +5,15 @@ use Rattle.ftc_protocol.specs.Setting.{count}
 use Rattle.ftc_network.specs.Parts.{link_in, server_in}
 use Rattle.ftc_jobs.proofs.Begins.{may_be, must_be, slots_stand}
 use Rattle.ftc_jobs.proofs.quiet.propagating.Goals as goal
-use Rattle.ftc_jobs.proofs.quiet.propagating.Goals.{else-network-packets-via-then-network-packets+else-may_begin, else-network-packets-via-else-network-packets}
+use Rattle.ftc_jobs.proofs.quiet.propagating.Goals.{else-network-packets-via-then-network-packets+else-may_begin}
+use Rattle.ftc_jobs.proofs.quiet.propagating.Goals.{else-network-packets-via-else-network-packets}
 
 pub returns-then-may_begin : goal.returns-then-may_begin
 returns-then-may_begin c setting state script rest origin =
     let network = c.args.network.now in
     let counts = rest.resting.stands.counts in
-    let entered : state.entered ≡ count setting = sym counts.entered_is ∙ (c.if-network-packets.true ∙ rest.packets_are) in
+    let entered : state.entered ≡ count setting =
+    sym counts.entered_is ∙ (c.if-network-packets.true ∙ rest.packets_are) in
     let sum : c.saturating_add.result ≡ count setting + state.propagates =
     omega (arith, rest.room, rest.packets_are, counts.propagates_is, c.saturating_add.ensures) in
     let says = c.what_propagates.ensures setting state origin (λ (n : ℕ). server_in network.servers.items n)

@@ -13,7 +13,9 @@ returns-in-Some c setting state rest =
     let network = c.args.network.now in
     tested (IsLegalJob setting state (job.Carry c.args.origin))
     (work_at (server_in network.servers.items 0) c.args.origin) c.in-Some.work Carry
-    c.is_carry.result (sym (c.work_at.ensures ∙ ap (λ (n : ℕ). work_at (server_in network.servers.items n) c.args.origin) c.server_of.ensures) ∙ c.in-Some.is) c.is_carry.ensures
+    c.is_carry.result (sym (c.work_at.ensures ∙ ap
+    (λ (n : ℕ). work_at (server_in network.servers.items n) c.args.origin) c.server_of.ensures) ∙ c.in-Some.is)
+    c.is_carry.ensures
     (c.which_tasks.ensures.carry setting state network c.args.origin rest)
 
 pub returns-in-None : goal.returns-in-None
@@ -21,4 +23,6 @@ returns-in-None c setting state rest =
     let network = c.args.network.now in
     found_none (IsLegalJob setting state (job.Carry c.args.origin))
     (work_at (server_in network.servers.items 0) c.args.origin) Carry
-    (sym (c.work_at.ensures ∙ ap (λ (n : ℕ). work_at (server_in network.servers.items n) c.args.origin) c.server_of.ensures) ∙ c.in-None.is) (c.which_tasks.ensures.carry setting state network c.args.origin rest)
+    (sym (c.work_at.ensures ∙ ap
+    (λ (n : ℕ). work_at (server_in network.servers.items n) c.args.origin) c.server_of.ensures) ∙ c.in-None.is)
+    (c.which_tasks.ensures.carry setting state network c.args.origin rest)

@@ -21,4 +21,5 @@ returns-in-None c setting state rest =
     let network = c.args.network.now in
     found_none ((message : Message) × MayLeave setting state c.args.server c.args.origin message)
     (work_at (server_in network.servers.items c.args.server) c.args.origin) Send
-    (sym c.work_at.ensures ∙ c.in-None.is) (c.which_tasks.ensures.send setting state network c.args.server c.args.origin rest)
+    (sym c.work_at.ensures ∙ c.in-None.is)
+    (c.which_tasks.ensures.send setting state network c.args.server c.args.origin rest)

@@ -22,5 +22,6 @@ returns-then-may_leave c setting state packets rest =
 
 pub returns-else-may_leave : goal.returns-else-may_leave
 returns-else-may_leave c setting state packets rest =
-    untrue (IsLegalJob setting state (job.Lose c.args.server c.args.origin)) c.may_leave.result c.if-may_leave.false (λ legal.
+    untrue (IsLegalJob setting state (job.Lose c.args.server c.args.origin)) c.may_leave.result c.if-may_leave.false
+    (λ legal.
     true≢false (sym ((c.may_leave.ensures setting state rest.resting).1 (legal.0.0, legal.0.1)) ∙ c.if-may_leave.false))

@@ -14,12 +14,15 @@ returns-then-may_leave c setting state packets rest =
     let leaves = c.may_leave.ensures setting state rest.resting in
     let lost = c.is_lost.ensures setting state packets rest in (
       (λ test.
-          let may = leaves.0 c.if-may_leave.true in
-          ((may.0, may.1, either sent loses (sym lost ∙ negated c.is_lost.result test)), λ other. rest.resting.none_due)),
+          let may = leaves.0 c.if-may_leave.true in (
+            (may.0, may.1, either sent loses (sym lost ∙ negated c.is_lost.result test)),
+            λ other. rest.resting.none_due,
+          )),
       (λ legal. ap not (lost ∙ neither sent loses legal.0.2)),
     )
 
 pub returns-else-may_leave : goal.returns-else-may_leave
 returns-else-may_leave c setting state packets rest =
-    untrue (IsLegalJob setting state (job.Pass c.args.server c.args.origin)) c.may_leave.result c.if-may_leave.false (λ legal.
+    untrue (IsLegalJob setting state (job.Pass c.args.server c.args.origin)) c.may_leave.result c.if-may_leave.false
+    (λ legal.
     true≢false (sym ((c.may_leave.ensures setting state rest.resting).1 (legal.0.0, legal.0.1)) ∙ c.if-may_leave.false))

@@ -21,4 +21,5 @@ returns-in-None c setting state rest =
     let network = c.args.network.now in
     found_none (IsLegalJob setting state (job.Visit c.args.server c.args.packet))
     (work_at (server_in network.servers.items c.args.server) c.args.packet) Visit
-    (sym c.work_at.ensures ∙ c.in-None.is) (c.which_tasks.ensures.visit setting state network c.args.server c.args.packet rest)
+    (sym c.work_at.ensures ∙ c.in-None.is)
+    (c.which_tasks.ensures.visit setting state network c.args.server c.args.packet rest)

@@ -24,12 +24,18 @@ returns-clause-visit c setting state network server packet rest =
     ((λ works. (says.0 works, λ other. rest.none_due)), (λ legal. says.1 legal.0)))
     (λ slot legal.
     let may = legal.0 in
-    let holder = c.held_in_turn.ensures.holder setting state server packet may.0 rest.run (may.3, false, may.2, may.4) in
+    let holder = c.held_in_turn.ensures.holder setting state server packet may.0 rest.run (
+      may.3,
+      false,
+      may.2,
+      may.4,
+    ) in
     true≢false (sym holder.1 ∙ is_down_there setting state network rest server holder.0 slot))
 
 pub returns-clause-send : goal.returns-clause-send
 returns-clause-send c setting state network server origin rest =
-    at_slot ((message : Message) × MayLeave setting state server origin message) (server_in network.servers.items server)
+    at_slot ((message : Message)
+    × MayLeave setting state server origin message) (server_in network.servers.items server)
     origin Send
     (λ live slot.
     let up = is_up_there setting state network rest server live slot in
@@ -45,13 +51,18 @@ returns-clause-carry c setting state network origin rest =
     at_slot (IsLegalJob setting state (job.Carry origin)) (server_in network.servers.items 0) origin Carry
     (λ live slot.
     let up = is_up_there setting state network rest 0 live slot in (
-      (λ works. (c.what_work_says.ensures.carry setting state origin live rest.run up.at works, λ other. rest.none_due)),
+      (λ works. (
+        c.what_work_says.ensures.carry setting state origin live rest.run up.at works,
+        λ other. rest.none_due,
+      )),
       (λ legal.
           let may = legal.0 in
-          let there_as = found_as setting state 0 origin may.0 may.2 true live.held.items may.1 may.3 up.at.stands.held in
+          let there_as = found_as setting state 0 origin may.0 may.2 true live.held.items may.1 may.3 up.at.stands.held
+          in
           let held = there_as.held in
           let flags = same_flags 0 held.visited held.by_ring may.2 true (sym there_as.stands.place ∙ may.3) in
-          let ready = (c.what_is_ready.ensures setting state 0 origin may.2 true may.0 held live rest.run up.at may.1 may.3
+          let ready = (c.what_is_ready.ensures setting state 0 origin may.2 true may.0 held live rest.run up.at may.1
+          may.3
           there_as.there).1 may.4 in
           let comes = ap (work_for_found live.others.items) there_as.there ∙ last_comes live.others.items held ready in
           let carried = subst (λ (s : ChainState). IsLegalJob setting s (job.Carry origin) →
@@ -60,7 +71,8 @@ returns-clause-carry c setting state network origin rest =
           elim (is_waiting held) as (λ b. work_in live origin ≡ Some (cond b Visit (cond held.by_ring Carry Send)) →
           work_in live origin ≡ Some Carry) [
             | true ↦ λ works.
-                let visited = c.what_work_is.ensures.visit setting state 0 origin live rest.run rest.none_due up.at works in
+                let visited = c.what_work_is.ensures.visit setting state 0 origin live rest.run rest.none_due up.at
+                works in
                 absurd (carried.3 visited.3)
             | false ↦ λ works. works ∙ ap (λ (b : Bool). Some (cond b Carry Send)) flags.1
           ] comes),

@@ -34,8 +34,10 @@ returns-in_err-origin-clause-none c none setting state packets rest origin messa
     let there = c.held_in_turn.ensures.there setting state server origin message live up.at held in
     let passed = so_of_found (IsPassed live.others.items) origin live.held.items there.0
     (all_passed live.others.items live.held.items c.are_rising.ensures
-    (no_first (first_with_work live.others.items live.held.items) (sym c.first_work.ensures ∙ c.in_err-origin.was))) there.1 in
-    c.what_work_is.ensures.none setting state server origin there.0 live run rest.resting.none_due up.at there.1 passed.rising
+    (no_first (first_with_work live.others.items live.held.items)
+    (sym c.first_work.ensures ∙ c.in_err-origin.was))) there.1 in
+    c.what_work_is.ensures.none setting state server origin there.0 live run rest.resting.none_due up.at there.1
+    passed.rising
     (ap (work_for_found live.others.items) there.1 ∙ passed.idle)
 
 pub returns-in_err-work-clause-none : goal.returns-in_err-work-clause-none
@@ -51,8 +53,10 @@ returns-in_err-work-clause-none c none setting state packets rest another messag
     (sym c.server_at.ensures ∙ ap (λ o. option_copied o) c.in_ok-live.was) in
     let chosen = some_first (first_with_work others items) origin (sym c.first_work.ensures ∙ c.in_ok-origin.was) in
     let first = first_of others items chosen.0 c.are_rising.ensures chosen.1 in
-    let placed = c.held_in_turn.ensures.place setting state server chosen.0 first.before first.after live up.at first.parts in
-    let there : found origin items ≡ Some chosen.0 = subst (λ (o : ℕ). found o items ≡ Some chosen.0) chosen.2 placed.0 in
+    let placed = c.held_in_turn.ensures.place setting state server chosen.0 first.before first.after live up.at
+    first.parts in
+    let there : found origin items ≡ Some chosen.0 =
+    subst (λ (o : ℕ). found o items ≡ Some chosen.0) chosen.2 placed.0 in
     absurd (works_not (work_for others chosen.0) first.works
     (sym (ap (work_for_found others) there) ∙ (sym c.work_of.ensures.work ∙ c.in_err-work.was)))
 
@@ -69,21 +73,25 @@ returns-clause-some c setting state packets rest =
     (sym c.server_at.ensures ∙ ap (λ o. option_copied o) c.in_ok-live.was) in
     let chosen = some_first (first_with_work others items) origin (sym c.first_work.ensures ∙ c.in_ok-origin.was) in
     let first = first_of others items chosen.0 c.are_rising.ensures chosen.1 in
-    let placed = c.held_in_turn.ensures.place setting state server chosen.0 first.before first.after live up.at first.parts in
-    let there : found origin items ≡ Some chosen.0 = subst (λ (o : ℕ). found o items ≡ Some chosen.0) chosen.2 placed.0 in
+    let placed = c.held_in_turn.ensures.place setting state server chosen.0 first.before first.after live up.at
+    first.parts in
+    let there : found origin items ≡ Some chosen.0 =
+    subst (λ (o : ℕ). found o items ≡ Some chosen.0) chosen.2 placed.0 in
     let own = placed.1 in
     record {
       origin = origin;
       work = c.job_of_work.ensures setting state packets chosen.0 live rest up.at there first.rising
           (sym c.work_of.ensures.work ∙ c.in_ok-work.was);
       before = λ another message held sooner.
-          let any = c.held_in_turn.ensures.sooner setting state server another chosen.0 own.0 message first.before first.after
+          let any = c.held_in_turn.ensures.sooner setting state server another chosen.0 own.0 message first.before
+          first.after
           live up.at first.parts own.1.0 held
           (subst (λ (n : ℕ). message.since < n)
           (ap (λ (o : ℕ). since_of (state.message o)) (sym chosen.2) ∙ ap since_of own.1.0) sooner) in
           let one = found_before (IsPassed others) another first.before (chosen.0 ∷ first.after) first.passed any in
           let found_there : found another items ≡ Some one.0 =
           ap (λ (list : List HeldMessage). found another list) first.parts ∙ one.1 in
-          c.what_work_is.ensures.none setting state server another one.0 live run rest.resting.none_due up.at found_there
+          c.what_work_is.ensures.none setting state server another one.0 live run rest.resting.none_due up.at
+          found_there
           one.2.rising (ap (work_for_found others) found_there ∙ one.2.idle);
     }

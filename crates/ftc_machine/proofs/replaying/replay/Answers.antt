@@ -11,20 +11,34 @@ pub returns-in-Err-Bad-clause-bad : goal.returns-in-Err-Bad-clause-bad
 returns-in-Err-Bad-clause-bad c = record {
   before = c.loop-place.invariant.run;
   event = c.event-item.result;
-  there = event_there c.args.journal.now.items c.as_slice-event-items.result.now c.loop-place.place c.event-item.result c.as_slice-event-items.ensures c.loop-place-test.true c.event-item.is;
+  there = event_there c.args.journal.now.items c.as_slice-event-items.result.now c.loop-place.place c.event-item.result
+      c.as_slice-event-items.ensures c.loop-place-test.true c.event-item.is;
   illegal = λ legal.
       (let told = rw c.in-Err-Bad.field-0-is at c.in-Err-Bad.ensures.illegal in told)
-      (subst (λ (p : RunSoFar). IsLegal (setting_in p) (machine_state p) c.event-item.result) (sym c.loop-place.invariant.played) legal);
+      (subst (λ (p : RunSoFar). IsLegal (setting_in p) (machine_state p) c.event-item.result)
+      (sym c.loop-place.invariant.played) legal);
 }
 
 pub loop-place-preserved : goal.loop-place-preserved
 loop-place-preserved c =
-    let taken = more_taken c.args.journal.now.items c.as_slice-event-items.result.now c.loop-place.place c.event-item.result c.as_slice-event-items.ensures c.loop-place-test.true c.event-item.is in
+    let taken = more_taken c.args.journal.now.items c.as_slice-event-items.result.now c.loop-place.place
+    c.event-item.result c.as_slice-event-items.ensures c.loop-place-test.true c.event-item.is in
     let setting : Setting = setting_of c.args.spec.now (bytes_of_packets c.args.packets.now) c.args.script.now in
     record {
       played = c.in-Ok.ensures.made
-          ∙ (ap (λ (p : RunSoFar). record p { journal = p.journal ++ c.event-item.result ∷ [] }) c.loop-place.invariant.played
-          ∙ ap (λ (events : List Event). record { chain = c.args.spec.now; packets = bytes_of_packets c.args.packets.now; script = c.args.script.now; journal = events }) (sym taken));
-      run = more_run c.args.journal.now.items c.as_slice-event-items.result.now c.loop-place.place c.event-item.result c.as_slice-event-items.ensures c.loop-place-test.true c.event-item.is setting c.loop-place.invariant.run
-          (subst (λ (p : RunSoFar). ∥ IsLegal (setting_in p) (machine_state p) c.event-item.result ∥₁) c.loop-place.invariant.played c.in-Ok.ensures.legal);
+          ∙ (ap (λ (p : RunSoFar). record p {
+            journal = p.journal ++ c.event-item.result
+                ∷ [];
+          }) c.loop-place.invariant.played
+          ∙ ap (λ (events : List Event). record {
+            chain = c.args.spec.now;
+            packets = bytes_of_packets c.args.packets.now;
+            script = c.args.script.now;
+            journal =
+                events;
+          }) (sym taken));
+      run = more_run c.args.journal.now.items c.as_slice-event-items.result.now c.loop-place.place c.event-item.result
+          c.as_slice-event-items.ensures c.loop-place-test.true c.event-item.is setting c.loop-place.invariant.run
+          (subst (λ (p : RunSoFar). ∥ IsLegal (setting_in p)
+          (machine_state p) c.event-item.result ∥₁) c.loop-place.invariant.played c.in-Ok.ensures.legal);
     }

@@ -10,4 +10,8 @@ abbrev firewall_of : List FireLine → FirewallRule
 firewall_of lines = record { lines = lines }
 
 pub returns : goal.returns
-returns c = rw (← c.as_slice.ensures, ← c.as_slice-2.ensures) (Decides-like _ (λ e. ap firewall_of e) (λ e. ap (λ r. r.lines) e) (slice_eq-Decides same_line _ _ _ c.eq.ensures))
+returns c = rw (
+  ← c.as_slice.ensures,
+  ← c.as_slice-2.ensures,
+) (Decides-like _ (λ e. ap firewall_of e) (λ e. ap (λ r. r.lines) e)
+    (slice_eq-Decides same_line _ _ _ c.eq.ensures))

@@ -18,7 +18,12 @@ loop-partition-preserved c =
                 (λ is. omega (arith, is, w.if-number-ne0.true, c.at-number.ensures.same))
                 (rw (← c.at-number.ensures.same) w.in_ok-append_entry.ensures) c.loop-partition.invariant.told;
             left_is = number_left vector p left within
-                (λ is. omega (arith, is, w.if-number-ne0.true, c.at-number.ensures.same)) c.loop-partition.invariant.left_is;
+                (λ is. omega (
+                  arith,
+                  is,
+                  w.if-number-ne0.true,
+                  c.at-number.ensures.same,
+                )) c.loop-partition.invariant.left_is;
           })
       | else-number-ne0 w ↦
           rw (w.out-is, w.left-is) (record {
@@ -38,5 +43,6 @@ returns-then-left-eq0 c =
 pub returns : goal.returns
 returns c =
     let vector = c.args.vector.now in
-    numbers_all vector c.loop-partition.partition c.loop-partition.out (c.args.out.now ++ marks_from 0 (not_zero vector))
+    numbers_all vector c.loop-partition.partition c.loop-partition.out (c.args.out.now
+    ++ marks_from 0 (not_zero vector))
     (omega (arith, c.at.ensures.bounds.size, c.loop-partition-test.false)) c.loop-partition.invariant.told

@@ -5,6 +5,7 @@ use Rattle.ftc_message.proofs.commits_bytes.append_numbers.Given as goal
 
 abbrev pub invariant-loop-partition : goal.invariant-loop-partition
 invariant-loop-partition l = record {
-  told : l.out ++ marks_from l.partition (drop l.partition (not_zero l.vector)) ≡ l.fn.out ++ marks_from 0 (not_zero l.vector);
+  told : l.out ++ marks_from l.partition (drop l.partition (not_zero l.vector)) ≡ l.fn.out
+      ++ marks_from 0 (not_zero l.vector);
   left_is : l.left ≡ marked (drop l.partition (not_zero l.vector));
 }

@@ -33,4 +33,7 @@ pub returns-clause-spelled : goal.returns-clause-spelled
 returns-clause-spelled c =
     let told = is_done (with_need 1) (known_beside c.loop.commits) c.in_ok-count.count
     c.loop.counter (c.loop.from, []) c.loop.rest.now (commits_at c.args.bytes.now) c.loop-test.false c.loop.invariant in
-    (commits_at_takes c.args.bytes.now (c.loop.commits, c.loop.rest.now) (λ i. omega (arith, c.type_inv.bytes i)) told).0.parts
+    (commits_at_takes c.args.bytes.now (
+      c.loop.commits,
+      c.loop.rest.now,
+    ) (λ i. omega (arith, c.type_inv.bytes i)) told).0.parts

@@ -23,7 +23,8 @@ returns-in-Ok-writes_at-clause-spelled c =
     let read = log_read c.args.last.now c.args.bytes.now c.in-Ok.found.1.now c.in_ok-rest.rest.now
     c.in-Ok-writes_at.rest.now c.in-Ok.found.0 c.parts_at.new.parts c.in-Ok-writes_at.writes.items
     (λ i. omega (arith, c.type_inv.bytes i)) c.in-Ok.ensures c.in_ok-rest.ensures c.in-Ok-writes_at.ensures in
-    subst (λ (log : Logged). c.args.bytes.now ≡ log_bytes log ++ c.in-Ok-writes_at.rest.now) (sym c.new.ensures) read.takes.parts
+    subst (λ (log : Logged). c.args.bytes.now ≡ log_bytes log
+    ++ c.in-Ok-writes_at.rest.now) (sym c.new.ensures) read.takes.parts
 
 pub returns-in-Ok-writes_at-clause-follows : goal.returns-in-Ok-writes_at-clause-follows
 returns-in-Ok-writes_at-clause-follows c =

@@ -6,4 +6,5 @@ use Rattle.ftc_message.proofs.logs.place_of.Given as goal
 
 abbrev pub invariant-loop-place : goal.invariant-loop-place
 invariant-loop-place l =
-    prefix_len (λ other. is_earlier other l.log) l.logs ≡ l.place + prefix_len (λ other. is_earlier other l.log) (drop l.place l.logs)
+    prefix_len (λ other. is_earlier other l.log) l.logs ≡ l.place
+    + prefix_len (λ other. is_earlier other l.log) (drop l.place l.logs)

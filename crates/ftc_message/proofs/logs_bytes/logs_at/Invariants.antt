@@ -8,7 +8,8 @@ use Rattle.ftc_message.proofs.logs_bytes.logs_at.Given as goal
 
 abbrev pub invariant-loop : goal.invariant-loop
 invariant-loop l = record {
-  told : logs_at l.bytes ≡ (times with_log (l.count - l.counter) (l.last, l.logs) l.rest >>= λ logs. Ok (logs.0.1, logs.1));
+  told : logs_at l.bytes ≡ (times with_log (l.count - l.counter) (l.last, l.logs) l.rest >>= λ logs.
+      Ok (logs.0.1, logs.1));
   last : l.last ≡ last_log None l.logs;
   rising : logs_rise None l.logs ≡ true;
 }

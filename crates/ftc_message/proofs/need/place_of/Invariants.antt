@@ -6,4 +6,5 @@ use Rattle.ftc_message.proofs.need.place_of.Given as goal
 
 abbrev pub invariant-loop-place : goal.invariant-loop-place
 invariant-loop-place l =
-    prefix_len (λ other. is_lower other l.need) l.needs ≡ l.place + prefix_len (λ other. is_lower other l.need) (drop l.place l.needs)
+    prefix_len (λ other. is_lower other l.need) l.needs ≡ l.place
+    + prefix_len (λ other. is_lower other l.need) (drop l.place l.needs)

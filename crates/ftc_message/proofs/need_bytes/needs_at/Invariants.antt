@@ -8,7 +8,8 @@ use Rattle.ftc_message.proofs.need_bytes.needs_at.Given as goal
 
 abbrev pub invariant-loop : goal.invariant-loop
 invariant-loop l = record {
-  told : needs_at l.most l.least l.bytes ≡ (times (with_need l.least) (l.count - l.counter) (l.from, l.needs) l.rest >>= λ needs. Ok (needs.0.1, needs.1));
+  told : needs_at l.most l.least l.bytes
+      ≡ (times (with_need l.least) (l.count - l.counter) (l.from, l.needs) l.rest >>= λ needs. Ok (needs.0.1, needs.1));
   next : l.from ≡ next_group 0 l.needs;
   rising : needs_rise 0 l.needs ≡ true;
 }

@@ -5,4 +5,5 @@ use Rattle.ftc_message.proofs.tests.log.Goals as goal
 
 pub new-requires-4-clause-marked : goal.new-requires-4-clause-marked
 new-requires-4-clause-marked c =
-    λ partition is. subst (λ (q : ℕ). IsSome (mark_at c.marks.result q)) (sym (c.changed.ensures partition is)) (ap is_some c.marks.ensures.here)
+    λ partition is. subst (λ (q : ℕ). IsSome (mark_at c.marks.result q)) (sym (c.changed.ensures partition is))
+    (ap is_some c.marks.ensures.here)

@@ -6,5 +6,7 @@ use Rattle.ftc_message.proofs.tests.marks.Goals as goal
 
 pub returns : goal.returns
 returns c =
-    let here : get_or c.set.new.self 3 None ≡ Some c.args.number = ap (λ marks. get_or marks 3 None) c.set.ensures ∙ rw c.new-marks.ensures (get_or-set_same _ 3 (Some c.args.number) None (rw (length-by_partition _) (omega arith))) in
+    let here : get_or c.set.new.self 3 None ≡ Some c.args.number =
+    ap (λ marks. get_or marks 3 None) c.set.ensures ∙ rw c.new-marks.ensures
+    (get_or-set_same _ 3 (Some c.args.number) None (rw (length-by_partition _) (omega arith))) in
     record { here = here; some = record { some = (3, ap is_some here) } }

@@ -5,4 +5,5 @@ use Rattle.ftc_message.specs.Spelling.{write_bytes}
 use Rattle.ftc_message.proofs.writes.append_writes.Given as goal
 
 abbrev pub invariant-loop-write : goal.invariant-loop-write
-invariant-loop-write l = l.out ≡ l.fn.out ++ (length l.write-items ∷ flat_map write_bytes (take l.write-index l.write-items))
+invariant-loop-write l = l.out ≡ l.fn.out
+    ++ (length l.write-items ∷ flat_map write_bytes (take l.write-index l.write-items))

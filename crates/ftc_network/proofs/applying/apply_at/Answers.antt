@@ -17,7 +17,8 @@ apply-requires-clause-ready c =
     let event : Event = event.Apply c.args.server c.args.origin c.args.group c.args.packet in
     at_up event c.args.server c.args.slot.now c.in-Some.live
     (may_apply_in c.in-Some.live c.args.origin c.args.group c.args.packet) true c.in-Some.is
-    (λ setting state run legal few up. c.what_apply_wants.ensures.ready setting state c.args.server c.args.origin c.args.group
+    (λ setting state run legal few up. c.what_apply_wants.ensures.ready setting state c.args.server c.args.origin
+    c.args.group
     c.args.packet c.in-Some.live run legal up.at) c.requires
 
 pub apply-requires-clause-rise : goal.apply-requires-clause-rise
@@ -25,7 +26,8 @@ apply-requires-clause-rise c =
     let event : Event = event.Apply c.args.server c.args.origin c.args.group c.args.packet in
     at_up event c.args.server c.args.slot.now c.in-Some.live
     (may_rise_in (replica_at c.in-Some.live.others.items c.args.group)) true c.in-Some.is
-    (λ setting state run legal few up. c.what_apply_wants.ensures.rise setting state c.args.server c.args.origin c.args.group
+    (λ setting state run legal few up. c.what_apply_wants.ensures.rise setting state c.args.server c.args.origin
+    c.args.group
     c.args.packet c.in-Some.live run legal up.at few) c.requires
 
 pub returns-in-Some-clause-ok : goal.returns-in-Some-clause-ok
@@ -34,7 +36,8 @@ returns-in-Some-clause-ok c =
     let new = c.apply.new.self in
     on_ok c.apply.result _ _ (λ done setting state run legal is.
     let up : IsUp setting state c.args.server old = subst (IsSlot setting state c.args.server) c.in-Some.is is in
-    let at = c.what_apply_does.ensures setting state c.args.server c.args.origin c.args.group c.args.packet old new run legal
+    let at = c.what_apply_does.ensures setting state c.args.server c.args.origin c.args.group c.args.packet old new run
+    legal
     up.at done in
     record {
       up = up.up;

@@ -39,7 +39,8 @@ returns-in-Some-clause-age c =
 pub returns-in-Some-clause-head : goal.returns-in-Some-clause-head
 returns-in-Some-clause-head c =
     ap (λ (head : HeadState). Some head) c.begin.ensures.begun.head
-    ∙ ap (λ (o : Option Server). option_map (λ head. begins head c.args.worker c.args.packet) (head_of o)) (sym c.in-Some.is)
+    ∙ ap (λ (o : Option Server). option_map (λ head. begins head c.args.worker c.args.packet) (head_of o))
+    (sym c.in-Some.is)
 
 pub returns-in-Some-clause-stands : goal.returns-in-Some-clause-stands
 returns-in-Some-clause-stands c number setting state is =
@@ -47,11 +48,14 @@ returns-in-Some-clause-stands c number setting state is =
     let new = c.begin.new.self in
     let up : IsUp setting state number old = subst (IsSlot setting state number) c.in-Some.is is in
     let work = work_there c.args.slot.now old c.args.worker c.args.server c.args.packet c.in-Some.is
-    (λ given_setting given_state run at. c.what_work_says.ensures.visit given_setting given_state c.args.server c.args.packet
+    (λ given_setting given_state run at. c.what_work_says.ensures.visit given_setting given_state c.args.server
+    c.args.packet
     c.args.worker old run at) c.requires.legal in
     record {
       up = up.up;
-      at = c.what_stays.ensures.begun setting state number c.args.worker c.args.packet old new up.at c.begin.ensures.begun;
+      at = c.what_stays.ensures.begun setting state number c.args.worker c.args.packet old new up.at
+          c.begin.ensures.begun;
       ready = begun_ready old new c.args.worker c.args.packet
-          (subst (λ (n : ℕ). n < MOST_SLOTS) c.number.ensures.same c.number.ensures.within) work c.begin.ensures.begun up.ready;
+          (subst (λ (n : ℕ). n < MOST_SLOTS) c.number.ensures.same c.number.ensures.within) work c.begin.ensures.begun
+          up.ready;
     }

@@ -35,9 +35,11 @@ carry_is = refl
 pub carry-requires-clause-work : goal.carry-requires-clause-work
 carry-requires-clause-work c =
     carry_if (work_in c.in-Some.server c.args.origin)
-    (at_up (event.Carry c.args.origin) 0 c.args.slot.now c.in-Some.server (is_carry (work_in c.in-Some.server c.args.origin))
+    (at_up (event.Carry c.args.origin) 0 c.args.slot.now c.in-Some.server
+    (is_carry (work_in c.in-Some.server c.args.origin))
     true c.in-Some.is (λ setting state run legal few up.
-    ap is_carry (c.what_carry_wants.ensures.work setting state c.args.origin c.in-Some.server run legal up.at) ∙ carry_is)
+    ap is_carry (c.what_carry_wants.ensures.work setting state c.args.origin c.in-Some.server run legal up.at) ∙
+    carry_is)
     c.requires)
 
 pub carry-requires-clause-apart : goal.carry-requires-clause-apart

@@ -27,7 +27,8 @@ hold-requires-clause-new c =
       no_needs = c.in_ok-message-in-Some.ensures.no_needs;
       no_commits = c.in_ok-message-in-Some.ensures.no_commits;
     } in
-    (c.what_take_wants.ensures.entered setting state c.args.packet c.in-Some.server sent run legal begun up.at).0) c.requires
+    (c.what_take_wants.ensures.entered setting state c.args.packet c.in-Some.server sent run legal begun up.at).0)
+    c.requires
 
 pub returns-in_ok-message-in-Some-clause-ok : goal.returns-in_ok-message-in-Some-clause-ok
 returns-in_ok-message-in-Some-clause-ok c =

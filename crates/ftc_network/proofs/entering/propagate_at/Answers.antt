@@ -14,7 +14,8 @@ pub hold-requires-clause-new : goal.hold-requires-clause-new
 hold-requires-clause-new c =
     at_up (event.Propagate c.args.origin) 0 c.args.slot.now c.in-Some.server
     (is_held c.in_ok-message-in-Some.message.origin c.in-Some.server.held.items) false c.in-Some.is
-    (λ setting state run legal few up. (c.what_take_wants.ensures.propagated setting state c.args.origin c.in-Some.server
+    (λ setting state run legal few up.
+    (c.what_take_wants.ensures.propagated setting state c.args.origin c.in-Some.server
     c.in_ok-message-in-Some.message run legal c.in_ok-message-in-Some.ensures up.at).0) c.requires
 
 pub returns-in_ok-message-in-Some-clause-ok : goal.returns-in_ok-message-in-Some-clause-ok

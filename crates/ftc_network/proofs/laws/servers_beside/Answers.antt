@@ -14,7 +14,8 @@ returns c setting state event number (Some server) run legal beside is =
       number_is = is.at.number_is;
       rule = is.at.rule;
       partitions = is.at.partitions;
-      stands = c.servers_stand_still.ensures setting state event number (contents_of server) run legal beside is.at.stands;
+      stands = c.servers_stand_still.ensures setting state event number
+          (contents_of server) run legal beside is.at.stands;
     } in
     record {
       up = (c.others_as_before.ensures.server setting state event number run legal beside).up ∙ is.up;

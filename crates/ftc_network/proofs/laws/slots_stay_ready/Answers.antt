@@ -25,13 +25,15 @@ returns c setting state event number old new run legal before after only ready =
     let found_now : found origin new.held.items ≡ Some now =
     ap (λ (packet : ℕ). found packet new.held.items) (sym was.2) ∙ new_slot.there in
     let is_there = held_in setting state number origin held old.held.items old_slot.there before.stands.held in
-    let is_now = held_in setting (next setting state event) number origin now new.held.items found_now after.stands.held in
+    let is_now = held_in setting
+    (next setting state event) number origin now new.held.items found_now after.stands.held in
     let place = is_there.stands.place in
     let place_now = is_now.stands.place in
     let ready_old : is_ready old.others.items held ≡ true =
     ap (is_ready_one old.others.items) (sym old_slot.there)
     ∙ one_ready old.others.items old.held.items old.head.slots worker was.0 ready.all was.1 in
-    let message_ready = (c.what_is_ready.ensures setting state number origin held.visited held.by_ring is_there.message held
+    let message_ready = (c.what_is_ready.ensures setting state number origin held.visited held.by_ring is_there.message
+    held
     old run before is_there.there place old_slot.there).0 ready_old in
     let unvisited : is_now.message.place ≡ Held number false now.by_ring =
     place_now ∙ ap (λ (visited : Bool). Held number visited now.by_ring) new_slot.unvisited in
@@ -40,5 +42,6 @@ returns c setting state event number old new run legal before after only ready =
     (not_visited setting state number origin held.visited held.by_ring now.by_ring is_there.message is_now.message
     is_there.there place unvisited event is_now.there) is_there.there place message_ready is_now.there place_now in
     ap (is_ready_one new.others.items) new_slot.there
-    ∙ (c.what_is_ready.ensures setting (next setting state event) number origin now.visited now.by_ring is_now.message now
+    ∙ (c.what_is_ready.ensures setting
+    (next setting state event) number origin now.visited now.by_ring is_now.message now
     new (run_next setting state event run legal) after is_now.there place_now found_now).1 still))))

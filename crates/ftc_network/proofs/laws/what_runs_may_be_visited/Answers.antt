@@ -18,7 +18,8 @@ returns c setting state number worker server running run is none_due runs =
     ∙ one_ready server.others.items server.held.items server.head.slots worker running is.ready.all runs in
     let place : there.message.place ≡ Held number false held.by_ring =
     there.stands.place ∙ ap (λ (visited : Bool). Held number visited held.by_ring) slot.unvisited in
-    let message_ready = (c.what_is_ready.ensures setting state number running.packet held.visited held.by_ring there.message
+    let message_ready = (c.what_is_ready.ensures setting state number running.packet held.visited held.by_ring
+    there.message
     held server run is.at there.there there.stands.place slot.there).0 ready in (
       (
         there.message,

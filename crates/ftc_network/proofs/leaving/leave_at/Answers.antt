@@ -23,7 +23,8 @@ outgoing-requires c =
     ∥∥₁_elim c.requires (Bool-set _ _) (λ leaves.
     let up : IsUp leaves.setting leaves.state c.args.server live =
     subst (IsSlot leaves.setting leaves.state c.args.server) c.in-Some.is leaves.stands in
-    c.what_pass_wants.ensures.apart leaves.setting leaves.state lost c.args.server c.args.origin live leaves.run leaves.legal
+    c.what_pass_wants.ensures.apart leaves.setting leaves.state lost c.args.server c.args.origin live leaves.run
+    leaves.legal
     up.at)
 
 pub send_on-requires : goal.send_on-requires
@@ -34,7 +35,8 @@ send_on-requires c =
     has_frame message c.requires (λ leaves few short.
     let up : IsUp leaves.setting leaves.state c.args.server live =
     subst (IsSlot leaves.setting leaves.state c.args.server) c.in-Some.is leaves.stands in
-    c.what_pass_wants.ensures.formed leaves.setting leaves.state lost c.args.server c.args.origin live message leaves.run
+    c.what_pass_wants.ensures.formed leaves.setting leaves.state lost c.args.server c.args.origin live message
+    leaves.run
     leaves.legal up.at (sym c.in_ok-message-in-Some.ensures.sent ∙ is) few short))
 
 pub pass-requires-clause-work : goal.pass-requires-clause-work
@@ -45,7 +47,8 @@ pass-requires-clause-work c =
     work_is_send _ c.requires (λ leaves.
     let up : IsUp leaves.setting leaves.state c.args.server live =
     subst (IsSlot leaves.setting leaves.state c.args.server) c.in-Some.is leaves.stands in
-    c.what_pass_wants.ensures.work leaves.setting leaves.state lost c.args.server c.args.origin roomed leaves.run leaves.legal
+    c.what_pass_wants.ensures.work leaves.setting leaves.state lost c.args.server c.args.origin roomed leaves.run
+    leaves.legal
     (c.what_stays.ensures.buffered leaves.setting leaves.state c.args.server live roomed up.at
     c.in_ok-message-in-Some.ensures.same))
 
@@ -69,17 +72,21 @@ returns-in_ok-send_on-in-Some-clause-ok c setting state same run legal link is =
     c.what_pass_does.ensures setting state lost server origin roomed passed run legal at c.pass.ensures in (
       subst (λ queue_now. IsLink setting after server queue_now) (sym c.in_ok-send_on-in-Some.ensures.ok)
           (after_sending setting state server origin queue link c.args.lost c.args.up message same
-          (λ none. c.what_is_sent.ensures.nothing setting state lost server origin live run legal up.at (sym sends ∙ none))
+          (λ none. c.what_is_sent.ensures.nothing setting state lost server origin live run legal up.at
+          (sym sends ∙ none))
           (λ sent some. is_sent_where setting state server origin live sent up.at (sym sends ∙ some))
-          (λ sent some queued. c.what_is_sent.ensures.queued setting state lost server origin live queue sent run legal queued
+          (λ sent some queued. c.what_is_sent.ensures.queued setting state lost server origin live queue sent run legal
+          queued
           up.at (sym sends ∙ some) link)
-          (λ gap away now. c.a_message_is_sent.ensures.away setting state lost server origin queue gap run legal away now link)),
+          (λ gap away now. c.a_message_is_sent.ensures.away setting state lost server origin queue gap run legal away
+          now link)),
       record {
         up = up_after setting state lost server origin server ∙ up.up;
         at = at_after;
         ready = c.slots_stay_ready.ensures setting state (leaving lost server origin) server live passed run legal up.at
             at_after (same_runs live passed
-            (ap (λ (s : ServerState). s.head) c.pass.ensures.rest ∙ ap (λ (s : ServerState). s.head) room.rest)) up.ready;
+            (ap (λ (s : ServerState). s.head) c.pass.ensures.rest ∙ ap
+            (λ (s : ServerState). s.head) room.rest)) up.ready;
       },
     )
 

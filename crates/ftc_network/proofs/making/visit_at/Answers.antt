@@ -36,7 +36,8 @@ visit_whole-requires-clause-work c =
     (at_up (event.Visit c.args.server c.args.packet c.args.worker) c.args.server c.args.slot.now c.in-Some.live
     (is_visit (work_in c.in-Some.live c.args.packet)) true c.in-Some.is
     (λ setting state run legal few up. ap is_visit
-    ((c.what_work_says.ensures.visit setting state c.args.server c.args.packet c.args.worker c.in-Some.live run up.at).1 legal.0)
+    ((c.what_work_says.ensures.visit setting state c.args.server c.args.packet c.args.worker c.in-Some.live run up.at).1
+    legal.0)
     ∙ visit_is)
     c.requires)
 
@@ -45,7 +46,8 @@ visit_whole-requires-clause-rise c =
     ap (λ (v : List ℕ). may_rise v) c.quit_all.ensures.vector
     ∙ at_up (event.Visit c.args.server c.args.packet c.args.worker) c.args.server c.args.slot.now c.in-Some.live
     (may_rise c.in-Some.live.head.vector) true c.in-Some.is
-    (λ setting state run legal few up. c.what_a_commit_wants.ensures setting state c.args.server c.in-Some.live run up.at few)
+    (λ setting state run legal few up. c.what_a_commit_wants.ensures setting state c.args.server c.in-Some.live run
+    up.at few)
     c.requires
 
 -- what is down isn't up
@@ -76,7 +78,8 @@ returns-clause-ok c setting state visits run legal is visits_are =
     let parts : new.partitions ≡ setting.partitions = ap (λ (s : ServerState). s.partitions) rest ∙ at.partitions in
     let answers : List Answer = c.in_ok-answers-in-Some.answers.items in
     let answers_are : done.running.answers ≡ answers = done.answers_are in
-    let visit_is : IsMadeBy setting.partitions server done.running.packet done.running.answers new.head.vector c.made.result =
+    let visit_is : IsMadeBy setting.partitions server done.running.packet done.running.answers new.head.vector
+    c.made.result =
     record {
       server_is = c.made.ensures.server_is ∙ number;
       packet_is = c.made.ensures.packet_is ∙ sym done.packet_is;
@@ -85,9 +88,11 @@ returns-clause-ok c setting state visits run legal is visits_are =
           ∙ ap (map (mark_of setting.partitions new.head.vector)) (sym answers_are)));
     } in
     ∥∥₁_map₂
-    (c.what_a_commit_does.ensures setting state server worker done.running done.end done.before new run legal_named at done.runs
+    (c.what_a_commit_does.ensures setting state server worker done.running done.end done.before new run legal_named at
+    done.runs
     done.asked done.visited)
-    (c.a_made_visit_is_added.ensures setting state server worker done.running done.end done.before new visits c.made.result run
+    (c.a_made_visit_is_added.ensures setting state server worker done.running done.end done.before new visits
+    c.made.result run
     legal_named at done.runs done.asked done.visited visit_is visits_are)
     (λ stands added. (
       record {

@@ -13,7 +13,9 @@ loop-number-preserved c =
     let server : Server = c.in_ok-new.field-0 in
     subst (AreNewServers chain (number + 1)) (sym c.in_ok-push.ensures.items)
     (new_server_added chain number c.loop-number.servers.items server c.loop-number.invariant
-    (is_new_slot chain c.args.ring.now c.unwrap-id.result number c.at-rule.result.now c.partitions-partitions.result server
+    (is_new_slot chain c.args.ring.now c.unwrap-id.result number c.at-rule.result.now c.partitions-partitions.result
+    server
     c.requires (subst (λ (o : Option ℕ). IfSome o (λ (id : ℕ). id ≡ number)) c.unwrap-id.ensures c.new.ensures.same)
     (ap (λ (rules : List Rule). slice_get rules number) (sym c.rules-rules.ensures.same)
-    ∙ (ap (slice_get c.rules-rules.result.now) (sym c.from.ensures) ∙ c.at-rule.ensures)) c.partitions-partitions.ensures.same c.in_ok-new.ensures))
+    ∙ (ap (slice_get c.rules-rules.result.now)
+    (sym c.from.ensures) ∙ c.at-rule.ensures)) c.partitions-partitions.ensures.same c.in_ok-new.ensures))

@@ -24,9 +24,11 @@ returns-in-Some-clause-none c none setting state number run last is =
     let server = c.in-Some.server in
     let new = c.release.new.self in
     let up : IsUp setting state number server = subst (IsSlot setting state number) c.in-Some.is is in
-    let first = none_mapped freed (first_due server.known server.buffer.items) c.release.result c.release.ensures.freed none in
+    let first = none_mapped freed
+    (first_due server.known server.buffer.items) c.release.result c.release.ensures.freed none in
     let done = c.release.ensures.others in (
-      (λ packet withheld due. c.what_is_due.ensures.none setting state number packet withheld server run last up.at first due),
+      (λ packet withheld due. c.what_is_due.ensures.none setting state number packet withheld server run last up.at
+          first due),
       record {
         up = up.up;
         at = c.what_stays.ensures.buffered setting state number server new up.at (record {
@@ -52,7 +54,10 @@ returns-in-Some-clause-some c =
     let may = c.what_is_due.ensures.first setting state number due server run last up.at first in
     let legal : IsLegal setting state (event.Release due.packet) = (may, λ other packet withheld. absurd cc) in
     let at = c.what_release_does.ensures setting state number due server new run last first legal up.at done in (
-      record { legal = legal; bytes = c.what_is_due.ensures.bytes setting state number due server run last up.at first },
+      record {
+        legal = legal;
+        bytes = c.what_is_due.ensures.bytes setting state number due server run last up.at first;
+      },
       record {
         up = up.up;
         at = at;
@@ -69,7 +74,8 @@ returns-in-Some-clause-fewer c =
     freed (first_due server.known server.buffer.items) c.release.result c.release.ensures.freed
     (λ due first.
     ap (λ (items : List Withheld). length items + 1) c.release.ensures.others.buffer
-    ∙ one_fewer server.known server.buffer.items due (c.released_packets.ensures.first server.known server.buffer.items due first)
+    ∙ one_fewer server.known server.buffer.items due
+    (c.released_packets.ensures.first server.known server.buffer.items due first)
     ∙ ap (λ slot. length (buffer_of slot)) (sym c.in-Some.is))
 
 pub returns-in-None-clause-none : goal.returns-in-None-clause-none

@@ -11,4 +11,5 @@ loop-number-preserved c =
     let group : c.unwrap-group.result ≡ number = grind (arith, common_steps) in
     c.in_ok-add_group.ensures
     ∙ (ap (λ list. list ++ fetched_at c.unwrap-group.result) c.loop-number.invariant
-    ∙ (ap (λ g. each_below fetched_at number ++ fetched_at g) group ∙ sym (ap (each_below fetched_at) (add-one number))))
+    ∙ (ap (λ g. each_below fetched_at number
+    ++ fetched_at g) group ∙ sym (ap (each_below fetched_at) (add-one number))))

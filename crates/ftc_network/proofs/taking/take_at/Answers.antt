@@ -1,4 +1,5 @@
-use Rattle.std.proofs.Common.{◌≡◌, ◌∙◌, ◌+◌, ◌==◌, ◌∷◌, ℕ, Bool, true, false, Option, Some, Result, Ok, Err, ap, sym, subst}
+use Rattle.std.proofs.Common.{◌≡◌, ◌∙◌, ◌+◌, ◌==◌, ◌∷◌, ℕ, Bool, true, false, Option, Some, Result, Ok, Err, ap, sym}
+use Rattle.std.proofs.Common.{subst}
 use Rattle.std.specs.Prelude.{OnErr}
 use Rattle.std.proofs.Math.Bool.{Bool-set}
 use Rattle.std.proofs.Math.Logic.{∥∥₁_elim}
@@ -59,10 +60,12 @@ pub take-requires-clause-new : goal.take-requires-clause-new
 take-requires-clause-new c =
     let takes : TakesOldest c.args.link.now c.take_from.new.link c.in-Some-2.message =
     subst (TakesIfAny c.args.link.now c.take_from.new.link) c.in-Some-2.is c.in_ok-message-in-Some.ensures.taken in
-    taken_up c.args.sender c.args.origin c.args.by_ring c.args.link.now c.take_from.new.link c.args.slot.now c.in-Some.server
+    taken_up c.args.sender c.args.origin c.args.by_ring c.args.link.now c.take_from.new.link c.args.slot.now
+    c.in-Some.server
     c.make_room.new.self c.in-Some-2.message (is_held c.in-Some-2.message.origin c.make_room.new.self.held.items) false
     c.in-Some.is takes
-    (λ setting state number is. c.what_stays.ensures.roomed setting state number c.in-Some.server c.make_room.new.self is
+    (λ setting state number is. c.what_stays.ensures.roomed setting state number c.in-Some.server c.make_room.new.self
+    is
     c.make_room.ensures.same)
     (λ setting state run legal ring queued first is.
     (c.what_take_wants.ensures.received setting state c.args.sender c.args.origin c.args.link.now c.in-Some-2.message
@@ -72,10 +75,12 @@ pub take-requires-clause-open : goal.take-requires-clause-open
 take-requires-clause-open c =
     let takes : TakesOldest c.args.link.now c.take_from.new.link c.in-Some-2.message =
     subst (TakesIfAny c.args.link.now c.take_from.new.link) c.in-Some-2.is c.in_ok-message-in-Some.ensures.taken in
-    taken_up c.args.sender c.args.origin c.args.by_ring c.args.link.now c.take_from.new.link c.args.slot.now c.in-Some.server
+    taken_up c.args.sender c.args.origin c.args.by_ring c.args.link.now c.take_from.new.link c.args.slot.now
+    c.in-Some.server
     c.make_room.new.self c.in-Some-2.message
     (is_open c.make_room.new.self.id (arrived c.in-Some-2.message c.args.by_ring)) true c.in-Some.is takes
-    (λ setting state number is. c.what_stays.ensures.roomed setting state number c.in-Some.server c.make_room.new.self is
+    (λ setting state number is. c.what_stays.ensures.roomed setting state number c.in-Some.server c.make_room.new.self
+    is
     c.make_room.ensures.same)
     (λ setting state run legal ring queued first is.
     subst (λ (b : Bool). is_open c.make_room.new.self.id (arrived c.in-Some-2.message b) ≡ true) (sym ring)
@@ -96,7 +101,8 @@ returns-in-Some-2-clause-ok c setting state ring run legal queued is =
     let at = c.what_stays.ensures.roomed setting state receiver old roomed up.at c.make_room.ensures.same in
     let taken : HasTaken roomed new c.in-Some-2.message (link + 1 == servers setting) =
     subst (λ (b : Bool). HasTaken roomed new c.in-Some-2.message b) ring c.take.ensures in
-    let at_after = c.what_take_does.ensures.received setting state link c.args.origin c.args.link.now c.in-Some-2.message
+    let at_after = c.what_take_does.ensures.received setting state link c.args.origin c.args.link.now
+    c.in-Some-2.message
     c.take_from.new.link.messages roomed new run legal queued first at taken in (
       subst (IsLink setting (next setting state (event.Take link c.args.origin)) link)
           (ap (λ (q : Queue). record q { messages = c.take_from.new.link.messages }) takes.oldest)
@@ -105,7 +111,8 @@ returns-in-Some-2-clause-ok c setting state ring run legal queued is =
       record {
         up = up.up;
         at = at_after;
-        ready = c.slots_stay_ready.ensures setting state (event.Take link c.args.origin) receiver old new run legal up.at
+        ready = c.slots_stay_ready.ensures setting state
+            (event.Take link c.args.origin) receiver old new run legal up.at
             at_after (same_runs old new (ap (λ (s : ServerState). s.head) taken.rest
             ∙ ap (λ (s : ServerState). s.head) c.make_room.ensures.same.rest)) up.ready;
       },

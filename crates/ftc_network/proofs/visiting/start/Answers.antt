@@ -1,4 +1,5 @@
-use Rattle.std.proofs.Common.{◌≡◌, ◌∙◌, ℕ, Bool, true, List, Option, Some, None, length, slice_set, inl, inr, refl, sym, ap, length-set}
+use Rattle.std.proofs.Common.{◌≡◌, ◌∙◌, ℕ, Bool, true, List, Option, Some, None, length, slice_set, inl, inr, refl, sym}
+use Rattle.std.proofs.Common.{ap, length-set}
 use Rattle.std.specs.Prelude.{is_some, ◌&&◌, ◌==◌, not}
 use Rattle.std.proofs.lemmas.Bool.{cases_lt, false≢true}
 use Rattle.std.proofs.lemmas.List.{get_or_past}
@@ -39,7 +40,8 @@ returns-clause-runs c runs =
     let slots : new.head.slots ≡ slice_set old.head.slots c.args.worker (Some start) =
     ap (λ (head : HeadState). head.slots) c.begin.ensures.begun.head in
     record {
-      stands = λ setting state number is. c.what_stays.ensures.begun setting state number c.args.worker c.args.packet old new is
+      stands = λ setting state number is. c.what_stays.ensures.begun setting state number c.args.worker c.args.packet
+          old new is
           c.begin.ensures.begun;
       withheld = ap (λ (s : ServerState). s.buffer.items) c.begin.ensures.begun.rest;
       rise = ap (λ (head : HeadState). may_rise head.vector) c.begin.ensures.begun.head ∙ c.requires.rise;

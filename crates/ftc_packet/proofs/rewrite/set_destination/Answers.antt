@@ -6,7 +6,8 @@ use Rattle.ftc_packet.proofs.rewrite.set_destination.Goals as goal
 
 pub returns-clause-flow : goal.returns-clause-flow
 returns-clause-flow c =
-    subst IsFlow (sym c.set_end.ensures.same) (IsFlow-with_end c.args.bytes.now Destination c.args.address c.args.port c.requires)
+    subst IsFlow (sym c.set_end.ensures.same)
+    (IsFlow-with_end c.args.bytes.now Destination c.args.address c.args.port c.requires)
 
 pub returns-clause-named : goal.returns-clause-named
 returns-clause-named c =

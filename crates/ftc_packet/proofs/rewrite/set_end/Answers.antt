@@ -10,4 +10,5 @@ returns-clause-right c =
     let bytes = c.args.bytes.now in
     let same : c.put_word-3.new.bytes ≡ with_end bytes c.args.end c.args.address c.args.port = cc in
     λ right. subst IsRight (sym same)
-    (with_end_stays_right bytes c.args.end c.args.address c.args.port c.new_transport_checksum-transport_checksum.ensures.read right)
+    (with_end_stays_right bytes c.args.end c.args.address c.args.port
+    c.new_transport_checksum-transport_checksum.ensures.read right)

@@ -23,4 +23,5 @@ pub returns-clause-strict : goal.returns-clause-strict
 returns-clause-strict c = λ state one. not_below_itself (place_of state one)
 
 pub returns-clause-through : goal.returns-clause-through
-returns-clause-through c = λ state one other another. below_both (place_of state one) (place_of state other) (place_of state another)
+returns-clause-through c =
+    λ state one other another. below_both (place_of state one) (place_of state other) (place_of state another)

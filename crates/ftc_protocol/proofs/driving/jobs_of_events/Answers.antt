@@ -11,4 +11,5 @@ pub returns-clause-jobs : goal.returns-clause-jobs
 returns-clause-jobs c = job_of_event
 
 pub returns-clause-within : goal.returns-clause-within
-returns-clause-within c = λ setting is journal run job legal. within setting is (state_after setting (opening setting) journal) (counted_at setting is journal run) job legal
+returns-clause-within c = λ setting is journal run job legal. within setting is
+    (state_after setting (opening setting) journal) (counted_at setting is journal run) job legal

@@ -11,7 +11,8 @@ pub returns-clause-run : goal.returns-clause-run
 returns-clause-run c = λ setting schedule played. played_legal setting schedule (opening setting) played
 
 pub returns-clause-made : goal.returns-clause-made
-returns-clause-made c = λ setting schedule played event job releases. play_more setting schedule (opening setting) played event job releases
+returns-clause-made c = λ setting schedule played event job releases. play_more setting schedule
+    (opening setting) played event job releases
 
 pub returns-clause-over : goal.returns-clause-over
 returns-clause-over c = λ setting schedule played event. play_over setting schedule (opening setting) played event
@@ -20,4 +21,5 @@ pub returns-clause-itself : goal.returns-clause-itself
 returns-clause-itself c = plays_itself
 
 pub returns-clause-joined : goal.returns-clause-joined
-returns-clause-joined c = λ setting schedule more played after. play_on setting schedule more (opening setting) played after
+returns-clause-joined c = λ setting schedule more played after. play_on setting schedule more
+    (opening setting) played after

@@ -16,11 +16,13 @@ pub returns-clause-lose : goal.returns-clause-lose
 returns-clause-lose c = lose_works
 
 pub returns-clause-carry : goal.returns-clause-carry
-returns-clause-carry c = λ setting is journal run origin. carry_works setting (state_after setting (opening setting) journal) (let at = reached setting is journal run in at.fated) origin
+returns-clause-carry c = λ setting is journal run origin. carry_works setting
+    (state_after setting (opening setting) journal) (let at = reached setting is journal run in at.fated) origin
 
 pub returns-clause-single : goal.returns-clause-single
 returns-clause-single c = one_work
 
 pub returns-clause-exists : goal.returns-clause-exists
 returns-clause-exists c = λ setting is journal run server origin.
-    work_or_none setting is (state_after setting (opening setting) journal) (counted_at setting is journal run) server origin
+    work_or_none setting is (state_after setting (opening setting) journal)
+    (counted_at setting is journal run) server origin

@@ -26,28 +26,37 @@ returns c setting state server origin group packet old new run legal is done =
     is.stands.held in
     let named = sym (ap (log_of group packet) there_as.there) ∙ done.named in
     let log = done.log in
-    let of_log = found_is (IsLogIn setting.partitions state.trace) (is_log_of packet group) there_as.held.message.logs log
+    let of_log = found_is (IsLogIn setting.partitions state.trace)
+    (is_log_of packet group) there_as.held.message.logs log
     there_as.stands.as_sent.logs.each named in
     let names = log_names packet group log of_log.1 in
     let below = (order.rides origin group packet message there legal.0.2).0 in
-    let up = subst (λ (p : Where). state.up (aim (servers setting) p) ≡ true) place (order.awake origin message there) in
+    let up = subst (λ (p : Where). state.up (aim (servers setting) p)
+    ≡ true) place (order.awake origin message there) in
     let inside = order.inside server up in
-    let slot = subst (IsReplicaSlot setting state server old.known group) done.before (is.stands.replicas.others group below) in
+    let slot = subst (IsReplicaSlot setting state server old.known group) done.before
+    (is.stands.replicas.others group below) in
     let later = slice_set old.others.items group (Some (applied log done.replica)) in
     let others = done.others ∙ put_at old.others.items log group done.replica names.1 done.before in
-    let knows = known_at setting server group (applied log done.replica).vector old.known new.known old.ring old.id is.ring
+    let knows = known_at setting server group
+    (applied log done.replica).vector old.known new.known old.ring old.id is.ring
     is.number_is done.known
-    ∙ knows_own c.ends.ensures setting server group (applied log done.replica).vector old.known run.right.ring below inside in
+    ∙ knows_own c.ends.ensures setting server group
+    (applied log done.replica).vector old.known run.right.ring below inside in
     elim (is_tail setting group server) as (λ b. is_tail setting group server ≡ b →
     IsServerAt setting (next setting state (event.Apply server origin group packet)) server new) [
-      | true ↦ λ tail. applies setting state (next setting state (event.Apply server origin group packet)) server old new
+      | true ↦ λ tail. applies setting state
+          (next setting state (event.Apply server origin group packet)) server old new
           origin group packet later (group_raised old.known group (applied log done.replica).vector) is done others
           (knows ∙ ap (λ b. cond b (group_raised old.known group (applied log done.replica).vector) old.known) tail)
-          (c.a_log_is_applied.ensures.tail setting state server origin group packet log (contents_of old) done.replica run legal up
+          (c.a_log_is_applied.ensures.tail setting state server origin group packet log
+          (contents_of old) done.replica run legal up
           below of_log.0 names.1 names.0 done.before tail (λ same. slot.1 (sym same)) is.stands)
-      | false ↦ λ other. applies setting state (next setting state (event.Apply server origin group packet)) server old new
+      | false ↦ λ other. applies setting state
+          (next setting state (event.Apply server origin group packet)) server old new
           origin group packet later old.known is done others
           (knows ∙ ap (λ b. cond b (group_raised old.known group (applied log done.replica).vector) old.known) other)
-          (c.a_log_is_applied.ensures.member setting state server origin group packet log (contents_of old) done.replica run legal
+          (c.a_log_is_applied.ensures.member setting state server origin group packet log
+          (contents_of old) done.replica run legal
           up below of_log.0 names.1 names.0 done.before other is.stands)
     ] refl

@@ -26,7 +26,8 @@ returns c setting state server undone old new run legal other is done =
     let one = λ (held : HeldMessage) (there : found held.message.origin old.held.items ≡ Some held).
     let in_state = held_in setting state behind held.message.origin held old.held.items there is.stands.held in
     let message = in_state.message in
-    let ready = c.what_is_ready.ensures setting state behind held.message.origin held.visited held.by_ring message held old run
+    let ready = c.what_is_ready.ensures setting state behind held.message.origin held.visited held.by_ring message held
+    old run
     is in_state.there in_state.stands.place there in
     let each = tests (state.lists behind) message.logs in
     same_test (is_ready old.others.items held)
@@ -39,5 +40,6 @@ returns c setting state server undone old new run legal other is done =
     drops setting state (next setting state (event.Recover server undone)) behind old new
     (filter (stays setting state behind) (items_of old.held.items)) is done
     (stay_alike (is_ready old.others.items) (stays setting state behind) old.held.items alike)
-    (c.a_server_is_replaced.ensures.following setting state server undone (contents_of old) (stays setting state behind) run legal
+    (c.a_server_is_replaced.ensures.following setting state server undone (contents_of old)
+    (stays setting state behind) run legal
     other (λ message item there. stays_as setting state behind message item there) is.stands)

@@ -15,7 +15,8 @@ returns-clause-first c setting state server due old run last is first =
     first_may setting state server last old.known old.buffer.items is.stands.withheld
     (λ packet waiting item there stands.
     let told = c.due_packets.ensures old.known item in
-    let meant = c.a_packet_due.ensures setting state packet waiting old.known item.needs run commits there stands.needs in
+    let meant = c.a_packet_due.ensures setting state packet waiting old.known item.needs run commits there stands.needs
+    in
     ((λ due. meant.0 (told.0 due)), (λ due. told.1 (meant.1 due))))
     due first
 
@@ -26,7 +27,8 @@ returns-clause-bytes c setting state server due old run last is first =
     first_bytes setting state server last old.known old.buffer.items is.stands.withheld
     (λ packet waiting item there stands.
     let told = c.due_packets.ensures old.known item in
-    let meant = c.a_packet_due.ensures setting state packet waiting old.known item.needs run commits there stands.needs in
+    let meant = c.a_packet_due.ensures setting state packet waiting old.known item.needs run commits there stands.needs
+    in
     ((λ due. meant.0 (told.0 due)), (λ due. told.1 (meant.1 due))))
     due first
 
@@ -37,6 +39,7 @@ returns-clause-none c setting state server packet withheld old run last is none 
     none_due setting state server last old.known old.buffer.items is.stands.withheld
     (λ packet waiting item there stands.
     let told = c.due_packets.ensures old.known item in
-    let meant = c.a_packet_due.ensures setting state packet waiting old.known item.needs run commits there stands.needs in
+    let meant = c.a_packet_due.ensures setting state packet waiting old.known item.needs run commits there stands.needs
+    in
     ((λ due. meant.0 (told.0 due)), (λ due. told.1 (meant.1 due))))
     (c.released_packets.ensures.none old.known old.buffer.items none) packet withheld its

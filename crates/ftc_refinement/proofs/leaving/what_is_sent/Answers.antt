@@ -19,7 +19,8 @@ returns-clause-queued c setting state lost server origin old queue message run l
     let held = there_as.held in
     let split = among origin old.held.items held there_as.there in
     let inside = order.inside server
-    (subst (λ (p : Where). state.up (aim (servers setting) p) ≡ true) may.1.held (order.awake origin may.0 may.1.there)) in
+    (subst (λ (p : Where). state.up (aim (servers setting) p)
+    ≡ true) may.1.held (order.awake origin may.0 may.1.there)) in
     let going = goes_on c.ends.ensures setting server held.message.logs run.right.ring inside
     (groups_exist setting state may.0.logs held.message.logs there_as.stands.as_sent.logs
     (λ group packet rides. (order.rides origin group packet may.0 may.1.there rides).0)) in

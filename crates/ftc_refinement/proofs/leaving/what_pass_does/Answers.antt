@@ -30,19 +30,23 @@ returns c setting state lost server origin old new run legal is done =
     let same = beside_pass old new origin done in
     let forwarding = forwards old new origin server done is.number_is in
     let forwarded = cond (server == 0) [] old.forwarder in
-    elim (server + 1 == servers setting) as (λ b. (server + 1 == servers setting) ≡ b → IsServerAt setting after server new) [
+    elim (server + 1 == servers setting) as (λ b. (server + 1 == servers setting) ≡ b →
+    IsServerAt setting after server new) [
       | false ↦ λ isnt. leaves setting state after server old new rest old.buffer.items forwarded is same holds
           (withholds_others setting old new origin server done is.ring is.number_is held there_as.there isnt) forwarding
           (c.a_message_leaves.ensures.on setting state lost server origin (contents_of old) (items_of split.before)
           (item_of_held held) (items_of split.after) run legal items split.origin_is
           (λ last. let is_last = eq-eqb (server + 1) (servers setting) last in absurd cc) is.stands)
       | true ↦ λ last.
-          let withholding = withholds_it setting old new origin server done is.ring is.number_is held there_as.there last in
+          let withholding = withholds_it setting old new origin server done is.ring is.number_is held there_as.there
+          last in
           elim held.message.packet as (λ p. held.message.packet ≡ p → IsServerAt setting after server new) [
             | None ↦ λ none. leaves setting state after server old new rest old.buffer.items forwarded is same holds
-                (withholding ∙ (ap (λ p. old.buffer.items ++ withheld_with held.message.origin held.message.needs p) none
+                (withholding ∙ (ap (λ p. old.buffer.items
+                ++ withheld_with held.message.origin held.message.needs p) none
                 ∙ append-nil old.buffer.items)) forwarding
-                (c.a_message_leaves.ensures.empty setting state lost server origin (contents_of old) (items_of split.before)
+                (c.a_message_leaves.ensures.empty setting state lost server origin (contents_of old)
+                (items_of split.before)
                 (item_of_held held) (items_of split.after) run legal items split.origin_is
                 (eqb-true (server + 1) (servers setting) last) none is.stands)
             | Some bytes ↦ λ has. leaves setting state after server old new rest

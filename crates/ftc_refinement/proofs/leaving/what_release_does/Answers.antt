@@ -12,8 +12,10 @@ pub returns : goal.returns
 returns c setting state server due old new run last first legal is done =
     let same = beside_release old new done in
     leaves setting state (next setting state (event.Release due.packet)) server old new (items_of old.held.items)
-    (before_first (is_due old.known) old.buffer.items ++ after_first (is_due old.known) old.buffer.items) old.forwarder is
+    (before_first (is_due old.known) old.buffer.items
+    ++ after_first (is_due old.known) old.buffer.items) old.forwarder is
     same.0 (ap items_of same.1) done.buffer same.2
     (c.a_packet_is_released.ensures setting state due.packet server (contents_of old)
-    (before_first (is_due old.known) old.buffer.items) due (after_first (is_due old.known) old.buffer.items) run legal last
+    (before_first (is_due old.known) old.buffer.items) due
+    (after_first (is_due old.known) old.buffer.items) run legal last
     (around_found (is_due old.known) old.buffer.items due first) refl is.stands)

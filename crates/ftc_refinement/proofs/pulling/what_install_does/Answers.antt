@@ -86,14 +86,19 @@ returns c setting state link tail old new sender news run legal inside tail_is s
     (ap (λ (s : ServerState). items_of s.held.items) done.rest)
     (ap (λ (s : ServerState). s.buffer.items) done.rest)
     (ap (λ (s : ServerState). s.forwarder) done.rest))
-    (c.a_server_has_pulled.ensures.receiver setting state link tail (contents_of old) (contents_of sender) later tail_got.0
-    tail_got.1 run legal inside tail_is shared (record { shared = gets; others = keeps }) tail_got.2 tail_got.3 is.stands
+    (c.a_server_has_pulled.ensures.receiver setting state link tail (contents_of old)
+    (contents_of sender) later tail_got.0
+    tail_got.1 run legal inside tail_is shared (record {
+      shared = gets;
+      others = keeps;
+    }) tail_got.2 tail_got.3 is.stands
     sends.stands)
   where
     put_in : (o : Option GroupReplica) (one : GroupReplica) (old : Option Held) → o ≡ Some one →
         in_place o old ≡ Some one.replica
     put_in o one old is = ap (λ o. in_place o old) is
 
-    left_in : (o : Option GroupReplica) (old : Option Held) → ((one : GroupReplica) → o ≡ Some one → ⊥) → in_place o old ≡ old
+    left_in : (o : Option GroupReplica) (old : Option Held) → ((one : GroupReplica) → o ≡ Some one → ⊥) →
+        in_place o old ≡ old
     left_in None old none = refl
     left_in (Some one) old none = absurd (none one refl)

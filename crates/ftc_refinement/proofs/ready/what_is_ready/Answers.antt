@@ -15,7 +15,8 @@ use Rattle.ftc_refinement.proofs.ready.what_is_ready.Goals as goal
 pub returns : goal.returns
 returns c setting state server origin visited by_ring message held old run is there place at =
     let order = c.order_of_a_state.ensures setting state run in
-    let there_as = found_as setting state server origin message visited by_ring old.held.items there place is.stands.held in
+    let there_as = found_as setting state server origin message visited by_ring old.held.items there place
+    is.stands.held in
     let same = one_found (found origin old.held.items) there_as.held held there_as.there at in
     let logs = held.message.logs in
     let are = subst (λ (h : HeldMessage). AreLogsOf setting state message.logs h.message.logs) same

@@ -17,7 +17,8 @@ returns c setting server new inside is = record {
         vector = is.vector;
         kept = is.kept;
       })
-      (λ group below. subst (IsEmptySlot setting server group) (sym (is.others group below)) (empty_slot setting server group))
+      (λ group below. subst (IsEmptySlot setting server group) (sym (is.others group below))
+      (empty_slot setting server group))
       is.known
       (ap items_of is.held)
       is.buffer

@@ -1,9 +1,11 @@
 use Rattle.std.proofs.Common.{refl, ap}
 use Rattle.ftc_txn.specs.Head.{HeadState}
 use Rattle.ftc_txn.specs.Steps.{restarts}
-use Rattle.ftc_txn.specs.declared.answers.ReadAnswer.TheVariants.{Value, Blocked, Wounded as WoundedRead, Idle as IdleRead, NotAsked}
+use Rattle.ftc_txn.specs.declared.answers.ReadAnswer.TheVariants.{Value, Blocked, Wounded as WoundedRead}
+use Rattle.ftc_txn.specs.declared.answers.ReadAnswer.TheVariants.{Idle as IdleRead, NotAsked}
 use Rattle.ftc_server.specs.declared.answers.CommitAnswer.TheVariants.{Done, Wounded, Idle, Unfinished, NoMemory}
-use Rattle.ftc_refinement.proofs.Unmoved.{with_nothing, with_head, with_own_room, with_held_room, with_buffer_room, prunes}
+use Rattle.ftc_refinement.proofs.Unmoved.{with_nothing, with_head, with_own_room, with_held_room, with_buffer_room}
+use Rattle.ftc_refinement.proofs.Unmoved.{prunes}
 use Rattle.ftc_refinement.proofs.still.what_stays.Goals as goal
 
 pub returns-clause-same : goal.returns-clause-same
@@ -33,19 +35,23 @@ pub returns-clause-read : goal.returns-clause-read
 returns-clause-read c setting state server worker key (Value value) old new is done =
     let made = done.head.2.rest in
     with_head setting state server old new is new.head done.rest
-    (ap (λ (h : HeadState). h.content) made) (ap (λ (h : HeadState). h.partitions) made) (ap (λ (h : HeadState). h.vector) made)
+    (ap (λ (h : HeadState). h.content) made) (ap (λ (h : HeadState). h.partitions) made)
+    (ap (λ (h : HeadState). h.vector) made)
 returns-clause-read c setting state server worker key (Blocked holder) old new is done =
     let made = done.head.3 in
     with_head setting state server old new is new.head done.rest
-    (ap (λ (h : HeadState). h.content) made) (ap (λ (h : HeadState). h.partitions) made) (ap (λ (h : HeadState). h.vector) made)
+    (ap (λ (h : HeadState). h.content) made) (ap (λ (h : HeadState). h.partitions) made)
+    (ap (λ (h : HeadState). h.vector) made)
 returns-clause-read c setting state server worker key (WoundedRead by) old new is done =
     let made = done.head.2 in
     with_head setting state server old new is new.head done.rest
-    (ap (λ (h : HeadState). h.content) made) (ap (λ (h : HeadState). h.partitions) made) (ap (λ (h : HeadState). h.vector) made)
+    (ap (λ (h : HeadState). h.content) made) (ap (λ (h : HeadState). h.partitions) made)
+    (ap (λ (h : HeadState). h.vector) made)
 returns-clause-read c setting state server worker key IdleRead old new is done =
     let made = done.head.1 in
     with_head setting state server old new is new.head done.rest
-    (ap (λ (h : HeadState). h.content) made) (ap (λ (h : HeadState). h.partitions) made) (ap (λ (h : HeadState). h.vector) made)
+    (ap (λ (h : HeadState). h.content) made) (ap (λ (h : HeadState). h.partitions) made)
+    (ap (λ (h : HeadState). h.vector) made)
 returns-clause-read c setting state server worker key NotAsked old new is done =
     with_nothing setting state server old new is done.rest
 

@@ -48,7 +48,8 @@ returns-clause-apply c setting state server origin group packet held old run non
       ),
       λ other another legal before.
           lowest (next_log others None held.message.logs) next.0 group packet other another next.1 next.2 next.3
-          (held_not_passed setting state server origin other another held old (c.order_of_a_state.ensures setting state run)
+          (held_not_passed setting state server origin other another held old
+          (c.order_of_a_state.ensures setting state run)
           (c.every_state_tied.ensures setting state run).trace
           (λ log replica of_log. c.what_vectors_say.ensures.had setting state server log replica run of_log)
           (λ log replica of_log. c.what_vectors_say.ensures.ready setting state server log replica run of_log)
@@ -114,14 +115,16 @@ returns-clause-none c setting state server origin held old run none is at rising
           subst (IsNoLater one.log) (none_next_of others held (next_log others None held.message.logs)
           (sym (ap (work_for_found others) at) ∙ idle)) one.no_later;
       visit = λ legal.
-          let works = (c.what_work_says.ensures.visit setting state server origin FINISHING_SLOT old run is).1 legal.0 in
+          let works = (c.what_work_says.ensures.visit setting state server origin FINISHING_SLOT old run is).1 legal.0
+          in
           absurd cc;
       pass = λ legal. let works = sends.1 (legal.0.0, legal.0.1) in absurd cc;
       lose = λ legal. let works = sends.1 (legal.0.0, legal.0.1) in absurd cc;
       carry = λ first legal.
           let may = legal.0 in
           let place = may.3 ∙ ap (λ s. Held s may.2 true) (sym first) in
-          let ready = (c.what_is_ready.ensures setting state server origin may.2 true may.0 held old run is may.1 place at).1
+          let ready = (c.what_is_ready.ensures setting state server origin may.2 true may.0 held old run is may.1 place
+          at).1
           (subst (λ s. Rattle.ftc_protocol.specs.Known.IsReady setting state s may.0) (sym first) may.4) in
           ready_works (found origin old.held.items) others held at idle (last_comes others held ready);
     }

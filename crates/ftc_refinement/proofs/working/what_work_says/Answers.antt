@@ -1,4 +1,5 @@
-use Rattle.std.proofs.Common.{◌≡◌, ◌∙◌, ◌<◌, ◌==◌, ◌&&◌, ◌∷◌, ℕ, true, false, not, List, [], Option, Some, None, length, refl, sym, ap, subst}
+use Rattle.std.proofs.Common.{◌≡◌, ◌∙◌, ◌<◌, ◌==◌, ◌&&◌, ◌∷◌, ℕ, true, false, not, List, [], Option, Some, None, length}
+use Rattle.std.proofs.Common.{refl, sym, ap, subst}
 use Rattle.std.specs.Option.{is_some}
 use Rattle.ftc_protocol.specs.State.{Held}
 use Rattle.ftc_server.specs.declared.work.Work.TheVariants.{Visit, Send, Carry}
@@ -6,7 +7,8 @@ use Rattle.ftc_server.specs.Holding.{found}
 use Rattle.ftc_server.specs.Work.{is_waiting, next_log, work_for_found}
 use Rattle.ftc_server.proofs.Working.{held_with, last_of}
 use Rattle.ftc_refinement.proofs.Messages.{both, found_as}
-use Rattle.ftc_refinement.proofs.Works.{ready_of, last_comes, last_by, is_to_visit, is_to_send, is_to_carry, is_done, done_is, bytes_in_it, held_in, same_flags, next_applied}
+use Rattle.ftc_refinement.proofs.Works.{ready_of, last_comes, last_by, is_to_visit, is_to_send, is_to_carry, is_done}
+use Rattle.ftc_refinement.proofs.Works.{done_is, bytes_in_it, held_in, same_flags, next_applied}
 use Rattle.std.proofs.lemmas.Bool.{eqb-true}
 use Rattle.ftc_base.specs.declared.ask.Write.{Write}
 use Rattle.ftc_journal.specs.declared.event.Event.TheVariants as event
@@ -39,7 +41,8 @@ returns-clause-visit c setting state server origin worker old run is = (
       let with = held_with old.others.items (found origin old.held.items) Visit works in
       let in_state = held_in setting state server origin with.held old.held.items with.there is.stands.held in
       let place = in_state.stands.place in
-      let ready = (c.what_is_ready.ensures setting state server origin with.held.visited with.held.by_ring in_state.message with.held
+      let ready = (c.what_is_ready.ensures setting state server origin with.held.visited with.held.by_ring
+      in_state.message with.held
       old run is in_state.there place with.there).0
       (ready_of old.others.items with.held Visit (λ g p same. absurd cc) with.works) in
       let waits = is_to_visit (is_waiting with.held) with.held.by_ring
@@ -71,7 +74,8 @@ returns-clause-send c setting state server origin old run is = (
       let with = held_with old.others.items (found origin old.held.items) Send works in
       let in_state = held_in setting state server origin with.held old.held.items with.there is.stands.held in
       let place = in_state.stands.place in
-      let ready = (c.what_is_ready.ensures setting state server origin with.held.visited with.held.by_ring in_state.message with.held
+      let ready = (c.what_is_ready.ensures setting state server origin with.held.visited with.held.by_ring
+      in_state.message with.held
       old run is in_state.there place with.there).0
       (ready_of old.others.items with.held Send (λ g p same. absurd cc) with.works) in
       let sends = is_to_send (is_waiting with.held) with.held.by_ring
@@ -83,15 +87,19 @@ returns-clause-send c setting state server origin old run is = (
           held = place ∙ ap (λ b. Held server with.held.visited b) sends.1;
           ready = ready;
           done = is_done with.held.visited in_state.message.packet
-              (ap (λ (p : Option (List ℕ)). not with.held.visited && is_some p) (sym in_state.stands.as_sent.packet) ∙ sends.0);
+              (ap (λ (p : Option (List ℕ)). not with.held.visited
+              && is_some p) (sym in_state.stands.as_sent.packet) ∙ sends.0);
         },
       )),
   (λ may.
-      let there_as = found_as setting state server origin may.0 may.1.visited false old.held.items may.1.there may.1.held
+      let there_as = found_as setting state server origin may.0 may.1.visited false old.held.items may.1.there
+      may.1.held
       is.stands.held in
       let held = there_as.held in
-      let flags = same_flags server held.visited held.by_ring may.1.visited false (sym there_as.stands.place ∙ may.1.held) in
-      let ready = (c.what_is_ready.ensures setting state server origin may.1.visited false may.0 held old run is may.1.there
+      let flags = same_flags server held.visited held.by_ring may.1.visited false
+      (sym there_as.stands.place ∙ may.1.held) in
+      let ready = (c.what_is_ready.ensures setting state server origin may.1.visited false may.0 held old run is
+      may.1.there
       may.1.held there_as.there).1 may.1.ready in
       let waits = ap (λ v. not v && is_some held.message.packet) flags.0
       ∙ (ap (λ (p : Option (List ℕ)). not may.1.visited && is_some p) there_as.stands.as_sent.packet
@@ -105,7 +113,8 @@ returns-clause-carry c setting state origin old run is works =
     let with = held_with old.others.items (found origin old.held.items) Carry works in
     let in_state = held_in setting state 0 origin with.held old.held.items with.there is.stands.held in
     let place = in_state.stands.place in
-    let ready = (c.what_is_ready.ensures setting state 0 origin with.held.visited with.held.by_ring in_state.message with.held
+    let ready = (c.what_is_ready.ensures setting state 0 origin with.held.visited with.held.by_ring in_state.message
+    with.held
     old run is in_state.there place with.there).0
     (ready_of old.others.items with.held Carry (λ g p same. absurd cc) with.works) in
     let carries = is_to_carry (is_waiting with.held) with.held.by_ring
@@ -135,20 +144,23 @@ returns-clause-apply c setting state server origin group packet held old run is 
     (sym (ap (work_for_found others) at) ∙ works) in
     let log = next.0 in
     let of_log = all_next others (IsLogIn setting.partitions state.trace) None logs log are.each next.1 in
-    let named = all_next others (λ (l : Logged). names_log logs l.group l.origin ≡ true) None logs log (each_named logs) next.1 in
+    let named = all_next others (λ (l : Logged). names_log logs l.group l.origin ≡ true) None logs log
+    (each_named logs) next.1 in
     let rides : In message.logs log.group log.origin = sym (are.names log.group log.origin) ∙ named in
     let tests = next_is others None None logs log rising next.1 in
     let halves = both (not (length log.writes == 0)) (may_apply_to (replica_at others log.group) log) tests.allowed in
     let takes = taker (replica_at others log.group) log halves.1 in
     let slot = subst (IsReplicaSlot setting state server old.known log.group) takes.1
-    (is.stands.replicas.others log.group (rides_below setting state server origin held.visited held.by_ring message old order is
+    (is.stands.replicas.others log.group
+    (rides_below setting state server origin held.visited held.by_ring message old order is
     in_state.there in_state.stands.place log.group log.origin rides)) in
     let changing = stands_map (λ (other : Outcome). other ≡ of_log.outcome)
     (λ (other : Outcome). is_changing setting.partitions other ≡ true)
     (λ other same. changing_if setting.partitions other log.writes
     (ap (λ (o : Outcome). o.writes) same ∙ sym of_log.writes) halves.0)
     state.trace log.group log.origin of_log.there in
-    let lacks = (c.what_vectors_say.ensures.ready setting state server log (pruned_by (vector_of old.known log.group) takes.0)
+    let lacks = (c.what_vectors_say.ensures.ready setting state server log
+    (pruned_by (vector_of old.known log.group) takes.0)
     run of_log slot.2 changing).0
     ((c.order_tests.ensures.ready takes.0.vector log.before log.changed).0 takes.2) in
     let say = λ (l : Logged) (h : Replicated) (of_l : IsLogIn setting.partitions state.trace l).

@@ -9,7 +9,8 @@ use Rattle.ftc_replica.proofs.coverage.covers_log.Goals as goal
 pub returns-then-not-reaches : goal.returns-then-not-reaches
 returns-then-not-reaches c =
     let p = c.loop-partition.partition in
-    let fails : reaches (number_at c.args.vector.now p) (need_at (mark_at c.args.log.now.before p) (has c.args.log.now.changed p)) ≡ false = cc in
+    let fails : reaches (number_at c.args.vector.now p)
+    (need_at (mark_at c.args.log.now.before p) (has c.args.log.now.changed p)) ≡ false = cc in
     sym (not_covered c.args.vector.now c.args.log.now.before c.args.log.now.changed p
     (omega (arith, c.loop-partition-test.true, c.end-partition-end.ensures.same.within)) fails)
 

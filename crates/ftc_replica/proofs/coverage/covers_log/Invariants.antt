@@ -6,4 +6,6 @@ use Rattle.ftc_replica.specs.Kept.{reaches}
 use Rattle.ftc_replica.proofs.coverage.covers_log.Given as goal
 
 abbrev pub invariant-loop-partition : goal.invariant-loop-partition
-invariant-loop-partition l = (k : ℕ) → k < l.partition → reaches (number_at l.vector k) (need_at (mark_at l.log.before k) (has l.log.changed k)) ≡ true
+invariant-loop-partition l =
+    (k : ℕ) → k < l.partition → reaches (number_at l.vector k) (need_at (mark_at l.log.before k) (has l.log.changed k))
+    ≡ true

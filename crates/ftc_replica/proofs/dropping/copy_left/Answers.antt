@@ -13,7 +13,8 @@ loop-place-preserved c =
     elim c.if-not-is_dropped.branch [
       | then-not-is_dropped+in_ok-push_back w ↦
           rw (w.copies-is, w.in_ok-push_back.ensures.items, w.copy.ensures)
-          (left_one_more c.args.pruned.now items place log c.loop-place.copies.items within c.index-log.ensures (sym c.is_dropped.ensures ∙ w.if-not-is_dropped.true)
+          (left_one_more c.args.pruned.now items place log c.loop-place.copies.items within c.index-log.ensures
+          (sym c.is_dropped.ensures ∙ w.if-not-is_dropped.true)
           c.loop-place.invariant)
       | else-not-is_dropped w ↦
           rw w.copies-is (left_no_more c.args.pruned.now items place log c.loop-place.copies.items within

@@ -6,5 +6,7 @@ use Rattle.ftc_replica.proofs.tests.marks.Goals as goal
 
 pub returns : goal.returns
 returns c =
-    let here : get_or c.set.new.self c.args.partition None ≡ Some c.args.number = ap (λ marks. get_or marks c.args.partition None) c.set.ensures ∙ rw c.new-marks.ensures (get_or-set_same _ c.args.partition (Some c.args.number) None (rw (length-by_partition _) (omega arith))) in
+    let here : get_or c.set.new.self c.args.partition None ≡ Some c.args.number =
+    ap (λ marks. get_or marks c.args.partition None) c.set.ensures ∙ rw c.new-marks.ensures
+    (get_or-set_same _ c.args.partition (Some c.args.number) None (rw (length-by_partition _) (omega arith))) in
     ap is_some here

@@ -6,5 +6,7 @@ use Rattle.ftc_report.proofs.counts.count_lines.Goals as goal
 pub returns : goal.returns
 returns c =
     IfOk-weaker c.format.result _ _
-    (λ text is. is ∙ of_count_lines c.args.fates.now c.len-packets.result c.released-released.result c.filtered-filtered.result c.lost-lost.result c.len-packets.ensures c.released-released.ensures c.filtered-filtered.ensures c.lost-lost.ensures)
+    (λ text is. is ∙ of_count_lines c.args.fates.now c.len-packets.result c.released-released.result
+    c.filtered-filtered.result c.lost-lost.result c.len-packets.ensures c.released-released.ensures
+    c.filtered-filtered.ensures c.lost-lost.ensures)
     c.format.ensures.ok

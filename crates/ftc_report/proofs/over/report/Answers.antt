@@ -12,6 +12,9 @@ pub chain_after-requires : goal.chain_after-requires
 chain_after-requires c =
     let chain = c.args.spec.now in
     let packets = bytes_of_packets c.args.packets.now in
-    let setting = c.accepted.ensures.setting chain packets c.args.script.now c.rules.ensures.bounds c.ring.ensures.accepted c.requires.ring (c.requires.packets ∙ sym (bytes_count c.args.packets.now)) in
-    subst (λ (steps : List Step). IsSome (serial_run chain.rules (serial_opening packets) steps)) (sym c.in_ok-trace.ensures)
-    (has_end (setting_of chain packets c.args.script.now) c.args.journal.now.items c.serial_of_a_run.ensures ∣ setting ∣₁ c.requires.run)
+    let setting = c.accepted.ensures.setting chain packets c.args.script.now c.rules.ensures.bounds
+    c.ring.ensures.accepted c.requires.ring (c.requires.packets ∙ sym (bytes_count c.args.packets.now)) in
+    subst (λ (steps : List Step). IsSome (serial_run chain.rules (serial_opening packets) steps))
+    (sym c.in_ok-trace.ensures)
+    (has_end (setting_of chain packets c.args.script.now) c.args.journal.now.items c.serial_of_a_run.ensures ∣ setting
+    ∣₁ c.requires.run)

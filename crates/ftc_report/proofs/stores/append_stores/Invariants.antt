@@ -7,4 +7,5 @@ use Rattle.ftc_report.specs.Contents.{contents}
 use Rattle.ftc_report.proofs.stores.append_stores.Given as goal
 
 abbrev pub invariant-loop-place : goal.invariant-loop-place
-invariant-loop-place l = l.out ≡ l.fn.out ++ flat_map store_lines (enumerate_from 0 (contents l.place (serial_state l.serial)))
+invariant-loop-place l = l.out ≡ l.fn.out
+    ++ flat_map store_lines (enumerate_from 0 (contents l.place (serial_state l.serial)))

@@ -10,4 +10,5 @@ returns-clause-parts c = text_accepts
 
 pub returns-clause-admissible : goal.returns-clause-admissible
 returns-clause-admissible c script k is =
-    admissible_on script.ring script.packets 0 all_live script.steps k (nobody_down script.ring all_live is.ring (λ j lj. refl)) is.steps
+    admissible_on script.ring script.packets 0 all_live script.steps k
+    (nobody_down script.ring all_live is.ring (λ j lj. refl)) is.steps

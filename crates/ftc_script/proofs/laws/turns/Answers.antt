@@ -3,7 +3,8 @@ use Rattle.ftc_script.proofs.InTurn as turns
 use Rattle.ftc_script.proofs.laws.turns.Goals as goal
 
 pub returns-clause-step : goal.returns-clause-step
-returns-clause-step c script k step is e = turns.step_at script.ring script.packets 0 all_live script.steps k step is.steps e
+returns-clause-step c script k step is e =
+    turns.step_at script.ring script.packets 0 all_live script.steps k step is.steps e
 
 pub returns-clause-behind : goal.returns-clause-behind
 returns-clause-behind c = turns.live_behind

@@ -14,15 +14,21 @@ loop-new-preserved c =
     let new = c.in-Some.new in
     let ring = c.args.ring.now in
     let all : list_all (is_later_of others) (left ++ new ∷ []) ≡ true =
-    subst (λ (news : List GroupReplica). list_all (is_later_of others) news ≡ true) c.in-Some.ensures.items c.loop-new.invariant.later in
+    subst (λ (news : List GroupReplica). list_all (is_later_of others) news
+    ≡ true) c.in-Some.ensures.items c.loop-new.invariant.later in
     record {
-      later = later_stays others c.put.new.replicas.items left c.put.ensures.members (all_but_last (is_later_of others) left new all).0;
+      later = later_stays others c.put.new.replicas.items left c.put.ensures.members
+          (all_but_last (is_later_of others) left new all).0;
       others = ap (with_installed left) c.put.ensures.put ∙ sym (installed_last left new others)
-          ∙ ap (λ (news : List GroupReplica). with_installed news others) (sym c.in-Some.ensures.items) ∙ c.loop-new.invariant.others;
+          ∙ ap (λ (news : List GroupReplica). with_installed news others)
+          (sym c.in-Some.ensures.items) ∙ c.loop-new.invariant.others;
       known = ap (known_with ring c.args.id left)
-          (c.learn.ensures ∙ ap (λ (vector : List ℕ). with_own ring c.args.id new.group vector c.loop-new.known) c.vector.ensures)
+          (c.learn.ensures ∙ ap (λ
+          (vector : List ℕ). with_own ring c.args.id new.group vector c.loop-new.known) c.vector.ensures)
           ∙ sym (known_last ring c.args.id left new c.loop-new.known)
-          ∙ ap (λ (news : List GroupReplica). known_with ring c.args.id news c.loop-new.known) (sym c.in-Some.ensures.items)
+          ∙ ap (λ (news : List GroupReplica). known_with ring c.args.id news c.loop-new.known)
+          (sym c.in-Some.ensures.items)
           ∙ c.loop-new.invariant.known;
-      members = same_through c.args.others.now.items others c.put.new.replicas.items c.loop-new.invariant.members c.put.ensures.members;
+      members = same_through c.args.others.now.items others c.put.new.replicas.items c.loop-new.invariant.members
+          c.put.ensures.members;
     }

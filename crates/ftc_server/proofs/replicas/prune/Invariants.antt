@@ -8,6 +8,8 @@ use Rattle.ftc_server.proofs.replicas.prune.Given as goal
 abbrev pub invariant-loop-number : goal.invariant-loop-number
 invariant-loop-number l = record {
   size : length l.replicas.items ≡ length l.initial.replicas.items;
-  below : (group : ℕ) → group < l.number → replica_at l.replicas.items group ≡ option_map (pruned (vector_of l.known group)) (replica_at l.initial.replicas.items group);
+  below : (group : ℕ) → group < l.number →
+      replica_at l.replicas.items group
+      ≡ option_map (pruned (vector_of l.known group)) (replica_at l.initial.replicas.items group);
   rest : (group : ℕ) → l.number ≤ group → replica_at l.replicas.items group ≡ replica_at l.initial.replicas.items group;
 }

@@ -8,31 +8,40 @@ use Rattle.ftc_standing.proofs.WholeServers.{visits_only, visits, visits_alone}
 use Rattle.ftc_standing.proofs.replicas.a_visit_is_made.Goals as goal
 
 pub returns-clause-unchanging : goal.returns-clause-unchanging
-returns-clause-unchanging c setting state server packet worker contents before item after sent log run legal up held origin touched made visited unchanging is =
-    visits_only setting state (firm c.every_state_tied.ensures c.needs_of_packets.ensures c.withheld_packets.ensures setting state run)
+returns-clause-unchanging c setting state server packet worker contents before item after sent log run legal up held
+    origin touched made visited unchanging is =
+    visits_only setting state
+    (firm c.every_state_tied.ensures c.needs_of_packets.ensures c.withheld_packets.ensures setting state run)
     server packet worker legal up contents.head contents.later contents.known before item after contents.withheld
     contents.forwarded sent log origin touched made visited
-    (subst (λ (items : List HeldItem). IsServerOf setting state server contents.head contents.later contents.known items contents.withheld
+    (subst (λ (items : List HeldItem). IsServerOf setting state server contents.head contents.later contents.known items
+    contents.withheld
     contents.forwarded) held is) unchanging
 
 pub returns-clause-head : goal.returns-clause-head
-returns-clause-head c setting state server packet worker contents before item after sent log run legal up held origin touching made visited changing isnt is =
-    visits setting state (firm c.every_state_tied.ensures c.needs_of_packets.ensures c.withheld_packets.ensures setting state run)
+returns-clause-head c setting state server packet worker contents before item after sent log run legal up held origin
+    touching made visited changing isnt is =
+    visits setting state (firm c.every_state_tied.ensures c.needs_of_packets.ensures c.withheld_packets.ensures setting
+    state run)
     server packet worker legal up contents.head contents.later contents.known before item after contents.withheld
     contents.forwarded sent (Some log) origin (sym touching)
     (λ one same. subst (IsLogOf server setting.partitions contents.head.vector packet
     (outcome_at setting state server packet).answers (outcome_at setting state server packet).writes)
     (same_Some log one same) made) visited
-    (subst (λ (items : List HeldItem). IsServerOf setting state server contents.head contents.later contents.known items contents.withheld
+    (subst (λ (items : List HeldItem). IsServerOf setting state server contents.head contents.later contents.known items
+    contents.withheld
     contents.forwarded) held is) changing log refl isnt
 
 pub returns-clause-alone : goal.returns-clause-alone
-returns-clause-alone c setting state server packet worker contents before item after sent log run legal up held origin touching made visited changing tail is =
-    visits_alone setting state (firm c.every_state_tied.ensures c.needs_of_packets.ensures c.withheld_packets.ensures setting state run)
+returns-clause-alone c setting state server packet worker contents before item after sent log run legal up held origin
+    touching made visited changing tail is =
+    visits_alone setting state
+    (firm c.every_state_tied.ensures c.needs_of_packets.ensures c.withheld_packets.ensures setting state run)
     server packet worker legal up contents.head contents.later contents.known before item after contents.withheld
     contents.forwarded sent (Some log) origin (sym touching)
     (λ one same. subst (IsLogOf server setting.partitions contents.head.vector packet
     (outcome_at setting state server packet).answers (outcome_at setting state server packet).writes)
     (same_Some log one same) made) visited
-    (subst (λ (items : List HeldItem). IsServerOf setting state server contents.head contents.later contents.known items contents.withheld
+    (subst (λ (items : List HeldItem). IsServerOf setting state server contents.head contents.later contents.known items
+    contents.withheld
     contents.forwarded) held is) changing log refl tail

@@ -9,5 +9,6 @@ returns-clause-log c partitions trace one other is first second group origin =
 pub returns-clause-list : goal.returns-clause-list
 returns-clause-list c setting state visits ones others reached first second rise also =
     let tied = c.every_state_tied.ensures setting state reached in
-    one_list c.same_members.ensures setting.partitions state.trace tied.trace None ones others first.each second.each rise
+    one_list c.same_members.ensures setting.partitions state.trace tied.trace None ones others first.each second.each
+    rise
     also (λ g p. first.names g p ∙ sym (second.names g p))

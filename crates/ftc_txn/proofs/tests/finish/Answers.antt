@@ -7,4 +7,6 @@ use Rattle.ftc_txn.proofs.tests.finish.Goals as goal
 
 pub commit-requires-clause-numbers : goal.commit-requires-clause-numbers
 commit-requires-clause-numbers c = λ p _ is.
-    not_both (is_changed c.args.head.now.partitions c.new.result.items p) (ap (λ (ws : List Write). is_changed c.args.head.now.partitions ws p) c.new.ensures ∙ changed_none c.args.head.now.partitions p) is
+    not_both (is_changed c.args.head.now.partitions c.new.result.items p)
+    (ap (λ (ws : List Write). is_changed c.args.head.now.partitions ws p) c.new.ensures ∙ changed_none
+    c.args.head.now.partitions p) is

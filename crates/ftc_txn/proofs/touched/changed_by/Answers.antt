@@ -7,4 +7,9 @@ loop-write-init c = λ p. c.new-changed.ensures p ∙ sym (changed_none c.args.p
 
 pub loop-write-preserved : goal.loop-write-preserved
 loop-write-preserved c = λ p.
-    rw (changed_more c.args.partitions c.as_slice-write-items.result.now c.loop-write.write-index c.write-item.result p c.loop-write-test.true (sym c.write-item.is), ← c.loop-write.invariant p, ← c.partition_of.ensures.same) (c.with-changed.ensures p)
+    rw (
+      changed_more c.args.partitions c.as_slice-write-items.result.now c.loop-write.write-index c.write-item.result p
+          c.loop-write-test.true (sym c.write-item.is),
+      ← c.loop-write.invariant p,
+      ← c.partition_of.ensures.same,
+    ) (c.with-changed.ensures p)

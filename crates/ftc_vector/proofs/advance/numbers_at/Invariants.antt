@@ -8,6 +8,7 @@ use Rattle.ftc_vector.proofs.advance.numbers_at.Given as goal
 abbrev pub invariant-loop-partition : goal.invariant-loop-partition
 invariant-loop-partition l = record {
   size : length l.marks ≡ MOST_PARTITIONS;
-  below : (k : ℕ) → k < l.partition → mark_at l.marks k ≡ (if has l.touched k then Some (number_at l.vector k) else None);
+  below : (k : ℕ) → k < l.partition →
+      mark_at l.marks k ≡ (if has l.touched k then Some (number_at l.vector k) else None);
   rest : (k : ℕ) → l.partition ≤ k → k < MOST_PARTITIONS → mark_at l.marks k ≡ None;
 }

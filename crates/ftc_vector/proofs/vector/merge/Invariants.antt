@@ -7,6 +7,8 @@ abbrev pub invariant-loop-partition : goal.invariant-loop-partition
 invariant-loop-partition l = record {
   size : length l.vector-inside.numbers ≡ MOST_PARTITIONS;
   other_size : length l.other-inside.numbers ≡ MOST_PARTITIONS;
-  below : (k : ℕ) → k < l.partition → get_or l.vector-inside.numbers k 0 ≡ max (get_or l.initial.vector-inside.numbers k 0) (get_or l.other-inside.numbers k 0);
+  below : (k : ℕ) → k < l.partition →
+      get_or l.vector-inside.numbers k 0
+      ≡ max (get_or l.initial.vector-inside.numbers k 0) (get_or l.other-inside.numbers k 0);
   rest : (k : ℕ) → l.partition ≤ k → get_or l.vector-inside.numbers k 0 ≡ get_or l.initial.vector-inside.numbers k 0;
 }

@@ -6,5 +6,6 @@ use Rattle.ftc_workers.proofs.tests.do_job.Goals as goal
 
 pub begin-requires-clause-legal : goal.begin-requires-clause-legal
 begin-requires-clause-legal c =
-    subst (λ (job : Job). ∥ IsLegalJob (setting_in c.args.chain.now) (chain_state c.args.chain.now) job ∥₁) c.in-Visit.is
+    subst (λ (job : Job). ∥ IsLegalJob (setting_in c.args.chain.now)
+    (chain_state c.args.chain.now) job ∥₁) c.in-Visit.is
     c.requires.legal

@@ -14,14 +14,17 @@ returns-in_default-clause-told_in_part g c = left_by_none c.args.capture.now c.n
 pub returns-clause-told_in_part : goal.returns-clause-told_in_part
 returns-clause-told_in_part g c =
     left_after _ _ c.drive-chain.result.result _ c.drive-chain.new.sink c.drive-chain.ensures.ended _ _ _ _ _
-    (λ fault broke. broke.2.told_in_part) (search rules) (rw (c.taps-1.given.1 (sym c.drive-chain.ensures.kept.1)) c.settle.ensures.taps)
+    (λ fault broke. broke.2.told_in_part) (search rules)
+    (rw (c.taps-1.given.1 (sym c.drive-chain.ensures.kept.1)) c.settle.ensures.taps)
 
 pub returns-clause-told : goal.returns-clause-told
 returns-clause-told g c =
     left_at_end _ _ c.drive-chain.result.result _ c.drive-chain.new.sink c.drive-chain.ensures.ended _ _ _ _ _
-    (λ went. went.2.told) (search rules) (rw (c.taps-1.given.1 (sym c.drive-chain.ensures.kept.1)) c.settle.ensures.taps)
+    (λ went. went.2.told) (search rules)
+    (rw (c.taps-1.given.1 (sym c.drive-chain.ensures.kept.1)) c.settle.ensures.taps)
 
 pub returns-clause-untold : goal.returns-clause-untold
 returns-clause-untold g c =
     left_where _ _ c.drive-chain.result.result Failed _ c.drive-chain.new.sink c.drive-chain.ensures.ended _ _ _ _ _
-    (λ fault broke is. broke.2.untold is) (search rules) (rw (c.taps-1.given.1 (sym c.drive-chain.ensures.kept.1)) c.settle.ensures.taps)
+    (λ fault broke is. broke.2.untold is) (search rules)
+    (rw (c.taps-1.given.1 (sym c.drive-chain.ensures.kept.1)) c.settle.ensures.taps)

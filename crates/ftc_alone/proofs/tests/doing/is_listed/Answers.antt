@@ -8,6 +8,7 @@ pub returns-then-is_visit_of : goal.returns-then-is_visit_of
 returns-then-is_visit_of c told =
     subst (λ (one : Job). AnyOf (λ (other : Job). other ≡ one) c.args.jobs.now)
     (c.is_visit_of.ensures c.if-is_visit_of.true)
-    (subst (λ (jobs : List Job). AnyOf (λ (other : Job). other ≡ c.other-item.result) jobs) c.as_slice-other-items.ensures
+    (subst (λ (jobs : List Job). AnyOf (λ (other : Job). other
+    ≡ c.other-item.result) jobs) c.as_slice-other-items.ensures
     (any_at c.as_slice-other-items.result.now c.loop-other.other-index c.other-item.result c.loop-other-test.true
     c.other-item.is))

@@ -14,7 +14,8 @@ begin-requires-clause-legal c =
     let given = c.self.inside.given in
     let course = c.self.inside.course in
     let job = Visit c.args.server c.args.packet in
-    ∥∥₁_map (before given course job c.args.self.now c.self.view_is c.self.invariant.1 c.requires.legal) (λ both. record {
+    ∥∥₁_map (before given course job c.args.self.now c.self.view_is c.self.invariant.1 c.requires.legal)
+    (λ both. record {
       setting = setting_by given;
       state = state_by (setting_by given) course.journal.items;
       run = is_run_state (setting_by given) course both.0.course_is;
@@ -40,5 +41,9 @@ pub returns-clause-others : goal.returns-clause-others
 returns-clause-others c =
     let course = c.self.inside.course in
     others_stay c.self.inside.given course
-    (record { journal = course.journal; network = c.begin.new.self; outlet = course.outlet }) c.args.self.now c.self.view_is
+    (record {
+      journal = course.journal;
+      network = c.begin.new.self;
+      outlet = course.outlet;
+    }) c.args.self.now c.self.view_is
     c.args.server (other_heads course.network c.begin.new.self c.args.server c.begin.ensures.others)

@@ -42,7 +42,8 @@ invariant_of-self c =
 pub returns-then-is_err : goal.returns-then-is_err
 returns-then-is_err c =
     undone c.self.inside.given c.self.inside.course c.make_room.new.self c.refuse.new.self c.args.self.now c.args.worker
-    c.in-Some.server c.refuse.result c.self.view_is c.self.invariant.1 c.make_room.ensures.journal c.make_room.ensures.network
+    c.in-Some.server c.refuse.result c.self.view_is c.self.invariant.1 c.make_room.ensures.journal
+    c.make_room.ensures.network
     c.make_room.ensures.waiting c.make_room.ensures.drained c.refuse.ensures.ends c.refuse.ensures.others
     c.refuse.ensures.undone c.refuse.ensures.stands c.in-Some.ensures.inside c.in-Some.ensures.some
     c.what_slots_ask.ensures.asks
@@ -74,7 +75,8 @@ invariant_of-self-in_default-commit c =
 pub returns-in_default-commit : goal.returns-in_default-commit
 returns-in_default-commit c =
     undone c.self.inside.given c.self.inside.course c.make_room.new.self c.commit.new.self c.args.self.now c.args.worker
-    c.in-Some.server c.commit.result c.self.view_is c.self.invariant.1 c.make_room.ensures.journal c.make_room.ensures.network
+    c.in-Some.server c.commit.result c.self.view_is c.self.invariant.1 c.make_room.ensures.journal
+    c.make_room.ensures.network
     c.make_room.ensures.waiting c.make_room.ensures.drained c.commit.ensures.ends c.commit.ensures.others
     c.in_default-commit.not-Done (c.commit.ensures.stands c.in_default-commit.not-Done) c.in-Some.ensures.inside
     c.in-Some.ensures.some c.what_slots_ask.ensures.asks
@@ -84,7 +86,8 @@ made : (c : After-release_due) → ∥ IsResting (setting_by c.self.inside.given
     × HasMade c.args.worker (Visit c.in-Some.server c.in-Some-packet_run.packet)
     (run_of c.self.inside.given c.self.inside.course) (run_of c.self.inside.given c.release_due.new.course) ∥₁
 made c =
-    let roomy = where_ok c.make_room.result _ (sym c.is_err.ensures.value ∙ c.if-is_err.false) c.make_room.ensures.room in
+    let roomy = where_ok c.make_room.result _
+    (sym c.is_err.ensures.value ∙ c.if-is_err.false) c.make_room.ensures.room in
     let some : 1 ≤ c.make_room.new.self.journal.spare = omega (arith, roomy) in
     visit_made c.self.inside.given c.self.inside.course c.make_room.new.self c.commit.new.self c.push.new.self
     c.release_due.new.course c.args.worker c.in-Some.server c.in-Some-packet_run.packet c.self.invariant.1
@@ -103,7 +106,8 @@ invariant_of-self-2 c =
       ∥∥₁_map (made c) (λ both. both.0),
       once_kept mid c.release_due.new.course.network
           (same_no_more mid c.release_due.new.course.network c.release_due.ensures.heads)
-          (once_ended given course c.make_room.new.self mid c.args.self.now c.args.worker c.in-Some.server Done c.self.view_is
+          (once_ended given course c.make_room.new.self mid c.args.self.now c.args.worker c.in-Some.server Done
+          c.self.view_is
           c.self.invariant.1 c.make_room.ensures.journal c.make_room.ensures.network c.make_room.ensures.waiting
           c.make_room.ensures.drained c.in-Done.ensures.ends c.commit.ensures.others c.self.invariant.2),
     )
@@ -123,6 +127,7 @@ returns c =
     (subst (λ (network : Network). (other : ℕ) → other ≢ server →
     server_in mid.servers.items other ≡ server_in network.servers.items other) roomed c.commit.ensures.others)
     c.release_due.ensures.heads c.what_slots_ask.ensures.asks
-    (subst (λ (network : Network). SlotEndsVisit (server_in network.servers.items server) (server_in mid.servers.items server)
+    (subst (λ (network : Network). SlotEndsVisit (server_in network.servers.items server)
+    (server_in mid.servers.items server)
     c.args.worker Done) roomed c.in-Done.ensures.ends)
     c.in-Some.ensures.some (sym c.in-Some-packet_run.is ∙ c.packet_run.ensures) both.1))

@@ -21,7 +21,8 @@ invariant_of-self c =
     let course = c.self.inside.course in (
       c.self.invariant.0,
       rests_out given course c.self.invariant.1 c.take.new.self
-          (taken_out (released_in (state_by (setting_by given) course.journal.items).trace) course.outlet c.take.new.self
+          (taken_out (released_in (state_by
+          (setting_by given) course.journal.items).trace) course.outlet c.take.new.self
           c.take.result c.take.ensures.some c.take.ensures.count c.take.ensures.same c.take.ensures.uncounted),
       c.self.invariant.2,
     )
@@ -46,6 +47,7 @@ returns-clause-few c =
     let given = c.self.inside.given in
     let course = c.self.inside.course in
     few_with given course c.self.invariant.1 c.take.new.self
-    (fewer_than_packets given course c.fates.ensures.says c.order_of_a_state.ensures c.runs.ensures.opens c.runs.ensures.next)
+    (fewer_than_packets given course c.fates.ensures.says c.order_of_a_state.ensures c.runs.ensures.opens
+    c.runs.ensures.next)
     (taken_out (released_in (state_by (setting_by given) course.journal.items).trace) course.outlet c.take.new.self
     c.take.result c.take.ensures.some c.take.ensures.count c.take.ensures.same c.take.ensures.uncounted)

@@ -8,4 +8,5 @@ pub returns-clause-unfinished : goal.returns-clause-unfinished
 returns-clause-unfinished c no_none finished =
     let run = c.args.self.now in
     some_cannot (IsFirstJob (setting_in run) (chain_state run)) c.next.result (c.is_none.ensures ∙ ap not no_none)
-    (λ job first. c.first_job.ensures.unfinished (setting_in run) (chain_state run) job first finished) c.next.ensures.first
+    (λ job first. c.first_job.ensures.unfinished (setting_in run)
+    (chain_state run) job first finished) c.next.ensures.first

@@ -20,5 +20,6 @@ returns c =
     seen_jobs given c.self.inside.course (setting_by given) _ jobs (are _ _
     (at_rest given c.self.inside.course _ c.len-packets.ensures.same c.few_propagates.ensures
     (c.accepted.ensures.few given.spec.now _ given.script.now c.ring.ensures.accepted
-    (short_packets given.packets.now c.len-packets.result c.len-packets.ensures.same c.len-packets.ensures.few)) resting))))
+    (short_packets given.packets.now c.len-packets.result c.len-packets.ensures.same c.len-packets.ensures.few))
+    resting))))
     c.all_jobs.ensures)

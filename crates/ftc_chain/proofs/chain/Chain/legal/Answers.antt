@@ -13,7 +13,8 @@ returns-clause-yes c is =
     (∥∥₁_map c.self.invariant.1 (λ resting. (c.is_legal.ensures.legal _ _
     (at_rest given c.self.inside.course _ c.len-packets.ensures.same c.few_propagates.ensures
     (c.accepted.ensures.few given.spec.now _ given.script.now c.ring.ensures.accepted
-    (short_packets given.packets.now c.len-packets.result c.len-packets.ensures.same c.len-packets.ensures.few)) resting)).0
+    (short_packets given.packets.now c.len-packets.result c.len-packets.ensures.same c.len-packets.ensures.few))
+    resting)).0
     is))
 
 pub returns-clause-no : goal.returns-clause-no
@@ -24,5 +25,6 @@ returns-clause-no c not =
     absurd (false≢true (sym not ∙ (c.is_legal.ensures.legal _ _
     (at_rest given c.self.inside.course _ c.len-packets.ensures.same c.few_propagates.ensures
     (c.accepted.ensures.few given.spec.now _ given.script.now c.ring.ensures.accepted
-    (short_packets given.packets.now c.len-packets.result c.len-packets.ensures.same c.len-packets.ensures.few)) resting)).1
+    (short_packets given.packets.now c.len-packets.result c.len-packets.ensures.same c.len-packets.ensures.few))
+    resting)).1
     legal))))

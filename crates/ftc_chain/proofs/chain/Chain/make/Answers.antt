@@ -16,7 +16,8 @@ use Rattle.ftc_chain.proofs.chain.Chain.make.Goals as goal
 pub invariant_of-self : goal.invariant_of-self
 invariant_of-self c = (
   c.self.invariant.0,
-  ∥∥₁_map c.self.invariant.1 (λ is. still_rests (setting_by c.self.inside.given) c.self.inside.course c.make_room.new.self
+  ∥∥₁_map c.self.invariant.1
+      (λ is. still_rests (setting_by c.self.inside.given) c.self.inside.course c.make_room.new.self
       c.make_room.ensures.journal c.make_room.ensures.waiting c.make_room.ensures.drained (λ state stands.
       subst (IsNetwork (setting_by c.self.inside.given) state) (sym c.make_room.ensures.network) stands) is),
   once_as c.self.inside.course.network c.make_room.new.self.network c.make_room.ensures.network c.self.invariant.2,
@@ -26,7 +27,8 @@ pub happen-requires-clause-may : goal.happen-requires-clause-may
 happen-requires-clause-may c =
     let given = c.self.inside.given in
     let course = c.self.inside.course in
-    ∥∥₁_map (before given course c.args.job.now c.args.self.now c.self.view_is c.self.invariant.1 c.requires.legal) (λ both.
+    ∥∥₁_map (before given course c.args.job.now c.args.self.now c.self.view_is c.self.invariant.1 c.requires.legal)
+    (λ both.
     subst (MayDo (setting_by given) c.args.job.now) (sym c.make_room.ensures.network)
     (may_do (setting_by given) course c.args.job.now c.in_ok-make_room.ensures.few both.0.course_is both.1))
 
@@ -35,12 +37,18 @@ invariant_of-self-in_err-event c =
     let given = c.self.inside.given in (
       c.self.invariant.0,
       ∥∥₁_map c.self.invariant.1 (λ is. still_rests (setting_by given) c.self.inside.course
-          (record { journal = c.make_room.new.self.journal; network = c.happen.new.network; outlet = c.make_room.new.self.outlet })
-          c.make_room.ensures.journal c.make_room.ensures.waiting c.make_room.ensures.drained (λ state stands. c.in_err-event.ensures.err (setting_by given) state
+          (record {
+            journal = c.make_room.new.self.journal;
+            network = c.happen.new.network;
+            outlet = c.make_room.new.self.outlet;
+          })
+          c.make_room.ensures.journal c.make_room.ensures.waiting c.make_room.ensures.drained
+          (λ state stands. c.in_err-event.ensures.err (setting_by given) state
           (subst (IsNetwork (setting_by given) state) (sym c.make_room.ensures.network) stands)) is),
       once_kept c.make_room.new.self.network c.happen.new.network
           (same_no_more c.make_room.new.self.network c.happen.new.network c.in_err-event.ensures.same)
-          (once_as c.self.inside.course.network c.make_room.new.self.network c.make_room.ensures.network c.self.invariant.2),
+          (once_as c.self.inside.course.network c.make_room.new.self.network c.make_room.ensures.network
+          c.self.invariant.2),
     )
 
 pub invariant_of-self-2 : goal.invariant_of-self-2
@@ -48,12 +56,18 @@ invariant_of-self-2 c =
     let given = c.self.inside.given in (
       c.self.invariant.0,
       ∥∥₁_map (stepped given FINISHING_SLOT c.args.job.now c.self.inside.course c.make_room.new.self
-          (record { journal = c.push.new.self; network = c.happen.new.network; outlet = c.make_room.new.self.outlet }) c.release_due.new.course c.in_ok-event.event
+          (record {
+            journal = c.push.new.self;
+            network = c.happen.new.network;
+            outlet = c.make_room.new.self.outlet;
+          }) c.release_due.new.course c.in_ok-event.event
           c.args.self.now c.self.view_is c.self.invariant.1 c.requires.legal (λ setting state legal. legal)
-          c.make_room.ensures.journal c.make_room.ensures.network c.make_room.ensures.waiting c.make_room.ensures.drained refl c.in_ok-push.ensures.ok c.in_ok-event.ensures.ok
+          c.make_room.ensures.journal c.make_room.ensures.network c.make_room.ensures.waiting
+          c.make_room.ensures.drained refl c.in_ok-push.ensures.ok c.in_ok-event.ensures.ok
           c.release_due.ensures.released c.releases.ensures.end) (λ both. both.0),
       once_after c.args.job.now c.self.inside.course.network c.make_room.new.self.network c.happen.new.network
-          c.release_due.new.course.network c.make_room.ensures.network c.in_ok-event.ensures.heads c.release_due.ensures.heads
+          c.release_due.new.course.network c.make_room.ensures.network c.in_ok-event.ensures.heads
+          c.release_due.ensures.heads
           c.self.invariant.2,
     )
 
@@ -61,14 +75,20 @@ pub returns-clause-ok : goal.returns-clause-ok
 returns-clause-ok c =
     let given = c.self.inside.given in
     ∥∥₁_map (stepped given FINISHING_SLOT c.args.job.now c.self.inside.course c.make_room.new.self
-    (record { journal = c.push.new.self; network = c.happen.new.network; outlet = c.make_room.new.self.outlet }) c.release_due.new.course c.in_ok-event.event
+    (record {
+      journal = c.push.new.self;
+      network = c.happen.new.network;
+      outlet = c.make_room.new.self.outlet;
+    }) c.release_due.new.course c.in_ok-event.event
     c.args.self.now c.self.view_is c.self.invariant.1 c.requires.legal (λ setting state legal. legal)
-    c.make_room.ensures.journal c.make_room.ensures.network c.make_room.ensures.waiting c.make_room.ensures.drained refl c.in_ok-push.ensures.ok c.in_ok-event.ensures.ok
+    c.make_room.ensures.journal c.make_room.ensures.network c.make_room.ensures.waiting c.make_room.ensures.drained refl
+    c.in_ok-push.ensures.ok c.in_ok-event.ensures.ok
     c.release_due.ensures.released c.releases.ensures.end) (λ both. both.1)
 
 pub returns-clause-heads : goal.returns-clause-heads
 returns-clause-heads c =
-    heads_after c.self.inside.given c.self.inside.course c.make_room.new.self c.happen.new.network c.release_due.new.course
+    heads_after c.self.inside.given c.self.inside.course c.make_room.new.self c.happen.new.network
+    c.release_due.new.course
     c.args.self.now c.self.view_is c.make_room.ensures.network c.release_due.ensures.heads c.args.job.now
     c.in_ok-event.ensures.heads
 

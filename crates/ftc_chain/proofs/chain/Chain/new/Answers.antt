@@ -26,7 +26,8 @@ invariant_of-result c =
           run = subst (IsRun setting) (sym none) tt;
           stands = subst (λ (l : List Event). IsNetwork setting (state_by setting l) c.in_ok-network.network) (sym none)
               (c.in_ok-network.ensures.stands setting (record { rules = refl; failures = refl; partitions = refl }));
-          outlet = subst (λ (l : List Event). IsOutlet (released_in (state_by setting l).trace) c.new-3.result) (sym none)
+          outlet = subst (λ (l : List Event). IsOutlet (released_in (state_by setting l).trace) c.new-3.result)
+              (sym none)
               (record { drained = []; count = sym c.new-3.ensures.drained; parts = sym c.new-3.ensures.waiting });
         };
         none_due = subst (λ (l : List Event). IsNoneDue setting (state_by setting l)) (sym none)

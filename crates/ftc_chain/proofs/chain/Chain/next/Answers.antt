@@ -16,7 +16,8 @@ returns-clause-first c =
     (if_some _ _ c.first_job.result (λ job first. ∥∥₁_map c.self.invariant.1 (λ resting. first _ _
     (at_rest given c.self.inside.course _ c.len-packets.ensures.same c.few_propagates.ensures
     (c.accepted.ensures.few given.spec.now _ given.script.now c.ring.ensures.accepted
-    (short_packets given.packets.now c.len-packets.result c.len-packets.ensures.same c.len-packets.ensures.few)) resting)))
+    (short_packets given.packets.now c.len-packets.result c.len-packets.ensures.same c.len-packets.ensures.few))
+    resting)))
     c.first_job.ensures.first)
 
 pub returns-clause-none : goal.returns-clause-none
@@ -26,4 +27,5 @@ returns-clause-none c none =
     (∥∥₁_map c.self.invariant.1 (λ resting. c.first_job.ensures.none none _ _
     (at_rest given c.self.inside.course _ c.len-packets.ensures.same c.few_propagates.ensures
     (c.accepted.ensures.few given.spec.now _ given.script.now c.ring.ensures.accepted
-    (short_packets given.packets.now c.len-packets.result c.len-packets.ensures.same c.len-packets.ensures.few)) resting)))
+    (short_packets given.packets.now c.len-packets.result c.len-packets.ensures.same c.len-packets.ensures.few))
+    resting)))

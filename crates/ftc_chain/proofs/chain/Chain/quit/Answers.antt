@@ -28,7 +28,8 @@ invariant_of-self c =
           (record { journal = course.journal; network = c.quit.new.self; outlet = course.outlet }) refl refl refl
           (λ state stands. c.quit.ensures.stands (setting_by c.self.inside.given) state stands)),
       once_kept course.network c.quit.new.self
-          (quits_no_more course.network c.quit.new.self c.args.worker c.in-Some.server (quits c) (others c)) c.self.invariant.2,
+          (quits_no_more course.network c.quit.new.self c.args.worker c.in-Some.server (quits c)
+          (others c)) c.self.invariant.2,
     )
 
 pub returns-in-Some-clause-idle : goal.returns-in-Some-clause-idle
@@ -41,14 +42,22 @@ pub returns-in-Some-clause-still : goal.returns-in-Some-clause-still
 returns-in-Some-clause-still c other idle =
     let course = c.self.inside.course in
     idle_stays c.self.inside.given course
-    (record { journal = course.journal; network = c.quit.new.self; outlet = course.outlet }) c.args.self.now c.self.view_is
+    (record {
+      journal = course.journal;
+      network = c.quit.new.self;
+      outlet = course.outlet;
+    }) c.args.self.now c.self.view_is
     other (quits_no_more course.network c.quit.new.self c.args.worker c.in-Some.server (quits c) (others c)) idle
 
 pub returns-in-Some-clause-quits : goal.returns-in-Some-clause-quits
 returns-in-Some-clause-quits c =
     let course = c.self.inside.course in
     quits_at c.self.inside.given course
-    (record { journal = course.journal; network = c.quit.new.self; outlet = course.outlet }) c.args.self.now c.args.worker
+    (record {
+      journal = course.journal;
+      network = c.quit.new.self;
+      outlet = course.outlet;
+    }) c.args.self.now c.args.worker
     c.in-Some.server c.self.view_is refl refl c.self.invariant.2 c.in-Some.ensures.some (quits c) (others c)
 
 pub returns-in_default-clause-idle : goal.returns-in_default-clause-idle

@@ -21,7 +21,8 @@ invariant_of-self c =
       once_kept course.network c.read.new.self
           (others_no_more server course.network c.read.new.self
           (other_heads course.network c.read.new.self server c.read.ensures.others)
-          (reads_no_more (server_in course.network.servers.items server) (server_in c.read.new.self.servers.items server)
+          (reads_no_more (server_in course.network.servers.items server)
+          (server_in c.read.new.self.servers.items server)
           c.args.worker c.args.key.now c.read.result c.read.ensures.reads)) c.self.invariant.2,
     )
 

@@ -15,7 +15,8 @@ use Rattle.ftc_chain.proofs.chain.Chain.visit.Goals as goal
 pub invariant_of-self : goal.invariant_of-self
 invariant_of-self c = (
   c.self.invariant.0,
-  ∥∥₁_map c.self.invariant.1 (λ is. still_rests (setting_by c.self.inside.given) c.self.inside.course c.make_room.new.self
+  ∥∥₁_map c.self.invariant.1
+      (λ is. still_rests (setting_by c.self.inside.given) c.self.inside.course c.make_room.new.self
       c.make_room.ensures.journal c.make_room.ensures.waiting c.make_room.ensures.drained (λ state stands.
       subst (IsNetwork (setting_by c.self.inside.given) state) (sym c.make_room.ensures.network) stands) is),
   once_as c.self.inside.course.network c.make_room.new.self.network c.make_room.ensures.network c.self.invariant.2,
@@ -25,22 +26,30 @@ pub visit-requires : goal.visit-requires
 visit-requires c =
     let given = c.self.inside.given in
     let course = c.self.inside.course in
-    ∥∥₁_map (before given course (Visit c.args.server c.args.packet) c.args.self.now c.self.view_is c.self.invariant.1 c.requires) (λ both.
+    ∥∥₁_map (before given course
+    (Visit c.args.server c.args.packet) c.args.self.now c.self.view_is c.self.invariant.1 c.requires) (λ both.
     subst (MayDo (setting_by given) (Visit c.args.server c.args.packet)) (sym c.make_room.ensures.network)
-    (may_do (setting_by given) course (Visit c.args.server c.args.packet) c.in_ok-make_room.ensures.few both.0.course_is both.1))
+    (may_do (setting_by given) course
+    (Visit c.args.server c.args.packet) c.in_ok-make_room.ensures.few both.0.course_is both.1))
 
 pub invariant_of-self-in_err-visit : goal.invariant_of-self-in_err-visit
 invariant_of-self-in_err-visit c =
     let given = c.self.inside.given in (
       c.self.invariant.0,
       ∥∥₁_map c.self.invariant.1 (λ is. still_rests (setting_by given) c.self.inside.course
-          (record { journal = c.make_room.new.self.journal; network = c.visit.new.network; outlet = c.make_room.new.self.outlet })
-          c.make_room.ensures.journal c.make_room.ensures.waiting c.make_room.ensures.drained (λ state stands. c.in_err-visit.ensures.err (setting_by given) state
+          (record {
+            journal = c.make_room.new.self.journal;
+            network = c.visit.new.network;
+            outlet = c.make_room.new.self.outlet;
+          })
+          c.make_room.ensures.journal c.make_room.ensures.waiting c.make_room.ensures.drained
+          (λ state stands. c.in_err-visit.ensures.err (setting_by given) state
           (subst (IsNetwork (setting_by given) state) (sym c.make_room.ensures.network) stands)) is),
       once_kept c.make_room.new.self.network c.visit.new.network
           (others_no_more c.args.server c.make_room.new.self.network c.visit.new.network c.visit.ensures.others
           c.visit.ensures.fewer)
-          (once_as c.self.inside.course.network c.make_room.new.self.network c.make_room.ensures.network c.self.invariant.2),
+          (once_as c.self.inside.course.network c.make_room.new.self.network c.make_room.ensures.network
+          c.self.invariant.2),
     )
 
 pub invariant_of-self-2 : goal.invariant_of-self-2
@@ -48,12 +57,17 @@ invariant_of-self-2 c =
     let given = c.self.inside.given in (
       c.self.invariant.0,
       ∥∥₁_map (stepped given c.args.worker (Visit c.args.server c.args.packet) c.self.inside.course c.make_room.new.self
-          (record { journal = c.push.new.self; network = c.visit.new.network; outlet = c.make_room.new.self.outlet }) c.release_due.new.course
+          (record {
+            journal = c.push.new.self;
+            network = c.visit.new.network;
+            outlet = c.make_room.new.self.outlet;
+          }) c.release_due.new.course
           (event.Visit c.args.server c.args.packet c.args.worker)
           c.args.self.now c.self.view_is c.self.invariant.1 c.requires
           (λ setting state legal. (c.jobs_of_events.ensures.slots setting state c.args.worker
           (Visit c.args.server c.args.packet)).1 legal)
-          c.make_room.ensures.journal c.make_room.ensures.network c.make_room.ensures.waiting c.make_room.ensures.drained refl c.in_ok-push.ensures.ok
+          c.make_room.ensures.journal c.make_room.ensures.network c.make_room.ensures.waiting
+          c.make_room.ensures.drained refl c.in_ok-push.ensures.ok
           (λ state run legal stands. (refl, c.in_ok-visit.ensures.ok state run legal stands))
           c.release_due.ensures.released c.releases.ensures.end) (λ both. both.0),
       once_kept c.visit.new.network c.release_due.new.course.network
@@ -61,34 +75,49 @@ invariant_of-self-2 c =
           (once_kept c.make_room.new.self.network c.visit.new.network
           (others_no_more c.args.server c.make_room.new.self.network c.visit.new.network c.visit.ensures.others
           c.visit.ensures.fewer)
-          (once_as c.self.inside.course.network c.make_room.new.self.network c.make_room.ensures.network c.self.invariant.2)),
+          (once_as c.self.inside.course.network c.make_room.new.self.network c.make_room.ensures.network
+          c.self.invariant.2)),
     )
 
 pub returns-clause-ok : goal.returns-clause-ok
 returns-clause-ok c =
     let given = c.self.inside.given in
     ∥∥₁_map (stepped given c.args.worker (Visit c.args.server c.args.packet) c.self.inside.course c.make_room.new.self
-    (record { journal = c.push.new.self; network = c.visit.new.network; outlet = c.make_room.new.self.outlet }) c.release_due.new.course
+    (record {
+      journal = c.push.new.self;
+      network = c.visit.new.network;
+      outlet = c.make_room.new.self.outlet;
+    }) c.release_due.new.course
     (event.Visit c.args.server c.args.packet c.args.worker)
     c.args.self.now c.self.view_is c.self.invariant.1 c.requires
     (λ setting state legal. (c.jobs_of_events.ensures.slots setting state c.args.worker
     (Visit c.args.server c.args.packet)).1 legal)
-    c.make_room.ensures.journal c.make_room.ensures.network c.make_room.ensures.waiting c.make_room.ensures.drained refl c.in_ok-push.ensures.ok
+    c.make_room.ensures.journal c.make_room.ensures.network c.make_room.ensures.waiting c.make_room.ensures.drained refl
+    c.in_ok-push.ensures.ok
     (λ state run legal stands. (refl, c.in_ok-visit.ensures.ok state run legal stands))
     c.release_due.ensures.released c.releases.ensures.end) (λ both. both.1)
 
 pub returns-in_err-visit-clause-others : goal.returns-in_err-visit-clause-others
 returns-in_err-visit-clause-others c =
     others_stay c.self.inside.given c.self.inside.course
-    (record { journal = c.make_room.new.self.journal; network = c.visit.new.network; outlet = c.make_room.new.self.outlet })
+    (record {
+      journal = c.make_room.new.self.journal;
+      network = c.visit.new.network;
+      outlet = c.make_room.new.self.outlet;
+    })
     c.args.self.now c.self.view_is c.args.server (λ other differs. c.visit.ensures.others other differs
     ∙ ap (λ (network : Network). head_at network other) c.make_room.ensures.network)
 
 pub returns-in_err-visit-clause-idle : goal.returns-in_err-visit-clause-idle
 returns-in_err-visit-clause-idle c other idle =
     idle_stays c.self.inside.given c.self.inside.course
-    (record { journal = c.make_room.new.self.journal; network = c.visit.new.network; outlet = c.make_room.new.self.outlet })
-    c.args.self.now c.self.view_is other (visited_no_more c.args.server c.self.inside.course.network c.make_room.new.self.network c.visit.new.network
+    (record {
+      journal = c.make_room.new.self.journal;
+      network = c.visit.new.network;
+      outlet = c.make_room.new.self.outlet;
+    })
+    c.args.self.now c.self.view_is other
+    (visited_no_more c.args.server c.self.inside.course.network c.make_room.new.self.network c.visit.new.network
     c.make_room.ensures.network c.visit.ensures.others c.visit.ensures.fewer) idle
 
 pub returns-clause-others : goal.returns-clause-others
@@ -100,6 +129,7 @@ returns-clause-others c =
 pub returns-clause-idle : goal.returns-clause-idle
 returns-clause-idle c other idle =
     idle_stays c.self.inside.given c.self.inside.course c.release_due.new.course c.args.self.now c.self.view_is other
-    (then_no_more c.self.inside.course.network c.visit.new.network c.release_due.new.course.network (visited_no_more c.args.server c.self.inside.course.network c.make_room.new.self.network c.visit.new.network
+    (then_no_more c.self.inside.course.network c.visit.new.network c.release_due.new.course.network
+    (visited_no_more c.args.server c.self.inside.course.network c.make_room.new.self.network c.visit.new.network
     c.make_room.ensures.network c.visit.ensures.others c.visit.ensures.fewer)
     (same_no_more c.visit.new.network c.release_due.new.course.network c.release_due.ensures.heads)) idle

@@ -24,5 +24,6 @@ pub returns-clause-ok : goal.returns-clause-ok
 returns-clause-ok c =
     let given = c.args.self.now in
     on_ok c.enter.result _ _ (λ follows state run legal is. ∣ follows (setting_by given) state
-    (c.in_ok-bytes.ensures ∙ bytes_at given.packets.now c.args.packet c.at.result.now c.at.ensures.same) run legal is ∣₁)
+    (c.in_ok-bytes.ensures ∙ bytes_at given.packets.now c.args.packet c.at.result.now c.at.ensures.same) run legal is
+    ∣₁)
     c.enter.ensures.ok

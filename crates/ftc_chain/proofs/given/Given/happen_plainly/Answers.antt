@@ -17,7 +17,8 @@ pub returns-in-Take-clause-ok : goal.returns-in-Take-clause-ok
 returns-in-Take-clause-ok c =
     let setting = setting_by c.args.self.now in
     done c.take.result setting c.args.job.now (event.Take c.in-Take.link c.in-Take.origin)
-    c.args.network.now c.take.new.self (λ state. sym (ap (event_of setting state FINISHING_SLOT) c.in-Take.is)) c.take.ensures.ok
+    c.args.network.now c.take.new.self
+    (λ state. sym (ap (event_of setting state FINISHING_SLOT) c.in-Take.is)) c.take.ensures.ok
 
 pub apply-requires : goal.apply-requires
 apply-requires c =
@@ -28,8 +29,10 @@ apply-requires c =
 pub returns-in-Apply-clause-ok : goal.returns-in-Apply-clause-ok
 returns-in-Apply-clause-ok c =
     let setting = setting_by c.args.self.now in
-    done c.apply.result setting c.args.job.now (event.Apply c.in-Apply.server c.in-Apply.origin c.in-Apply.group c.in-Apply.packet)
-    c.args.network.now c.apply.new.self (λ state. sym (ap (event_of setting state FINISHING_SLOT) c.in-Apply.is)) c.apply.ensures.ok
+    done c.apply.result setting c.args.job.now
+    (event.Apply c.in-Apply.server c.in-Apply.origin c.in-Apply.group c.in-Apply.packet)
+    c.args.network.now c.apply.new.self
+    (λ state. sym (ap (event_of setting state FINISHING_SLOT) c.in-Apply.is)) c.apply.ensures.ok
 
 pub leave-requires : goal.leave-requires
 leave-requires c =
@@ -41,7 +44,8 @@ pub returns-in-Pass-clause-ok : goal.returns-in-Pass-clause-ok
 returns-in-Pass-clause-ok c =
     let setting = setting_by c.args.self.now in
     done c.leave.result setting c.args.job.now (event.Pass c.in-Pass.server c.in-Pass.origin)
-    c.args.network.now c.leave.new.self (λ state. sym (ap (event_of setting state FINISHING_SLOT) c.in-Pass.is)) c.leave.ensures.ok
+    c.args.network.now c.leave.new.self
+    (λ state. sym (ap (event_of setting state FINISHING_SLOT) c.in-Pass.is)) c.leave.ensures.ok
 
 pub carry-requires : goal.carry-requires
 carry-requires c =
@@ -53,7 +57,8 @@ pub returns-in-Carry-clause-ok : goal.returns-in-Carry-clause-ok
 returns-in-Carry-clause-ok c =
     let setting = setting_by c.args.self.now in
     done c.carry.result setting c.args.job.now (event.Carry c.in-Carry.origin)
-    c.args.network.now c.carry.new.self (λ state. sym (ap (event_of setting state FINISHING_SLOT) c.in-Carry.is)) c.carry.ensures.ok
+    c.args.network.now c.carry.new.self
+    (λ state. sym (ap (event_of setting state FINISHING_SLOT) c.in-Carry.is)) c.carry.ensures.ok
 
 pub pull-requires : goal.pull-requires
 pull-requires c =
@@ -65,7 +70,8 @@ pub returns-in-Pull-clause-ok : goal.returns-in-Pull-clause-ok
 returns-in-Pull-clause-ok c =
     let setting = setting_by c.args.self.now in
     done c.pull.result setting c.args.job.now (event.Pull c.in-Pull.link)
-    c.args.network.now c.pull.new.self (λ state. sym (ap (event_of setting state FINISHING_SLOT) c.in-Pull.is)) c.pull.ensures.ok
+    c.args.network.now c.pull.new.self
+    (λ state. sym (ap (event_of setting state FINISHING_SLOT) c.in-Pull.is)) c.pull.ensures.ok
 
 pub returns-in-Enter-clause-ok : goal.returns-in-Enter-clause-ok
 returns-in-Enter-clause-ok c =
@@ -74,10 +80,12 @@ returns-in-Enter-clause-ok c =
 
 pub returns-in-Lose-clause-ok : goal.returns-in-Lose-clause-ok
 returns-in-Lose-clause-ok c =
-    done_as c.lose.result (setting_by c.args.self.now) c.args.job.now (job.Lose c.in-Lose.server c.in-Lose.origin) c.args.network.now
+    done_as c.lose.result (setting_by c.args.self.now) c.args.job.now
+    (job.Lose c.in-Lose.server c.in-Lose.origin) c.args.network.now
     c.lose.new.network c.in-Lose.is c.lose.ensures.ok
 
 pub returns-in-Propagate-clause-ok : goal.returns-in-Propagate-clause-ok
 returns-in-Propagate-clause-ok c =
-    done_as c.propagate.result (setting_by c.args.self.now) c.args.job.now (job.Propagate c.in-Propagate.origin) c.args.network.now
+    done_as c.propagate.result (setting_by c.args.self.now) c.args.job.now
+    (job.Propagate c.in-Propagate.origin) c.args.network.now
     c.propagate.new.network c.in-Propagate.is c.propagate.ensures.ok

@@ -18,6 +18,7 @@ returns-clause-ok c =
     let old = c.args.network.now in
     let lost = is_true setting (job.Lose c.args.server c.args.origin) old (is_some c.loses-line.result)
     (λ given. ap (λ (line : Option ℕ). is_some line) c.loses-line.ensures ∙ given.legal.0.3) c.requires in
-    done c.leave.result setting (job.Lose c.args.server c.args.origin) (leaving (is_some c.loses-line.result) c.args.server c.args.origin)
+    done c.leave.result setting (job.Lose c.args.server c.args.origin)
+    (leaving (is_some c.loses-line.result) c.args.server c.args.origin)
     old c.leave.new.self (λ state. ap (λ (b : Bool). leaving b c.args.server c.args.origin) lost)
     c.leave.ensures.ok

@@ -11,7 +11,8 @@ use Rattle.ftc_chain.proofs.given.Given.propagate.Goals as goal
 
 pub propagate-requires-clause-allowed : goal.propagate-requires-clause-allowed
 propagate-requires-clause-allowed c =
-    allowed (setting_by c.args.self.now) (job.Propagate c.args.origin) (event.Propagate c.args.origin) c.args.network.now
+    allowed (setting_by c.args.self.now) (job.Propagate c.args.origin)
+    (event.Propagate c.args.origin) c.args.network.now
     (λ state. refl) c.requires
 
 pub propagate-requires-clause-room : goal.propagate-requires-clause-room

@@ -17,7 +17,8 @@ at-rule-requires c =
     let setting = setting_by c.args.self.now in
     let job = job.Recover c.args.server in
     let below = is_below setting job c.args.network.now c.args.server (servers setting) (λ given.
-    within_of setting given.state job given.run (λ journal right run. c.jobs_of_events.ensures.within setting right journal run job)
+    within_of setting given.state job given.run
+    (λ journal right run. c.jobs_of_events.ensures.within setting right journal run job)
     given.legal) c.requires in
     let size = ap (λ (rules : List Rule). length rules) c.rules.ensures.same in
     omega (arith, below, size, c.from.ensures, c.number.ensures.same)

@@ -7,5 +7,7 @@ pub returns : goal.returns
 returns c = rw (← c.self.view_is) (
   λ no. absurd (false≢true no),
   λ w.
-      ⊎_elim (λ within. sym (c.loop-worker.invariant w.0 (omega (arith, within))) ∙ w.1) (λ beyond. sym (has-past c.self.inside.exclusive w.0 c.args.partition (omega (arith, beyond, c.self.invariant.exclusive_size))) ∙ w.1) (cases_lt w.0 64),
+      ⊎_elim (λ within. sym (c.loop-worker.invariant w.0 (omega (arith, within))) ∙ w.1)
+      (λ beyond. sym (has-past c.self.inside.exclusive w.0 c.args.partition
+      (omega (arith, beyond, c.self.invariant.exclusive_size))) ∙ w.1) (cases_lt w.0 64),
 )

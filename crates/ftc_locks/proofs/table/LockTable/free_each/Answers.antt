@@ -5,6 +5,8 @@ use Rattle.ftc_locks.proofs.table.LockTable.free_each.Goals as goal
 
 pub returns-clause-freed : goal.returns-clause-freed
 returns-clause-freed c = λ worker is. record {
-  held = λ p. ⊎_elim (λ within. c.loop-worker.invariant.freed worker p (omega (arith, within)) is) (λ beyond. has-past _ worker p (omega (arith, beyond))) (cases_lt worker 64);
-  exclusive = λ p. ⊎_elim (λ within. c.loop-worker.invariant.freed_exclusive worker p (omega (arith, within)) is) (λ beyond. has-past _ worker p (omega (arith, beyond))) (cases_lt worker 64);
+  held = λ p. ⊎_elim (λ within. c.loop-worker.invariant.freed worker p (omega (arith, within)) is)
+      (λ beyond. has-past _ worker p (omega (arith, beyond))) (cases_lt worker 64);
+  exclusive = λ p. ⊎_elim (λ within. c.loop-worker.invariant.freed_exclusive worker p (omega (arith, within)) is)
+      (λ beyond. has-past _ worker p (omega (arith, beyond))) (cases_lt worker 64);
 }

@@ -11,9 +11,12 @@ invariant-loop-worker l = record {
   ages : l.self-inside.ages ≡ l.initial.self-inside.ages;
   partitions : l.self-inside.partitions ≡ l.initial.self-inside.partitions;
   freed : (k p : ℕ) → k < l.worker → has l.workers k ≡ true → has (get_or l.self-inside.held k 0) p ≡ false;
-  freed_exclusive : (k p : ℕ) → k < l.worker → has l.workers k ≡ true → has (get_or l.self-inside.exclusive k 0) p ≡ false;
+  freed_exclusive : (k p : ℕ) → k < l.worker → has l.workers k ≡ true →
+      has (get_or l.self-inside.exclusive k 0) p ≡ false;
   stays : (k : ℕ) → has l.workers k ≡ false → get_or l.self-inside.held k 0 ≡ get_or l.initial.self-inside.held k 0;
-  stays_exclusive : (k : ℕ) → has l.workers k ≡ false → get_or l.self-inside.exclusive k 0 ≡ get_or l.initial.self-inside.exclusive k 0;
+  stays_exclusive : (k : ℕ) → has l.workers k ≡ false →
+      get_or l.self-inside.exclusive k 0 ≡ get_or l.initial.self-inside.exclusive k 0;
   rest : (k : ℕ) → l.worker ≤ k → get_or l.self-inside.held k 0 ≡ get_or l.initial.self-inside.held k 0;
-  rest_exclusive : (k : ℕ) → l.worker ≤ k → get_or l.self-inside.exclusive k 0 ≡ get_or l.initial.self-inside.exclusive k 0;
+  rest_exclusive : (k : ℕ) → l.worker ≤ k →
+      get_or l.self-inside.exclusive k 0 ≡ get_or l.initial.self-inside.exclusive k 0;
 }

@@ -18,13 +18,18 @@ loop-name-preserved c =
     let judged = ap (has_such (was_filtered name.server)) (sym c.get.ensures) ∙ sym c.was_filtered.ensures in
     elim c.if-was_filtered.branch [
       | then-was_filtered w ↦ record {
-        size = ap (λ (slots : List (Option Fate)). length slots) (w.fates-is ∙ w.put.ensures) ∙ (length-set c.loop-name.fates name.packet (Some (Lost c.args.event)) ∙ c.loop-name.invariant.size);
+        size = ap (λ (slots : List (Option Fate)). length slots) (w.fates-is ∙ w.put.ensures) ∙
+            (length-set c.loop-name.fates name.packet (Some (Lost c.args.event)) ∙ c.loop-name.invariant.size);
         lost = λ packet. ap (λ (slots : List (Option Fate)). fate_in slots packet) w.fates-is
-            ∙ filter_drops undone i name c.loop-name-test.true (sym c.name-item.is) c.args.event old c.loop-name.fates c.loop-name.invariant.lost (judged ∙ w.if-was_filtered.true) w.put.new.self w.put.ensures packet;
+            ∙ filter_drops undone i name c.loop-name-test.true
+            (sym c.name-item.is) c.args.event old c.loop-name.fates c.loop-name.invariant.lost
+            (judged ∙ w.if-was_filtered.true) w.put.new.self w.put.ensures packet;
       }
       | else-was_filtered w ↦ record {
         size = ap (λ (slots : List (Option Fate)). length slots) w.fates-is ∙ c.loop-name.invariant.size;
         lost = λ packet. ap (λ (slots : List (Option Fate)). fate_in slots packet) w.fates-is
-            ∙ filter_keeps undone i name c.loop-name-test.true (sym c.name-item.is) c.args.event old c.loop-name.fates c.loop-name.invariant.lost (judged ∙ w.if-was_filtered.false) packet;
+            ∙ filter_keeps undone i name c.loop-name-test.true
+            (sym c.name-item.is) c.args.event old c.loop-name.fates c.loop-name.invariant.lost
+            (judged ∙ w.if-was_filtered.false) packet;
       }
     ]

@@ -8,5 +8,7 @@ use Rattle.ftc_machine.proofs.effects.losses.lose_filtered.Given as goal
 abbrev pub invariant-loop-name : goal.invariant-loop-name
 invariant-loop-name l = record {
   size : length l.fates ≡ length l.fn.fates;
-  lost : (packet : ℕ) → fate_in l.fates packet ≡ (if is_undone_drop (take l.name-index l.undone) packet (fate_in l.fn.fates packet) then Lost l.event else fate_in l.fn.fates packet);
+  lost : (packet : ℕ) → fate_in l.fates packet
+      ≡ (if is_undone_drop (take l.name-index l.undone) packet (fate_in l.fn.fates packet) then Lost l.event
+      else fate_in l.fn.fates packet);
 }

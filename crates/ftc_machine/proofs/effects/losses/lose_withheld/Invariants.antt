@@ -10,6 +10,7 @@ invariant-loop-place l = record {
   sizes : length l.fates ≡ length l.fn.fates;
   gone : (packet : ℕ) → packet < l.place → slot_at l.buffer packet ≡ None;
   left : (packet : ℕ) → l.place ≤ packet → slot_at l.buffer packet ≡ slot_at l.fn.buffer packet;
-  lost : (packet : ℕ) → packet < l.place → slot_at l.fates packet ≡ fate_lost (is_some (slot_at l.fn.buffer packet)) l.event (slot_at l.fn.fates packet);
+  lost : (packet : ℕ) → packet < l.place →
+      slot_at l.fates packet ≡ fate_lost (is_some (slot_at l.fn.buffer packet)) l.event (slot_at l.fn.fates packet);
   same : (packet : ℕ) → l.place ≤ packet → slot_at l.fates packet ≡ slot_at l.fn.fates packet;
 }

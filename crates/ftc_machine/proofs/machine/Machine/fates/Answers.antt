@@ -14,8 +14,10 @@ pub returns : goal.returns
 returns c =
     let m = c.self.inside in
     let setting : Setting = setting_of m.spec.now (bytes_of_packets m.packets.now) m.script.now in
-    if_ok_map c.fates.result (λ fates. fates ≡ map (fate_in m.kept.fates) (range_with_len 0 c.len.result)) (λ fates. fates ≡ fates_in (setting_in c.args.self.now) (machine_state c.args.self.now))
+    if_ok_map c.fates.result (λ fates. fates ≡ map (fate_in m.kept.fates) (range_with_len 0 c.len.result))
+    (λ fates. fates ≡ fates_in (setting_in c.args.self.now) (machine_state c.args.self.now))
     (λ fates is.
     subst (λ (p : RunSoFar). fates ≡ fates_in (setting_in p) (machine_state p)) c.self.view_is
-    (is ∙ fates_are setting m.journal.items m.kept c.len.result (bytes_count m.packets.now ∙ sym c.len.ensures.same) c.self.invariant))
+    (is ∙ fates_are setting m.journal.items m.kept c.len.result
+    (bytes_count m.packets.now ∙ sym c.len.ensures.same) c.self.invariant))
     c.fates.ensures

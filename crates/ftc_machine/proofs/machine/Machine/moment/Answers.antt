@@ -9,4 +9,5 @@ pub returns : goal.returns
 returns c =
     let setting = setting_in c.args.self.now in
     let journal = c.args.self.now.journal in
-    ∥∥₁_map₂ c.journal.ensures.setting c.journal.ensures.run (λ is run. c.every_moment.ensures setting is journal [] (subst (IsRun setting) (sym (append-nil journal)) run))
+    ∥∥₁_map₂ c.journal.ensures.setting c.journal.ensures.run
+    (λ is run. c.every_moment.ensures setting is journal [] (subst (IsRun setting) (sym (append-nil journal)) run))

@@ -12,9 +12,12 @@ pub invariant_of-result : goal.invariant_of-result
 invariant_of-result c =
     let setting : Setting = setting_of c.args.spec.now (bytes_of_packets c.args.packets.now) c.args.script.now in
     ∣ record {
-      right = c.accepted.ensures.setting c.args.spec.now (bytes_of_packets c.args.packets.now) c.args.script.now c.rules.ensures.bounds c.ring.ensures.accepted c.requires.ring (c.requires.packets ∙ sym (bytes_count c.args.packets.now));
+      right = c.accepted.ensures.setting c.args.spec.now
+          (bytes_of_packets c.args.packets.now) c.args.script.now c.rules.ensures.bounds c.ring.ensures.accepted
+          c.requires.ring (c.requires.packets ∙ sym (bytes_count c.args.packets.now));
       run = subst (λ (events : List Event). IsRun setting events) (sym c.new-2.ensures) tt;
       laws = c.states_are_lawful.ensures setting;
-      kept_for = subst (λ (events : List Event). Represents setting (state_after setting (opening setting) events) c.in_ok-kept.kept) (sym c.new-2.ensures)
+      kept_for = subst (λ (events : List Event). Represents setting
+          (state_after setting (opening setting) events) c.in_ok-kept.kept) (sym c.new-2.ensures)
           (c.in_ok-kept.ensures setting (sym (c.ring.ensures.same ∙ c.requires.ring)) (sym c.partitions.ensures.same));
     } ∣₁

@@ -36,7 +36,9 @@ invariant_of-self-2 c =
     let m = c.self.inside in
     let setting : Setting = setting_of m.spec.now (bytes_of_packets m.packets.now) m.script.now in
     let grown : c.push.new.self.items ≡ m.journal.items ++ c.args.event.now ∷ [] =
-    c.in_ok-push.ensures.ok ∙ (ap (λ (events : List Event). events ++ c.in_ok-copy.copy ∷ []) c.reserve.ensures.items ∙ ap (λ (event : Event). m.journal.items ++ event ∷ []) c.in_ok-copy.ensures) in
+    c.in_ok-push.ensures.ok ∙
+    (ap (λ (events : List Event). events ++ c.in_ok-copy.copy ∷ []) c.reserve.ensures.items ∙ ap
+    (λ (event : Event). m.journal.items ++ event ∷ []) c.in_ok-copy.ensures) in
     subst (λ (events : List Event). ∥ IsRunSoFar setting events c.apply.new.self ∥₁) (sym grown)
     (goes_on setting m.journal.items m.kept m.script.now (length m.packets.now)
     (inputs_of m.spec.now m.packets.now m.script.now (length m.packets.now) refl)

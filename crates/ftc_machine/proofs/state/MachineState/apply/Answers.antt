@@ -12,15 +12,19 @@ pub returns-in_ok-bytes-in-Enter-clause-ok : goal.returns-in_ok-bytes-in-Enter-c
 returns-in_ok-bytes-in-Enter-clause-ok c =
     let setting : Setting = setting_of c.args.spec.now (bytes_of_packets c.args.packets.now) c.args.script.now in
     on_ok_map c.enter.result _ _
-    (λ acting. acts setting c.args.now c.args.self.now c.enter.new.self c.args.event.now (event.Enter c.in-Enter.packet) c.in-Enter.is
-    (λ state. acting setting state (c.in_ok-bytes-in-Enter.ensures ∙ packet_bytes setting c.args.packets.now c.in-Enter.packet c.at.result.now refl c.at.ensures.same)))
+    (λ acting. acts setting c.args.now c.args.self.now c.enter.new.self c.args.event.now
+    (event.Enter c.in-Enter.packet) c.in-Enter.is
+    (λ state. acting setting state
+    (c.in_ok-bytes-in-Enter.ensures ∙ packet_bytes setting c.args.packets.now c.in-Enter.packet c.at.result.now refl
+    c.at.ensures.same)))
     c.enter.ensures.ok
 
 pub returns-in-Take-clause-ok : goal.returns-in-Take-clause-ok
 returns-in-Take-clause-ok c =
     let setting : Setting = setting_of c.args.spec.now (bytes_of_packets c.args.packets.now) c.args.script.now in
     on_ok_map c.take.result _ _
-    (λ acting. acts setting c.args.now c.args.self.now c.take.new.self c.args.event.now (event.Take c.in-Take.link c.in-Take.origin) c.in-Take.is (acting setting))
+    (λ acting. acts setting c.args.now c.args.self.now c.take.new.self c.args.event.now
+    (event.Take c.in-Take.link c.in-Take.origin) c.in-Take.is (acting setting))
     c.take.ensures.ok
 
 pub returns-in-Apply-clause-ok : goal.returns-in-Apply-clause-ok
@@ -37,14 +41,16 @@ returns-in-Visit-clause-ok c =
     (λ acting. acts setting c.args.now c.args.self.now c.visit.new.self c.args.event.now
     (event.Visit c.in-Visit.server c.in-Visit.packet c.in-Visit.worker) c.in-Visit.is
     (λ state. acting setting state c.in-Visit.worker
-    (rule_is setting c.rules.result.now c.from.result c.in-Visit.server c.at-rule.result.now (sym c.rules.ensures.same) (c.from.ensures ∙ c.number.ensures.same) c.at-rule.ensures)))
+    (rule_is setting c.rules.result.now c.from.result c.in-Visit.server c.at-rule.result.now (sym c.rules.ensures.same)
+    (c.from.ensures ∙ c.number.ensures.same) c.at-rule.ensures)))
     c.visit.ensures.ok
 
 pub returns-in-Pass-clause-ok : goal.returns-in-Pass-clause-ok
 returns-in-Pass-clause-ok c =
     let setting : Setting = setting_of c.args.spec.now (bytes_of_packets c.args.packets.now) c.args.script.now in
     on_ok_map c.send.result _ _
-    (λ acting. acts setting c.args.now c.args.self.now c.send.new.self c.args.event.now (event.Pass c.in-Pass.server c.in-Pass.origin) c.in-Pass.is (acting setting))
+    (λ acting. acts setting c.args.now c.args.self.now c.send.new.self c.args.event.now
+    (event.Pass c.in-Pass.server c.in-Pass.origin) c.in-Pass.is (acting setting))
     c.send.ensures.ok
 
 pub returns-in-Lose-clause-ok : goal.returns-in-Lose-clause-ok
@@ -76,7 +82,9 @@ returns-in-Recover-clause-ok c =
     let setting : Setting = setting_of c.args.spec.now (bytes_of_packets c.args.packets.now) c.args.script.now in
     on_ok_map c.recover.result _ _
     (λ acting. acts setting c.args.now c.args.self.now c.recover.new.self c.args.event.now
-    (event.Recover c.in-Recover.server c.as_slice.result.now) (c.in-Recover.is ∙ ap (λ (undone : List VisitName). event.Recover c.in-Recover.server undone) (sym c.as_slice.ensures)) (acting setting))
+    (event.Recover c.in-Recover.server c.as_slice.result.now)
+    (c.in-Recover.is ∙ ap (λ (undone : List VisitName). event.Recover c.in-Recover.server undone)
+    (sym c.as_slice.ensures)) (acting setting))
     c.recover.ensures.ok
 
 pub returns-in-Pull-clause-ok : goal.returns-in-Pull-clause-ok

@@ -23,10 +23,14 @@ returns c setting s origin may is =
     let within : c.args.server < k.ring.servers = c.requires in
     let long : length k.lists.items ≡ k.ring.servers = k.each_list in
     let servers_are : k.ring.servers ≡ servers setting = ap (λ (ring : RingShape). ring.servers) is.ring in
-    let row : c.index.result.now ≡ frontiers_of k.lists.items c.from-place.result = get_or_read k.lists.items c.from-place.result c.index.result.now (omega arith) c.index.ensures [] in
-    let again : c.index_mut.result.now ≡ frontiers_of k.lists.items c.from-place.result = get_or_read k.lists.items c.from-place.result c.index_mut.result.now (omega arith) c.index_mut.ensures.value [] in
+    let row : c.index.result.now ≡ frontiers_of k.lists.items c.from-place.result =
+    get_or_read k.lists.items c.from-place.result c.index.result.now (omega arith) c.index.ensures [] in
+    let again : c.index_mut.result.now ≡ frontiers_of k.lists.items c.from-place.result =
+    get_or_read k.lists.items c.from-place.result c.index_mut.result.now
+    (omega arith) c.index_mut.ensures.value [] in
     elim c.match-footprint.branch [
-      | in_default w ↦ absurd (none-some (applied_footprint setting s c.args.server origin log.server log.packet may k is).0
+      | in_default w ↦ absurd (none-some
+          (applied_footprint setting s c.args.server origin log.server log.packet may k is).0
           (w.in_default.ensures ∙ (applied_footprint setting s c.args.server origin log.server log.packet may k is).1))
       | in-Some w ↦ record {
         ring = is.ring;
@@ -36,12 +40,15 @@ returns c setting s origin may is =
           rising = rising_more numbers (s.events + 1) (s.events + 1 + 1) s.trace (omega arith) is.sets.rising;
           footprints = is.sets.footprints;
           order = is.sets.order;
-          lists = lists_join setting s c.args.server origin log.server log.packet may k is w.in-Some.footprint.now c.match-footprint.vector c.from-place.result c.raise.new.self _
+          lists = lists_join setting s c.args.server origin log.server log.packet may k is w.in-Some.footprint.now
+              c.match-footprint.vector c.from-place.result c.raise.new.self _
               (sym c.footprint.ensures ∙ ap (option_map (λ f. f.now)) w.in-Some.is)
               (λ partition. ap (λ (vector : List ℕ). number_at vector partition) w.vector-is ∙ (w.mark.ensures partition
-              ∙ ap (λ (vector : List ℕ). marked_at w.in-Some.footprint.now (number_at vector) partition) (c.of.ensures.same ∙ ap (λ (reach : List (List ℕ)). vector_of reach log.server) row)))
+              ∙ ap (λ (vector : List ℕ). marked_at w.in-Some.footprint.now (number_at vector) partition)
+              (c.of.ensures.same ∙ ap (λ (reach : List (List ℕ)). vector_of reach log.server) row)))
               (ap (λ (reach : List (List ℕ)). length reach) (sym row) ∙ c.of.ensures.size) place (omega arith)
-              (c.raise.ensures ∙ ap (λ (reach : List (List ℕ)). group_raised reach log.server c.match-footprint.vector) again) refl;
+              (c.raise.ensures ∙ ap (λ
+              (reach : List (List ℕ)). group_raised reach log.server c.match-footprint.vector) again) refl;
           known = is.sets.known;
           messages = is.sets.messages;
           stores = stores_stay setting s c.args.server origin log.server log.packet may k is;

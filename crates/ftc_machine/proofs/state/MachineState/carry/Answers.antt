@@ -22,11 +22,17 @@ returns-clause-ok c setting s may is =
     let k = c.args.self.now in
     let numbers = numbers_of (footprints_in k.visits.items) in
     let zero : c.unwrap-first.result ≡ 0 = search rules in
-    let are : (group packet : ℕ) → names c.in_ok-self.field-0 group packet ≡ ((names (logs_in (slot_at k.messages c.args.origin)) group packet && not (group == group_ending k.ring 0)) || ((0 == 0) && names k.forwarder group packet)) =
+    let are : (group packet : ℕ) →
+    names c.in_ok-self.field-0 group packet
+    ≡ ((names (logs_in (slot_at k.messages c.args.origin)) group packet && not (group == group_ending k.ring 0))
+    || ((0 == 0) && names k.forwarder group packet)) =
     λ group packet.
     c.in_ok-self.ensures group packet
-    ∙ ap (λ (logs : List VisitName). (names logs group packet && not (group == group_ending k.ring c.unwrap-first.result)) || ((c.unwrap-first.result == 0) && names k.forwarder group packet)) c.logs_of.ensures
-    ∙ ap (λ first. (names (logs_in (slot_at k.messages c.args.origin)) group packet && not (group == group_ending k.ring first)) || ((first == 0) && names k.forwarder group packet)) zero in
+    ∙ ap (λ (logs : List VisitName). (names logs group packet
+    && not (group == group_ending k.ring c.unwrap-first.result))
+    || ((c.unwrap-first.result == 0) && names k.forwarder group packet)) c.logs_of.ensures
+    ∙ ap (λ first. (names (logs_in (slot_at k.messages c.args.origin)) group packet
+    && not (group == group_ending k.ring first)) || ((first == 0) && names k.forwarder group packet)) zero in
     record {
       ring = is.ring;
       partitions = is.partitions;
@@ -37,13 +43,16 @@ returns-clause-ok c setting s may is =
         order = is.sets.order;
         lists = is.sets.lists;
         known = is.sets.known;
-        messages = cleared (λ _ (o : Option Message) (slot : Option MessageOfMachine). IsMessageSlot setting.partitions s.trace numbers o slot)
+        messages = cleared (λ _ (o : Option Message)
+            (slot : Option MessageOfMachine). IsMessageSlot setting.partitions s.trace numbers o slot)
             s.message k.messages c.take_out.new.self c.args.origin None c.take_out.ensures.left tt is.sets.messages;
         stores = is.sets.stores;
       };
       forwarder = λ group packet.
-          logs_go_on setting s (event.Carry c.args.origin) may k is 0 c.args.origin may.supposed.ring.some c.in_ok-self.field-0 are group packet
-          ∙ or_comm (logs_of (s.message c.args.origin) group packet && not (is_tail setting group 0)) (s.forwarder group packet);
+          logs_go_on setting s (event.Carry c.args.origin) may k is 0 c.args.origin may.supposed.ring.some
+          c.in_ok-self.field-0 are group packet
+          ∙ or_comm (logs_of (s.message c.args.origin) group packet
+          && not (is_tail setting group 0)) (s.forwarder group packet);
       buffer = is.buffer;
       gaps = is.gaps;
       lines = is.lines;

@@ -14,13 +14,20 @@ loop-place-preserved c =
     let judged = ap (has_such test) (sym c.get.ensures) ∙ sym c.is_any_dropped.ensures in
     elim c.if-is_any_dropped.branch [
       | then-is_any_dropped w ↦
-          subst (λ (messages : List (Option Message)). AreSwept test c.args.event (place + 1) c.args.messages.now messages c.args.fates.now c.if-is_any_dropped.fates) (sym w.messages-is)
-          (subst (λ (fates : List (Option Fate)). AreSwept test c.args.event (place + 1) c.args.messages.now w.lose.new.messages c.args.fates.now fates) (sym w.fates-is)
-          (sweep_drops test c.args.event c.args.messages.now c.args.fates.now place c.loop-place.messages w.lose.new.messages c.loop-place.fates w.lose.new.fates c.loop-place.invariant
-          (judged ∙ w.if-is_any_dropped.true) (omega arith) (omega (arith, c.requires.wide)) w.lose.ensures.messages w.lose.ensures.fates))
+          subst (λ (messages : List (Option Message)). AreSwept test c.args.event (place
+          + 1) c.args.messages.now messages c.args.fates.now c.if-is_any_dropped.fates) (sym w.messages-is)
+          (subst (λ (fates : List (Option Fate)). AreSwept test c.args.event (place
+          + 1) c.args.messages.now w.lose.new.messages c.args.fates.now fates) (sym w.fates-is)
+          (sweep_drops test c.args.event c.args.messages.now c.args.fates.now place c.loop-place.messages
+          w.lose.new.messages c.loop-place.fates w.lose.new.fates c.loop-place.invariant
+          (judged ∙ w.if-is_any_dropped.true) (omega arith)
+          (omega (arith, c.requires.wide)) w.lose.ensures.messages w.lose.ensures.fates))
       | else-is_any_dropped w ↦
-          subst (λ (messages : List (Option Message)). AreSwept test c.args.event (place + 1) c.args.messages.now messages c.args.fates.now c.if-is_any_dropped.fates) (sym w.messages-is)
-          (subst (λ (fates : List (Option Fate)). AreSwept test c.args.event (place + 1) c.args.messages.now c.loop-place.messages c.args.fates.now fates) (sym w.fates-is)
-          (sweep_keeps test c.args.event c.args.messages.now c.args.fates.now place c.loop-place.messages c.loop-place.fates c.loop-place.invariant
+          subst (λ (messages : List (Option Message)). AreSwept test c.args.event (place
+          + 1) c.args.messages.now messages c.args.fates.now c.if-is_any_dropped.fates) (sym w.messages-is)
+          (subst (λ (fates : List (Option Fate)). AreSwept test c.args.event (place
+          + 1) c.args.messages.now c.loop-place.messages c.args.fates.now fates) (sym w.fates-is)
+          (sweep_keeps test c.args.event c.args.messages.now c.args.fates.now place c.loop-place.messages
+          c.loop-place.fates c.loop-place.invariant
           (judged ∙ w.if-is_any_dropped.false)))
     ]

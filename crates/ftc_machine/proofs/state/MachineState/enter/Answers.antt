@@ -28,9 +28,11 @@ returns-then-has-clause-ok c setting s bytes now may is =
         order = is.sets.order;
         lists = is.sets.lists;
         known = is.sets.known;
-        messages = left (λ _ (o : Option Message) (slot : Option MessageOfMachine). IsMessageSlot setting.partitions s.trace numbers o slot)
+        messages = left (λ _ (o : Option Message)
+            (slot : Option MessageOfMachine). IsMessageSlot setting.partitions s.trace numbers o slot)
             s.message k.messages c.make_room.new.self c.args.packet _
-            (ap (λ b. if b then Some (fresh_message s.events (Some (packet_at setting c.args.packet))) else s.message c.args.packet) down)
+            (ap (λ b. if b then Some (fresh_message s.events (Some (packet_at setting c.args.packet)))
+            else s.message c.args.packet) down)
             c.in_ok-make_room.ensures.same is.sets.messages;
         stores = is.sets.stores;
       };
@@ -40,7 +42,8 @@ returns-then-has-clause-ok c setting s bytes now may is =
       lines = is.lines;
       entered = ap (λ n. n + 1) is.entered;
       propagates = is.propagates;
-      fates = replaced (λ _ (fate : Fate) (slot : Option Fate). option_map_or (λ (found : Fate). found) slot Inside ≡ fate)
+      fates = replaced (λ _ (fate : Fate) (slot : Option Fate). option_map_or (λ (found : Fate). found) slot Inside
+          ≡ fate)
           s.fate k.fates c.make_room-2.new.self c.put.new.self c.args.packet lost (Some (Lost c.args.now))
           c.put.ensures c.in_ok-make_room-2.ensures.room (λ other _. c.in_ok-make_room-2.ensures.same other)
           (ap Lost now ∙ sym (ap (λ b. if b then s.fate c.args.packet else Lost s.events) down)) is.fates;
@@ -62,12 +65,18 @@ returns-clause-ok c setting s bytes now may is =
         order = is.sets.order;
         lists = is.sets.lists;
         known = is.sets.known;
-        messages = replaced (λ _ (o : Option Message) (slot : Option MessageOfMachine). IsMessageSlot setting.partitions s.trace numbers o slot)
-            s.message k.messages c.make_room.new.self c.put-2.new.self c.args.packet (if s.up 0 then message else s.message c.args.packet) (Some c.fresh.result)
+        messages = replaced (λ _ (o : Option Message)
+            (slot : Option MessageOfMachine). IsMessageSlot setting.partitions s.trace numbers o slot)
+            s.message k.messages c.make_room.new.self c.put-2.new.self c.args.packet (if s.up 0 then message
+            else s.message c.args.packet) (Some c.fresh.result)
             c.put-2.ensures c.in_ok-make_room.ensures.room (λ other _. c.in_ok-make_room.ensures.same other)
-            (subst (λ b. IsMessageSlot setting.partitions s.trace numbers (if b then message else s.message c.args.packet) (Some c.fresh.result)) (sym live)
-            (subst (λ bytes. IsMessage setting.partitions s.trace numbers (fresh_message s.events (Some bytes)) c.fresh.result) bytes
-            (subst (λ now. IsMessage setting.partitions s.trace numbers (fresh_message now (Some c.args.bytes)) c.fresh.result) now (c.fresh.ensures setting.partitions s.trace numbers))))
+            (subst (λ b. IsMessageSlot setting.partitions s.trace numbers (if b then message
+            else s.message c.args.packet) (Some c.fresh.result)) (sym live)
+            (subst (λ bytes. IsMessage setting.partitions s.trace numbers
+            (fresh_message s.events (Some bytes)) c.fresh.result) bytes
+            (subst (λ now. IsMessage setting.partitions s.trace numbers
+            (fresh_message now (Some c.args.bytes)) c.fresh.result) now
+            (c.fresh.ensures setting.partitions s.trace numbers))))
             is.sets.messages;
         stores = is.sets.stores;
       };
@@ -78,5 +87,6 @@ returns-clause-ok c setting s bytes now may is =
       entered = ap (λ n. n + 1) is.entered;
       propagates = is.propagates;
       fates = left (λ _ (fate : Fate) (slot : Option Fate). option_map_or (λ (found : Fate). found) slot Inside ≡ fate)
-          s.fate k.fates c.make_room-2.new.self c.args.packet _ (ap (λ b. if b then s.fate c.args.packet else Lost s.events) live) c.in_ok-make_room-2.ensures.same is.fates;
+          s.fate k.fates c.make_room-2.new.self c.args.packet _ (ap (λ b. if b then s.fate c.args.packet
+          else Lost s.events) live) c.in_ok-make_room-2.ensures.same is.fates;
     }

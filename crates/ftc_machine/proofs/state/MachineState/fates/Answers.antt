@@ -9,6 +9,8 @@ pub loop-packet-preserved : goal.loop-packet-preserved
 loop-packet-preserved c = record {
   fates = c.in_ok-push.ensures.ok
       ∙ (ap (λ (fates : List Fate). fates ++ c.fate.result ∷ []) c.loop-packet.invariant.fates
-      ∙ (ap (λ (fate : Fate). map (fate_in c.args.self.now.fates) (range_with_len 0 c.loop-packet.packet) ++ fate ∷ []) c.fate.ensures
-      ∙ sym (map-range_with_len_more (fate_in c.args.self.now.fates) 0 c.loop-packet.packet c.loop-packet.packet (omega arith))));
+      ∙ (ap (λ (fate : Fate). map (fate_in c.args.self.now.fates) (range_with_len 0 c.loop-packet.packet)
+      ++ fate ∷ []) c.fate.ensures
+      ∙ sym (map-range_with_len_more (fate_in c.args.self.now.fates) 0 c.loop-packet.packet c.loop-packet.packet
+      (omega arith))));
 }

@@ -5,4 +5,5 @@ use Rattle.ftc_machine.specs.Tails.{is_behind}
 use Rattle.ftc_machine.proofs.state.MachineState.groups_behind.Given as goal
 
 abbrev pub invariant-loop-number : goal.invariant-loop-number
-invariant-loop-number l = (group : ℕ) → has l.groups group ≡ (nat_lt group l.number && is_behind l.self.ring group l.server)
+invariant-loop-number l = (group : ℕ) →
+    has l.groups group ≡ (nat_lt group l.number && is_behind l.self.ring group l.server)

@@ -7,5 +7,6 @@ use Rattle.ftc_machine.proofs.state.MachineState.has_line_at.Given as goal
 
 abbrev pub invariant-loop-place : goal.invariant-loop-place
 invariant-loop-place l = record {
-  same : list_any (λ (line : ScriptLine). at_of line == l.entered) (drop l.place l.script.steps) ≡ list_any (λ (line : ScriptLine). at_of line == l.entered) (drop l.self.done l.script.steps);
+  same : list_any (λ (line : ScriptLine). at_of line == l.entered) (drop l.place l.script.steps)
+      ≡ list_any (λ (line : ScriptLine). at_of line == l.entered) (drop l.self.done l.script.steps);
 }

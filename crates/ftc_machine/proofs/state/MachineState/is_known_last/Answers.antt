@@ -11,6 +11,7 @@ returns-in-Some c =
     let k = c.args.self.now in
     let name = c.args.name.now in
     let last : c.unwrap-last.result ≡ k.ring.servers - 1 = search rules in
-    c.is_had_by.ensures ∙ named_some (footprints_in k.visits.items) (known_last k) name c.in-Some.footprint.now c.knows_of.result
+    c.is_had_by.ensures ∙ named_some (footprints_in k.visits.items)
+    (known_last k) name c.in-Some.footprint.now c.knows_of.result
     (ap (option_map (λ f. f.now)) (sym c.in-Some.is) ∙ c.footprint.ensures)
     (c.knows_of.ensures ∙ ap (λ server. vector_of (known_at k server) name.server) last)

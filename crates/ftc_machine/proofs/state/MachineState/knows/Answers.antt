@@ -15,9 +15,12 @@ returns c =
     let below : server < k.ring.servers = c.requires in
     let is : c.group_ending-ending.result ≡ ending = c.group_ending-ending.ensures in
     let known : c.index.result.now ≡ frontiers_of k.known.items server =
-    get_or_read k.known.items c.from-place.result c.index.result.now (let long = k.each_known in omega arith) c.index.ensures [] ∙ ap (frontiers_of k.known.items) place in
+    get_or_read k.known.items c.from-place.result c.index.result.now (let long = k.each_known in
+    omega arith) c.index.ensures [] ∙ ap (frontiers_of k.known.items) place in
     let list : c.index-2.result.now ≡ frontiers_of k.lists.items server =
-    get_or_read k.lists.items c.from-place.result c.index-2.result.now (let long = k.each_list in omega arith) c.index-2.ensures [] ∙ ap (frontiers_of k.lists.items) place in
+    get_or_read k.lists.items c.from-place.result c.index-2.result.now (let long = k.each_list in
+    omega arith) c.index-2.ensures [] ∙ ap (frontiers_of k.lists.items) place in
     c.raise.ensures ∙ ap (group_raised c.index.result.now c.group_ending-ending.result) c.of.ensures.same
-    ∙ raised_known c.index.result.now c.index-2.result.now c.group_ending-ending.result c.bounds.ensures.size c.bounds.ensures.each
+    ∙ raised_known c.index.result.now c.index-2.result.now c.group_ending-ending.result c.bounds.ensures.size
+    c.bounds.ensures.each
     ∙ (λ i. all_merged (known i) (part_of (λ other. other == is i) (list i)))

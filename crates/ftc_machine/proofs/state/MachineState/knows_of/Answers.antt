@@ -18,11 +18,14 @@ returns-then-eq c =
     let below : server < k.ring.servers = c.requires in
     let is : c.group_ending.result ≡ ending = c.group_ending.ensures in
     let known : c.index.result.now ≡ frontiers_of k.known.items server =
-    get_or_read k.known.items c.from-place.result c.index.result.now (let long = k.each_known in omega arith) c.index.ensures [] ∙ ap (frontiers_of k.known.items) place in
+    get_or_read k.known.items c.from-place.result c.index.result.now (let long = k.each_known in
+    omega arith) c.index.ensures [] ∙ ap (frontiers_of k.known.items) place in
     let list : c.index-then-eq.result.now ≡ frontiers_of k.lists.items server =
-    get_or_read k.lists.items c.from-place.result c.index-then-eq.result.now (let long = k.each_list in omega arith) c.index-then-eq.ensures [] ∙ ap (frontiers_of k.lists.items) place in
+    get_or_read k.lists.items c.from-place.result c.index-then-eq.result.now (let long = k.each_list in
+    omega arith) c.index-then-eq.ensures [] ∙ ap (frontiers_of k.lists.items) place in
     let test : (group == c.group_ending.result) ≡ true = sym c.eq.ensures ∙ c.if-eq.true in
-    let row = known_row c.index.result.now c.index-then-eq.result.now c.group_ending.result group (subst (λ (number : ℕ). number < MOST_SERVERS) c.number-2.ensures.same c.number-2.ensures.within)
+    let row = known_row c.index.result.now c.index-then-eq.result.now c.group_ending.result group
+    (subst (λ (number : ℕ). number < MOST_SERVERS) c.number-2.ensures.same c.number-2.ensures.within)
     (subst IsVector c.of.ensures.same c.at.ensures.bounds) in
     c.merge.ensures ∙ (λ i. merged (c.of.ensures.same i) (c.of-then-eq.ensures.same i)) ∙ sym (row ∙ rw test refl)
     ∙ (λ i. vector_of (all_merged (known i) (part_of (λ other. other == is i) (list i))) group)
@@ -37,10 +40,12 @@ returns-else-eq c =
     let below : server < k.ring.servers = c.requires in
     let is : c.group_ending.result ≡ ending = c.group_ending.ensures in
     let known : c.index.result.now ≡ frontiers_of k.known.items server =
-    get_or_read k.known.items c.from-place.result c.index.result.now (let long = k.each_known in omega arith) c.index.ensures [] ∙ ap (frontiers_of k.known.items) place in
+    get_or_read k.known.items c.from-place.result c.index.result.now (let long = k.each_known in
+    omega arith) c.index.ensures [] ∙ ap (frontiers_of k.known.items) place in
     let list = frontiers_of k.lists.items server in
     let test : (group == c.group_ending.result) ≡ false = sym c.eq.ensures ∙ c.if-eq.false in
-    let row = known_row c.index.result.now list c.group_ending.result group (subst (λ (number : ℕ). number < MOST_SERVERS) c.number-2.ensures.same c.number-2.ensures.within)
+    let row = known_row c.index.result.now list c.group_ending.result group
+    (subst (λ (number : ℕ). number < MOST_SERVERS) c.number-2.ensures.same c.number-2.ensures.within)
     (subst IsVector c.of.ensures.same c.at.ensures.bounds) in
     c.of.ensures.same ∙ sym (row ∙ rw test refl)
     ∙ (λ i. vector_of (all_merged (known i) (part_of (λ other. other == is i) list)) group)

@@ -7,5 +7,6 @@ pub loop-number-init : goal.loop-number-init
 loop-number-init c = record {
   size = ap length c.new-list.ensures ∙ none_length;
   got = λ group less. absurd (omega arith);
-  left = λ group _ within. ap (λ (rows : List (List ℕ)). vector_of rows group) c.new-list.ensures ∙ none_row group within;
+  left = λ group _ within. ap
+      (λ (rows : List (List ℕ)). vector_of rows group) c.new-list.ensures ∙ none_row group within;
 }

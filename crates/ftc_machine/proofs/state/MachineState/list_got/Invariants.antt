@@ -9,6 +9,7 @@ use Rattle.ftc_machine.proofs.state.MachineState.list_got.Given as goal
 abbrev pub invariant-loop-number : goal.invariant-loop-number
 invariant-loop-number l = record {
   size : length l.list ≡ MOST_SERVERS;
-  got : (group : ℕ) → group < l.number → vector_of l.list group ≡ got_vector l.self l.server l.previous l.following group;
+  got : (group : ℕ) → group < l.number →
+      vector_of l.list group ≡ got_vector l.self l.server l.previous l.following group;
   left : (group : ℕ) → l.number ≤ group → group < MOST_SERVERS → vector_of l.list group ≡ by_partition (λ _. 0);
 }

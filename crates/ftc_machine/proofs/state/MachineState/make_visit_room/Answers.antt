@@ -1,4 +1,5 @@
-use Rattle.std.proofs.Common.{rules, ◌≡◌, ◌<◌, ◌≤◌, ◌∙◌, length, List, [], Option, Some, refl, sym, ap, subst, arith, slice_set, slice_index_or, get_or-set_same}
+use Rattle.std.proofs.Common.{rules, ◌≡◌, ◌<◌, ◌≤◌, ◌∙◌, length, List, [], Option, Some, refl, sym, ap, subst, arith}
+use Rattle.std.proofs.Common.{slice_set, slice_index_or, get_or-set_same}
 use Rattle.std.specs.Prelude.{slice_get}
 use Rattle.std.proofs.lemmas.Option.{same_Some}
 use Rattle.ftc_base.specs.declared.limits.TheConstants.{MOST_WRITES}
@@ -20,7 +21,9 @@ returns-in_err-make_room-clause-still c =
       others = search rules;
       stores = λ server. refl;
       visits = footprints_alike k.visits.items _ c.from-place.result c.make_room.new.self refl (omega arith)
-          (λ packet. c.in_err-make_room.ensures.same packet ∙ ap (λ (row : List (Option Footprint)). slot_at row packet) (get_or_read k.visits.items c.from-place.result c.index_mut.result.now (omega arith) c.index_mut.ensures.value []));
+          (λ packet. c.in_err-make_room.ensures.same packet ∙ ap (λ (row : List (Option Footprint)). slot_at row packet)
+          (get_or_read k.visits.items c.from-place.result c.index_mut.result.now
+          (omega arith) c.index_mut.ensures.value []));
       messages = λ origin. refl;
       buffer = λ packet. refl;
       fates = λ packet. refl;
@@ -36,7 +39,9 @@ returns-in_err-make_room-2-clause-still c =
       others = search rules;
       stores = λ server. refl;
       visits = footprints_alike k.visits.items _ c.from-place.result c.make_room.new.self refl (omega arith)
-          (λ packet. c.in_ok-make_room.ensures.same packet ∙ ap (λ (row : List (Option Footprint)). slot_at row packet) (get_or_read k.visits.items c.from-place.result c.index_mut.result.now (omega arith) c.index_mut.ensures.value []));
+          (λ packet. c.in_ok-make_room.ensures.same packet ∙ ap (λ (row : List (Option Footprint)). slot_at row packet)
+          (get_or_read k.visits.items c.from-place.result c.index_mut.result.now
+          (omega arith) c.index_mut.ensures.value []));
       messages = λ origin. refl;
       buffer = λ packet. refl;
       fates = c.in_err-make_room-2.ensures.same;
@@ -51,9 +56,13 @@ returns-in_err-reserve-clause-still c =
     let place : c.from-place.result ≡ c.args.server = c.from-place.ensures ∙ c.number.ensures.same in
     stands_still k _ (record {
       others = search rules;
-      stores = contents_alike k.stores.items _ c.from-place.result c.reserve.new.self refl (omega arith) (c.in_err-reserve.ensures.content ∙ content_read k.stores.items c.from-place.result c.index_mut-2.result.now (omega arith) c.index_mut-2.ensures.value);
+      stores = contents_alike k.stores.items _ c.from-place.result c.reserve.new.self refl (omega arith)
+          (c.in_err-reserve.ensures.content ∙ content_read k.stores.items c.from-place.result c.index_mut-2.result.now
+          (omega arith) c.index_mut-2.ensures.value);
       visits = footprints_alike k.visits.items _ c.from-place.result c.make_room.new.self refl (omega arith)
-          (λ packet. c.in_ok-make_room.ensures.same packet ∙ ap (λ (row : List (Option Footprint)). slot_at row packet) (get_or_read k.visits.items c.from-place.result c.index_mut.result.now (omega arith) c.index_mut.ensures.value []));
+          (λ packet. c.in_ok-make_room.ensures.same packet ∙ ap (λ (row : List (Option Footprint)). slot_at row packet)
+          (get_or_read k.visits.items c.from-place.result c.index_mut.result.now
+          (omega arith) c.index_mut.ensures.value []));
       messages = λ origin. refl;
       buffer = λ packet. refl;
       fates = c.in_ok-make_room-2.ensures.same;
@@ -68,9 +77,13 @@ returns-clause-still c =
     let place : c.from-place.result ≡ c.args.server = c.from-place.ensures ∙ c.number.ensures.same in
     stands_still k _ (record {
       others = search rules;
-      stores = contents_alike k.stores.items _ c.from-place.result c.reserve.new.self refl (omega arith) (c.in_ok-reserve.ensures.content ∙ content_read k.stores.items c.from-place.result c.index_mut-2.result.now (omega arith) c.index_mut-2.ensures.value);
+      stores = contents_alike k.stores.items _ c.from-place.result c.reserve.new.self refl (omega arith)
+          (c.in_ok-reserve.ensures.content ∙ content_read k.stores.items c.from-place.result c.index_mut-2.result.now
+          (omega arith) c.index_mut-2.ensures.value);
       visits = footprints_alike k.visits.items _ c.from-place.result c.make_room.new.self refl (omega arith)
-          (λ packet. c.in_ok-make_room.ensures.same packet ∙ ap (λ (row : List (Option Footprint)). slot_at row packet) (get_or_read k.visits.items c.from-place.result c.index_mut.result.now (omega arith) c.index_mut.ensures.value []));
+          (λ packet. c.in_ok-make_room.ensures.same packet ∙ ap (λ (row : List (Option Footprint)). slot_at row packet)
+          (get_or_read k.visits.items c.from-place.result c.index_mut.result.now
+          (omega arith) c.index_mut.ensures.value []));
       messages = λ origin. refl;
       buffer = λ packet. refl;
       fates = c.in_ok-make_room-2.ensures.same;
@@ -84,10 +97,16 @@ returns-clause-room c =
     let within : c.args.server < k.ring.servers = c.requires in
     let place : c.from-place.result ≡ c.args.server = c.from-place.ensures ∙ c.number.ensures.same in
     record {
-      visits = subst (λ p. c.args.packet < length (slice_index_or (slice_set k.visits.items c.from-place.result c.make_room.new.self) p [])) place
-          (subst (λ (row : List (Option Footprint)). c.args.packet < length row) (sym (get_or-set_same k.visits.items c.from-place.result c.make_room.new.self [] (omega arith))) c.in_ok-make_room.ensures.room);
+      visits = subst (λ p. c.args.packet < length
+          (slice_index_or (slice_set k.visits.items c.from-place.result c.make_room.new.self) p [])) place
+          (subst (λ (row : List (Option Footprint)). c.args.packet < length row)
+          (sym (get_or-set_same k.visits.items c.from-place.result c.make_room.new.self []
+          (omega arith))) c.in_ok-make_room.ensures.room);
       fates = c.in_ok-make_room-2.ensures.room;
       writes = λ stored there.
-          let own : c.reserve.new.self ≡ stored = same_Some _ _ (sym (get_set_same k.stores.items c.from-place.result c.reserve.new.self (omega arith)) ∙ subst (λ p. slice_get (slice_set k.stores.items c.from-place.result c.reserve.new.self) p ≡ Some stored) (sym place) there) in
+          let own : c.reserve.new.self ≡ stored =
+          same_Some _ _ (sym (get_set_same k.stores.items c.from-place.result c.reserve.new.self
+          (omega arith)) ∙ subst (λ p. slice_get (slice_set k.stores.items c.from-place.result c.reserve.new.self) p
+          ≡ Some stored) (sym place) there) in
           subst (λ (s : Stored). MOST_WRITES ≤ s.spare) own c.in_ok-reserve.ensures.ok;
     }

@@ -6,4 +6,6 @@ pub returns-then-self-steps : goal.returns-then-self-steps
 returns-then-self-steps c = sym (first_left c.args.script.now.steps c.args.self.now.done ∙ c.step.ensures)
 
 pub returns-else-self-steps : goal.returns-else-self-steps
-returns-else-self-steps c = sym (none_left c.args.script.now.steps c.args.self.now.done (subst (λ n. n ≤ c.args.self.now.done) c.steps.ensures c.if-self-steps.false))
+returns-else-self-steps c =
+    sym (none_left c.args.script.now.steps c.args.self.now.done
+    (subst (λ n. n ≤ c.args.self.now.done) c.steps.ensures c.if-self-steps.false))

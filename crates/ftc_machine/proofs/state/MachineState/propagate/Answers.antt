@@ -22,10 +22,13 @@ returns-clause-ok c setting s now may is =
         order = is.sets.order;
         lists = is.sets.lists;
         known = is.sets.known;
-        messages = replaced (λ _ (o : Option Message) (slot : Option MessageOfMachine). IsMessageSlot setting.partitions s.trace numbers o slot)
-            s.message k.messages c.make_room.new.self c.put.new.self c.args.origin (Some (fresh_message s.events None)) (Some c.fresh.result)
+        messages = replaced (λ _ (o : Option Message)
+            (slot : Option MessageOfMachine). IsMessageSlot setting.partitions s.trace numbers o slot)
+            s.message k.messages c.make_room.new.self c.put.new.self c.args.origin (Some (fresh_message s.events None))
+            (Some c.fresh.result)
             c.put.ensures c.in_ok-make_room.ensures.room (λ other _. c.in_ok-make_room.ensures.same other)
-            (subst (λ now. IsMessage setting.partitions s.trace numbers (fresh_message now None) c.fresh.result) now (c.fresh.ensures setting.partitions s.trace numbers)) is.sets.messages;
+            (subst (λ now. IsMessage setting.partitions s.trace numbers (fresh_message now None) c.fresh.result) now
+            (c.fresh.ensures setting.partitions s.trace numbers)) is.sets.messages;
         stores = is.sets.stores;
       };
       forwarder = is.forwarder;

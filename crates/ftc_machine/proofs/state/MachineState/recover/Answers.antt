@@ -12,7 +12,9 @@ returns-clause-ok c setting s now may is =
     let k = c.args.self.now in
     stands_first k _ setting s
     (c.take_over.ensures setting s now c.in_ok-order.ensures
-    (c.in_ok-store.ensures ∙ ap (λ (order : List VisitName). fold (rewritten (footprints_of k) c.args.server) empty order) c.as_slice.ensures) may)
+    (c.in_ok-store.ensures ∙ ap
+    (λ (order : List VisitName). fold
+    (rewritten (footprints_of k) c.args.server) empty order) c.as_slice.ensures) may)
     (record {
       others = search rules;
       stores = λ server. refl;

@@ -32,16 +32,21 @@ returns-clause-ok c setting s may is =
         order = is.sets.order;
         lists = λ server below. stays (s.lists server) (frontiers_of k.lists.items server) (is.sets.lists server below);
         known = λ server below. stays (s.known server) (frontiers_of k.known.items server) (is.sets.known server below);
-        messages = λ origin. slot_stays setting.partitions s.trace (Given packet bytes ∷ s.trace) numbers numbers stays (s.message origin) (slot_at k.messages origin) (is.sets.messages origin);
+        messages = λ origin. slot_stays setting.partitions s.trace (Given packet bytes ∷ s.trace) numbers numbers stays
+            (s.message origin) (slot_at k.messages origin) (is.sets.messages origin);
         stores = is.sets.stores;
       };
       forwarder = is.forwarder;
-      buffer = replaced (λ place (o : Option Withheld) (slot : Option WithheldOfMachine). IsWithheldSlot place o slot) s.withheld k.buffer c.make_room.new.self c.clear.new.self packet None None
+      buffer = replaced (λ place (o : Option Withheld)
+          (slot : Option WithheldOfMachine). IsWithheldSlot place o slot) s.withheld k.buffer c.make_room.new.self
+          c.clear.new.self packet None None
           c.clear.ensures c.in_ok-make_room.ensures.room (λ other _. c.in_ok-make_room.ensures.same other) tt is.buffer;
       gaps = is.gaps;
       lines = is.lines;
       entered = is.entered;
       propagates = is.propagates;
-      fates = replaced (λ _ (fate : Fate) (slot : Option Fate). option_map_or (λ (found : Fate). found) slot Inside ≡ fate) s.fate k.fates c.make_room-2.new.self c.put.new.self packet Released (Some Released)
-          c.put.ensures c.in_ok-make_room-2.ensures.room (λ other _. c.in_ok-make_room-2.ensures.same other) refl is.fates;
+      fates = replaced (λ _ (fate : Fate) (slot : Option Fate). option_map_or (λ (found : Fate). found) slot Inside
+          ≡ fate) s.fate k.fates c.make_room-2.new.self c.put.new.self packet Released (Some Released)
+          c.put.ensures c.in_ok-make_room-2.ensures.room
+          (λ other _. c.in_ok-make_room-2.ensures.same other) refl is.fates;
     }

@@ -5,5 +5,6 @@ use Rattle.ftc_machine.proofs.state.opening.empty_stores.Goals as goal
 pub loop-preserved : goal.loop-preserved
 loop-preserved c = record {
   count = omega (arith, c.in_ok-push.ensures.len, c.loop.invariant.count);
-  empty = λ server. rw c.in_ok-push.ensures.items (content_push c.loop.stores.items c.new.result server c.new.ensures.empty c.loop.invariant.empty);
+  empty = λ server. rw c.in_ok-push.ensures.items
+      (content_push c.loop.stores.items c.new.result server c.new.ensures.empty c.loop.invariant.empty);
 }

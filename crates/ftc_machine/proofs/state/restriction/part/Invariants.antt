@@ -9,6 +9,8 @@ use Rattle.ftc_machine.proofs.state.restriction.part.Given as goal
 abbrev pub invariant-loop-number : goal.invariant-loop-number
 invariant-loop-number l = record {
   size : length l.part ≡ MOST_SERVERS;
-  below : (k : ℕ) → k < l.number → vector_of l.part k ≡ (if has l.groups k then merged (by_partition (λ _. 0)) (vector_of l.reach k) else by_partition (λ _. 0));
+  below : (k : ℕ) → k < l.number →
+      vector_of l.part k ≡ (if has l.groups k then merged (by_partition (λ _. 0)) (vector_of l.reach k)
+      else by_partition (λ _. 0));
   rest : (k : ℕ) → l.number ≤ k → k < MOST_SERVERS → vector_of l.part k ≡ by_partition (λ _. 0);
 }

@@ -15,5 +15,6 @@ returns c =
 
 pub invariant_of-self : goal.invariant_of-self
 invariant_of-self c =
-    subst AreLogs (sym (filter_same _ (λ (log : Logged). not (has c.args.groups log.group)) _ (λ x b f' k. search rules) _ _ c.retain.ensures.filtered))
+    subst AreLogs (sym (filter_same _ (λ (log : Logged). not (has c.args.groups log.group)) _
+    (λ x b f' k. search rules) _ _ c.retain.ensures.filtered))
     (are_logs-filter (λ (log : Logged). not (has c.args.groups log.group)) c.self.inside.list.items c.self.invariant)

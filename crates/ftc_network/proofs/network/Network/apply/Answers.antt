@@ -40,7 +40,8 @@ returns-clause-ok c =
     let place = c.place_of.result in
     on_ok c.apply_at.result _ _ (λ follows setting state run legal is.
     let below : c.args.server < servers setting =
-    (c.where_events_are.ensures.apply setting state c.args.server c.args.origin c.args.group c.args.packet run legal).0 in
+    (c.where_events_are.ensures.apply setting state c.args.server c.args.origin c.args.group c.args.packet run legal).0
+    in
     let size : old.ring.servers ≡ servers setting = ap (λ (ring : RingShape). ring.servers) is.ring in
     let within : place < length old.servers.items = omega (arith, below, size, old.each_server, c.place_of.ensures) in
     let slot = read_server old.servers.items place c.args.server c.index_mut.result.now c.place_of.ensures within

@@ -1,4 +1,5 @@
-use Rattle.std.proofs.Common.{◌≡◌, ◌∙◌, ◌<◌, ◌-◌, ◌++◌, [], ◌∷◌, ℕ, List, Option, Some, None, length, slice_set, refl, sym, ap, subst, arith, get_or-set_same, get_or-set_other}
+use Rattle.std.proofs.Common.{◌≡◌, ◌∙◌, ◌<◌, ◌-◌, ◌++◌, [], ◌∷◌, ℕ, List, Option, Some, None, length, slice_set, refl}
+use Rattle.std.proofs.Common.{sym, ap, subst, arith, get_or-set_same, get_or-set_other}
 use Rattle.std.proofs.Math.Logic.{∥∥₁_map}
 use Rattle.ftc_journal.specs.declared.event.Event.{Event}
 use Rattle.ftc_journal.specs.declared.event.Event.TheVariants as event
@@ -187,7 +188,8 @@ returns-in-Err-clause-stands c not setting state is =
     c.index_mut.ensures.value in
     let inside : server < servers setting =
     subst (λ (n : ℕ). server < n) (ap (λ (ring : RingShape). ring.servers) is.ring) below in
-    let stands = still_server setting state (parts_of old) c.place_of.result server c.commit_at.new.slot c.place_of.ensures
+    let stands = still_server setting state
+    (parts_of old) c.place_of.result server c.commit_at.new.slot c.place_of.ensures
     within is (c.in-Err.ensures.stands server setting state
     (subst (IsSlot setting state server) (sym slot) (is.servers_are server inside))) in
     record {

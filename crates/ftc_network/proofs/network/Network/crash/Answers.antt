@@ -1,4 +1,5 @@
-use Rattle.std.proofs.Common.{◌≡◌, ◌∙◌, ◌<◌, ◌+◌, ◌-◌, ℕ, Bool, false, None, length, refl, sym, ap, subst, arith, slice_set, get_or-set_same, get_or-set_other}
+use Rattle.std.proofs.Common.{◌≡◌, ◌∙◌, ◌<◌, ◌+◌, ◌-◌, ℕ, Bool, false, None, length, refl, sym, ap, subst, arith}
+use Rattle.std.proofs.Common.{slice_set, get_or-set_same, get_or-set_other}
 use Rattle.ftc_journal.specs.declared.event.Event.{Event}
 use Rattle.ftc_journal.specs.declared.event.Event.TheVariants as event
 use Rattle.ftc_protocol.specs.Next.{next}
@@ -34,15 +35,21 @@ returns-clause-follows c setting state run legal is =
     let before : c.previous-before.result ≡ previous_of (servers setting) server =
     c.previous-before.ensures.same ∙ ap (λ (n : ℕ). previous_of n server) size in
     let at_link : c.place_of-2.result ≡ c.previous-before.result = c.place_of-2.ensures in
-    let link_below : c.previous-before.result < servers setting = omega (arith, size, c.previous-before.ensures.within) in
-    let within : c.place_of.result < length old.servers.items = omega (arith, below, size, old.each_server, c.place_of.ensures) in
-    let inside : c.place_of-2.result < length old.links.items = omega (arith, link_below, size, old.each_link, at_link) in
+    let link_below : c.previous-before.result < servers setting =
+    omega (arith, size, c.previous-before.ensures.within) in
+    let within : c.place_of.result < length old.servers.items =
+    omega (arith, below, size, old.each_server, c.place_of.ensures) in
+    let inside : c.place_of-2.result < length old.links.items =
+    omega (arith, link_below, size, old.each_link, at_link) in
     let leads : next_of (servers setting) c.previous-before.result ≡ server =
     ap (next_of (servers setting)) before ∙ c.steps.ensures.next_previous (servers setting) server below in
-    let queue = read_link old.links.items c.place_of-2.result c.previous-before.result c.index_mut-2.result.now at_link inside
+    let queue = read_link old.links.items c.place_of-2.result c.previous-before.result c.index_mut-2.result.now at_link
+    inside
     c.index_mut-2.ensures.value in
-    let stopped = c.a_receiver_stops.ensures setting state server c.previous-before.result c.index_mut-2.result.now run legal
-    leads (subst (IsLink setting state c.previous-before.result) (sym queue) (is.links_are c.previous-before.result link_below)) in
+    let stopped = c.a_receiver_stops.ensures setting state server c.previous-before.result c.index_mut-2.result.now run
+    legal
+    leads (subst (IsLink setting state c.previous-before.result) (sym queue)
+    (is.links_are c.previous-before.result link_below)) in
     server_and_link setting state (next setting state event) (parts_of old) c.place_of.result None c.place_of-2.result
     c.clear.new.self old.entered (old.done + 1) old.propagates within inside is
     (with_at_cases (λ (up : Bool). up ≡ false) state.up server false c.place_of.result (λ same. refl)

@@ -31,10 +31,12 @@ returns-clause-ok c setting state bytes run legal is =
     let size : old.ring.servers ≡ servers setting = ap (λ (ring : RingShape). ring.servers) is.ring in
     let below : 0 < servers setting = omega (arith, some, size) in
     let follows = c.in_ok-enter_at.ensures.ok in
-    let here = follows setting state bytes run legal (subst (IsSlot setting state 0) (sym slot) (is.servers_are 0 below)) in
+    let here = follows setting state bytes run legal
+    (subst (IsSlot setting state 0) (sym slot) (is.servers_are 0 below)) in
     one_server setting state (next setting state event) (parts_of old) 0 c.enter_at.new.slot (old.entered + 1) old.done
     old.propagates within is here
-    (λ server other below differs stays. c.servers_beside.ensures setting state event server other run legal differs stays)
+    (λ server other below differs stays. c.servers_beside.ensures setting state event server other run legal differs
+    stays)
     (λ link queue below stays. c.links_stand_still.ensures setting state event link queue run legal tt stays)
     (record {
       entered_is = ap (λ (n : ℕ). n + 1) is.counts.entered_is;

@@ -21,5 +21,6 @@ returns c =
     let queue : c.index.result.now ≡ link_in old.links.items c.args.link =
     read_link old.links.items c.place_of.result c.args.link c.index.result.now c.place_of.ensures within
     c.index.ensures in
-    subst (λ (q : Queue). option_map (λ frame. message_of frame.now) c.frame.result ≡ option_map Ok (oldest_of q.messages))
+    subst (λ (q : Queue). option_map (λ frame. message_of frame.now) c.frame.result
+    ≡ option_map Ok (oldest_of q.messages))
     queue c.frame.ensures.read

@@ -36,7 +36,8 @@ leave_at-requires c =
     let state = allowed.state in
     let size : old.ring.servers ≡ servers setting = ap (λ (ring : RingShape). ring.servers) allowed.stands.ring in
     let below : server < servers setting =
-    leaver_below c.where_events_are.ensures.pass c.where_events_are.ensures.lose setting state (is_some c.args.lost) server
+    leaver_below c.where_events_are.ensures.pass c.where_events_are.ensures.lose setting state
+    (is_some c.args.lost) server
     c.args.origin allowed.run allowed.legal in
     let behind : c.place_of.result < length old.servers.items =
     omega (arith, old.each_server, c.place_of.ensures, c.next-receiver.ensures.within) in
@@ -51,7 +52,8 @@ leave_at-requires c =
       legal = allowed.legal;
       up_is = receiver_up setting state (parts_of old) allowed.stands server c.next-receiver.result c.place_of.result
           c.index.result.now c.is_some-up.result c.next-receiver.ensures.same c.next-receiver.ensures.within
-          c.place_of.ensures (get_or_read old.servers.items c.place_of.result c.index.result.now behind c.index.ensures None)
+          c.place_of.ensures (get_or_read old.servers.items c.place_of.result c.index.result.now behind c.index.ensures
+          None)
           c.is_some-up.ensures;
       link_stands = link_there setting state (parts_of old) allowed.stands server c.place_of-3.result
           c.index_mut-2.result.now c.place_of-3.ensures below
@@ -59,7 +61,8 @@ leave_at-requires c =
           (record { from = 0; messages = []; gap = false }));
       stands = slot_there setting state (parts_of old) allowed.stands server c.place_of-2.result
           c.index_mut.result.now c.place_of-2.ensures below
-          (get_or_read old.servers.items c.place_of-2.result c.index_mut.result.now within c.index_mut.ensures.value None);
+          (get_or_read old.servers.items c.place_of-2.result c.index_mut.result.now within c.index_mut.ensures.value
+          None);
     })
 
 pub returns-clause-ok : goal.returns-clause-ok
@@ -72,7 +75,8 @@ returns-clause-ok c =
     let after = next setting state (leaving lost server origin) in
     let size : old.ring.servers ≡ servers setting = ap (λ (ring : RingShape). ring.servers) is.ring in
     let below : server < servers setting =
-    leaver_below c.where_events_are.ensures.pass c.where_events_are.ensures.lose setting state lost server origin run legal in
+    leaver_below c.where_events_are.ensures.pass c.where_events_are.ensures.lose setting state lost server origin run
+    legal in
     let behind : c.place_of.result < length old.servers.items =
     omega (arith, old.each_server, c.place_of.ensures, c.next-receiver.ensures.within) in
     let within : c.place_of-2.result < length old.servers.items =
@@ -82,20 +86,24 @@ returns-clause-ok c =
     let left = done setting state
     (receiver_up setting state (parts_of old) is server c.next-receiver.result c.place_of.result c.index.result.now
     c.is_some-up.result c.next-receiver.ensures.same c.next-receiver.ensures.within c.place_of.ensures
-    (get_or_read old.servers.items c.place_of.result c.index.result.now behind c.index.ensures None) c.is_some-up.ensures)
+    (get_or_read old.servers.items c.place_of.result c.index.result.now behind c.index.ensures None)
+    c.is_some-up.ensures)
     run legal
     (link_there setting state (parts_of old) is server c.place_of-3.result c.index_mut-2.result.now c.place_of-3.ensures
     below (get_or_read old.links.items c.place_of-3.result c.index_mut-2.result.now along c.index_mut-2.ensures.value
     (record { from = 0; messages = []; gap = false })))
-    (slot_there setting state (parts_of old) is server c.place_of-2.result c.index_mut.result.now c.place_of-2.ensures below
+    (slot_there setting state
+    (parts_of old) is server c.place_of-2.result c.index_mut.result.now c.place_of-2.ensures below
     (get_or_read old.servers.items c.place_of-2.result c.index_mut.result.now within c.index_mut.ensures.value None)) in
     one_each setting state (parts_of old) is after c.place_of-2.result c.leave_at.new.slot c.place_of-3.result
     c.leave_at.new.link within along
     (subst (λ n. IsSlot setting after n c.leave_at.new.slot) (sym c.place_of-2.ensures) left.1)
     (subst (λ n. IsLink setting after n c.leave_at.new.link) (sym c.place_of-3.ensures) left.0)
-    (λ number other differs stays. c.servers_beside.ensures setting state (leaving lost server origin) number other run legal
+    (λ number other differs stays. c.servers_beside.ensures setting state
+    (leaving lost server origin) number other run legal
     (other_server setting state lost server origin number (λ same. differs (same ∙ sym c.place_of-2.ensures))) stays)
-    (λ link queue differs stays. c.links_stand_still.ensures setting state (leaving lost server origin) link queue run legal
+    (λ link queue differs stays. c.links_stand_still.ensures setting state
+    (leaving lost server origin) link queue run legal
     (other_link setting state lost server origin link (λ same. differs (same ∙ sym c.place_of-3.ensures))) stays)
     (counts_after setting state lost server origin old.entered old.done old.propagates is.counts)
     (c.made_visits_stay.ensures setting state (leaving lost server origin) old.visits.items run legal
@@ -121,11 +129,13 @@ returns-clause-err c =
     below (get_or_read old.links.items c.place_of-3.result queue along c.index_mut-2.ensures.value
     (record { from = 0; messages = []; gap = false })) in
     let slot : IsSlot setting state server c.index_mut.result.now =
-    slot_there setting state (parts_of old) is server c.place_of-2.result c.index_mut.result.now c.place_of-2.ensures below
+    slot_there setting state
+    (parts_of old) is server c.place_of-2.result c.index_mut.result.now c.place_of-2.ensures below
     (get_or_read old.servers.items c.place_of-2.result c.index_mut.result.now within c.index_mut.ensures.value None) in
     one_each setting state (parts_of old) is state c.place_of-2.result c.leave_at.new.slot c.place_of-3.result
     c.leave_at.new.link within along
-    (subst (λ n. IsSlot setting state n c.leave_at.new.slot) (sym c.place_of-2.ensures) (still server setting state slot))
+    (subst (λ n. IsSlot setting state n c.leave_at.new.slot) (sym c.place_of-2.ensures)
+    (still server setting state slot))
     (subst (λ n. IsLink setting state n c.leave_at.new.link) (sym c.place_of-3.ensures)
     (subst (IsLink setting state server) (sym same) link))
     (λ number other differs stays. stays) (λ from other differs stays. stays) is.counts is.visits)

@@ -34,7 +34,8 @@ returns-clause-ok c setting state run legal is =
     let here = follows setting state run legal (subst (IsSlot setting state 0) (sym slot) (is.servers_are 0 below)) in
     one_server setting state (next setting state event) (parts_of old) 0 c.propagate_at.new.slot old.entered old.done
     (old.propagates + 1) within is here
-    (λ server other below differs stays. c.servers_beside.ensures setting state event server other run legal differs stays)
+    (λ server other below differs stays. c.servers_beside.ensures setting state event server other run legal differs
+    stays)
     (λ link queue below stays. c.links_stand_still.ensures setting state event link queue run legal tt stays)
     (record {
       entered_is = is.counts.entered_is;

@@ -36,11 +36,13 @@ gains_between-requires c =
     let behind : c.next-receiver.result ≡ next_of (servers setting) link =
     c.next-receiver.ensures.same ∙ ap (λ n. next_of n link) size in
     let inside : next_of (servers setting) link < servers setting =
-    subst (λ n. n < servers setting) behind (subst (λ n. c.next-receiver.result < n) size c.next-receiver.ensures.within) in
+    subst (λ n. n < servers setting) behind
+    (subst (λ n. c.next-receiver.result < n) size c.next-receiver.ensures.within) in
     may_pull setting state steady_so link allowed.legal c.in_turn.ensures.more
     (trace_few setting state steady_so link allowed.legal c.trace_short.ensures c.losses.ensures.counted allowed.few)
     old.ring allowed.stands.ring c.index.result.now c.index-2.result.now
-    (slot_there setting state (parts_of old) allowed.stands link c.place_of.result c.index.result.now c.place_of.ensures at.0
+    (slot_there setting state
+    (parts_of old) allowed.stands link c.place_of.result c.index.result.now c.place_of.ensures at.0
     (get_or_read old.servers.items c.place_of.result c.index.result.now
     (omega (arith, at.0, size, old.each_server, c.place_of.ensures)) c.index.ensures None))
     (slot_there setting state (parts_of old) allowed.stands (next_of (servers setting) link) c.place_of-2.result
@@ -71,10 +73,13 @@ install_at-requires c =
     let behind : c.next-receiver.result ≡ next_of (servers setting) link =
     c.next-receiver.ensures.same ∙ ap (λ n. next_of n link) size in
     let inside : next_of (servers setting) link < servers setting =
-    subst (λ n. n < servers setting) behind (subst (λ n. c.next-receiver.result < n) size c.next-receiver.ensures.within) in
-    later_so setting state steady_so link allowed.legal old.ring allowed.stands.ring c.index.result.now c.index-2.result.now
+    subst (λ n. n < servers setting) behind
+    (subst (λ n. c.next-receiver.result < n) size c.next-receiver.ensures.within) in
+    later_so setting state steady_so link allowed.legal old.ring allowed.stands.ring c.index.result.now
+    c.index-2.result.now
     replicas c.in_ok-replicas.field-0.gained
-    (slot_there setting state (parts_of old) allowed.stands link c.place_of.result c.index.result.now c.place_of.ensures at.0
+    (slot_there setting state
+    (parts_of old) allowed.stands link c.place_of.result c.index.result.now c.place_of.ensures at.0
     (get_or_read old.servers.items c.place_of.result c.index.result.now
     (omega (arith, at.0, size, old.each_server, c.place_of.ensures)) c.index.ensures None))
     (slot_there setting state (parts_of old) allowed.stands (next_of (servers setting) link) c.place_of-2.result
@@ -110,11 +115,13 @@ returns-clause-ok c setting state run legal is =
     let after = next setting state pulling in
     let receiver = next_of (servers setting) link in
     let at = c.where_events_are.ensures.pull setting state link run legal in
-    let firm_so = firm c.every_state_tied.ensures c.needs_of_packets.ensures c.withheld_packets.ensures setting state run in
+    let firm_so = firm c.every_state_tied.ensures c.needs_of_packets.ensures c.withheld_packets.ensures setting state
+    run in
     let size : old.ring.servers ≡ servers setting = ap (λ (ring : RingShape). ring.servers) is.ring in
     let behind : c.next-receiver.result ≡ receiver = c.next-receiver.ensures.same ∙ ap (λ n. next_of n link) size in
     let inside : receiver < servers setting =
-    subst (λ n. n < servers setting) behind (subst (λ n. c.next-receiver.result < n) size c.next-receiver.ensures.within) in
+    subst (λ n. n < servers setting) behind
+    (subst (λ n. c.next-receiver.result < n) size c.next-receiver.ensures.within) in
     let within : c.place_of-3.result < length old.servers.items =
     omega (arith, old.each_server, c.place_of-3.ensures, c.next-receiver.ensures.within) in
     let placed : c.place_of-3.result ≡ receiver = c.place_of-3.ensures ∙ behind in
@@ -125,12 +132,15 @@ returns-clause-ok c setting state run legal is =
     get_or_read old.servers.items c.place_of-2.result c.index-2.result.now
     (omega (arith, old.each_server, c.place_of-2.ensures, c.next-receiver.ensures.within)) c.index-2.ensures None
     ∙ (ap (server_in old.servers.items) (c.place_of-2.ensures ∙ sym c.place_of-3.ensures)
-    ∙ sym (get_or_read old.servers.items c.place_of-3.result c.index_mut.result.now within c.index_mut.ensures.value None)) in
+    ∙ sym (get_or_read old.servers.items c.place_of-3.result c.index_mut.result.now within c.index_mut.ensures.value
+    None)) in
     let follows = pull_follows setting state firm_so c.ends.ensures link legal
-    (λ tail old new sender news below its shared is_old is_sender are done. c.what_install_does.ensures setting state link tail
+    (λ tail old new sender news below its shared is_old is_sender are done. c.what_install_does.ensures setting state
+    link tail
     old new sender news run legal below its shared is_old is_sender are done)
     (λ old new stands fields. c.what_stays.ensures.same setting after receiver old new stands fields)
-    (λ old new at at_after only ready. c.slots_stay_ready.ensures setting state (event.Pull link) receiver old new run legal
+    (λ old new at at_after only ready. c.slots_stay_ready.ensures setting state
+    (event.Pull link) receiver old new run legal
     at at_after only ready)
     old.ring is.ring c.index.result.now c.index_mut.result.now c.install_at.new.slot c.in_ok-replicas.field-0.replicas
     c.in_ok-replicas.field-0.gained
@@ -145,7 +155,8 @@ returns-clause-ok c setting state run legal is =
       servers_are = server_set (IsSlot setting after) (servers setting) old.servers.items c.place_of-3.result
           c.install_at.new.slot within
           (subst (λ n. IsSlot setting after n c.install_at.new.slot) (sym placed) follows.0)
-          (λ server below differs. c.servers_beside.ensures setting state pulling server (server_in old.servers.items server)
+          (λ server below differs. c.servers_beside.ensures setting state pulling server
+          (server_in old.servers.items server)
           run legal (λ e. differs (e ∙ sym placed)) (is.servers_are server below));
       links_are = λ number below.
           let queue = link_in old.links.items number in

@@ -1,4 +1,5 @@
-use Rattle.std.proofs.Common.{◌≡◌, ◌∙◌, ◌<◌, ℕ, Option, None, length, slice_set, sym, ap, subst, arith, get_or-set_same, get_or-set_other}
+use Rattle.std.proofs.Common.{◌≡◌, ◌∙◌, ◌<◌, ℕ, Option, None, length, slice_set, sym, ap, subst, arith, get_or-set_same}
+use Rattle.std.proofs.Common.{get_or-set_other}
 use Rattle.ftc_protocol.specs.Setting.{servers}
 use Rattle.ftc_ring.specs.Ring.{RingShape}
 use Rattle.ftc_server.specs.declared.server.Server.{Server}
@@ -28,8 +29,10 @@ returns-clause-quits c =
     let there : server_in (slice_set old.servers.items c.place_of.result new) server ≡ new =
     ap (server_in (slice_set old.servers.items c.place_of.result new)) (sym c.place_of.ensures)
     ∙ get_or-set_same old.servers.items c.place_of.result new None within in
-    subst (λ (o : Option Server). SlotQuits o (server_in (slice_set old.servers.items c.place_of.result new) server) c.args.worker) slot
-    (subst (λ (o : Option Server). SlotQuits c.index_mut.result.now o c.args.worker) (sym there) c.quit_at.ensures.quits)
+    subst (λ (o : Option Server). SlotQuits o
+    (server_in (slice_set old.servers.items c.place_of.result new) server) c.args.worker) slot
+    (subst (λ (o : Option Server). SlotQuits c.index_mut.result.now o c.args.worker)
+    (sym there) c.quit_at.ensures.quits)
 
 pub returns-clause-others : goal.returns-clause-others
 returns-clause-others c other differs =

@@ -17,9 +17,11 @@ use Rattle.ftc_network.specs.Recovering.{is_up, cut_off}
 use Rattle.ftc_network.specs.Reviving.{got_of, all_fetched}
 use Rattle.ftc_network.specs.Stand.{IsSlot}
 use Rattle.ftc_network.proofs.GotReplicas.{sources_are, anew_in, are_got}
-use Rattle.ftc_network.proofs.NearServers.{alone_by, some_of, up_in, within_ring, within_setting, near_live, previous_is, following_is, up_at}
+use Rattle.ftc_network.proofs.NearServers.{alone_by, some_of, up_in, within_ring, within_setting, near_live}
+use Rattle.ftc_network.proofs.NearServers.{previous_is, following_is, up_at}
 use Rattle.ftc_network.proofs.ReadySlots.{idle_ready}
-use Rattle.ftc_network.proofs.Replaced.{slot_ready, each_replaced, fewer_withheld, up_again, slot_dropped, link_cut, other_heads}
+use Rattle.ftc_network.proofs.Replaced.{slot_ready, each_replaced, fewer_withheld, up_again, slot_dropped, link_cut}
+use Rattle.ftc_network.proofs.Replaced.{other_heads}
 use Rattle.ftc_network.proofs.ScriptLines.{lines_left}
 use Rattle.ftc_network.proofs.Untold.{is_below}
 use Rattle.ftc_server.specs.declared.server.Server.{Server}
@@ -164,8 +166,10 @@ returns-in_default-clause-anew c =
     let down = orderly.recoveries given.state.entered server given.line in
     absurd (c.the_live.ensures.admissible_not_alone (shape given.setting) given.state.up server down.0 down.1
     orderly.admissible
-    (alone_by (servers given.setting) up given.state.up server (up_in given.setting given.state (parts_of old) given.stands)
-    (subst (λ (ring : RingShape). IsAlone ring.servers up server) given.stands.ring (c.in_default.ensures.none refl))))) in
+    (alone_by (servers given.setting) up given.state.up server
+    (up_in given.setting given.state (parts_of old) given.stands)
+    (subst (λ (ring : RingShape). IsAlone ring.servers up server) given.stands.ring
+    (c.in_default.ensures.none refl))))) in
     absurd cc
 
 pub returns-clause-anew : goal.returns-clause-anew

@@ -27,7 +27,8 @@ returns-clause-none c none setting state run is =
     (subst (IsSlot setting state number) (sym slot) (is.servers_are number (omega (arith, last)))) in (
       done.0,
       one_server setting state state (parts_of old) number c.release_at.new.slot old.entered old.done old.propagates
-          within is done.1 (λ server other below differs stays. stays) (λ link queue below stays. stays) is.counts is.visits,
+          within is done.1 (λ server other below differs stays. stays)
+          (λ link queue below stays. stays) is.counts is.visits,
     )
 
 pub returns-clause-some : goal.returns-clause-some
@@ -47,9 +48,11 @@ returns-clause-some c =
       released.0,
       one_server setting state (next setting state event) (parts_of old) number c.release_at.new.slot old.entered
           old.done old.propagates within is released.1
-          (λ server other below differs stays. c.servers_beside.ensures setting state event server other run released.0.legal
+          (λ server other below differs stays. c.servers_beside.ensures setting state event server other run
+          released.0.legal
           (λ same. differs (omega (arith, same, last))) stays)
-          (λ link queue below stays. c.links_stand_still.ensures setting state event link queue run released.0.legal tt stays)
+          (λ link queue below stays. c.links_stand_still.ensures setting state event link queue run released.0.legal tt
+          stays)
           (record {
             entered_is = is.counts.entered_is;
             lines = is.counts.lines;

@@ -55,13 +55,15 @@ returns-clause-ok c =
     let event : Event = event.Take link c.args.origin in
     let old = c.args.self.now in
     on_ok c.take_at.result _ _ (λ follows setting state run legal is.
-    let below : link < servers setting = (c.where_events_are.ensures.take setting state link c.args.origin run legal).0 in
+    let below : link < servers setting =
+    (c.where_events_are.ensures.take setting state link c.args.origin run legal).0 in
     let size : old.ring.servers ≡ servers setting = ap (λ (ring : RingShape). ring.servers) is.ring in
     let receiver : c.next-receiver.result ≡ next_of (servers setting) link =
     c.next-receiver.ensures.same ∙ ap (λ (n : ℕ). next_of n link) size in
     let under : c.next-receiver.result < servers setting =
     subst (λ (n : ℕ). c.next-receiver.result < n) size c.next-receiver.ensures.within in
-    let inside : c.place_of.result < length old.links.items = omega (arith, below, size, old.each_link, c.place_of.ensures) in
+    let inside : c.place_of.result < length old.links.items =
+    omega (arith, below, size, old.each_link, c.place_of.ensures) in
     let within : c.place_of-2.result < length old.servers.items =
     omega (arith, under, size, old.each_server, c.place_of-2.ensures) in
     let queue = read_link old.links.items c.place_of.result link c.index_mut.result.now c.place_of.ensures inside
@@ -110,7 +112,8 @@ returns-clause-err c =
     c.take_at.new.link old.entered old.done old.propagates within inside is
     (subst (λ (n : ℕ). IsSlot setting state n c.take_at.new.slot) (sym c.place_of-2.ensures)
     (still c.next-receiver.result setting state (subst (IsSlot setting state c.next-receiver.result) (sym slot)
-    (is.servers_are c.next-receiver.result (subst (λ (n : ℕ). c.next-receiver.result < n) size c.next-receiver.ensures.within)))))
+    (is.servers_are c.next-receiver.result
+    (subst (λ (n : ℕ). c.next-receiver.result < n) size c.next-receiver.ensures.within)))))
     (subst (λ (n : ℕ). IsLink setting state n c.take_at.new.link) (sym c.place_of.ensures)
     (subst (IsLink setting state link) (sym (same ∙ queue))
     (is.links_are link (subst (λ (n : ℕ). link < n) size below))))

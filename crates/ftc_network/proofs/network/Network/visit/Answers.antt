@@ -1,4 +1,5 @@
-use Rattle.std.proofs.Common.{◌≡◌, ◌∙◌, ◌<◌, ◌++◌, [], ◌∷◌, ℕ, List, None, length, slice_set, sym, ap, subst, arith, get_or-set_same, get_or-set_other, Option}
+use Rattle.std.proofs.Common.{◌≡◌, ◌∙◌, ◌<◌, ◌++◌, [], ◌∷◌, ℕ, List, None, length, slice_set, sym, ap, subst, arith}
+use Rattle.std.proofs.Common.{get_or-set_same, get_or-set_other, Option}
 use Rattle.std.proofs.Math.Logic.{∥∥₁_map}
 use Rattle.ftc_journal.specs.declared.event.Event.{Event}
 use Rattle.ftc_journal.specs.declared.event.Event.TheVariants as event
@@ -23,7 +24,8 @@ index_mut-requires c =
     let old = c.args.self.now in
     let below = below_servers (event.Visit c.args.server c.args.packet c.args.worker) old c.args.server
     (λ setting state run legal.
-    (c.where_events_are.ensures.visit setting state c.args.server c.args.packet c.args.worker run legal).0) c.requires in
+    (c.where_events_are.ensures.visit setting state c.args.server c.args.packet c.args.worker run legal).0) c.requires
+    in
     omega (arith, below, old.each_server, c.place_of.ensures)
 
 pub visit_at-requires : goal.visit_at-requires
@@ -32,7 +34,8 @@ visit_at-requires c =
     let here : Event = event.Visit c.args.server c.args.packet c.args.worker in
     let below = below_servers here old c.args.server
     (λ setting state run legal.
-    (c.where_events_are.ensures.visit setting state c.args.server c.args.packet c.args.worker run legal).0) c.requires in
+    (c.where_events_are.ensures.visit setting state c.args.server c.args.packet c.args.worker run legal).0) c.requires
+    in
     slot_allowed here old c.args.server c.index_mut.result.now below
     (read_server old.servers.items c.place_of.result c.args.server c.index_mut.result.now c.place_of.ensures
     (omega (arith, below, old.each_server, c.place_of.ensures)) c.index_mut.ensures.value) c.requires
@@ -43,14 +46,16 @@ returns-in_err-visit-clause-err c =
     let place = c.place_of.result in
     let below = below_servers (event.Visit c.args.server c.args.packet c.args.worker) old c.args.server
     (λ setting state run legal.
-    (c.where_events_are.ensures.visit setting state c.args.server c.args.packet c.args.worker run legal).0) c.requires in
+    (c.where_events_are.ensures.visit setting state c.args.server c.args.packet c.args.worker run legal).0) c.requires
+    in
     let within : place < length old.servers.items = omega (arith, below, old.each_server, c.place_of.ensures) in
     let slot = read_server old.servers.items place c.args.server c.index_mut.result.now c.place_of.ensures within
     c.index_mut.ensures.value in
     as_err c.from_residual-in_err-visit.result _ (λ setting state is.
     let inside : c.args.server < servers setting =
     subst (λ (n : ℕ). c.args.server < n) (ap (λ (ring : RingShape). ring.servers) is.ring) below in
-    let stands = still_server setting state (parts_of old) place c.args.server c.visit_at.new.slot c.place_of.ensures within is
+    let stands = still_server setting state
+    (parts_of old) place c.args.server c.visit_at.new.slot c.place_of.ensures within is
     (c.in_err-visit.ensures.err setting state
     (subst (IsSlot setting state c.args.server) (sym slot) (is.servers_are c.args.server inside))) in
     record {
@@ -82,7 +87,8 @@ returns-clause-ok c setting state run legal is =
       partitions = is.partitions;
       servers_are = server_set (IsSlot setting (next setting state here)) (servers setting) old.servers.items place
           c.visit_at.new.slot within
-          (subst (λ (n : ℕ). IsSlot setting (next setting state here) n c.visit_at.new.slot) (sym c.place_of.ensures) both.0)
+          (subst (λ (n : ℕ). IsSlot setting (next setting state here) n c.visit_at.new.slot)
+          (sym c.place_of.ensures) both.0)
           (λ server inside differs.
           c.servers_beside.ensures setting state here server (server_in old.servers.items server) run legal
           (λ same. differs (same ∙ sym c.place_of.ensures)) (is.servers_are server inside));
@@ -103,7 +109,8 @@ returns-clause-idle c =
     let place = c.place_of.result in
     let below = below_servers (event.Visit c.args.server c.args.packet c.args.worker) old c.args.server
     (λ setting state run legal.
-    (c.where_events_are.ensures.visit setting state c.args.server c.args.packet c.args.worker run legal).0) c.requires in
+    (c.where_events_are.ensures.visit setting state c.args.server c.args.packet c.args.worker run legal).0) c.requires
+    in
     let within : place < length old.servers.items = omega (arith, below, old.each_server, c.place_of.ensures) in
     let new = c.visit_at.new.slot in
     let there : server_in (slice_set old.servers.items place new) c.args.server ≡ new =
@@ -117,7 +124,8 @@ returns-clause-fewer c worker before =
     let place = c.place_of.result in
     let below = below_servers (event.Visit c.args.server c.args.packet c.args.worker) old c.args.server
     (λ setting state run legal.
-    (c.where_events_are.ensures.visit setting state c.args.server c.args.packet c.args.worker run legal).0) c.requires in
+    (c.where_events_are.ensures.visit setting state c.args.server c.args.packet c.args.worker run legal).0) c.requires
+    in
     let within : place < length old.servers.items = omega (arith, below, old.each_server, c.place_of.ensures) in
     let new = c.visit_at.new.slot in
     let there : server_in (slice_set old.servers.items place new) c.args.server ≡ new =
@@ -137,7 +145,8 @@ returns-in_err-visit-clause-fewer c worker before =
     let place = c.place_of.result in
     let below = below_servers (event.Visit c.args.server c.args.packet c.args.worker) old c.args.server
     (λ setting state run legal.
-    (c.where_events_are.ensures.visit setting state c.args.server c.args.packet c.args.worker run legal).0) c.requires in
+    (c.where_events_are.ensures.visit setting state c.args.server c.args.packet c.args.worker run legal).0) c.requires
+    in
     let within : place < length old.servers.items = omega (arith, below, old.each_server, c.place_of.ensures) in
     let new = c.visit_at.new.slot in
     let there : server_in (slice_set old.servers.items place new) c.args.server ≡ new =

@@ -6,5 +6,6 @@ use Rattle.ftc_refinement.proofs.conditions.applying.what_a_commit_wants.Goals a
 pub returns : goal.returns
 returns c setting state server old run is fewer =
     ap may_rise is.stands.replicas.own.vector
-    ∙ set_may_rise c.rising.ensures c.numbers_order.ensures.few c.trace_short.ensures c.losses.ensures.counted setting state
+    ∙ set_may_rise c.rising.ensures c.numbers_order.ensures.few c.trace_short.ensures c.losses.ensures.counted setting
+    state
     run fewer server (state.lists server server)

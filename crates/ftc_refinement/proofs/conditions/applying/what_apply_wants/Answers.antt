@@ -42,17 +42,21 @@ returns-clause-ready c setting state server origin group packet old run legal is
     held_there.3 log.group log.origin may.0 in
     let replica = later_replica setting state server log.group old.known (replica_at others log.group)
     (is.stands.replicas.others log.group below) member (λ own.
-    let has : state.lists server log.group log.origin ≡ true = subst (λ s. state.lists s log.group log.origin ≡ true) own
+    let has : state.lists server log.group log.origin ≡ true =
+    subst (λ s. state.lists s log.group log.origin ≡ true) own
     (order.heads log.group log.origin (subst (λ s. state.up s ≡ true) (sym own) up) may.1) in
     absurd cc) in
-    let ready = (c.what_vectors_say.ensures.ready setting state server log (pruned_by (vector_of old.known log.group) replica.0)
+    let ready = (c.what_vectors_say.ensures.ready setting state server log
+    (pruned_by (vector_of old.known log.group) replica.0)
     run of_log.0 replica.2 may.1).1 (may.2, record { each = may.3 }) in
-    may_apply_by others (found origin old.held.items) there_as.held group packet log replica.0 there_as.there named.1 replica.1
+    may_apply_by others (found origin old.held.items) there_as.held group packet log replica.0 there_as.there named.1
+    replica.1
     ((c.order_tests.ensures.ready replica.0.vector log.before log.changed).1 ready)
 
 pub returns-clause-rise : goal.returns-clause-rise
 returns-clause-rise c setting state server origin group packet old run legal is fewer =
     let order = c.order_of_a_state.ensures setting state run in
     let below = (order.rides origin group packet legal.0.0 legal.0.1.0 legal.0.2).0 in
-    slot_may_rise c.rising.ensures c.numbers_order.ensures.few c.trace_short.ensures c.losses.ensures.counted setting state run
+    slot_may_rise c.rising.ensures c.numbers_order.ensures.few c.trace_short.ensures c.losses.ensures.counted setting
+    state run
     fewer server group old.known (replica_at old.others.items group) (is.stands.replicas.others group below)

@@ -13,7 +13,8 @@ use Rattle.ftc_refinement.proofs.conditions.leaving.what_pass_wants.Goals as goa
 
 pub returns-clause-work : goal.returns-clause-work
 returns-clause-work c setting state lost server origin old run legal is =
-    (c.what_work_says.ensures.send setting state server origin old run is).1 (may_leave setting state lost server origin legal)
+    (c.what_work_says.ensures.send setting state server origin old run is).1
+    (may_leave setting state lost server origin legal)
 
 pub returns-clause-apart : goal.returns-clause-apart
 returns-clause-apart c setting state lost server origin old run legal is =
@@ -36,7 +37,8 @@ returns-clause-formed c setting state lost server origin old message run legal i
     let held = there_as.held in
     let same = sent_is old origin held message there_as.there sends in
     subst IsWellFormed same
-    (sent_formed setting state run (c.every_state_tied.ensures setting state run) (c.needs_of_packets.ensures setting state run)
+    (sent_formed setting state run (c.every_state_tied.ensures setting state run)
+    (c.needs_of_packets.ensures setting state run)
     server origin old is may.0 may.1.there held there_as.stands.as_sent
     (subst (λ (m : SentMessage). length m.logs < 4294967296) (sym same) few)
     (subst (λ (m : SentMessage). IfSome m.packet (λ packet. length packet ≤ MOST_CAPTURED)) (sym same) short))

@@ -17,7 +17,8 @@ pub returns-clause-take : goal.returns-clause-take
 returns-clause-take c setting state link origin run legal =
     let order = c.order_of_a_state.ensures setting state run in (
       order.links origin link legal.0.0 legal.0.1 legal.0.2,
-      subst (λ (p : Where). state.up (aim (servers setting) p) ≡ true) legal.0.2 (order.awake origin legal.0.0 legal.0.1),
+      subst (λ (p : Where). state.up (aim (servers setting) p)
+          ≡ true) legal.0.2 (order.awake origin legal.0.0 legal.0.1),
     )
 
 pub returns-clause-apply : goal.returns-clause-apply
@@ -49,7 +50,8 @@ returns-clause-lose c setting state server origin run legal =
 
 pub returns-clause-carry : goal.returns-clause-carry
 returns-clause-carry c setting state origin run legal =
-    holder_up setting state (c.order_of_a_state.ensures setting state run) 0 origin legal.0.2 true legal.0.0 legal.0.1 legal.0.3
+    holder_up setting state (c.order_of_a_state.ensures setting state run) 0 origin legal.0.2 true legal.0.0 legal.0.1
+    legal.0.3
 
 pub returns-clause-propagate : goal.returns-clause-propagate
 returns-clause-propagate c setting state origin run legal =

@@ -9,7 +9,8 @@ use Rattle.ftc_server.specs.Holding.{is_held}
 use Rattle.ftc_standing.specs.Arrivals.{AreArrived}
 use Rattle.ftc_standing.specs.View.{queued_on}
 use Rattle.ftc_standing.specs.Stand.{IsSentAs, since_of, origin_of}
-use Rattle.ftc_refinement.proofs.TakenMessages.{not_held, begun_open, open_to, of_logs, of_needs, some_oldest, oldest_is}
+use Rattle.ftc_refinement.proofs.TakenMessages.{not_held, begun_open, open_to, of_logs, of_needs, some_oldest}
+use Rattle.ftc_refinement.proofs.TakenMessages.{oldest_is}
 use Rattle.ftc_refinement.proofs.conditions.taking.what_take_wants.Goals as goal
 
 not_new : (packet entered count more : ℕ) → packet ≡ entered → packet < count →
@@ -44,8 +45,13 @@ returns-clause-propagated c setting state origin old sent run legal begun is =
 
 pub returns-clause-oldest : goal.returns-clause-oldest
 returns-clause-oldest c setting state link origin queue run legal linked =
-    let some = some_oldest setting state link origin legal.0.0 queue.messages legal.0.1 legal.0.2 linked.queued in
-    (some.0, some.1, some.2, c.a_message_is_taken.ensures.origin setting state link origin queue some.0 some.1 run legal linked some.2)
+    let some = some_oldest setting state link origin legal.0.0 queue.messages legal.0.1 legal.0.2 linked.queued in (
+      some.0,
+      some.1,
+      some.2,
+      c.a_message_is_taken.ensures.origin setting state link origin queue some.0 some.1 run legal
+          linked some.2,
+    )
 
 not_both : (server link : ℕ) (visited by_ring : Bool) (message other : Message) → message ≡ other →
     message.place ≡ Held server visited by_ring → other.place ≡ Queued link → ⊥
@@ -68,7 +74,8 @@ returns-clause-received c setting state link origin queue sent rest old run lega
     let stands = oldest_is setting state link origin message sent rest there place named
     (subst (AreArrived since_of origin_of (IsSentAs setting state) (queued_on state link)) first linked.queued) in (
       subst (λ number. is_held number old.held.items ≡ false) (sym named)
-          (not_held setting state receiver origin old.held.items is.stands.held (λ other visited by_ring other_there held.
+          (not_held setting state receiver origin old.held.items is.stands.held
+          (λ other visited by_ring other_there held.
           let same : other ≡ message = cc in
           not_both receiver link visited by_ring other message same held place)),
       open_to old.id sent (link + 1 == servers setting)

@@ -8,7 +8,8 @@ use Rattle.ftc_ring.proofs.ring.Ring.first_along.Given as goal
 abbrev pub invariant-loop-left : goal.invariant-loop-left
 invariant-loop-left l = record {
   within : l.server < l.self.servers;
-  same : find (is_live l.down) (along l.self.servers l.left l.server) ≡ find (is_live l.down) (along l.self.servers l.fn.count l.fn.start);
+  same : find (is_live l.down) (along l.self.servers l.left l.server)
+      ≡ find (is_live l.down) (along l.self.servers l.fn.count l.fn.start);
 }
 
 abbrev pub decreases-loop-left : goal.decreases-loop-left

@@ -9,5 +9,6 @@ use Rattle.ftc_ring.proofs.ring.Ring.gone.Given as goal
 abbrev pub invariant-loop-number : goal.invariant-loop-number
 invariant-loop-number l = record {
   shape : IsRing l.self;
-  same : find (λ group. is_none (first_live_of l.self (is_live l.down) group)) (range_with_len l.number (l.self.servers - l.number)) ≡ gone_of l.self (is_live l.down);
+  same : find (λ group. is_none (first_live_of l.self (is_live l.down) group))
+      (range_with_len l.number (l.self.servers - l.number)) ≡ gone_of l.self (is_live l.down);
 }

@@ -14,5 +14,7 @@ returns-else-apart-clause-member c =
     let before : IsLiveBefore ring.servers down k r = rw c.in-Some-Some.is-0 at c.live_before.ensures.nearest in
     let after : IsLiveAfter ring.servers down k s = rw c.in-Some-Some.is-1 at c.live_after.ensures.nearest in
     let less : apart ring.servers c.args.group k < apart ring.servers r k = search rules in
-    after_is_member ring down k r s c.args.group c.requires.server c.requires.down before after c.requires.admissible c.requires.group
-    (from_after ring.servers down k r s c.args.group c.requires.server c.requires.down before after c.requires.group less)
+    after_is_member ring down k r s c.args.group c.requires.server c.requires.down before after c.requires.admissible
+    c.requires.group
+    (from_after ring.servers down k r s c.args.group c.requires.server c.requires.down before after c.requires.group
+    less)

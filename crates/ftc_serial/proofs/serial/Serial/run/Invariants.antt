@@ -7,4 +7,5 @@ use Rattle.ftc_serial.proofs.serial.Serial.run.Given as goal
 abbrev pub invariant-loop-place : goal.invariant-loop-place
 invariant-loop-place l =
     (rules_of l.serial ≡ l.spec.rules)
-    × (serial_run l.spec.rules (serial_opening (bytes_of_packets l.packets)) (take l.place l.trace) ≡ Some (serial_state l.serial))
+    × (serial_run l.spec.rules (serial_opening (bytes_of_packets l.packets)) (take l.place l.trace)
+    ≡ Some (serial_state l.serial))

@@ -14,7 +14,8 @@ pub apply-requires-clause-rise : goal.apply-requires-clause-rise
 apply-requires-clause-rise c =
     let server = c.args.self.now in
     let log = c.in-Some-find.log.now in
-    let is = passes_found (is_log_of c.args.packet c.args.group) c.in-Some.held.now.message.logs log (sym c.in-Some-find.ensures) in
+    let is = passes_found (is_log_of c.args.packet c.args.group) c.in-Some.held.now.message.logs log
+    (sym c.in-Some-find.ensures) in
     let same = eqb-true log.group c.args.group (both (log.origin == c.args.packet) (log.group == c.args.group) is).1 in
     ap (λ (group : ℕ). may_rise_in (replica_at server.others.items group)) same ∙ c.requires.rise
 
@@ -22,7 +23,8 @@ pub returns-clause-ok : goal.returns-clause-ok
 returns-clause-ok c =
     let server = c.args.self.now in
     let log = c.in-Some-find.log.now in
-    let is = passes_found (is_log_of c.args.packet c.args.group) c.in-Some.held.now.message.logs log (sym c.in-Some-find.ensures) in
+    let is = passes_found (is_log_of c.args.packet c.args.group) c.in-Some.held.now.message.logs log
+    (sym c.in-Some-find.ensures) in
     let same = eqb-true log.group c.args.group (both (log.origin == c.args.packet) (log.group == c.args.group) is).1 in
     let named : log_in server c.args.origin c.args.group c.args.packet ≡ Some log =
     sym (ap (log_of c.args.group c.args.packet) c.in-Some.ensures) ∙ sym c.in-Some-find.ensures in

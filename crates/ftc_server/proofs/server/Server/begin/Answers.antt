@@ -16,4 +16,5 @@ invariant_of-self-clause-slots c =
     subst (λ (head : HeadState). ∥ AreSlots server.rule head server.held.items ∥₁) (sym c.begin.ensures.begun)
     (∥∥₁_map server.slots (λ slots.
     slots_begun server.rule server.head server.held.items c.args.worker c.args.packet work.held waiting.packet
-    c.begin.ensures.slot (not_run server.head c.args.packet c.requires.once) work.there waiting.unvisited waiting.with_packet slots))
+    c.begin.ensures.slot (not_run server.head c.args.packet c.requires.once) work.there waiting.unvisited
+    waiting.with_packet slots))

@@ -41,7 +41,8 @@ has_committed : (c : goal.After-visit) → RunsUnwounded c.args.self.now.head c.
 has_committed c =
     committed c.args.self.now.head c.commit_logged.new.self c.args.worker c.in-Ok.ensures.running
     c.args.finish.now.writes.items c.log_left-log.result c.commit_logged.result c.in-Ok.ensures.runs
-    c.requires.unwounded c.log_left-log.ensures (sym c.is_err-2.ensures.value ∙ c.if-is_err-2.false) c.commit_logged.ensures.ok
+    c.requires.unwounded c.log_left-log.ensures
+    (sym c.is_err-2.ensures.value ∙ c.if-is_err-2.false) c.commit_logged.ensures.ok
 
 pub invariant_of-self-2-clause-head_group : goal.invariant_of-self-2-clause-head_group
 invariant_of-self-2-clause-head_group c =
@@ -77,7 +78,8 @@ returns c =
     let prepared = c.in-Ok.ensures in
     let running = prepared.running in
     let made = committed server.head c.commit_logged.new.self c.args.worker running writes c.log_left-log.result
-    c.commit_logged.result prepared.runs c.requires.unwounded c.log_left-log.ensures (sym c.is_err-2.ensures.value ∙ c.if-is_err-2.false) c.commit_logged.ensures.ok in
+    c.commit_logged.result prepared.runs c.requires.unwounded c.log_left-log.ensures
+    (sym c.is_err-2.ensures.value ∙ c.if-is_err-2.false) c.commit_logged.ensures.ok in
     let same : c.in-Some.packet ≡ running.packet =
     some_same c.in-Some.packet running.packet (c.in-Some.ensures ∙ ap packet_of prepared.runs) in (
       running,

@@ -5,4 +5,5 @@ use Rattle.ftc_server.proofs.server.Server.quit.Goals as goal
 pub invariant_of-self-clause-slots : goal.invariant_of-self-clause-slots
 invariant_of-self-clause-slots c =
     let server = c.args.self.now in
-    ∥∥₁_map server.slots (λ slots. slots_quit server.rule server.head c.quit.new.self server.held.items c.args.worker c.quit.ensures slots)
+    ∥∥₁_map server.slots (λ slots. slots_quit server.rule server.head c.quit.new.self server.held.items c.args.worker
+    c.quit.ensures slots)

@@ -7,7 +7,8 @@ use Rattle.ftc_server.proofs.server.Server.read_asked.Goals as goal
 pub read-requires : goal.read-requires
 read-requires c running runs =
     let server = c.args.self.now in
-    few_answers server.rule server.head server.held.items c.args.worker running c.args.key.now c.args.change server.slots
+    few_answers server.rule server.head server.held.items c.args.worker running c.args.key.now c.args.change
+    server.slots
     runs (asked_of server c.args.worker running (Read c.args.key.now c.args.change) runs c.requires)
 
 pub invariant_of-self-clause-slots : goal.invariant_of-self-clause-slots

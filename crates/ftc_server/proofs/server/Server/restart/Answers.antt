@@ -11,11 +11,13 @@ pub commit-requires-clause-numbers : goal.commit-requires-clause-numbers
 commit-requires-clause-numbers c partition within is =
     let partitions = c.args.self.now.head.partitions in
     true_false (is_changed partitions c.new.result.items partition) is
-    (ap (λ (writes : List Write). is_changed partitions writes partition) c.new.ensures ∙ changed_none partitions partition)
+    (ap (λ (writes : List Write). is_changed partitions writes partition) c.new.ensures ∙ changed_none partitions
+    partition)
 
 pub invariant_of-self-clause-slots : goal.invariant_of-self-clause-slots
 invariant_of-self-clause-slots c =
     let server = c.args.self.now in
     ∥∥₁_map server.slots (λ slots.
-    slots_restarted server.rule server.head c.commit.new.self server.held.items c.args.worker c.new.result.items c.commit.result
+    slots_restarted server.rule server.head c.commit.new.self server.held.items c.args.worker c.new.result.items
+    c.commit.result
     c.requires c.commit.ensures slots)

@@ -12,7 +12,8 @@ pub invariant_of-self-clause-open : goal.invariant_of-self-clause-open
 invariant_of-self-clause-open c =
     let server = c.args.self.now in
     subst (λ (items : List HeldMessage). list_all (is_open server.id) items ≡ true) (sym c.hold.ensures.items)
-    (all_behind (is_open server.id) server.held.items (arrived c.args.message c.args.by_ring) server.«open» c.requires.«open»)
+    (all_behind (is_open server.id) server.held.items
+    (arrived c.args.message c.args.by_ring) server.«open» c.requires.«open»)
 
 pub invariant_of-self-clause-slots : goal.invariant_of-self-clause-slots
 invariant_of-self-clause-slots c =
@@ -21,4 +22,5 @@ invariant_of-self-clause-slots c =
     slots_found server.rule server.head server.held.items c.hold.new.self.items
     (λ worker running held runs there.
     ap (found running.packet) c.hold.ensures.items
-    ∙ found_behind (is_of running.packet) server.held.items (arrived c.args.message c.args.by_ring ∷ []) held there) slots)
+    ∙ found_behind (is_of running.packet) server.held.items (arrived c.args.message c.args.by_ring
+    ∷ []) held there) slots)

@@ -9,4 +9,5 @@ returns-clause-allowed c group packet is =
     let server = c.args.self.now in
     let held = c.in_ok-held.held.now in
     work_allowed server c.args.origin group packet held (sym c.in_ok-held.ensures) c.len.ensures.bounds.rising
-    (ap (λ (others : List (Option Held)). work_for others held) (sym c.as_slice.ensures.value) ∙ sym c.work_for.ensures ∙ is)
+    (ap (λ (others : List (Option Held)). work_for others held)
+    (sym c.as_slice.ensures.value) ∙ sym c.work_for.ensures ∙ is)

@@ -11,5 +11,12 @@ invariant_of-self c =
     let age_is : c.if-some_run.age ≡ next_age (the_view c.self.inside) = elim c.if-some_run.branch [
       | then-some_run w ↦ w.age-is ∙ sym (cond-true _ _ _ (sym c.some_run.ensures ∙ w.if-some_run.true))
       | else-some_run w ↦ w.age-is ∙ sym (cond-false _ _ _ (sym c.some_run.ensures ∙ w.if-some_run.false))
-    ] in
-    (c.self.invariant.0, c.self.invariant.1, rw (c.begin.ensures.begun, age_is) (begin_keeps (the_view c.self.inside) c.args.worker c.args.packet c.begin.ensures.within c.self.invariant.2 (rw (← c.self.view_is) at c.requires.idle)))
+    ] in (
+      c.self.invariant.0,
+      c.self.invariant.1,
+      rw (
+        c.begin.ensures.begun,
+        age_is,
+      ) (begin_keeps (the_view c.self.inside) c.args.worker c.args.packet c.begin.ensures.within
+          c.self.invariant.2 (rw (← c.self.view_is) at c.requires.idle)),
+    )

@@ -8,7 +8,11 @@ invariant_of-self c = (
   c.self.invariant.0,
   c.free_all.ensures.partitions ∙ c.self.invariant.1,
   quit_keeps (the_view c.self.inside) _ c.args.worker c.free.ensures.within c.self.invariant.2 (record {
-    locks = record { nothing = c.free_all.ensures.freed; others = c.free_all.ensures.others; partitions = c.free_all.ensures.partitions };
+    locks = record {
+      nothing = c.free_all.ensures.freed;
+      others = c.free_all.ensures.others;
+      partitions = c.free_all.ensures.partitions;
+    };
     slots = c.free.ensures.idle;
     rest = refl;
   }),
@@ -16,7 +20,11 @@ invariant_of-self c = (
 
 pub returns : goal.returns
 returns c = rw (← c.self.view_is) (record {
-  locks = record { nothing = c.free_all.ensures.freed; others = c.free_all.ensures.others; partitions = c.free_all.ensures.partitions };
+  locks = record {
+    nothing = c.free_all.ensures.freed;
+    others = c.free_all.ensures.others;
+    partitions = c.free_all.ensures.partitions;
+  };
   slots = c.free.ensures.idle;
   rest = refl;
 })

@@ -14,30 +14,48 @@ use Rattle.ftc_txn.proofs.head.Head.read_unwounded.Goals as goal
 pub acquire-requires-clause-age_differs : goal.acquire-requires-clause-age_differs
 acquire-requires-clause-age_differs c = λ other p differs held.
     let runs = rw (← c.self.view_is) at c.requires in
-    rw (← runs.2) (ages_differ (the_view c.self.inside) c.args.worker runs.0 c.self.invariant.2 runs.1.slot other p differs held)
+    rw (← runs.2) (ages_differ
+    (the_view c.self.inside) c.args.worker runs.0 c.self.invariant.2 runs.1.slot other p differs held)
 
 -- the head after the read
 abbrev after : goal.After-add → HeadState
-after c = record { group = c.self.inside.group; content = c.self.inside.store.content; partitions = c.self.inside.partitions; vector = c.self.inside.vector; locks = c.acquire.new.self; slots = c.add.new.self; last = c.self.inside.last }
+after c = record {
+  group = c.self.inside.group;
+  content = c.self.inside.store.content;
+  partitions = c.self.inside.partitions;
+  vector = c.self.inside.vector;
+  locks = c.acquire.new.self;
+  slots =
+      c.add.new.self;
+  last = c.self.inside.last;
+}
 
-has_read : (c : goal.After-add) → (running : Running) × RunsUnwounded (the_view c.self.inside) c.args.worker running × HasRead (the_view c.self.inside) (after c) c.args.worker running c.args.key.now c.args.change c.get-value.result
+has_read : (c : goal.After-add) → (running : Running) × RunsUnwounded (the_view c.self.inside) c.args.worker running
+    × HasRead (the_view c.self.inside) (after c) c.args.worker running c.args.key.now c.args.change c.get-value.result
 has_read c =
     let runs = rw (← c.self.view_is) at c.requires in
-    let place : c.partition_of-partition.result ≡ partition_of c.self.inside.partitions c.args.key.now = c.partition_of-partition.ensures.same in
-    let test : ℕ → Bool = λ other. conflicts c.self.inside.locks c.args.worker c.partition_of-partition.result c.args.change other in
-    let granted : IsGranted c.self.inside.locks c.acquire.new.self c.args.worker c.args.age c.partition_of-partition.result c.args.change = record {
+    let place : c.partition_of-partition.result ≡ partition_of c.self.inside.partitions c.args.key.now =
+    c.partition_of-partition.ensures.same in
+    let test : ℕ → Bool = λ other. conflicts c.self.inside.locks c.args.worker c.partition_of-partition.result
+    c.args.change other in
+    let granted : IsGranted c.self.inside.locks c.acquire.new.self c.args.worker c.args.age
+    c.partition_of-partition.result c.args.change = record {
       younger = c.in-Granted.ensures.granted;
       held = c.in-Granted.ensures.held;
       exclusive = c.in-Granted.ensures.exclusive;
       with_age = c.in-Granted.ensures.age;
       own = c.in-Granted.ensures.own;
       wounded = λ other is. c.in-Granted.ensures.freed other (c.in-Granted.ensures.wounded other ∙ is);
-      others = λ other differs isnt. c.in-Granted.ensures.others other differs (c.in-Granted.ensures.wounded other ∙ isnt);
+      others = λ other differs isnt. c.in-Granted.ensures.others other differs
+          (c.in-Granted.ensures.wounded other ∙ isnt);
       partitions = c.in-Granted.ensures.partitions;
     } in
     let answer : Answer = record { key = c.args.key.now; value = c.get-value.result } in
     let slots : AreReadSlots c.self.inside.slots c.add.new.self c.args.worker runs.0 answer test =
-    read_slots c.self.inside.slots c.wound_each.new.self c.add.new.self c.args.worker c.in-Granted.wounded runs.0 answer test c.in-Granted.ensures.wounded (conflicts_self c.self.inside.locks c.args.worker c.partition_of-partition.result c.args.change) runs.1.slot c.wound_each.ensures c.add.ensures in (
+    read_slots c.self.inside.slots c.wound_each.new.self c.add.new.self c.args.worker c.in-Granted.wounded runs.0 answer
+    test c.in-Granted.ensures.wounded
+    (conflicts_self c.self.inside.locks c.args.worker c.partition_of-partition.result c.args.change) runs.1.slot
+    c.wound_each.ensures c.add.ensures in (
       runs.0,
       runs.1,
       record {
@@ -58,5 +76,7 @@ invariant_of-self-in-Granted c =
     let read = has_read c in (
       c.self.invariant.0,
       c.in-Granted.ensures.partitions ∙ c.self.invariant.1,
-      read_keeps (the_view c.self.inside) (after c) c.args.worker read.0 c.args.key.now c.args.change c.get-value.result c.self.invariant.2 read.1 read.2,
+      read_keeps (the_view c.self.inside)
+          (after c) c.args.worker read.0 c.args.key.now c.args.change c.get-value.result c.self.invariant.2 read.1
+          read.2,
     )

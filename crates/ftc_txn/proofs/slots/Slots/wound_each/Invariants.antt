@@ -8,6 +8,9 @@ use Rattle.ftc_txn.proofs.slots.Slots.wound_each.Given as goal
 abbrev pub invariant-loop-worker : goal.invariant-loop-worker
 invariant-loop-worker l = record {
   size : length l.self-inside.running ≡ MOST_SLOTS;
-  below : (k : ℕ) → k < l.worker → get_or l.self-inside.running k None ≡ (if has l.workers k then wounded_by l.by (get_or l.initial.self-inside.running k None) else get_or l.initial.self-inside.running k None);
+  below : (k : ℕ) → k < l.worker →
+      get_or l.self-inside.running k None
+      ≡ (if has l.workers k then wounded_by l.by (get_or l.initial.self-inside.running k None)
+      else get_or l.initial.self-inside.running k None);
   rest : (k : ℕ) → l.worker ≤ k → get_or l.self-inside.running k None ≡ get_or l.initial.self-inside.running k None;
 }

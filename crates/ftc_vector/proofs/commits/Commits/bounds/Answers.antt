@@ -10,5 +10,6 @@ returns-clause-size c = rw (← c.self.view_is) (length-by_group (held_of c.self
 pub returns-clause-each : goal.returns-clause-each
 returns-clause-each c =
     let items = c.self.inside.vectors.items in
-    let each : (group : ℕ) → group < length items → IsVector (vector_of items group) = rw c.as_slice.ensures.value at c.bounds.ensures in
+    let each : (group : ℕ) → group < length items → IsVector (vector_of items group) =
+    rw c.as_slice.ensures.value at c.bounds.ensures in
     λ group within. rw (← c.self.view_is, vector_of-by_group (held_of items) group within) (held_is items group each)

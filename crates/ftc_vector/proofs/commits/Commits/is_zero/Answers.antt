@@ -25,5 +25,6 @@ returns c =
     let place : c.from-place.result ≡ c.args.group = c.from-place.ensures ∙ c.number.ensures.same in
     rw (← c.self.view_is) (c.is_zero.ensures ∙ ap (list_all (λ number. number == 0))
     (c.index.ensures
-    ∙ get_or_default vectors.items c.from-place.result c.index.result.now (by_partition (λ _. 0)) (omega (arith, c.if-place-len.false, c.len.ensures, vectors.ok))
+    ∙ get_or_default vectors.items c.from-place.result c.index.result.now (by_partition (λ _. 0))
+    (omega (arith, c.if-place-len.false, c.len.ensures, vectors.ok))
     ∙ ap (held_of vectors.items) place ∙ sym (vector_of-by_group (held_of vectors.items) c.args.group within)))

@@ -10,11 +10,20 @@ returns c =
     let loop = c.loop-group in
     let old = c.self.inside.vectors.items in
     let other = c.other.inside.vectors in
-    let each : (group : ℕ) → group < length old → IsVector (vector_of old group) = rw c.as_slice.ensures.value at c.bounds.ensures in
-    rw (← c.self.view_is, ← c.other.view_is) (all_merged_is old other.items loop.self-inside.vectors.items (λ group within.
+    let each : (group : ℕ) → group < length old → IsVector (vector_of old group) =
+    rw c.as_slice.ensures.value at c.bounds.ensures in
+    rw (← c.self.view_is, ← c.other.view_is)
+    (all_merged_is old other.items loop.self-inside.vectors.items (λ group within.
     elim (cases_lt group loop.group) [
       | inl before ↦ loop.invariant.below group before
       | inr behind ↦ loop.invariant.rest group behind
-          ∙ sym (rw (held_behind other.items group c.other.invariant.0 (omega (arith, behind, c.loop-group-test.false, loop.auto.group-end, c.len-group-end.ensures, other.ok)))
+          ∙ sym (rw (held_behind other.items group c.other.invariant.0 (omega (
+            arith,
+            behind,
+            c.loop-group-test.false,
+            loop.auto.group-end,
+            c.len-group-end.ensures,
+            other.ok,
+          )))
           (merged_zeros (held_of old group) (held_is old group each).size))
     ]))

@@ -10,5 +10,6 @@ loop-number-preserved c =
     let numbers = c.self.inside.numbers in
     let place = c.loop-number.number-index in
     one_more c.loop-number.bits (get_or numbers place 0) (list_all is_zero (drop (place + 1) numbers))
-    ∙ ap (λ (rest : List ℕ). is_zero c.loop-number.bits && list_all is_zero rest) (sym (drop_more numbers place 0 (omega (arith, c.loop-number-test.true))))
+    ∙ ap (λ (rest : List ℕ). is_zero c.loop-number.bits
+    && list_all is_zero rest) (sym (drop_more numbers place 0 (omega (arith, c.loop-number-test.true))))
     ∙ c.loop-number.invariant

@@ -6,4 +6,5 @@ use Rattle.ftc_vector.proofs.Zeros.{is_zero}
 use Rattle.ftc_vector.proofs.vector.Vector.is_zero.Given as goal
 
 abbrev pub invariant-loop-number : goal.invariant-loop-number
-invariant-loop-number l = (is_zero l.bits && list_all is_zero (drop l.number-index l.number-items)) ≡ list_all is_zero l.number-items
+invariant-loop-number l = (is_zero l.bits && list_all is_zero (drop l.number-index l.number-items))
+    ≡ list_all is_zero l.number-items

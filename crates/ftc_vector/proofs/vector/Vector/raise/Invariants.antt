@@ -7,6 +7,8 @@ use Rattle.ftc_vector.proofs.vector.Vector.raise.Given as goal
 abbrev pub invariant-loop-partition : goal.invariant-loop-partition
 invariant-loop-partition l = record {
   size : length l.self-inside.numbers ≡ MOST_PARTITIONS;
-  below : (k : ℕ) → k < l.partition → get_or l.self-inside.numbers k 0 ≡ (if has l.changed k then get_or l.initial.self-inside.numbers k 0 + 1 else get_or l.initial.self-inside.numbers k 0);
+  below : (k : ℕ) → k < l.partition →
+      get_or l.self-inside.numbers k 0 ≡ (if has l.changed k then get_or l.initial.self-inside.numbers k 0 + 1
+      else get_or l.initial.self-inside.numbers k 0);
   rest : (k : ℕ) → l.partition ≤ k → get_or l.self-inside.numbers k 0 ≡ get_or l.initial.self-inside.numbers k 0;
 }

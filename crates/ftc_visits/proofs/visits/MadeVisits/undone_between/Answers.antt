@@ -1,4 +1,5 @@
-use Rattle.std.proofs.Common.{◌≡◌, ◌<◌, ◌≤◌, ◌∙◌, ◌++◌, ◌∷◌, ◌+◌, ℕ, List, drop, length, false, sym, ap, subst, arith, nat_cmp, append-nil, drop_of_length-le}
+use Rattle.std.proofs.Common.{◌≡◌, ◌<◌, ◌≤◌, ◌∙◌, ◌++◌, ◌∷◌, ◌+◌, ℕ, List, drop, length, false, sym, ap, subst, arith}
+use Rattle.std.proofs.Common.{nat_cmp, append-nil, drop_of_length-le}
 use Rattle.std.specs.BTreeMap.{is_at}
 use Rattle.std.specs.BTreeSet.{BTreeSet, contains}
 use Rattle.std.specs.List.{list_any}
@@ -8,7 +9,8 @@ use Rattle.ftc_visits.specs.Made.{MadeVisitList}
 use Rattle.ftc_visits.specs.Undoing.{undone_from, is_undone_alone}
 use Rattle.ftc_visits.proofs.Passing.{drop_read, one_undone, one_left, more_packets}
 use Rattle.ftc_visits.proofs.visits.MadeVisits.undone_between.Goals as goal
-use Rattle.ftc_visits.proofs.visits.MadeVisits.undone_between.Goals.{then-is_undone+in_ok-insert+in_ok-push, else-is_undone}
+use Rattle.ftc_visits.proofs.visits.MadeVisits.undone_between.Goals.{then-is_undone+in_ok-insert+in_ok-push}
+use Rattle.ftc_visits.proofs.visits.MadeVisits.undone_between.Goals.{else-is_undone}
 
 pub loop-place-init : goal.loop-place-init
 loop-place-init c =

@@ -8,5 +8,6 @@ use Rattle.ftc_workers.proofs.latch.Latch.take_seen.Goals as goal
 pub take_seen-requires : goal.take_seen-requires
 take_seen-requires g c =
     let run : ChainRun = c.args.self.now.chain in
-    let legal : ∥ IsLegalJob (setting_in run) (chain_state run) (job.Take c.args.link c.args.origin) ∥₁ = search rules in
+    let legal : ∥ IsLegalJob (setting_in run) (chain_state run) (job.Take c.args.link c.args.origin) ∥₁ =
+    search rules in
     ∥∥₁_map legal (λ is. (c.args.origin, is))

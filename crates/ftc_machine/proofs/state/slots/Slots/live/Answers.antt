@@ -12,7 +12,8 @@ returns-in-Some g c test =
     let found = c.in-Some.ensures.lookup.0 in
     let range : c.in-Some.places.now ≡ take (length items - first) (drop first items) =
     subst (λ xs. c.in-Some.places.now ≡ slice_range xs first (length xs)) c.deref.ensures.value found.2 in
-    ap (list_any (has_such test)) (range ∙ take_all (length items - first) (drop first items) (let l = length-drop first items in omega arith))
+    ap (list_any (has_such test))
+    (range ∙ take_all (length items - first) (drop first items) (let l = length-drop first items in omega arith))
     ∙ any_live test items first c.self.invariant ∙ ap (list_any (has_such test)) c.self.view_is
 
 pub returns-in-None : goal.returns-in-None
