@@ -7,6 +7,7 @@ use Rattle.std.proofs.lemmas.List.{get_or_past, get_or-replicate, length-replica
 use Rattle.ftc_base.specs.Sets.{has}
 use Rattle.ftc_base.proofs.Members.{has-zero}
 use Rattle.ftc_locks.specs.Locks.{Locks, holds, holds_exclusively, conflicts, SameHolding, HoldsNothing, IsLockTable}
+use Rattle.ftc_locks.specs.Locks.{AreBusy}
 
 -- beyond the list there is no member
 pub has-past : (sets : List ℕ) (worker partition : ℕ) → length sets ≤ worker →
@@ -96,3 +97,7 @@ free_table-valid partitions none empty some within = record {
   alone = λ worker other p is _. absurd (false≢true (sym (has-copies 64 none worker p empty) ∙ is));
   ages = λ worker other p q _ is _. absurd (false≢true (sym (has-copies 64 none worker p empty) ∙ is));
 }
+
+-- where nobody holds a partition, any set will do for those who are busy
+pub copies-busy : (n none busy : ℕ) → ((p : ℕ) → has none p ≡ false) → AreBusy busy (replicate n none)
+copies-busy n none busy empty worker p is = absurd (false≢true (sym (has-copies n none worker p empty) ∙ is))

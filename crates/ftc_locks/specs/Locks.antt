@@ -67,3 +67,7 @@ pub record IsLockTable (locks : Locks) : Type 0 where
       holds locks other partition ≡ true → other ≡ worker
   pub ages : (worker other p q : ℕ) → worker ≢ other → holds locks worker p ≡ true → holds locks other q ≡ true →
       age_of locks worker ≢ age_of locks other
+
+-- whoever holds a partition is in the set; the list has, for each worker, the set of the partitions that it holds
+abbrev pub AreBusy : ℕ → List ℕ → Type 0
+AreBusy busy held = (worker partition : ℕ) → has (slice_index held worker) partition ≡ true → has busy worker ≡ true

@@ -22,10 +22,12 @@ pub struct LockTable {
     held: [PartSet; WORKERS],
     exclusive: [PartSet; WORKERS],
     ages: [u64; WORKERS],
+    /// Whoever holds a partition is in this set, so the others are in nobody's way.
+    busy: WorkerSet,
 }
 
 impl Model for LockTable {
-    ghost use Rattle.ftc_locks.specs.Locks.{Locks, IsLockTable};
+    ghost use Rattle.ftc_locks.specs.Locks.{Locks, IsLockTable, AreBusy};
 
     ghost Value = { Locks };
 
@@ -41,7 +43,7 @@ impl Model for LockTable {
       held = table.held;
       exclusive = table.exclusive;
       ages = table.ages;
-    }) };
+    }) × AreBusy table.busy table.held };
 }
 
 impl LockTable {
@@ -58,6 +60,7 @@ impl LockTable {
             held: [none; WORKERS],
             exclusive: [none; WORKERS],
             ages: [0; WORKERS],
+            busy: WorkerSet::new(),
         }
     }
 
@@ -104,6 +107,7 @@ impl LockTable {
     {
         let place = usize::from(other);
         other != worker.number()
+            && self.busy.has(other)
             && (self.exclusive[place].has(partition) || (change && self.held[place].has(partition)))
     }
 
@@ -112,8 +116,11 @@ impl LockTable {
         requires { partition < MOST_PARTITIONS }
         ensures { (other : ℕ) → has result other ≡ conflicts self.now worker partition change other }
     {
-        let _ = &self.partitions;
         let mut others = WorkerSet::new();
+        if self.busy.without(worker.number()) == others {
+            // Mostly no other worker holds anything.
+            return others;
+        }
         for other in 0..MOST_SLOTS {
             if self.conflicts(worker, partition, change, other) {
                 others = others.with(other);
@@ -151,6 +158,7 @@ impl LockTable {
             if workers.has(worker) {
                 self.held[usize::from(worker)] = PartSet::new();
                 self.exclusive[usize::from(worker)] = PartSet::new();
+                self.busy = self.busy.without(worker);
             }
         }
     }
@@ -169,7 +177,9 @@ impl LockTable {
         ensures others { (other : ℕ) → other ≢ worker → SameHoldings self.old self.new other }
         ensures partitions { self.new.partitions ≡ self.old.partitions }
     {
-        let place = usize::from(worker.number());
+        let number = worker.number();
+        self.busy = self.busy.with(number);
+        let place = usize::from(number);
         self.held[place] = self.held[place].with(partition);
         if change {
             self.exclusive[place] = self.exclusive[place].with(partition);
@@ -231,5 +241,6 @@ impl LockTable {
         let place = usize::from(worker.number());
         self.held[place] = PartSet::new();
         self.exclusive[place] = PartSet::new();
+        self.busy = self.busy.without(worker.number());
     }
 }

@@ -19,6 +19,6 @@ returns-clause-none c = if_none c.loop-other.holder _ (λ none other is.
       ages =
           c.self.inside.ages;
     }) c.args.worker c.args.partition c.args.change other
-    (omega (arith, beyond, c.self.invariant.held_size))
-    (omega (arith, beyond, c.self.invariant.exclusive_size)))) ∙ is)))
+    (omega (arith, beyond, c.self.invariant.0.held_size))
+    (omega (arith, beyond, c.self.invariant.0.exclusive_size)))) ∙ is)))
     (cases_lt other 64))

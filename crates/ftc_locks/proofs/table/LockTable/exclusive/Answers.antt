@@ -9,5 +9,5 @@ returns c = rw (← c.self.view_is) (
   λ w.
       ⊎_elim (λ within. sym (c.loop-worker.invariant w.0 (omega (arith, within))) ∙ w.1)
       (λ beyond. sym (has-past c.self.inside.exclusive w.0 c.args.partition
-      (omega (arith, beyond, c.self.invariant.exclusive_size))) ∙ w.1) (cases_lt w.0 64),
+      (omega (arith, beyond, c.self.invariant.0.exclusive_size))) ∙ w.1) (cases_lt w.0 64),
 )

@@ -1,4 +1,4 @@
--- the workers of the set so far hold nothing, and the others hold what they held
+-- the workers of the set so far hold nothing, and the others hold what they held; whoever holds something is busy
 use Rattle.std.proofs.Common.{◌≡◌, ◌<◌, ◌≤◌, ℕ, true, false, length, get_or}
 use Rattle.ftc_base.specs.Sets.{has}
 use Rattle.ftc_base.specs.declared.limits.TheConstants.{MOST_SLOTS}
@@ -19,4 +19,5 @@ invariant-loop-worker l = record {
   rest : (k : ℕ) → l.worker ≤ k → get_or l.self-inside.held k 0 ≡ get_or l.initial.self-inside.held k 0;
   rest_exclusive : (k : ℕ) → l.worker ≤ k →
       get_or l.self-inside.exclusive k 0 ≡ get_or l.initial.self-inside.exclusive k 0;
+  busy : (k p : ℕ) → has (get_or l.self-inside.held k 0) p ≡ true → has l.self-inside.busy k ≡ true;
 }

@@ -6,4 +6,4 @@ pub returns : goal.returns
 returns c =
     rw (← c.self.view_is) (has-from _ 64 _ (λ k within. c.loop-worker.invariant.below k (omega (arith, within)))
     (λ k beyond. c.loop-worker.invariant.rest k (omega (arith, beyond)))
-    (λ k beyond. has-past _ k _ (omega (arith, beyond, c.self.invariant.held_size))))
+    (λ k beyond. has-past _ k _ (omega (arith, beyond, c.self.invariant.0.held_size))))

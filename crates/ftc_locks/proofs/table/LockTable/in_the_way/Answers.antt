@@ -13,4 +13,4 @@ returns c =
       exclusive = c.self.inside.exclusive;
       ages = c.self.inside.ages;
     }) c.args.worker c.args.partition c.args.change k
-    (omega (arith, beyond, c.self.invariant.held_size)) (omega (arith, beyond, c.self.invariant.exclusive_size))))
+    (omega (arith, beyond, c.self.invariant.0.held_size)) (omega (arith, beyond, c.self.invariant.0.exclusive_size))))
