@@ -35,6 +35,15 @@ impl Seen {
         })
     }
 
+    /// Reads a frame, which is kept as it is. It is refused exactly as by [`decode`].
+    pub fn of(alloc: Global, frame: Bytes) -> Result<Seen, Refuse<FrameFault>>
+        ensures frame { IfOk result (λ seen. seen.frame ≡ frame) }
+        ensures refused { IfBad result (λ fault. message_of frame ≡ Err fault) }
+    {
+        let message = decode(alloc, frame.as_slice())?;
+        Ok(Seen { frame, message })
+    }
+
     /// Whether it is of that frame.
     pub fn is_of(&self, frame: &[u8]) -> bool
         ensures { result ≡ true ↔ (self.now.frame ≡ frame.now) }

@@ -5,18 +5,12 @@ ghost use Rattle.std.specs.Prelude.{◌≡◌};
 use crate::latch::{Begun, Copied, Found};
 use crate::shared::{Shared, Turn, commit, find, free, hold, leave, read, rules, take};
 use crate::tally::{Run, Tally};
-use ftc_base::{Answers, Ask, Bytes, WorkerId};
+use ftc_base::{Answers, Ask, WorkerId};
 use ftc_mbox::{Plan, Rule, Rules, ask};
-use ftc_message::{Seen, decode};
+use ftc_message::Seen;
 use ftc_outside::Gate;
 use std::alloc::Global;
 use std::sync::Wait;
-
-/// A frame with the message that it spells. None where there is no memory.
-fn seen_of(alloc: Global, frame: Bytes) -> Option<Seen> {
-    let message = decode(alloc, frame.as_slice()).ok()?;
-    Some(Seen { frame, message })
-}
 
 /// A worker in its slot, with what it shares with the others and the gate that it passes.
 #[derive(Drop)]
@@ -97,9 +91,9 @@ impl<'a, 'b, L: Run, R: Wait, G: Gate> Worker<'a, 'b, L, R, G> {
             origin,
             frame,
         } = copied;
-        match seen_of(self.alloc, frame) {
-            Some(seen) => take(self.rt, self.shared, link, origin, seen),
-            None => false,
+        match Seen::of(self.alloc, frame) {
+            Ok(seen) => take(self.rt, self.shared, link, origin, seen),
+            Err(_) => false,
         }
     }
 
