@@ -50,7 +50,7 @@ fn hold(server: &mut Server, message: Message) -> Result<(), NoMemory>
     Ok(())
 }
 
-/// Server 0, where it is up, holds a packet that enters.
+/// Server 0, where it is up, holds a packet that enters, and drops the kept logs that it knows to be at the tails.
 fn enter_at(
     slot: &mut Option<Server>,
     alloc: Global,
@@ -71,7 +71,10 @@ fn enter_at(
     match slot {
         Some(server) => {
             let message = begun(alloc, packet, Some(bytes))?;
-            hold(server, message)
+            hold(server, message)?;
+            // Where no server may fail, no message comes round that would tell the first server what is known.
+            server.prune();
+            Ok(())
         }
         None => Ok(()),
     }

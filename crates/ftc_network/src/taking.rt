@@ -40,7 +40,7 @@ fn take_from(
     }
 }
 
-/// The receiver of a link holds its oldest message.
+/// The receiver of a link holds its oldest message, and drops the kept logs that it knows to be at the tails then.
 fn take_at(
     link: &mut Link,
     slot: &mut Option<Server>,
@@ -70,6 +70,8 @@ fn take_at(
             server.make_room(logs)?;
             if let Some(message) = take_from(link, alloc, seen)? {
                 server.take(message, by_ring);
+                // What the sender knew may be news here.
+                server.prune();
             }
             Ok(())
         }

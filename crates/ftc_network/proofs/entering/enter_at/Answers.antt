@@ -1,6 +1,7 @@
 use Rattle.std.proofs.Common.{◌∙◌, List, ℕ, false, Some, refl, ap, sym, subst, ◌≡◌}
 use Rattle.ftc_journal.specs.declared.event.Event.TheVariants as event
 use Rattle.ftc_message.specs.declared.message.Message.{Message as SentMessage}
+use Rattle.ftc_protocol.specs.Next.{next}
 use Rattle.ftc_protocol.specs.Setting.{packet_at}
 use Rattle.ftc_server.specs.Holding.{is_held}
 use Rattle.ftc_server.specs.State.{ServerState}
@@ -9,7 +10,7 @@ use Rattle.ftc_network.specs.Parts.{buffer_of}
 use Rattle.ftc_network.specs.Stand.{IsSlot, IsUp}
 use Rattle.ftc_network.proofs.Allowed.{at_up}
 use Rattle.ftc_network.proofs.ReadySlots.{same_runs, roomed_still}
-use Rattle.ftc_network.proofs.Results.{on_ok, on_err}
+use Rattle.ftc_network.proofs.Results.{as_err}
 use Rattle.ftc_network.proofs.Heads.{same_head, either_way}
 use Rattle.ftc_network.proofs.entering.enter_at.Goals as goal
 
@@ -30,38 +31,31 @@ hold-requires-clause-new c =
     (c.what_take_wants.ensures.entered setting state c.args.packet c.in-Some.server sent run legal begun up.at).0)
     c.requires
 
-pub returns-in_ok-message-in-Some-clause-ok : goal.returns-in_ok-message-in-Some-clause-ok
-returns-in_ok-message-in-Some-clause-ok c =
+pub returns-in_ok-hold-in-Some-clause-ok : goal.returns-in_ok-hold-in-Some-clause-ok
+returns-in_ok-hold-in-Some-clause-ok c setting state bytes run legal is =
     let old = c.in-Some.server in
-    let new = c.hold.new.server in
+    let mid = c.hold.new.server in
+    let new = c.prune.new.self in
     let message = c.in_ok-message-in-Some.message in
-    on_ok c.hold.result _ _ (λ done setting state bytes run legal is.
+    let done = c.in_ok-hold-in-Some.ensures.ok in
     let up : IsUp setting state 0 old = subst (IsSlot setting state 0) c.in-Some.is is in
-    let at = c.what_take_does.ensures.entered setting state c.args.packet old new message run legal up.up
+    let at_taken = c.what_take_does.ensures.entered setting state c.args.packet old mid message run legal up.up
     (subst (λ (packet : List ℕ). IsBegun c.args.packet (Some packet) message) bytes c.in_ok-message-in-Some.ensures)
     up.at done in
+    let at = c.what_stays.ensures.pruned setting (next setting state (event.Enter c.args.packet)) 0 mid new at_taken
+    c.prune.ensures in
     record {
       up = up.up;
       at = at;
       ready = c.slots_stay_ready.ensures setting state (event.Enter c.args.packet) 0 old new run legal up.at at
-          (same_runs old new (ap (λ (s : ServerState). s.head) done.rest)) up.ready;
-    }) c.hold.ensures.ok
+          (same_runs old new (ap (λ (s : ServerState). s.head) c.prune.ensures.rest
+          ∙ ap (λ (s : ServerState). s.head) done.rest)) up.ready;
+    }
 
-pub returns-in_ok-message-in-Some-clause-buffer : goal.returns-in_ok-message-in-Some-clause-buffer
-returns-in_ok-message-in-Some-clause-buffer c = on_ok c.hold.result _ _ (λ done.
-    ap (λ (s : ServerState). s.buffer.items) done.rest ∙ ap buffer_of (sym c.in-Some.is)) c.hold.ensures.ok
-
-pub returns-in_ok-message-in-Some-clause-err : goal.returns-in_ok-message-in-Some-clause-err
-returns-in_ok-message-in-Some-clause-err c =
+pub returns-in_err-hold-in-Some-clause-err : goal.returns-in_err-hold-in-Some-clause-err
+returns-in_err-hold-in-Some-clause-err c =
     let old = c.in-Some.server in
     let new = c.hold.new.server in
-    on_err c.hold.result _ _ (λ same. roomed_still c.args.slot.now old new c.in-Some.is same
+    as_err c.from_residual-in_err-hold-in-Some.result _ (roomed_still c.args.slot.now old new c.in-Some.is
+    c.in_err-hold-in-Some.ensures.err
     (λ setting state number at fields. c.what_stays.ensures.roomed setting state number old new at fields) 0)
-    c.hold.ensures.err
-
-pub returns-in_ok-message-in-Some-clause-heads : goal.returns-in_ok-message-in-Some-clause-heads
-returns-in_ok-message-in-Some-clause-heads c =
-    same_head c.args.slot.now c.in-Some.server c.hold.new.server c.in-Some.is
-    (either_way c.hold.result _ _ (c.hold.new.server.head ≡ c.in-Some.server.head)
-    (λ done. ap (λ (s : ServerState). s.head) done.rest)
-    (λ same. ap (λ (s : ServerState). s.head) same.rest) c.hold.ensures.ok c.hold.ensures.err)

@@ -25,6 +25,7 @@ use Rattle.ftc_network.specs.Parts.{buffer_of}
 use Rattle.ftc_network.specs.Stand.{IsSlot, IsUp}
 use Rattle.ftc_network.proofs.ReadySlots.{same_runs, roomed_still}
 use Rattle.ftc_network.proofs.Heads.{same_head}
+use Rattle.ftc_network.proofs.Results.{as_err}
 use Rattle.ftc_network.proofs.taking.take_at.Goals as goal
 
 -- what is allowed of a link and its receiver, where it is a test on what is taken and the receiver with room for it
@@ -45,14 +46,9 @@ taken_up link origin by_ring queue after slot server roomed message test value s
     (ap (λ (q : Queue). q.messages) takes.oldest)
     (room given.setting given.state (next_of (servers given.setting) link) up.at))
 
--- what is so is so of every refusal
-at_err : {A E : Type 0} (result : Result A E) (Fact : Type 0) → Fact → OnErr result Fact
-at_err (Ok value) Fact fact = tt
-at_err (Err fault) Fact fact = fact
-
 pub returns-in_err-make_room-in-Some-clause-slot : goal.returns-in_err-make_room-in-Some-clause-slot
 returns-in_err-make_room-in-Some-clause-slot c =
-    at_err c.from_residual.result _ (roomed_still c.args.slot.now c.in-Some.server c.make_room.new.self c.in-Some.is
+    as_err c.from_residual.result _ (roomed_still c.args.slot.now c.in-Some.server c.make_room.new.self c.in-Some.is
     c.make_room.ensures.same (λ setting state number at fields.
     c.what_stays.ensures.roomed setting state number c.in-Some.server c.make_room.new.self at fields))
 
@@ -93,17 +89,20 @@ returns-in-Some-2-clause-ok c setting state ring run legal queued is =
     let receiver = next_of (servers setting) link in
     let old = c.in-Some.server in
     let roomed = c.make_room.new.self in
-    let new = c.take.new.self in
+    let mid = c.take.new.self in
+    let new = c.prune.new.self in
     let takes : TakesOldest c.args.link.now c.take_from.new.link c.in-Some-2.message =
     subst (TakesIfAny c.args.link.now c.take_from.new.link) c.in-Some-2.is c.in_ok-message-in-Some.ensures.taken in
     let first = ap (λ (q : Queue). q.messages) takes.oldest in
     let up : IsUp setting state receiver old = subst (IsSlot setting state receiver) c.in-Some.is is in
     let at = c.what_stays.ensures.roomed setting state receiver old roomed up.at c.make_room.ensures.same in
-    let taken : HasTaken roomed new c.in-Some-2.message (link + 1 == servers setting) =
-    subst (λ (b : Bool). HasTaken roomed new c.in-Some-2.message b) ring c.take.ensures in
-    let at_after = c.what_take_does.ensures.received setting state link c.args.origin c.args.link.now
+    let taken : HasTaken roomed mid c.in-Some-2.message (link + 1 == servers setting) =
+    subst (λ (b : Bool). HasTaken roomed mid c.in-Some-2.message b) ring c.take.ensures in
+    let at_taken = c.what_take_does.ensures.received setting state link c.args.origin c.args.link.now
     c.in-Some-2.message
-    c.take_from.new.link.messages roomed new run legal queued first at taken in (
+    c.take_from.new.link.messages roomed mid run legal queued first at taken in
+    let at_after = c.what_stays.ensures.pruned setting (next setting state (event.Take link c.args.origin)) receiver
+    mid new at_taken c.prune.ensures in (
       subst (IsLink setting (next setting state (event.Take link c.args.origin)) link)
           (ap (λ (q : Queue). record q { messages = c.take_from.new.link.messages }) takes.oldest)
           (c.a_message_is_taken.ensures.link setting state link c.args.origin c.args.link.now c.in-Some-2.message
@@ -113,8 +112,9 @@ returns-in-Some-2-clause-ok c setting state ring run legal queued is =
         at = at_after;
         ready = c.slots_stay_ready.ensures setting state
             (event.Take link c.args.origin) receiver old new run legal up.at
-            at_after (same_runs old new (ap (λ (s : ServerState). s.head) taken.rest
-            ∙ ap (λ (s : ServerState). s.head) c.make_room.ensures.same.rest)) up.ready;
+            at_after (same_runs old new (ap (λ (s : ServerState). s.head) c.prune.ensures.rest
+            ∙ ap (λ (s : ServerState). s.head) taken.rest ∙ ap
+            (λ (s : ServerState). s.head) c.make_room.ensures.same.rest)) up.ready;
       },
     )
 
@@ -127,11 +127,12 @@ returns-in-None-clause-ok c setting state ring run legal queued is =
 
 pub returns-in-Some-2-clause-buffer : goal.returns-in-Some-2-clause-buffer
 returns-in-Some-2-clause-buffer c =
-    ap (λ (s : ServerState). s.buffer.items) c.take.ensures.rest
-    ∙ (ap (λ (s : ServerState). s.buffer.items) c.make_room.ensures.same.rest ∙ ap buffer_of (sym c.in-Some.is))
+    ap (λ (s : ServerState). s.buffer.items) c.prune.ensures.rest
+    ∙ (ap (λ (s : ServerState). s.buffer.items) c.take.ensures.rest ∙ ap
+    (λ (s : ServerState). s.buffer.items) c.make_room.ensures.same.rest ∙ ap buffer_of (sym c.in-Some.is))
 
 pub returns-in-Some-2-clause-heads : goal.returns-in-Some-2-clause-heads
 returns-in-Some-2-clause-heads c =
-    same_head c.args.slot.now c.in-Some.server c.take.new.self c.in-Some.is
-    (ap (λ (s : ServerState). s.head) c.take.ensures.rest
+    same_head c.args.slot.now c.in-Some.server c.prune.new.self c.in-Some.is
+    (ap (λ (s : ServerState). s.head) c.prune.ensures.rest ∙ ap (λ (s : ServerState). s.head) c.take.ensures.rest
     ∙ ap (λ (s : ServerState). s.head) c.make_room.ensures.same.rest)
