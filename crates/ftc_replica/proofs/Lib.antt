@@ -1,3 +1,4 @@
 pub mod Needed
 pub mod Lacking
 pub mod Left
+pub mod Tickets

@@ -2,6 +2,7 @@
 //! changes in it, and the logs that others may still lack.
 #![tactic(auto)]
 
+mod awaited;
 mod coverage;
 mod dropping;
 mod kept;

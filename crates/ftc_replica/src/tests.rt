@@ -229,7 +229,7 @@ fn logs_are_swept_between_prunes(rt: HostRuntime) -> Result<(), Fail> {
     Ok(())
 }
 
-/// The wait of a packet's log for a number of partition 1 of group 0.
+/// The wait of a packet's log for a number of partition 1.
 fn wait(group: ServerId, number: u64, origin: u32, packet: u32) -> Wait {
     Wait {
         group,
@@ -257,5 +257,70 @@ fn waits_are_woken_in_order(rt: HostRuntime) -> Result<(), Fail> {
     assert_eq!(rt; waits.wake(group, 1, 5), Some(third));
     assert_eq!(rt; waits.wake(group, 1, 5), None);
     assert!(rt; waits.len() == 1 && !waits.is_empty());
+    Ok(())
+}
+
+/// Adds waits for these numbers. Their origins are their places.
+fn add_all(waits: &mut Waits, group: ServerId, numbers: &[u64]) -> Result<(), NoMemory> {
+    let mut origin = 0;
+    for number in numbers {
+        waits.add(wait(group, *number, origin, 3))?;
+        origin = origin.wrapping_add(1);
+    }
+    Ok(())
+}
+
+/// The origin of the wait that is woken by a number of partition 1.
+fn woken(waits: &mut Waits, group: ServerId, number: u64) -> Option<u32> {
+    waits.wake(group, 1, number).map(|wait| wait.origin)
+}
+
+#[test]
+fn waits_for_many_numbers_are_woken_in_any_order(rt: HostRuntime) -> Result<(), Fail> {
+    let group = ServerId::new(2).ok_or("a server")?;
+    let mut waits = Waits::new(rt.alloc());
+    add_all(&mut waits, group, &[4, 9, 4, 7, 9, 4])?;
+    for (number, origin) in [(7, 3), (4, 0), (9, 1), (4, 2)] {
+        assert_eq!(rt; woken(&mut waits, group, number), Some(origin));
+    }
+    add_all(&mut waits, group, &[7, 4])?;
+    for (number, origin) in [(4, 5), (7, 0), (4, 1), (9, 4)] {
+        assert_eq!(rt; woken(&mut waits, group, number), Some(origin));
+    }
+    for number in [4, 7, 9, 5] {
+        assert_eq!(rt; woken(&mut waits, group, number), None);
+    }
+    assert!(rt; waits.is_empty());
+    Ok(())
+}
+
+#[test]
+fn a_wait_is_woken_by_its_own_number_alone(rt: HostRuntime) -> Result<(), Fail> {
+    let group = ServerId::new(0).ok_or("a server")?;
+    let other = ServerId::new(1).ok_or("a server")?;
+    let mut waits = Waits::new(rt.alloc());
+    waits.add(wait(group, 5, 10, 7))?;
+    assert_eq!(rt; waits.wake(other, 1, 5), None);
+    assert_eq!(rt; waits.wake(group, 2, 5), None);
+    assert_eq!(rt; waits.wake(group, 1, 6), None);
+    waits.add(wait(other, 5, 11, 8))?;
+    assert_eq!(rt; woken(&mut waits, other, 5), Some(11));
+    assert_eq!(rt; woken(&mut waits, group, 5), Some(10));
+    Ok(())
+}
+
+#[test]
+fn dropped_waits_are_not_woken(rt: HostRuntime) -> Result<(), Fail> {
+    let group = ServerId::new(0).ok_or("a server")?;
+    let mut waits = Waits::new(rt.alloc());
+    add_all(&mut waits, group, &[4, 9, 4])?;
+    assert_eq!(rt; woken(&mut waits, group, 4), Some(0));
+    waits.clear();
+    assert!(rt; waits.is_empty());
+    assert_eq!(rt; woken(&mut waits, group, 4), None);
+    add_all(&mut waits, group, &[9, 4])?;
+    assert_eq!(rt; woken(&mut waits, group, 4), Some(1));
+    assert_eq!(rt; woken(&mut waits, group, 9), Some(0));
+    assert_eq!(rt; woken(&mut waits, group, 9), None);
     Ok(())
 }
