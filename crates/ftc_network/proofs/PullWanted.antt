@@ -23,8 +23,8 @@ use Rattle.ftc_ties.proofs.Serving.{IsSteadyState}
 use Rattle.ftc_server.specs.declared.recovering.GroupReplica.{GroupReplica}
 use Rattle.ftc_server.specs.declared.server.Server.{Server}
 use Rattle.ftc_server.specs.Looks.{is_later_of, replica_in}
-use Rattle.ftc_server.specs.State.{ServerState, fields_of}
-use Rattle.ftc_server.specs.Steps.{HasInstalled}
+use Rattle.ftc_server.specs.State.{ServerState}
+use Rattle.ftc_server.specs.Steps.{HasInstalled, HasRoomed}
 use Rattle.ftc_standing.proofs.Lasting.{IsFirmState}
 use Rattle.ftc_refinement.specs.Contents.{IsServerAt}
 use Rattle.ftc_refinement.specs.Pulled.{ArePulled}
@@ -124,7 +124,7 @@ module _ (c : Setting) (s : ChainState) (f : IsFirmState c s) (ends : EndsAsSaid
       is_tail c tail receiver ≡ true → is_shared c tail link receiver ≡ true →
       IsServerAt c s receiver old → IsServerAt c s link sender → ArePulled c link old sender news →
       HasInstalled old new news → IsServerAt c (next c s (Pull link)) receiver new) →
-      ((old new : Server) → IsServerAt c (next c s (Pull link)) receiver old → fields_of new ≡ fields_of old →
+      ((old new : Server) → IsServerAt c (next c s (Pull link)) receiver old → HasRoomed old new →
       IsServerAt c (next c s (Pull link)) receiver new) →
       ((old new : Server) → IsServerAt c s receiver old → IsServerAt c (next c s (Pull link)) receiver new →
       RunNothingElse old new → AreReady old → AreReady new) →
@@ -133,13 +133,13 @@ module _ (c : Setting) (s : ChainState) (f : IsFirmState c s) (ends : EndsAsSaid
       IsSlot c s link one → IsSlot c s receiver other → AreGains ring one other replicas gained →
       SlotHasInstalled other now replicas →
       IsSlot c (next c s (Pull link)) receiver now × (gained ≡ list_any (is_news c s link receiver) s.trace)
-  pull_follows installs same_fields keeps ring same None other now replicas gained down is gains done =
+  pull_follows installs same_still keeps ring same None other now replicas gained down is gains done =
       absurd (let up = legal.0.0 in cc)
-  pull_follows installs same_fields keeps ring same (Some sender) None now replicas gained sends down gains done =
+  pull_follows installs same_still keeps ring same (Some sender) None now replicas gained sends down gains done =
       absurd (let up = legal.0.1 in cc)
-  pull_follows installs same_fields keeps ring same (Some sender) (Some old) None replicas gained sends is gains done =
+  pull_follows installs same_still keeps ring same (Some sender) (Some old) None replicas gained sends is gains done =
       absurd done
-  pull_follows installs same_fields keeps ring same (Some sender) (Some old)
+  pull_follows installs same_still keeps ring same (Some sender) (Some old)
       (Some new) replicas gained sends is gains done =
       let got = made c s f.steady link legal sender old sends.at is.at in
       let done_so : HasInstalled old new got = subst (HasInstalled old new)
@@ -147,7 +147,7 @@ module _ (c : Setting) (s : ChainState) (f : IsFirmState c s) (ends : EndsAsSaid
       let at : IsServerAt c (next c s (Pull link)) receiver new =
       server_follows c s f ends link legal sender old new sends.at is.at done_so
       (λ tail below its shared are. installs tail old new sender got below its shared is.at sends.at are done_so)
-      (λ stands fields. same_fields old new stands fields) in (
+      (λ stands roomed. same_still old new stands roomed) in (
         record {
           up = is.up;
           at = at;

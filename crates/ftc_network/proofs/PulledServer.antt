@@ -25,7 +25,7 @@ use Rattle.ftc_ties.proofs.Serving.{IsSteadyState, others_stay}
 use Rattle.ftc_server.specs.declared.server.Server.{Server}
 use Rattle.ftc_server.specs.Standing.{group_ending_at}
 use Rattle.ftc_server.specs.State.{fields_of}
-use Rattle.ftc_server.specs.Steps.{HasInstalled}
+use Rattle.ftc_server.specs.Steps.{HasInstalled, HasRoomed}
 use Rattle.ftc_standing.specs.Stand.{HeldItem, AreReplicas, IsReplicaSlot, replica_of}
 use Rattle.ftc_standing.proofs.Lasting.{IsFirmState, held_stay, withheld_stay, forwarded_stay}
 use Rattle.ftc_refinement.specs.Contents.{IsServerAt, contents_of}
@@ -187,16 +187,21 @@ module _ (c : Setting) (s : ChainState) (f : IsFirmState c s) (ends : EndsAsSaid
   module _ (installs : (tail : ℕ) → tail < servers c → is_tail c tail (next_of (servers c) link) ≡ true →
       is_shared c tail link (next_of (servers c) link) ≡ true →
       ArePulled c link old sender (made c s f.steady link legal sender old sends is) → Follows)
-      (same : IsServerAt c (next c s (Pull link)) (next_of (servers c) link) old → fields_of new ≡ fields_of old →
+      (same : IsServerAt c (next c s (Pull link)) (next_of (servers c) link) old → HasRoomed old new →
       Follows) where
-    nothing_done : c.failures ≡ 0 → fields_of new ≡ fields_of old
+    nothing_done : c.failures ≡ 0 → HasRoomed old new
     nothing_done none =
         let empty : made c s f.steady link legal sender old sends is ≡ [] =
         none_made (λ group. is_shared c group link (next_of (servers c) link)) (new_of sender old) (servers c)
         (none_shared c s f.steady link legal none) in
         let done_so : HasInstalled old new [] = subst (HasInstalled old new) empty done in
-        done_so.rest ∙ (ap (λ others. record (fields_of old) { others = others; known = new.known }) done_so.others
-        ∙ ap (λ known. record (fields_of old) { known = known }) done_so.known)
+        record {
+          held = done_so.held;
+          rest = done_so.rest
+              ∙ (ap (λ others. record (fields_of old) { others = others; known = new.known; held = new.held })
+              done_so.others
+              ∙ ap (λ known. record (fields_of old) { known = known; held = new.held }) done_so.known);
+        }
 
     pub server_follows : Follows
     server_follows = elim (cases_eq c.failures 0) [

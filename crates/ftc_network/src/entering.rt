@@ -45,7 +45,7 @@ fn hold(server: &mut Server, message: Message) -> Result<(), NoMemory>
     ensures ok { OnOk result (HasTaken server.old server.new message false) }
     ensures err { OnErr result (HasRoomed server.old server.new) }
 {
-    server.make_room(0)?;
+    server.make_room(message.logs.len())?;
     server.take(message, false);
     Ok(())
 }

@@ -50,6 +50,6 @@ applies setting before after number old new origin group packet later known was 
     (items_of new.held.items) (items_of old.held.items) new.buffer.items old.buffer.items new.forwarder old.forwarder
     (same_own new old (ap (λ (s : ServerState). s.head) done.rest) (ap (λ (s : ServerState). s.own.items) done.rest))
     others knows
-    (ap (λ (s : ServerState). items_of s.held.items) done.rest)
+    (ap items_of done.held)
     (ap (λ (s : ServerState). s.buffer.items) done.rest)
     (ap (λ (s : ServerState). s.forwarder) done.rest))

@@ -1,3 +1,9 @@
+pub mod Ascending
+pub mod Ticketing
+pub mod Leaving
+pub mod Resting
+pub mod Keeping
+pub mod Ticketed
 pub mod Finding
 pub mod Slotting
 pub mod Working
@@ -7,3 +13,16 @@ pub mod Installing
 pub mod Numbers
 pub mod NextLog
 pub mod WouldLog
+pub mod Ahead
+pub mod Taken
+pub mod Named
+pub mod Watched
+pub mod Due
+pub mod Distinct
+pub mod Grown
+pub mod EachFound
+pub mod Lacking
+pub mod EachHeld
+pub mod StillWatched
+pub mod Anew
+pub mod VisitedWaits

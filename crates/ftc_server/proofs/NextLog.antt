@@ -24,17 +24,17 @@ pub record IsNext (replicas : List (Option Held)) (last : Option (ℕ × ℕ)) (
   pub lacking : is_had replicas log ≡ false
   pub allowed : may_apply replicas log ≡ true
 
-goes_on : (last : Option (ℕ × ℕ)) (first log : Logged) → log_follows last first.origin first.group ≡ true
+pub goes_on : (last : Option (ℕ × ℕ)) (first log : Logged) → log_follows last first.origin first.group ≡ true
     → log_follows (Some (first.origin, first.group)) log.origin log.group ≡ true →
     log_follows last log.origin log.group ≡ true
 goes_on None first log follows later = refl
 goes_on (Some last) first log follows later = grind (arith, nat_tests, follows, later)
 
-another : (first log : Logged) → log_follows (Some (first.origin, first.group)) log.origin log.group ≡ true
+pub another : (first log : Logged) → log_follows (Some (first.origin, first.group)) log.origin log.group ≡ true
     → is_log_of log.origin log.group first ≡ false
 another first log later = grind (arith, nat_tests, later)
 
-is_itself : (log : Logged) → is_log_of log.origin log.group log ≡ true
+pub is_itself : (log : Logged) → is_log_of log.origin log.group log ≡ true
 is_itself log = and_both (log.origin == log.origin) (log.group == log.group) (eq-eqb log.origin log.origin refl)
     (eq-eqb log.group log.group refl)
 

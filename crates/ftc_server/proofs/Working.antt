@@ -35,6 +35,24 @@ pub last_of : (replicas : List (Option Held)) (held : HeldMessage) (work : Work)
     → ((group packet : ℕ) → Apply group packet ≡ work → ⊥) → work_for replicas held ≡ Some work → last_work held ≡ work
 last_of replicas held work other is = last_is replicas held (next_log replicas None held.message.logs) work other is
 
+-- where the work is no apply, the message lacks nothing
+ready_behind : (replicas : List (Option Held)) (held : HeldMessage) (log : Option Logged) (work : Work)
+    → ((group packet : ℕ) → Apply group packet ≡ work → ⊥)
+    → work_behind replicas held log ≡ Some work → is_ready replicas held ≡ true
+ready_behind replicas held (Some log) work other is = let e : Apply log.group log.origin ≡ work =
+    cc in absurd (other log.group log.origin e)
+ready_behind replicas held None work other is =
+    elim (is_ready replicas held) as (λ t. cond t (Some (last_work held)) None ≡ Some work → t ≡ true) [
+      | true ↦ λ same. refl
+      | false ↦ λ none. absurd cc
+    ] is
+
+pub ready_for : (replicas : List (Option Held)) (held : HeldMessage) (work : Work)
+    → ((group packet : ℕ) → Apply group packet ≡ work → ⊥) → work_for replicas held ≡ Some work →
+    is_ready replicas held ≡ true
+ready_for replicas held work other is =
+    ready_behind replicas held (next_log replicas None held.message.logs) work other is
+
 waits_for : (waiting by_ring : Bool) → cond waiting Visit (cond by_ring Carry Send) ≡ Visit → waiting ≡ true
 waits_for true by_ring is = refl
 waits_for false true is = absurd cc

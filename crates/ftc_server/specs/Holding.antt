@@ -1,12 +1,26 @@
 -- The messages that a server holds.
-use Rattle.std.specs.Prelude.{ℕ, Bool, false, ◌==◌, List, [], ◌∷◌, Option, find, is_some, if◌then◌else◌}
+use Rattle.std.specs.Prelude.{ℕ, ◌≡◌, ◌≤◌, ◌&&◌, ◌==◌, Bool, true, false, not, List, [], ◌∷◌, Option, Some, None}
+use Rattle.std.specs.Prelude.{find, is_some, if◌then◌else◌}
+use Rattle.std.specs.List.{list_any}
 use Rattle.ftc_message.specs.declared.message.Message.{Message}
+use Rattle.ftc_message.specs.Logged.{Logged, logs_rise}
+use Rattle.ftc_message.specs.Ordered.{is_log_of}
 use Rattle.ftc_server.specs.declared.held.HeldMessage.{HeldMessage}
 
--- in the order of taking, and for how many more there is room
+-- in the order of taking, the origins of those that rest, which are passed over where one with work is looked for, and
+-- for how many more there is room
 pub record Holding : Type 0 where
   pub items : List HeldMessage
+  pub resting : List ℕ
   pub spare : ℕ
+
+-- the message of that origin rests
+abbrev pub rests : ℕ → List ℕ → Bool
+rests origin resting = list_any (λ other. other == origin) resting
+
+-- the message doesn't rest
+abbrev pub is_awake : List ℕ → HeldMessage → Bool
+is_awake resting held = not (rests held.message.origin resting)
 
 -- the message is of that origin
 abbrev pub is_of : ℕ → HeldMessage → Bool
@@ -18,6 +32,29 @@ found origin items = find (is_of origin) items
 
 abbrev pub is_held : ℕ → List HeldMessage → Bool
 is_held origin items = is_some (found origin items)
+
+-- the log of that packet and group among those of a held message
+abbrev pub log_of : ℕ → ℕ → Option HeldMessage → Option Logged
+log_of group packet None = None
+log_of group packet (Some held) = find (is_log_of packet group) held.message.logs
+
+-- the logs of the message rise
+abbrev pub are_rising : HeldMessage → Bool
+are_rising held = logs_rise None held.message.logs
+
+-- no two messages have one origin
+abbrev pub are_distinct : List HeldMessage → Bool
+are_distinct [] = true
+are_distinct (held ∷ items) = not (is_held held.message.origin items) && are_distinct items
+
+abbrev pub origins_of : List HeldMessage → List ℕ
+origins_of [] = []
+origins_of (held ∷ items) = held.message.origin ∷ origins_of items
+
+-- Each held message has its ticket, in the same order. So many there may be, and there is room for so many.
+pub record AreTicketed (items : List HeldMessage) (ticketed : List ℕ) (count most : ℕ) : Type 0 where
+  pub origins : ticketed ≡ origins_of items
+  pub room : count ≤ most
 
 -- the others, in their order
 abbrev pub without : ℕ → List HeldMessage → List HeldMessage

@@ -1,4 +1,5 @@
 pub mod Holding
+pub mod Tickets
 pub mod Replicas
 pub mod Standing
 pub mod Work
@@ -8,3 +9,4 @@ pub mod State
 pub mod Looks
 pub mod Steps
 pub mod Prepared
+pub mod Waiting

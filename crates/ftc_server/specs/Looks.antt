@@ -13,6 +13,7 @@ use Rattle.ftc_server.specs.declared.held.HeldMessage.{HeldMessage}
 use Rattle.ftc_server.specs.declared.recovering.GroupReplica.{GroupReplica}
 use Rattle.ftc_server.specs.declared.server.Server.{Server}
 use Rattle.ftc_server.specs.declared.work.Work.{Work}
+pub use Rattle.ftc_server.specs.Holding.{log_of}
 use Rattle.ftc_server.specs.Holding.{found}
 use Rattle.ftc_server.specs.Replicas.{replica_at, may_apply_to}
 use Rattle.ftc_server.specs.Standing.{is_last, onward}
@@ -30,11 +31,6 @@ origin_of held = held.message.origin
 -- the first held message, in the order of taking, that has work
 abbrev pub first_work_in : Server → Option ℕ
 first_work_in server = option_map origin_of (first_with_work server.others.items server.held.items)
-
--- the log of that packet and group among those of a held message
-abbrev pub log_of : ℕ → ℕ → Option HeldMessage → Option Logged
-log_of group packet None = None
-log_of group packet (Some held) = find (is_log_of packet group) held.message.logs
 
 abbrev pub log_in : Server → ℕ → ℕ → ℕ → Option Logged
 log_in server origin group packet = log_of group packet (found origin server.held.items)

@@ -35,6 +35,9 @@ may_apply replicas log = not (length log.writes == 0) && may_apply_to (replica_a
 abbrev pub is_ready : List (Option Held) → HeldMessage → Bool
 is_ready replicas held = list_all (is_had replicas) held.message.logs
 
+abbrev pub lacks_log : List (Option Held) → HeldMessage → Bool
+lacks_log replicas held = not (is_ready replicas held)
+
 -- no number is the greatest of 64 bits
 abbrev pub may_rise : List ℕ → Bool
 may_rise vector = list_all (λ number. nat_lt number (2 ^ 64 - 1)) vector

@@ -1,5 +1,5 @@
 -- What each call does to a server.
-use Rattle.std.specs.Prelude.{ℕ, ◌≡◌, ◌++◌, ◌∷◌, ◌==◌, ◌<◌, ◌&&◌, Bool, nat_lt, List, [], length, filter, Option, Some}
+use Rattle.std.specs.Prelude.{ℕ, ◌≡◌, ◌++◌, ◌∷◌, ◌==◌, ◌<◌, ◌≤◌, ◌&&◌, Bool, nat_lt, List, [], length, filter, Option, Some}
 use Rattle.std.specs.Prelude.{None, slice_set, if◌then◌else◌}
 use Rattle.ftc_base.specs.declared.ask.Write.{Write}
 use Rattle.ftc_base.specs.declared.ask.Finish.{Finish as End}
@@ -35,6 +35,11 @@ use Rattle.std.specs.FinMap.{empty}
 use Rattle.ftc_mbox.specs.declared.rule.Rule.{Rule}
 use Rattle.ftc_ring.specs.Ring.{RingShape}
 
+-- there is room for one more message, with so many logs
+pub record HasRoomFor (server : Server) (logs : ℕ) : Type 0 where
+  pub held : 1 ≤ server.held.spare
+  pub waits : logs ≤ server.waits.spare
+
 -- there may be more room, and nothing else differs
 pub record HasRoomed (old new : Server) : Type 0 where
   pub held : new.held.items ≡ old.held.items
@@ -54,7 +59,8 @@ pub record HasApplied (old new : Server) (origin group packet : ℕ) : Type 0 wh
   pub before : replica_at old.others.items group ≡ Some replica
   pub others : new.others.items ≡ with_applied old.others.items log
   pub known : new.known ≡ with_own old.ring old.id group (applied log replica).vector old.known
-  pub rest : fields_of new ≡ record (fields_of old) { others = new.others.items; known = new.known }
+  pub held : new.held.items ≡ old.held.items
+  pub rest : fields_of new ≡ record (fields_of old) { others = new.others.items; known = new.known; held = new.held }
 
 -- a slot begins the visit of a packet
 pub record HasBegun (old new : Server) (worker packet : ℕ) : Type 0 where
@@ -194,7 +200,8 @@ known_with ring id (new ∷ replicas) known =
 pub record HasInstalled (old new : Server) (replicas : List GroupReplica) : Type 0 where
   pub others : new.others.items ≡ with_installed replicas old.others.items
   pub known : new.known ≡ known_with old.ring old.id replicas old.known
-  pub rest : fields_of new ≡ record (fields_of old) { others = new.others.items; known = new.known }
+  pub held : new.held.items ≡ old.held.items
+  pub rest : fields_of new ≡ record (fields_of old) { others = new.others.items; known = new.known; held = new.held }
 
 -- the messages that lack a log are dropped
 pub record HasDropped (old new : Server) : Type 0 where

@@ -6,6 +6,7 @@ use Rattle.ftc_replica.specs.Held.{Held}
 use Rattle.ftc_server.specs.declared.held.HeldMessage.{HeldMessage}
 use Rattle.ftc_server.specs.declared.work.Work.{Work}
 use Rattle.ftc_server.specs.declared.work.Work.TheVariants.{Apply, Visit, Send, Carry}
+use Rattle.ftc_server.specs.Holding.{is_awake}
 use Rattle.ftc_server.specs.Replicas.{is_had, may_apply, is_ready}
 
 -- the packet of the log is that one
@@ -50,3 +51,7 @@ has_work replicas held = is_some (work_for replicas held)
 -- the first held message that has work
 abbrev pub first_with_work : List (Option Held) → List HeldMessage → Option HeldMessage
 first_with_work replicas items = find (has_work replicas) items
+
+-- the first that doesn't rest and has work
+abbrev pub first_awake : List ℕ → List (Option Held) → List HeldMessage → Option HeldMessage
+first_awake resting replicas items = find (λ held. is_awake resting held && has_work replicas held) items

@@ -10,6 +10,8 @@ ghost use Rattle.ftc_server.specs.Steps.{HasApplied};
 use crate::replicas::{apply, is_allowed, replica_of};
 use crate::server::Server;
 use crate::standing::learn;
+use crate::waiting::settle;
+use crate::waking::wake_changed;
 use ftc_base::{NoMemory, PacketNo, ServerId};
 use ftc_replica::Replica;
 use ftc_ring::Ring;
@@ -66,6 +68,7 @@ impl Server {
         let Some(log) = held.message.logs.find(packet, group) else {
             return Ok(());
         };
+        let changed = log.changed();
         apply(&mut self.others, log)?;
         learn_from(
             &mut self.known,
@@ -74,6 +77,9 @@ impl Server {
             group,
             self.others.as_slice(),
         );
+        let replicas = self.others.as_slice();
+        wake_changed(&mut self.waits, &mut self.held, replicas, group, changed);
+        settle(&mut self.held, replicas, origin);
         Ok(())
     }
 }

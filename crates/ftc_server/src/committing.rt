@@ -154,6 +154,8 @@ impl Server {
             &finish.writes,
             self.head.vector(),
         );
+        // The contract of this call tells that the logs rise.
+        let _ = visited.logs.len();
         self.held.visit(packet, visited);
         CommitAnswer::Done
     }

@@ -1,16 +1,21 @@
 //! The messages that a server holds.
 
-ghost use Rattle.std.specs.Prelude.{◌≡◌, ◌≤◌, ◌<◌, ◌+◌, ◌++◌, [], ◌∷◌, length, filter, OnOk, IsOk, slice_get, Some};
+ghost use Rattle.std.specs.Prelude.{◌≡◌, ◌≤◌, ◌<◌, ◌+◌, ◌++◌, ◌==◌, ◌&&◌, ◌||◌, ℕ, false, not, [], ◌∷◌, length, filter};
+ghost use Rattle.std.specs.Prelude.{OnOk, IsOk, IsNone, slice_get, Some};
 ghost use Rattle.std.specs.List.{position};
 ghost use Rattle.std.specs.Iterator.Runs.{YieldsRefsInOrder, YieldsRefsInReverse};
 ghost use Rattle.std.specs.Option.{option_copied};
 ghost use Rattle.std.specs.VecDeque.Iter.{deque_iter_rest, deque_iter_steps, deque_iter_steps_back};
-ghost use Rattle.ftc_server.specs.Holding.{is_of, found, is_held, without, with_changed};
+ghost use Rattle.ftc_server.specs.Holding.{rests, is_of, found, is_held, origins_of, without, with_changed};
 ghost use Rattle.ftc_server.specs.Replicas.{is_ready};
+ghost use Rattle.ftc_server.specs.Tickets.{AreDistinct};
 ghost use Rattle.ftc_server.specs.Visited.{visited_by};
+ghost use Rattle.ftc_server.specs.Work.{first_awake};
 
 use crate::replicas::are_had;
+use crate::tickets::Tickets;
 use crate::visited::Visited;
+use crate::work::has_work;
 use ftc_base::{NoMemory, PacketNo};
 use ftc_message::Message;
 use ftc_replica::Replica;
@@ -29,47 +34,49 @@ pub struct HeldMessage {
 }
 
 /// The held messages in the order of taking, which is mostly the order of leaving, so that taking out near the
-/// front moves few. A contract sees the list of them, and for how many more there is room.
+/// front moves few. A contract sees the list of them, the origins of those that rest, and for how many more there
+/// is room.
 #[derive(Debug, Drop)]
 pub struct HeldMessages {
     list: VecDeque<HeldMessage>,
+    tickets: Tickets,
 }
 
 impl Model for HeldMessages {
-    ghost use Rattle.std.specs.Prelude.{◌-◌};
+    ghost use Rattle.std.specs.Prelude.{◌+◌};
     ghost use Rattle.std.specs.VecDeque.{deque_len, deque_capacity};
-    ghost use Rattle.ftc_server.specs.Holding.{Holding};
+    ghost use Rattle.ftc_server.specs.Holding.{Holding, AreTicketed};
 
     ghost Value = { Holding };
 
     ghost view = { λ held. record {
       items = held.list.items;
-      spare = deque_capacity held.list - deque_len held.list;
+      resting = held.tickets.resting;
+      spare = held.tickets.spare;
     } };
-}
 
-/// Where the message of that origin stands.
-fn place_of(list: &VecDeque<HeldMessage>, origin: PacketNo) -> Option<usize>
-    ensures { result ≡ position (is_of origin) list.now.items }
-{
-    list.iter().position(|held| held.message.origin == origin)
+    ghost invariant = { λ held. AreTicketed held.list.items held.tickets.origins
+        (deque_len held.list + held.tickets.spare) (deque_capacity held.list) };
 }
 
 impl HeldMessages {
     /// Nothing is held.
     pub fn new(alloc: Global) -> HeldMessages
-        ensures { result.items ≡ [] }
+        ensures items { result.items ≡ [] }
+        ensures resting { result.resting ≡ [] }
     {
         HeldMessages {
             list: VecDeque::new(alloc),
+            tickets: Tickets::new(alloc),
         }
     }
 
-    /// How many are held.
+    /// How many are held. No two of them have one origin.
     pub fn len(&self) -> usize
-        ensures { result ≡ length self.now.items }
+        ensures size { result ≡ length self.now.items }
+        ensures distinct { AreDistinct (origins_of self.now.items) }
     {
-        self.list.len()
+        self.tickets.len()
     }
 
     /// The message at a place, in the order of taking.
@@ -89,57 +96,115 @@ impl HeldMessages {
         self.list.iter()
     }
 
+    /// Where the message of that origin stands.
+    fn place_of(&self, origin: PacketNo) -> Option<usize>
+        ensures place { result ≡ position (is_of origin) self.now.items }
+        ensures none { IsNone result → rests origin self.now.resting ≡ false }
+    {
+        self.tickets.place_of(origin)
+    }
+
     /// The message of that origin.
     pub fn get(&self, origin: PacketNo) -> Option<&HeldMessage>
         ensures { option_copied result ≡ found origin self.now.items }
     {
-        self.list.iter().find(|held| held.message.origin == origin)
+        let place = self.place_of(origin)?;
+        Some(&self.list[place])
+    }
+
+    /// The first message, in the order of taking, that doesn't rest and has work.
+    pub fn first_with_work(&self, replicas: &[Option<Replica>]) -> Option<&HeldMessage>
+        ensures { option_copied result ≡ first_awake self.now.resting replicas.now self.now.items }
+    {
+        for nth in 0..self.tickets.awake() {
+            let held = &self.list[self.tickets.awake_at(nth)];
+            if has_work(replicas, held) {
+                return Some(held);
+            }
+        }
+        None
     }
 
     /// Makes room for so many more.
     pub fn reserve(&mut self, count: usize) -> Result<(), NoMemory>
         ensures ok { OnOk result (count ≤ self.new.spare) }
         ensures items { self.new.items ≡ self.old.items }
+        ensures resting { self.new.resting ≡ self.old.resting }
         ensures spare { self.old.spare ≤ self.new.spare }
         ensures succeeds { count ≤ self.old.spare → IsOk result }
     {
         self.list.reserve(count)?;
+        self.tickets.reserve(count)?;
         Ok(())
     }
 
-    /// Holds one more, behind the others. There is room for it.
+    /// Holds one more, behind the others. It doesn't rest. There is room for it, and no message of its origin is held.
     pub fn hold(&mut self, held: HeldMessage)
-        requires { 1 ≤ self.old.spare }
+        requires room { 1 ≤ self.old.spare }
+        requires new { is_held held.message.origin self.old.items ≡ false }
         ensures items { self.new.items ≡ self.old.items ++ held ∷ [] }
+        ensures resting { self.new.resting ≡ self.old.resting }
+        ensures awake { rests held.message.origin self.new.resting ≡ false }
         ensures spare { self.old.spare ≤ self.new.spare + 1 }
     {
+        self.tickets.add(held.message.origin);
         self.list.push_back_reserved(held);
     }
 
     /// The packet of the message of that origin was visited. It is another or none from now on, and the
     /// message has other logs and needs.
     pub fn visit(&mut self, origin: PacketNo, visited: Visited)
-        ensures { self.new.items ≡ with_changed origin (visited_by visited) self.old.items }
+        ensures items { self.new.items ≡ with_changed origin (visited_by visited) self.old.items }
+        ensures resting { self.new.resting ≡ self.old.resting }
+        ensures spare { self.new.spare ≡ self.old.spare }
     {
-        match place_of(&self.list, origin) {
+        match self.place_of(origin) {
             Some(place) => change(&mut self.list[place], visited),
             None => {}
         }
+    }
+
+    /// The message of that origin rests: it is passed over where one with work is looked for.
+    pub fn rest(&mut self, origin: PacketNo)
+        ensures items { self.new.items ≡ self.old.items }
+        ensures resting { (other : ℕ) → rests other self.new.resting
+            ≡ rests other self.old.resting || (other == origin && is_held origin self.old.items) }
+        ensures spare { self.new.spare ≡ self.old.spare }
+    {
+        self.tickets.rest(origin);
+    }
+
+    /// The message of that origin rests no more. No memory is taken.
+    pub fn rouse(&mut self, origin: PacketNo)
+        ensures items { self.new.items ≡ self.old.items }
+        ensures resting { (other : ℕ) → rests other self.new.resting
+            ≡ rests other self.old.resting && not (other == origin) }
+        ensures spare { self.new.spare ≡ self.old.spare }
+    {
+        self.tickets.rouse(origin);
     }
 
     /// Takes the message of that origin out. The others stay in their order.
     pub fn take_out(&mut self, origin: PacketNo) -> Option<HeldMessage>
         ensures taken { result ≡ found origin self.old.items }
         ensures others { self.new.items ≡ without origin self.old.items }
+        ensures resting { (other : ℕ) → rests other self.new.resting
+            ≡ rests other self.old.resting && not (other == origin) }
+        ensures spare { self.new.spare ≡ self.old.spare }
     {
-        let place = place_of(&self.list, origin)?;
+        let place = self.place_of(origin)?;
+        self.tickets.take_out(place);
         self.list.remove(place)
     }
 
     /// Drops the messages whose logs these replicas haven't all. The others stay in their order.
     pub fn drop_unready(&mut self, replicas: &[Option<Replica>])
-        ensures { self.new.items ≡ filter (is_ready replicas.now) self.old.items }
+        ensures items { self.new.items ≡ filter (is_ready replicas.now) self.old.items }
+        ensures resting { (other : ℕ) → rests other self.new.resting
+            ≡ rests other self.old.resting && is_held other self.new.items }
+        ensures spare { self.new.spare ≡ self.old.spare }
     {
+        self.tickets.keep_ready(&self.list, replicas);
         self.list
             .retain(|held| are_had(replicas, held.message.logs.as_slice()));
     }

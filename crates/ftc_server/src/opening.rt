@@ -14,7 +14,7 @@ use crate::standing::{is_later_member, learn};
 use ftc_base::{NoMemory, ServerId};
 use ftc_edge::{Buffer, Forwarder};
 use ftc_mbox::Rule;
-use ftc_replica::{Kept, Replica};
+use ftc_replica::{Kept, Replica, Waits};
 use ftc_ring::Ring;
 use ftc_txn::Head;
 use ftc_vector::Commits;
@@ -111,6 +111,7 @@ impl Server {
             others,
             known,
             held: HeldMessages::new(alloc),
+            waits: Waits::new(alloc),
             buffer: Buffer::new(alloc),
             forwarder: Forwarder::new(alloc),
         })

@@ -5,15 +5,15 @@ ghost use Rattle.std.specs.List.{list_all};
 ghost use Rattle.ftc_server.specs.Replicas.{AreOfSame};
 ghost use Rattle.ftc_server.specs.Slots.{slots_are_ready};
 ghost use Rattle.ftc_server.specs.State.{fields_of};
-ghost use Rattle.ftc_server.specs.State.{fields_of};
 ghost use Rattle.ftc_server.specs.Looks.{is_later_of};
 ghost use Rattle.ftc_server.specs.Steps.{with_installed, known_with, HasInstalled, HasDropped, HasPruned};
 
 use crate::replicas;
 use crate::server::Server;
 use crate::standing::learn;
+use crate::watching::{count_logs, settle_all, watch_all};
 use ftc_base::{Items, NoMemory, ServerId};
-use ftc_replica::Replica;
+use ftc_replica::{Replica, Waits};
 use ftc_ring::Ring;
 use ftc_vector::Commits;
 
@@ -56,6 +56,8 @@ impl Server {
         ensures ok { OnOk result (HasInstalled self.old self.new news) }
         ensures err { OnErr result (fields_of self.new ≡ fields_of self.old) }
     {
+        let mut waits = Waits::new(self.alloc);
+        waits.reserve(count_logs(&self.held)?)?;
         put_all(
             &mut self.others,
             &mut self.known,
@@ -63,6 +65,10 @@ impl Server {
             self.id,
             news.into_vec(),
         );
+        let replicas = self.others.as_slice();
+        watch_all(&mut waits, &self.held, replicas);
+        self.waits = waits;
+        settle_all(&mut self.held, replicas);
         Ok(())
     }
 
@@ -72,6 +78,9 @@ impl Server {
         ensures { HasDropped self.old self.new }
     {
         self.held.drop_unready(self.others.as_slice());
+        // What is left lacks nothing, so that nothing waits or rests.
+        self.waits = Waits::new(self.alloc);
+        settle_all(&mut self.held, self.others.as_slice());
     }
 
     /// Drops the kept logs that are known at the tails of their groups.

@@ -4,14 +4,16 @@ ghost use Rattle.std.specs.Prelude.{◌≡◌, ◌≤◌, ◌<◌, ℕ, true, le
 ghost use Rattle.std.specs.List.{list_all};
 ghost use Rattle.ftc_base.specs.declared.limits.TheConstants.{MOST_PARTITIONS};
 ghost use Rattle.ftc_server.specs.Replicas.{replica_at};
+ghost use Rattle.ftc_server.specs.Holding.{are_distinct, are_rising};
 ghost use Rattle.ftc_server.specs.Standing.{is_later_member};
 ghost use Rattle.ftc_server.specs.Slots.{AreSlots, is_open};
+ghost use Rattle.ftc_server.specs.Waiting.{AreWatched, is_unreached};
 
 use crate::held::HeldMessages;
 use ftc_base::ServerId;
 use ftc_edge::{Buffer, Forwarder};
 use ftc_mbox::Rule;
-use ftc_replica::{Kept, Replica};
+use ftc_replica::{Kept, Replica, Waits};
 use ftc_ring::Ring;
 use ftc_txn::Head;
 use ftc_vector::Commits;
@@ -35,6 +37,8 @@ pub struct Server {
     /// What it knows to be at the tails. Of the group whose last member it is, it knows all that it has.
     pub known: Commits,
     pub held: HeldMessages,
+    /// What the logs wait for that held messages lack and that can't be applied yet.
+    pub waits: Waits,
     /// What is behind it where it is the last server, and in front of it where it is the first.
     pub buffer: Buffer,
     pub forwarder: Forwarder,
@@ -48,4 +52,8 @@ pub struct Server {
         is_some (replica_at others.items group) ≡ is_later_member ring group id },
     ghost open: { list_all (is_open id) held.items ≡ true },
     ghost slots: { ∥ AreSlots rule head held.items ∥₁ },
+    ghost distinct: { are_distinct held.items ≡ true },
+    ghost rising: { list_all are_rising held.items ≡ true },
+    ghost watched: { AreWatched others.items held.items held.resting waits.items },
+    ghost unreached: { list_all (is_unreached others.items) waits.items ≡ true },
 }

@@ -3,6 +3,9 @@ ghost use Rattle.ftc_base.specs.Sets.{has};
 ghost use Rattle.ftc_vector.specs.Vector.{mark_at};
 ghost use Rattle.ftc_server.specs.Replicas.{may_rise};
 
+mod handing;
+mod resting;
+
 use crate::{Server, Work, rising};
 use ftc_base::limits::{MOST_PARTITIONS, MOST_SERVERS};
 use ftc_base::{Key, NoMemory, PacketNo, PartSet, ServerId, Value, Write, Writes};

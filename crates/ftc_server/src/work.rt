@@ -72,7 +72,7 @@ pub fn work_for(replicas: &[Option<Replica>], held: &HeldMessage) -> Option<Work
 }
 
 /// Whether a held message has work.
-fn has_work(replicas: &[Option<Replica>], held: &HeldMessage) -> bool
+pub fn has_work(replicas: &[Option<Replica>], held: &HeldMessage) -> bool
     ensures { result ≡ has_work replicas.now held.now }
 {
     work_for(replicas, held).is_some()
@@ -98,7 +98,9 @@ impl Server {
         ensures { result ≡ first_work_in self.now }
     {
         let replicas = self.others.as_slice();
-        let held = self.held.iter().find(|held| has_work(replicas, held))?;
-        Some(held.message.origin)
+        match self.held.first_with_work(replicas) {
+            Some(held) => Some(held.message.origin),
+            None => None,
+        }
     }
 }

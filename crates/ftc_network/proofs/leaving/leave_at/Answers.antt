@@ -1,9 +1,17 @@
-use Rattle.std.proofs.Common.{◌≡◌, ◌∙◌, true, false, sym, ap, subst}
+use Rattle.std.proofs.Common.{◌≡◌, ◌≤◌, ◌+◌, ◌∙◌, ◌++◌, Bool, true, false, List, Option, Some, None, length, cond, sym, ap}
+use Rattle.std.proofs.Common.{subst, arith}
+use Rattle.std.proofs.lemmas.List.{length-append}
 use Rattle.std.proofs.Math.Bool.{Bool-set}
 use Rattle.std.proofs.Math.Logic.{∥∥₁_elim}
 use Rattle.std.specs.Prelude.{is_some}
 use Rattle.ftc_protocol.specs.Next.{next}
+use Rattle.ftc_edge.specs.declared.buffer.Withheld.{Withheld}
+use Rattle.ftc_server.specs.declared.held.HeldMessage.{HeldMessage}
+use Rattle.ftc_server.specs.Holding.{found}
+use Rattle.ftc_server.specs.Standing.{is_last}
 use Rattle.ftc_server.specs.State.{ServerState}
+use Rattle.ftc_server.specs.Steps.{withheld_with, withheld_of}
+use Rattle.ftc_network.specs.Parts.{buffer_of}
 use Rattle.ftc_standing.specs.Stand.{IsLink}
 use Rattle.ftc_standing.specs.View.{leaving}
 use Rattle.ftc_refinement.specs.Contents.{IsServerAt}
@@ -116,3 +124,35 @@ pub returns-in_err-send_on-in-Some-clause-heads : goal.returns-in_err-send_on-in
 returns-in_err-send_on-in-Some-clause-heads c =
     same_head c.args.slot.now c.in-Some.live c.outgoing.new.self c.in-Some.is
     (ap (λ (s : ServerState). s.head) c.in_ok-message-in-Some.ensures.same.rest)
+
+pub returns-in_err-message-in-Some-clause-slot : goal.returns-in_err-message-in-Some-clause-slot
+returns-in_err-message-in-Some-clause-slot c = as_err c.from_residual.result _
+    (buffered_still c.args.slot.now c.in-Some.live c.outgoing.new.self c.in-Some.is c.in_err-message-in-Some.ensures.same
+    (λ setting state number at room. c.what_stays.ensures.buffered setting state number c.in-Some.live
+    c.outgoing.new.self at room))
+
+-- at most one packet is withheld
+few_withheld : (held : Option HeldMessage) → length (withheld_of held) ≤ 1
+few_withheld None = omega arith
+few_withheld (Some held) =
+    elim held.message.packet as (λ p. length (withheld_with held.message.origin held.message.needs p) ≤ 1) [
+      | None ↦ omega arith
+      | Some bytes ↦ omega arith
+    ]
+
+one_more : (last : Bool) (old more : List Withheld) → length more ≤ 1 →
+    length (cond last (old ++ more) old) ≤ length old + 1
+one_more true old more few = let whole = length-append old more in omega (arith, whole, few)
+one_more false old more few = omega arith
+
+pub returns-in_ok-send_on-in-Some-clause-withheld : goal.returns-in_ok-send_on-in-Some-clause-withheld
+returns-in_ok-send_on-in-Some-clause-withheld c =
+    let live = c.in-Some.live in
+    let roomed = c.outgoing.new.self in
+    let held = found c.args.origin roomed.held.items in
+    let most = one_more (is_last roomed.ring roomed.id) roomed.buffer.items (withheld_of held) (few_withheld held) in
+    let now = ap (λ (items : List Withheld). length items) c.pass.ensures.buffer in
+    let before : length roomed.buffer.items ≡ length (buffer_of c.args.slot.now) =
+    ap (λ (items : List Withheld). length items)
+    (c.in_ok-message-in-Some.ensures.same.buffer ∙ sym (ap buffer_of c.in-Some.is)) in
+    omega (arith, most, now, before)

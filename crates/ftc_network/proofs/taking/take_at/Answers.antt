@@ -52,6 +52,12 @@ returns-in_err-make_room-in-Some-clause-slot c =
     c.make_room.ensures.same (λ setting state number at fields.
     c.what_stays.ensures.roomed setting state number c.in-Some.server c.make_room.new.self at fields))
 
+pub returns-in_err-message-in-Some-clause-slot : goal.returns-in_err-message-in-Some-clause-slot
+returns-in_err-message-in-Some-clause-slot c =
+    as_err c.from_residual-in_err-message-in-Some.result _ (roomed_still c.args.slot.now c.in-Some.server
+    c.make_room.new.self c.in-Some.is c.make_room.ensures.same (λ setting state number at fields.
+    c.what_stays.ensures.roomed setting state number c.in-Some.server c.make_room.new.self at fields))
+
 pub take-requires-clause-new : goal.take-requires-clause-new
 take-requires-clause-new c =
     let takes : TakesOldest c.args.link.now c.take_from.new.link c.in-Some-2.message =

@@ -83,7 +83,7 @@ returns c setting state link tail old new sender news run legal inside tail_is s
     old.buffer.items new.forwarder old.forwarder
     (same_own new old (ap (λ (s : ServerState). s.head) done.rest) (ap (λ (s : ServerState). s.own.items) done.rest))
     done.others knows
-    (ap (λ (s : ServerState). items_of s.held.items) done.rest)
+    (ap items_of done.held)
     (ap (λ (s : ServerState). s.buffer.items) done.rest)
     (ap (λ (s : ServerState). s.forwarder) done.rest))
     (c.a_server_has_pulled.ensures.receiver setting state link tail (contents_of old)

@@ -138,7 +138,7 @@ returns-clause-ok c setting state run legal is =
     (λ tail old new sender news below its shared is_old is_sender are done. c.what_install_does.ensures setting state
     link tail
     old new sender news run legal below its shared is_old is_sender are done)
-    (λ old new stands fields. c.what_stays.ensures.same setting after receiver old new stands fields)
+    (λ old new stands roomed. c.what_stays.ensures.roomed setting after receiver old new stands roomed)
     (λ old new at at_after only ready. c.slots_stay_ready.ensures setting state
     (event.Pull link) receiver old new run legal
     at at_after only ready)

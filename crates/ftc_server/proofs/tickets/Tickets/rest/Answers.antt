@@ -1,0 +1,85 @@
+use Rattle.std.proofs.Common.{◌∙◌, ◌&&◌, ◌||◌, sym, ap, refl, ℕ, Bool, true, arith}
+use Rattle.std.specs.Prelude.{◌==◌, nat_eq}
+use Rattle.std.specs.Map.{lookup}
+use Rattle.std.specs.List.{position}
+use Rattle.ftc_server.specs.declared.tickets.Ticket.{Ticket}
+use Rattle.ftc_server.specs.Holding.{rests}
+use Rattle.ftc_server.specs.Tickets.{Ticketing, is_same}
+use Rattle.ftc_server.proofs.Ticketing.{rising_awake, position_none}
+use Rattle.ftc_server.proofs.Resting.{rested_tickets, origins_set, rests_rested, none_rested, place_within, changed_of}
+use Rattle.ftc_server.proofs.Resting.{now_rests, and_true}
+use Rattle.ftc_server.proofs.tickets.Tickets.rest.Goals as goal
+
+pub returns-in_default-clause-resting : goal.returns-in_default-clause-resting
+returns-in_default-clause-resting c = λ other.
+    let isnt = position_none c.args.self.now.origins c.args.origin (sym c.place_of.ensures.place ∙ c.in_default.is) in
+    none_rested (rests other c.args.self.now.resting) (other == c.args.origin)
+    ∙ ap (λ (t : Bool). rests other c.args.self.now.resting || ((other == c.args.origin) && t)) (sym isnt)
+
+pub index-requires : goal.index-requires
+index-requires c =
+    let there = ap (λ (view : Ticketing). position (is_same c.args.origin) view.origins) c.self.view_is
+    ∙ sym c.place_of.ensures.place ∙ c.in-Some.is in
+    let within = place_within c.self.inside.list.items c.in-Some.place c.args.origin there in
+    omega (arith, c.self.inside.list.ok)
+
+pub index_mut-requires : goal.index_mut-requires
+index_mut-requires c =
+    let there = ap (λ (view : Ticketing). position (is_same c.args.origin) view.origins) c.self.view_is
+    ∙ sym c.place_of.ensures.place ∙ c.in-Some.is in
+    let within = place_within c.self.inside.list.items c.in-Some.place c.args.origin there in
+    omega (arith, c.self.inside.list.ok)
+
+pub take_number-requires : goal.take_number-requires
+take_number-requires c = rw c.self.invariant.0.awake (rising_awake 0 c.self.inside.list.items c.self.invariant.0.rising)
+
+pub invariant_of-self : goal.invariant_of-self
+invariant_of-self c =
+    let tickets = c.self.inside.list.items in
+    let lent = c.index_mut.result.now in
+    let there = ap (λ (view : Ticketing). position (is_same c.args.origin) view.origins) c.self.view_is
+    ∙ sym c.place_of.ensures.place ∙ c.in-Some.is in
+    let changed = changed_of tickets c.in-Some.place c.index.result.now lent c.args.origin there c.index.ensures
+    c.index_mut.ensures.value in (
+      rw (c.take_number.ensures.items, ← ap (λ (t : Ticket). t.number) changed.same)
+          (rested_tickets tickets c.in-Some.place lent (record lent { rests = true })
+          (λ origin. lookup (nat_eq origin) c.self.inside.by_origin.entries)
+          c.self.inside.awake.items c.self.inside.next
+          c.self.invariant.0 changed.of.within c.index_mut.ensures.value
+          (record { number = refl; origin = refl }) refl),
+      record {
+        list = c.self.invariant.1.list;
+        awake = omega (arith, c.self.invariant.1.awake, c.take_number.ensures.capacity);
+        map = c.self.invariant.1.map;
+        left = c.self.invariant.1.left;
+      },
+    )
+
+pub returns-clause-origins : goal.returns-clause-origins
+returns-clause-origins c =
+    let tickets = c.self.inside.list.items in
+    let lent = c.index_mut.result.now in
+    let there = ap (λ (view : Ticketing). position (is_same c.args.origin) view.origins) c.self.view_is
+    ∙ sym c.place_of.ensures.place ∙ c.in-Some.is in
+    origins_set tickets c.in-Some.place lent (record lent { rests = true })
+    (place_within tickets c.in-Some.place c.args.origin there) c.index_mut.ensures.value
+    (record { number = refl; origin = refl })
+    ∙ ap (λ (view : Ticketing). view.origins) c.self.view_is
+
+pub returns-clause-resting : goal.returns-clause-resting
+returns-clause-resting c = λ other.
+    let tickets = c.self.inside.list.items in
+    let lent = c.index_mut.result.now in
+    let there = ap (λ (view : Ticketing). position (is_same c.args.origin) view.origins) c.self.view_is
+    ∙ sym c.place_of.ensures.place ∙ c.in-Some.is in
+    let changed = changed_of tickets c.in-Some.place c.index.result.now lent c.args.origin there c.index.ensures
+    c.index_mut.ensures.value in
+    let old = c.args.self.now in
+    rests_rested tickets c.in-Some.place lent (record lent { rests = true }) other changed.of.within
+    c.index_mut.ensures.value (record { number = refl; origin = refl }) refl
+    ∙ ap (λ (view : Ticketing). rests other view.resting || (other == lent.origin)) c.self.view_is
+    ∙ ap (λ (origin : ℕ). rests other old.resting || (other == origin))
+    (ap (λ (t : Ticket). t.origin) changed.same ∙ changed.of.same)
+    ∙ ap (λ (t : Bool). rests other old.resting || t) (and_true (other == c.args.origin))
+    ∙ ap (λ (t : Bool). rests other old.resting || ((other == c.args.origin) && t))
+    (sym (now_rests old.origins c.in-Some.place c.args.origin (sym c.place_of.ensures.place ∙ c.in-Some.is)))
