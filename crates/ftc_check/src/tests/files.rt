@@ -102,6 +102,7 @@ fn files_of_one_run_are_right(rt: HostRuntime) -> Result<(), Fail> {
 fn the_first_event_that_is_not_allowed_is_named(rt: HostRuntime) -> Result<(), Fail> {
     let alloc = rt.alloc();
     for (journal, event) in [
+        ("ftc-journal 2\npass 0 0\n", 0),
         (
             "ftc-journal 2\nvisit 0 0 63\nenter 0\npass 0 0\nrelease 0\n",
             0,
