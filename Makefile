@@ -9,7 +9,7 @@ JUDGED_SETS = middleboxes ring loss crash
 
 SOURCES := $(shell find crates crates.txt -name out -prune -o -type f -print)
 
-.PHONY: build demo test edits lines refusals bench install uninstall clean
+.PHONY: build demo test edits lines wakes trial refusals bench install uninstall clean
 
 # Where `make install` puts the program and its manual page.
 PREFIX ?= /usr/local
@@ -38,8 +38,9 @@ test:
 	mkdir -p bin
 	cp crates/ftc/out/ftc bin/ftc
 	edits/try --match
+	$(MAKE) lines wakes
 	@if [ -x "$(CASES)/compare" ]; then \
-		$(MAKE) lines && FTC="$$PWD/bin/ftc" "$(CASES)/compare" examples/alone $(addprefix $(CASES)/,$(CASE_SETS)) && \
+		FTC="$$PWD/bin/ftc" "$(CASES)/compare" examples/alone $(addprefix $(CASES)/,$(CASE_SETS)) && \
 		"$(CASES)/judge" bin/ftc $(addprefix $(CASES)/,$(JUDGED_SETS)); \
 	fi
 
@@ -48,9 +49,18 @@ test:
 edits:
 	edits/try
 
-# What the program says on standard error, and its exit codes.
+# What the program says on standard error and on standard output, and its exit codes.
 lines: bin/ftc
 	./examples/lines bin/ftc out/lines
+
+# Small runs of many workers, each of which has to end in time: some seconds.
+wakes: bin/ftc
+	./examples/wakes bin/ftc out/wakes
+
+# Some hundreds of random chains with random captures, scripts and schedules, each run checked. Each time they are others,
+# by a seed that is told.
+trial: bin/ftc
+	./examples/trial bin/ftc out/trial
 
 # What the program does where memory is refused, at each allocation of small runs and of the other commands: it takes
 # some minutes.
