@@ -2,6 +2,7 @@ pub mod Sets
 pub mod Padding
 pub mod Partition
 pub mod Text
+pub mod Comment
 pub mod Number
 pub mod Endpoint
 pub mod Ask

@@ -14,7 +14,7 @@ use std::cmp::Ordering;
 use std::hash::{Hash, Hasher};
 use std::marker::Model;
 
-/// A key: 1 to 16 bytes. Keys are ordered by their bytes.
+/// A key: at least one byte, and at most `MOST_KEY_BYTES`. Keys are ordered by their bytes.
 #[derive(Clone, Copy, Debug)]
 pub struct Key {
     bytes: [u8; MOST_KEY_BYTES],
@@ -24,19 +24,20 @@ pub struct Key {
 impl Model for Key {
     ghost use Rattle.std.specs.Prelude.{◌≡◌, ◌≤◌, ◌-◌, ◌++◌, ℕ, List, take, drop, length, replicate, refl};
     ghost use Rattle.ftc_base.specs.Padding.{padded, padded-take, length-front};
+    ghost use Rattle.ftc_base.specs.declared.limits.TheConstants.{MOST_KEY_BYTES};
 
     ghost Value = { List ℕ };
 
     ghost view = { λ key. take key.len key.bytes };
 
-    ghost invariant = { λ key. (length key.bytes ≡ 16) × (1 ≤ key.len) × (key.len ≤ 16)
-        × (drop key.len key.bytes ≡ replicate (16 - key.len) 0) };
+    ghost invariant = { λ key. (length key.bytes ≡ MOST_KEY_BYTES) × (1 ≤ key.len) × (key.len ≤ MOST_KEY_BYTES)
+        × (drop key.len key.bytes ≡ replicate (MOST_KEY_BYTES - key.len) 0) };
 
-    ghost inverse = { λ bytes. record { bytes = padded bytes; len = length bytes } };
+    ghost inverse = { λ bytes. record { bytes = padded MOST_KEY_BYTES bytes; len = length bytes } };
 
     ghost inverse_ok = { λ key held. rw (
-      padded-take key.bytes key.len held.0 held.2 held.3,
-      length-front key.bytes key.len held.0 held.2,
+      padded-take MOST_KEY_BYTES key.bytes key.len held.0 held.2 held.3,
+      length-front MOST_KEY_BYTES key.bytes key.len held.0 held.2,
     ) refl };
 }
 
@@ -125,7 +126,7 @@ impl Hash for Key {
     }
 }
 
-/// A value: 0 to 16 bytes.
+/// A value: at most `MOST_VALUE_BYTES` bytes.
 #[derive(Clone, Copy, Debug)]
 pub struct Value {
     bytes: [u8; MOST_VALUE_BYTES],
@@ -135,19 +136,20 @@ pub struct Value {
 impl Model for Value {
     ghost use Rattle.std.specs.Prelude.{◌≡◌, ◌≤◌, ◌-◌, ◌++◌, ℕ, List, take, drop, length, replicate, refl};
     ghost use Rattle.ftc_base.specs.Padding.{padded, padded-take, length-front};
+    ghost use Rattle.ftc_base.specs.declared.limits.TheConstants.{MOST_VALUE_BYTES};
 
     ghost Value = { List ℕ };
 
     ghost view = { λ value. take value.len value.bytes };
 
-    ghost invariant = { λ value. (length value.bytes ≡ 16) × (value.len ≤ 16)
-        × (drop value.len value.bytes ≡ replicate (16 - value.len) 0) };
+    ghost invariant = { λ value. (length value.bytes ≡ MOST_VALUE_BYTES) × (value.len ≤ MOST_VALUE_BYTES)
+        × (drop value.len value.bytes ≡ replicate (MOST_VALUE_BYTES - value.len) 0) };
 
-    ghost inverse = { λ bytes. record { bytes = padded bytes; len = length bytes } };
+    ghost inverse = { λ bytes. record { bytes = padded MOST_VALUE_BYTES bytes; len = length bytes } };
 
     ghost inverse_ok = { λ value held. rw (
-      padded-take value.bytes value.len held.0 held.1 held.2,
-      length-front value.bytes value.len held.0 held.1,
+      padded-take MOST_VALUE_BYTES value.bytes value.len held.0 held.1 held.2,
+      length-front MOST_VALUE_BYTES value.bytes value.len held.0 held.1,
     ) refl };
 }
 

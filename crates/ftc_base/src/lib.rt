@@ -4,6 +4,7 @@
 
 mod ask;
 mod bytes;
+mod comment;
 mod decimal;
 mod endpoint;
 mod ids;
@@ -20,6 +21,7 @@ mod split;
 
 pub use ask::{Answer, Answers, Ask, Change, Finish, Verdict, Write, Writes};
 pub use bytes::{Bytes, Lines};
+pub use comment::is_comment;
 pub use decimal::number;
 pub use endpoint::{address, net};
 pub use ids::{PacketNo, ServerId, WorkerId};
@@ -31,7 +33,7 @@ pub use partition::partition_of;
 pub use refusal::{NoMemory, Refuse};
 pub use released::{Released, ReleasedList};
 pub use sets::{PartSet, ServerSet, WorkerSet, same_members};
-pub use split::{split_line, split_part, split_word};
+pub use split::{part_len, split_line, split_part, split_word};
 
 #[cfg(test)]
 mod tests;

@@ -1,8 +1,9 @@
 -- What one word of a chain text says, and which cause it has where it says nothing.
-use Rattle.std.specs.Prelude.{ℕ, ◌≤◌, Bool, false, ◌&&◌, ◌||◌, ◌==◌, nat_le, List, [], ◌∷◌, Result, Ok, Err}
+use Rattle.std.specs.Prelude.{ℕ, ◌≤◌, Bool, ◌&&◌, ◌||◌, ◌==◌, nat_le, List, Result, Ok, Err}
 use Rattle.std.specs.Prelude.{if◌then◌else◌, codes}
 use Rattle.std.specs.List.{before_first, after_first, list_any}
 use Rattle.std.specs.Str.{bytes_eq}
+pub use Rattle.ftc_base.specs.Comment.{is_comment}
 use Rattle.ftc_base.specs.Reading.{◌>>=◌, ◌>>◌, unless}
 use Rattle.ftc_base.specs.Number.{number_of}
 use Rattle.ftc_base.specs.Endpoint.{address_of, net_of}
@@ -16,11 +17,6 @@ use Rattle.ftc_conf.specs.declared.ports.PortRange.{PortRange}
 -- the bytes of lines that say something: those that can be seen, space, tab and carriage return
 abbrev pub is_text_byte : ℕ → Bool
 is_text_byte b = (nat_le 32 b && nat_le b 126) || b == 9 || b == 13
-
--- a first word that makes its line a comment
-abbrev pub is_comment : List ℕ → Bool
-is_comment [] = false
-is_comment (b ∷ bs) = b == 35
 
 -- a word that has to stand just so
 abbrev pub fixed : List ℕ → List ℕ → Result (Unit {0}) ChainCause

@@ -17,9 +17,9 @@ use crate::limits::MOST_FAILURES;
 use crate::nat::nat;
 use crate::statement::{Form, Statement};
 use crate::values::number_from_to;
-use crate::words::{is_comment, is_same, is_text, next_word, no_words};
+use crate::words::{is_same, is_text, next_word, no_words};
 use ftc_base::limits::{MOST_MONITOR_GROUPS, MOST_PARTITIONS};
-use ftc_base::{Refuse, split_word};
+use ftc_base::{Refuse, is_comment, split_word};
 use ftc_mbox::Rule;
 use std::alloc::Global;
 

@@ -1,14 +1,13 @@
 //! Numbers, addresses and nets, as words or parts of words.
 
-ghost use Rattle.std.specs.Prelude.{◌≡◌, ◌≤◌, ◌==◌, length, IfOk};
-ghost use Rattle.std.specs.List.{position_or_len};
+ghost use Rattle.std.specs.Prelude.{◌≡◌, ◌≤◌, IfOk};
 ghost use Rattle.ftc_base.specs.Endpoint.{IsNet};
 ghost use Rattle.ftc_conf.specs.Words.{number_word, number_from_to, address_word, net_word, part_before, part_behind};
 ghost use Rattle.ftc_conf.specs.Words.{has_byte};
 
 use crate::fault::ChainCause;
 use crate::limits::MOST_NUMBER;
-use ftc_base::{Net, address, net, number};
+use ftc_base::{Net, address, net, number, part_len};
 
 /// A number without a bound of its own.
 pub fn number_word(word: &[u8]) -> Result<u32, ChainCause>
@@ -53,18 +52,6 @@ pub fn net_word(word: &[u8]) -> Result<Net, ChainCause>
         Ok(value) => Ok(value),
         Err(_) => Err(ChainCause::BadAddress),
     }
-}
-
-fn part_len(word: &[u8], separator: u8) -> usize
-    ensures length { result ≡ position_or_len (λ b. b == separator) word.now }
-    ensures within { result ≤ length word.now }
-{
-    for (i, b) in word.iter().enumerate() {
-        if *b == separator {
-            return i;
-        }
-    }
-    word.len()
 }
 
 /// The parts before and behind the first separator. Where there is none, the second part is empty.

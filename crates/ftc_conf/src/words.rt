@@ -4,7 +4,7 @@ ghost use Rattle.std.specs.Prelude.{◌≡◌, [], ◌∷◌, IfOk, IfErr};
 ghost use Rattle.std.specs.List.{list_all};
 ghost use Rattle.std.specs.Str.{bytes_eq};
 ghost use Rattle.ftc_base.specs.Text.{words_of};
-ghost use Rattle.ftc_conf.specs.Words.{is_text_byte, is_comment, fixed};
+ghost use Rattle.ftc_conf.specs.Words.{is_text_byte, fixed};
 ghost use Rattle.ftc_conf.specs.Forms.{no_words};
 
 use crate::fault::ChainCause;
@@ -21,16 +21,6 @@ pub fn is_text(line: &[u8]) -> bool
     ensures { result ≡ list_all is_text_byte line.now }
 {
     line.iter().all(|b| is_text_byte(*b))
-}
-
-/// Whether a line that begins with the word is a comment.
-pub fn is_comment(first: &[u8]) -> bool
-    ensures { result ≡ is_comment first.now }
-{
-    match first {
-        [b, ..] => *b == b'#',
-        [] => false,
-    }
 }
 
 /// Whether the word is this text.

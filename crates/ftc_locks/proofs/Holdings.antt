@@ -5,6 +5,7 @@ use Rattle.std.specs.Prelude.{replicate, IfNone, ◌==◌, ◌&&◌, ◌||◌, n
 use Rattle.std.proofs.lemmas.Bool.{false≢true, cases_lt, and_parts, or_cases, eqb-false, not-true}
 use Rattle.std.proofs.lemmas.List.{get_or_past, get_or-replicate, length-replicate}
 use Rattle.ftc_base.specs.Sets.{has}
+use Rattle.ftc_base.specs.declared.limits.TheConstants.{MOST_PARTITIONS, MOST_SLOTS}
 use Rattle.ftc_base.proofs.Members.{has-zero}
 use Rattle.ftc_locks.specs.Locks.{Locks, holds, holds_exclusively, conflicts, SameHolding, HoldsNothing, IsLockTable}
 use Rattle.ftc_locks.specs.Locks.{AreBusy}
@@ -76,26 +77,32 @@ conflicts-holds locks worker partition change other valid is =
 
 -- a table that nobody holds
 abbrev pub free_table : ℕ → ℕ → Locks
-free_table partitions none =
-    record { partitions = partitions; held = replicate 64 none; exclusive = replicate 64 none; ages = replicate 64 0 }
+free_table partitions none = record {
+  partitions = partitions;
+  held = replicate MOST_SLOTS none;
+  exclusive = replicate MOST_SLOTS none;
+  ages = replicate MOST_SLOTS 0;
+}
 
 pub free_table-nothing : (partitions none : ℕ) → ((p : ℕ) → has none p ≡ false) → (worker : ℕ) →
     HoldsNothing (free_table partitions none) worker
-free_table-nothing partitions none empty worker =
-    record { held = λ p. has-copies 64 none worker p empty; exclusive = λ p. has-copies 64 none worker p empty }
+free_table-nothing partitions none empty worker = record {
+  held = λ p. has-copies MOST_SLOTS none worker p empty;
+  exclusive = λ p. has-copies MOST_SLOTS none worker p empty;
+}
 
-pub free_table-valid : (partitions none : ℕ) → ((p : ℕ) → has none p ≡ false) → 1 ≤ partitions → partitions ≤ 64 →
-    IsLockTable (free_table partitions none)
+pub free_table-valid : (partitions none : ℕ) → ((p : ℕ) → has none p ≡ false) → 1 ≤ partitions →
+    partitions ≤ MOST_PARTITIONS → IsLockTable (free_table partitions none)
 free_table-valid partitions none empty some within = record {
   some = some;
   within = within;
-  held_size = length-replicate 64 none;
-  exclusive_size = length-replicate 64 none;
-  ages_size = length-replicate {A = ℕ} 64 0;
-  partitions = λ worker p is. absurd (false≢true (sym (has-copies 64 none worker p empty) ∙ is));
-  held = λ worker p is. absurd (false≢true (sym (has-copies 64 none worker p empty) ∙ is));
-  alone = λ worker other p is _. absurd (false≢true (sym (has-copies 64 none worker p empty) ∙ is));
-  ages = λ worker other p q _ is _. absurd (false≢true (sym (has-copies 64 none worker p empty) ∙ is));
+  held_size = length-replicate MOST_SLOTS none;
+  exclusive_size = length-replicate MOST_SLOTS none;
+  ages_size = length-replicate {A = ℕ} MOST_SLOTS 0;
+  partitions = λ worker p is. absurd (false≢true (sym (has-copies MOST_SLOTS none worker p empty) ∙ is));
+  held = λ worker p is. absurd (false≢true (sym (has-copies MOST_SLOTS none worker p empty) ∙ is));
+  alone = λ worker other p is _. absurd (false≢true (sym (has-copies MOST_SLOTS none worker p empty) ∙ is));
+  ages = λ worker other p q _ is _. absurd (false≢true (sym (has-copies MOST_SLOTS none worker p empty) ∙ is));
 }
 
 -- where nobody holds a partition, any set will do for those who are busy

@@ -1,5 +1,4 @@
 pub mod InTurn
-pub mod Downs
 pub mod Acceptance
 pub mod Letters
 pub mod ReadAgain

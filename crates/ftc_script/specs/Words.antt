@@ -1,6 +1,7 @@
 -- What the words of a line say.
-use Rattle.std.specs.Prelude.{ℕ, Bool, false, ◌==◌, List, [], ◌∷◌, Result, Ok, Err, if◌then◌else◌, codes}
+use Rattle.std.specs.Prelude.{ℕ, List, [], ◌∷◌, Result, Ok, Err, if◌then◌else◌, codes}
 use Rattle.std.specs.Str.{bytes_eq}
+pub use Rattle.ftc_base.specs.Comment.{is_comment}
 use Rattle.ftc_base.specs.Reading.{◌>>=◌}
 use Rattle.ftc_base.specs.Number.{number_of}
 use Rattle.ftc_base.specs.declared.lexer.Lexical.{Lexical}
@@ -9,11 +10,6 @@ use Rattle.ftc_script.specs.declared.fault.ScriptCause.{ScriptCause}
 use Rattle.ftc_script.specs.declared.fault.ScriptCause.TheVariants.{Word}
 use Rattle.ftc_script.specs.declared.statement.Statement.{Statement}
 use Rattle.ftc_script.specs.declared.statement.Statement.TheVariants as said
-
--- a first word that makes its line a comment
-abbrev pub is_comment : List ℕ → Bool
-is_comment [] = false
-is_comment (b ∷ bs) = b == 35
 
 abbrev pub as_number : Result ℕ Lexical → Result ℕ ScriptCause
 as_number (Ok value) = Ok value

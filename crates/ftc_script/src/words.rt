@@ -3,26 +3,17 @@
 ghost use Rattle.std.specs.Prelude.{◌≡◌};
 ghost use Rattle.std.specs.Str.{bytes_eq};
 ghost use Rattle.ftc_base.specs.Text.{words_of};
-ghost use Rattle.ftc_script.specs.Words.{is_comment, number_word, event_of, at_words, lose_words, statement_of};
+ghost use Rattle.ftc_script.specs.Words.{number_word, event_of, at_words, lose_words, statement_of};
 
 use crate::fault::ScriptCause;
 use crate::limits::MOST_NUMBER;
 use crate::statement::Statement;
-use ftc_base::{number, split_word};
+use ftc_base::{is_comment, number, split_word};
 
 fn is_same(word: &[u8], text: &[u8]) -> bool
     ensures { result ≡ bytes_eq word.now text.now }
 {
     word == text
-}
-
-fn is_comment(first: &[u8]) -> bool
-    ensures { result ≡ is_comment first.now }
-{
-    match first {
-        [b, ..] => *b == b'#',
-        [] => false,
-    }
 }
 
 fn number_word(word: &[u8]) -> Result<u32, ScriptCause>

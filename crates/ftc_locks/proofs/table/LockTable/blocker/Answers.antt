@@ -1,5 +1,6 @@
 use Rattle.std.proofs.Common.{arith, sym, ◌∙◌, ⊎_elim}
 use Rattle.std.proofs.lemmas.Bool.{cases_lt, false≢true}
+use Rattle.ftc_base.specs.declared.limits.TheConstants.{MOST_SLOTS}
 use Rattle.ftc_locks.proofs.Holdings.{if_none, conflicts-past}
 use Rattle.ftc_locks.proofs.table.LockTable.blocker.Goals as goal
 
@@ -21,4 +22,4 @@ returns-clause-none c = if_none c.loop-other.holder _ (λ none other is.
     }) c.args.worker c.args.partition c.args.change other
     (omega (arith, beyond, c.self.invariant.0.held_size))
     (omega (arith, beyond, c.self.invariant.0.exclusive_size)))) ∙ is)))
-    (cases_lt other 64))
+    (cases_lt other MOST_SLOTS))
