@@ -9,5 +9,4 @@ mod Illegal
 mod Ones
 mod Verdicts
 mod Whole
-pub mod Members
 mod Standing

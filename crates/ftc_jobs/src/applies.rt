@@ -1,7 +1,6 @@
 //! Whether a log of a held message may be applied.
 
 ghost use Rattle.std.specs.Prelude.{◌≡◌, ◌<◌, ◌↔◌, ℕ, true, Some};
-ghost use Rattle.std.specs.Option.{option_copied};
 ghost use Rattle.ftc_journal.specs.declared.job.Job.TheVariants as job;
 ghost use Rattle.ftc_protocol.specs.Setting.{Setting};
 ghost use Rattle.ftc_protocol.specs.State.{ChainState};
@@ -9,7 +8,7 @@ ghost use Rattle.ftc_protocol.specs.Run.{IsRunState};
 ghost use Rattle.ftc_protocol.specs.Jobs.{IsLegalJob};
 ghost use Rattle.ftc_protocol.specs.Drive.{IsNoneDue};
 ghost use Rattle.ftc_server.specs.declared.server.Server.{Server as AServer};
-ghost use Rattle.ftc_server.specs.Replicas.{replica_at, has_log, is_had};
+ghost use Rattle.ftc_server.specs.Replicas.{is_had};
 ghost use Rattle.ftc_refinement.specs.Contents.{IsServerAt};
 ghost use Rattle.ftc_jobs.specs.Applies.{had_if_smaller, smaller_had, writes_some, may_apply_now};
 ghost use Rattle.ftc_jobs.specs.Rest.{IsResting};
@@ -20,46 +19,16 @@ use ftc_message::{Log, Message};
 use ftc_network::Network;
 use ftc_protocol::order_of_a_state;
 use ftc_refinement::{held_in_turn, what_apply_wants};
-use ftc_replica::Replica;
-use ftc_server::Server;
+use ftc_server::{Server, is_had};
 use ftc_ties::{every_state_tied, what_vectors_say};
 use ftc_vector::order_tests;
-
-/// The replica of a group that a server is a later member of.
-fn replica_of(server: &Server, group: ServerId) -> Option<&Replica>
-    ensures { option_copied result ≡ replica_at server.now.others.items group }
-{
-    let place = usize::from(group.number());
-    if place < server.others.len() {
-        server.others[place].as_ref()
-    } else {
-        None
-    }
-}
-
-/// Whether a replica has a log.
-fn has_log(replica: &Replica, log: &Log) -> bool
-    ensures { result ≡ has_log (Some replica.now) log.now }
-{
-    order_tests();
-    replica.has(log)
-}
-
-/// Whether a server has a log. Of a group that it isn't a later member of nothing is lacking.
-fn is_had(server: &Server, log: &Log) -> bool
-    ensures { result ≡ is_had server.now.others.items log.now }
-{
-    match replica_of(server, log.group()) {
-        Some(replica) => has_log(replica, log),
-        None => true,
-    }
-}
 
 /// Whether a server has a log, where it is of that packet and of a smaller group.
 fn had_if_smaller(server: &Server, group: ServerId, packet: PacketNo, log: &Log) -> bool
     ensures { result ≡ had_if_smaller server.now.others.items group packet log.now }
 {
-    !(log.origin() == packet && log.group().number() < group.number()) || is_had(server, log)
+    !(log.origin() == packet && log.group().number() < group.number())
+        || is_had(server.others.as_slice(), log)
 }
 
 /// Whether a server has the logs of a packet with smaller groups.

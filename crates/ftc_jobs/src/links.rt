@@ -8,11 +8,12 @@ ghost use Rattle.ftc_protocol.specs.Jobs.{IsLegalJob, IsInTurn, IsNoPull, IsNoTa
 ghost use Rattle.ftc_network.specs.Stand.{IsNetwork};
 ghost use Rattle.ftc_jobs.specs.Rest.{IsResting};
 
-use crate::places::{link_at, server_at, server_of};
+use crate::places::{link_at, server_at};
 use ftc_base::{PacketNo, ServerId};
 use ftc_journal::Job;
 use ftc_network::Network;
 use ftc_refinement::{what_a_link_offers, which_pulls};
+use ftc_ring::server_of;
 
 /// Whether a server is up.
 fn is_up(network: &Network, server: ServerId) -> bool

@@ -2,24 +2,12 @@
 
 ghost use Rattle.std.specs.Prelude.{◌≡◌, ◌<◌};
 ghost use Rattle.std.specs.Option.{option_copied};
-ghost use Rattle.ftc_base.specs.declared.limits.TheConstants.{MOST_SERVERS};
 ghost use Rattle.ftc_network.specs.Parts.{server_in, link_in};
 
 use ftc_base::ServerId;
 use ftc_link::Link;
 use ftc_network::Network;
 use ftc_server::Server;
-
-/// The server of a number that a ring has.
-pub fn server_of(number: u8) -> ServerId
-    requires { number < MOST_SERVERS }
-    ensures { result ≡ number }
-{
-    match ServerId::new(number) {
-        Some(server) => server,
-        None => unreachable!(),
-    }
-}
 
 /// The server of that number, None where it is down or the chain hasn't one of that number.
 pub fn server_at(network: &Network, server: ServerId) -> Option<&Server>

@@ -12,12 +12,13 @@ ghost use Rattle.ftc_network.specs.Parts.{server_in};
 ghost use Rattle.ftc_jobs.specs.Rest.{IsResting, IsAtRest};
 ghost use Rattle.ftc_jobs.specs.Works.{work_at};
 
-use crate::places::{server_at, server_of};
+use crate::places::server_at;
 use crate::works::is_lost;
 use ftc_base::{PacketNo, ServerId};
 use ftc_network::Network;
 use ftc_protocol::work as work_of_messages;
 use ftc_refinement::{held_in_turn, what_is_ready, what_work_is, what_work_says};
+use ftc_ring::server_of;
 use ftc_script::Script;
 use ftc_server::Work;
 

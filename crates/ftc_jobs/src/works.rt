@@ -15,11 +15,12 @@ ghost use Rattle.ftc_refinement.specs.Contents.{IsServerAt};
 ghost use Rattle.ftc_jobs.specs.Rest.{IsAtRest};
 ghost use Rattle.ftc_jobs.specs.Turn.{IsRising, IsIdleAt, IsFirstWork};
 
-use crate::places::{server_at, server_of};
+use crate::places::server_at;
 use ftc_base::{PacketNo, ServerId};
 use ftc_journal::Job;
 use ftc_network::Network;
 use ftc_refinement::{held_in_turn, what_work_is};
+use ftc_ring::server_of;
 use ftc_script::Script;
 use ftc_server::{Server, Work};
 

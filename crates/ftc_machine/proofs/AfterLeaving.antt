@@ -32,7 +32,8 @@ use Rattle.ftc_machine.specs.Frontier.{AreFrontiers, numbers_of}
 use Rattle.ftc_protocol.specs.Setting.{Setting, servers, is_tail}
 use Rattle.ftc_machine.specs.Slots.{slot_at}
 use Rattle.ftc_protocol.specs.State.{ChainState, Message, Withheld, Queued}
-use Rattle.ftc_machine.specs.Tails.{group_ending, known_at}
+use Rattle.ftc_ring.specs.Groups.{group_ending_at}
+use Rattle.ftc_machine.specs.Tails.{known_at}
 use Rattle.ftc_machine.specs.LegalityTests.{sends}
 use Rattle.ftc_machine.proofs.OnwardLogs.{logs_go_on}
 use Rattle.ftc_machine.proofs.MovedMessages.{kept_message}
@@ -180,7 +181,7 @@ module _ (c : Setting) (s : ChainState) (k : MachineState) (is : Represents c s 
         → sent.since ≡ now → sent.packet ≡ (if last then None else kept.packet) →
         ((group : ℕ) → has sent.needs group ≡ (not last && has kept.needs group))
         → ((group packet : ℕ) → names sent.logs group packet
-        ≡ ((names (logs_in (slot_at k.messages origin)) group packet && not (group == group_ending k.ring server))
+        ≡ ((names (logs_in (slot_at k.messages origin)) group packet && not (group == group_ending_at k.ring server))
         || ((server == 0) && names k.forwarder group packet)))
         → IsMessageSlot c.partitions s.trace (numbers_of (footprints_in k.visits.items))
         (sent_message c s server (s.message origin)) (Some sent)

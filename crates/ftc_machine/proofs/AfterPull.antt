@@ -24,7 +24,8 @@ use Rattle.ftc_protocol.specs.Next.{is_news, pulled_list}
 use Rattle.ftc_machine.specs.Frontier.{AreFrontiers, IsChangingIn, numbers_of, frontier_at}
 use Rattle.ftc_protocol.specs.Setting.{Setting, servers, is_member, is_tail}
 use Rattle.ftc_protocol.specs.State.{ChainState}
-use Rattle.ftc_machine.specs.Tails.{group_ending, is_behind, part_of}
+use Rattle.ftc_ring.specs.Groups.{group_ending_at, is_later_member}
+use Rattle.ftc_machine.specs.Tails.{part_of}
 use Rattle.ftc_protocol.specs.Trace.{IsChanging, IsInTrace, content_of}
 use Rattle.ftc_protocol.specs.Visits.{In, Visits, union}
 use Rattle.ftc_machine.specs.Lawful.{IsLawful}
@@ -94,11 +95,11 @@ module _ (c : Setting) (s : ChainState) (link : ℕ) (may : FollowsRun c s (even
 
   -- the groups behind whose heads the receiver stands
   shared_is : (group : ℕ) → group < servers c →
-      (nat_lt group k.ring.servers && is_behind k.ring group (next_of (servers c) link))
+      (nat_lt group k.ring.servers && is_later_member k.ring group (next_of (servers c) link))
       ≡ is_shared c link (next_of (servers c) link) group
   shared_is group below =
-      ap (λ (ring : RingShape). nat_lt group ring.servers && is_behind ring group (next_of (servers c) link)) is.ring
-      ∙ same_test _ _
+      ap (λ (ring : RingShape). nat_lt group ring.servers && is_later_member ring group (next_of (servers c) link))
+      is.ring ∙ same_test _ _
       (λ yes_behind.
       let parts = and_parts (not (group == next_of (servers c) link))
       (nat_le (apart (servers c) group (next_of (servers c) link)) c.failures)
@@ -115,7 +116,7 @@ module _ (c : Setting) (s : ChainState) (link : ℕ) (may : FollowsRun c s (even
       let parts = and_parts (is_member c group link && is_member c group (next_of (servers c) link))
       (not (group == next_of (servers c) link)) yes_shared in
       and_from (nat_lt group (servers c))
-      (is_behind (record { servers = servers c; failures = c.failures }) group (next_of (servers c) link))
+      (is_later_member (record { servers = servers c; failures = c.failures }) group (next_of (servers c) link))
       (lt-ltb _ _ below)
       (and_from (not (group == next_of (servers c) link)) (is_member c group (next_of (servers c) link)) parts.1
       (and_parts (is_member c group link) (is_member c group (next_of (servers c) link)) parts.0).1))
@@ -154,7 +155,7 @@ module _ (c : Setting) (s : ChainState) (link : ℕ) (may : FollowsRun c s (even
       ] refl
 
   module _ (groups : ℕ) (are : (group : ℕ) →
-      has groups group ≡ (nat_lt group k.ring.servers && is_behind k.ring group (next_of (servers c) link))) where
+      has groups group ≡ (nat_lt group k.ring.servers && is_later_member k.ring group (next_of (servers c) link))) where
     part_is : AreFrontiers c.partitions s.trace (numbers_of (footprints_in k.visits.items))
         (λ group packet. has groups group
         && s.lists link group packet) (part_of (has groups) (frontiers_of k.lists.items link))
@@ -215,7 +216,7 @@ module _ (c : Setting) (s : ChainState) (link : ℕ) (may : FollowsRun c s (even
 
     row_tells : (group packet : ℕ) → tells group packet ≡ true →
         HasGain (part_of (has groups) (frontiers_of k.lists.items link))
-        (frontiers_of k.lists.items (next_of (servers c) link)) (group_ending k.ring (next_of (servers c) link))
+        (frontiers_of k.lists.items (next_of (servers c) link)) (group_ending_at k.ring (next_of (servers c) link))
     row_tells group packet told =
         let receiver = next_of (servers c) link in
         let few = visits_within c s (event.Pull link) may k is in
@@ -245,7 +246,7 @@ module _ (c : Setting) (s : ChainState) (link : ℕ) (may : FollowsRun c s (even
           few.server group packet partition changing.1,
           (λ same. true≢false (sym
               (ends_here c s (event.Pull link) may k is group receiver below next_below ∙ eq-eqb group
-              (group_ending k.ring receiver) same) ∙ not-true (is_tail c group receiver) both.1)),
+              (group_ending_at k.ring receiver) same) ∙ not-true (is_tail c group receiver) both.1)),
           (partition, few.partition group packet partition changing.1, omega arith),
         )
       where
@@ -262,7 +263,7 @@ module _ (c : Setting) (s : ChainState) (link : ℕ) (may : FollowsRun c s (even
             ] refl pulled
 
     told_by_row : HasGain (part_of (has groups) (frontiers_of k.lists.items link))
-        (frontiers_of k.lists.items (next_of (servers c) link)) (group_ending k.ring (next_of (servers c) link))
+        (frontiers_of k.lists.items (next_of (servers c) link)) (group_ending_at k.ring (next_of (servers c) link))
         → (group : ℕ) × (packet : ℕ) × (partition : ℕ) × IsChangingIn c.partitions s.trace group packet partition
         × (tells group packet ≡ true)
     told_by_row news =
@@ -289,7 +290,7 @@ module _ (c : Setting) (s : ChainState) (link : ℕ) (may : FollowsRun c s (even
         omega arith) in
         let inside : is_tail c group receiver ≡ false =
         ends_here c s (event.Pull link) may k is group receiver below next_below ∙ ne_eqb group
-        (group_ending k.ring receiver) news.2 in (
+        (group_ending_at k.ring receiver) news.2 in (
           group,
           packet,
           partition,
@@ -329,7 +330,7 @@ module _ (c : Setting) (s : ChainState) (link : ℕ) (may : FollowsRun c s (even
 
     pub news_is : (news : Bool) →
         ((news ≡ true) ↔ HasGain (part_of (has groups) (frontiers_of k.lists.items link))
-        (frontiers_of k.lists.items (next_of (servers c) link)) (group_ending k.ring (next_of (servers c) link)))
+        (frontiers_of k.lists.items (next_of (servers c) link)) (group_ending_at k.ring (next_of (servers c) link)))
         → news ≡ list_any (is_news c s link (next_of (servers c) link)) s.trace
     news_is news are_news =
         same_test news (list_any (is_news c s link (next_of (servers c) link)) s.trace)

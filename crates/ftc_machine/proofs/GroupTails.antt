@@ -9,7 +9,8 @@ use Rattle.ftc_protocol.specs.Known.{knows}
 use Rattle.ftc_machine.specs.Frontier.{AreFrontiers, numbers_of, frontier_at}
 use Rattle.ftc_protocol.specs.Setting.{Setting, servers, is_tail, IsSetting}
 use Rattle.ftc_protocol.specs.State.{ChainState}
-use Rattle.ftc_machine.specs.Tails.{group_ending, known_at, part_of}
+use Rattle.ftc_ring.specs.Groups.{group_ending_at}
+use Rattle.ftc_machine.specs.Tails.{known_at, part_of}
 use Rattle.ftc_protocol.specs.Visits.{Visits}
 use Rattle.ftc_machine.specs.Lawful.{IsLawful}
 use Rattle.ftc_machine.proofs.LegalEvents.{reached_before, reached_below, reached_within}
@@ -25,31 +26,31 @@ same_test false false there back = refl
 
 -- the server ends that group alone
 pub ends : (n f group server : ℕ) → group < n → server < n → f < n →
-    (apart n group server == f) ≡ (group == group_ending (record { servers = n; failures = f }) server)
+    (apart n group server == f) ≡ (group == group_ending_at (record { servers = n; failures = f }) server)
 ends n f group server below within small =
     let far = apart_cases n group server below within in
-    let ending : ((f ≤ server) × (group_ending (record { servers = n; failures = f }) server ≡ server - f))
-    ⊎ ((server < f) × (group_ending (record { servers = n; failures = f }) server ≡ server + n - f)) =
+    let ending : ((f ≤ server) × (group_ending_at (record { servers = n; failures = f }) server ≡ server - f))
+    ⊎ ((server < f) × (group_ending_at (record { servers = n; failures = f }) server ≡ server + n - f)) =
     elim (nat_le f server) as (λ b. nat_le f server ≡ b →
     ((f ≤ server) × ((if b then server - f else server + n - f) ≡ server - f))
     ⊎ ((server < f) × ((if b then server - f else server + n - f) ≡ server + n - f))) [
       | true ↦ λ is. inl (leb-true f server is, refl)
       | false ↦ λ is. inr (leb-false f server is, refl)
     ] refl in
-    same_test (apart n group server == f) (group == group_ending (record { servers = n; failures = f }) server)
+    same_test (apart n group server == f) (group == group_ending_at (record { servers = n; failures = f }) server)
     (λ is. let at : apart n group server ≡ f = eqb-true (apart n group server) f is in
-    eq-eqb group (group_ending (record { servers = n; failures = f }) server) (omega arith))
-    (λ is. let at : group ≡ group_ending (record { servers = n; failures = f }) server = eqb-true group
-    (group_ending (record { servers = n; failures = f }) server) is in
+    eq-eqb group (group_ending_at (record { servers = n; failures = f }) server) (omega arith))
+    (λ is. let at : group ≡ group_ending_at (record { servers = n; failures = f }) server = eqb-true group
+    (group_ending_at (record { servers = n; failures = f }) server) is in
     eq-eqb (apart n group server) f (omega arith))
 
 module _ (c : Setting) (setting : IsSetting c) (s : ChainState) (r : IsLawful c s) (k : MachineState)
     (is : Represents c s k) where
   -- of a group of the chain
   pub reached_ends : (group server : ℕ) → group < servers c → server < servers c →
-      is_tail c group server ≡ (group == group_ending k.ring server)
+      is_tail c group server ≡ (group == group_ending_at k.ring server)
   reached_ends group server below within =
-      subst (λ (ring : RingShape). is_tail c group server ≡ (group == group_ending ring server)) (sym is.ring)
+      subst (λ (ring : RingShape). is_tail c group server ≡ (group == group_ending_at ring server)) (sym is.ring)
       (ends (servers c) c.failures group server below within setting.ring.failures)
 
   -- what a server knows
@@ -60,7 +61,7 @@ module _ (c : Setting) (setting : IsSetting c) (s : ChainState) (r : IsLawful c 
       let few = reached_within c setting s r k is in
       let numbers = numbers_of (footprints_in k.visits.items) in
       let own : Visits = λ group packet. is_tail c group server && s.lists server group packet in
-      let ending = group_ending k.ring server in
+      let ending = group_ending_at k.ring server in
       let list = frontiers_of k.lists.items server in
       let part = part_reaches c.partitions s.trace numbers few (s.events + 1) is.sets.rising (λ group. group == ending)
       (s.lists server) list (is.sets.lists server below) in
@@ -79,7 +80,7 @@ module _ (c : Setting) (setting : IsSetting c) (s : ChainState) (r : IsLawful c 
 module _ (c : Setting) (s : ChainState) (event : Event) (may : FollowsRun c s event) (k : MachineState)
     (is : Represents c s k) where
   pub ends_here : (group server : ℕ) → group < servers c → server < servers c →
-      is_tail c group server ≡ (group == group_ending k.ring server)
+      is_tail c group server ≡ (group == group_ending_at k.ring server)
   ends_here = reached_ends c may.supposed s (reached_before c s event may) k is
 
   pub knows_reaches : (server : ℕ) → server < servers c →

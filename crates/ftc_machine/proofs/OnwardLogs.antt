@@ -14,7 +14,7 @@ use Rattle.ftc_machine.specs.Frontier.{Numbers, numbers_of}
 use Rattle.ftc_protocol.specs.Setting.{Setting, servers, is_tail}
 use Rattle.ftc_machine.specs.Slots.{slot_at}
 use Rattle.ftc_protocol.specs.State.{ChainState, Message}
-use Rattle.ftc_machine.specs.Tails.{group_ending}
+use Rattle.ftc_ring.specs.Groups.{group_ending_at}
 use Rattle.ftc_machine.proofs.LegalEvents.{reached_before}
 use Rattle.ftc_machine.proofs.GroupTails.{ends_here}
 
@@ -43,18 +43,19 @@ module _ (c : Setting) (s : ChainState) (event : Event) (may : FollowsRun c s ev
   -- those that go on from a server
   pub logs_go_on : (server origin : ℕ) → server < servers c → (list : List VisitName)
       → ((group packet : ℕ) → names list group packet
-      ≡ ((names (logs_in (slot_at k.messages origin)) group packet && not (group == group_ending k.ring server))
+      ≡ ((names (logs_in (slot_at k.messages origin)) group packet && not (group == group_ending_at k.ring server))
       || ((server == 0) && names k.forwarder group packet)))
       → (group packet : ℕ) → names list group packet
       ≡ ((logs_of (s.message origin) group packet && not (is_tail c group server))
       || ((server == 0) && s.forwarder group packet))
   logs_go_on server origin below list are group packet =
       are group packet
-      ∙ ap (λ b. (b && not (group == group_ending k.ring server)) || ((server == 0) && names k.forwarder group packet))
+      ∙ ap (λ b. (b && not (group == group_ending_at k.ring server))
+      || ((server == 0) && names k.forwarder group packet))
       (logs_alike c.partitions s.trace (numbers_of (footprints_in k.visits.items)) (s.message origin)
       (slot_at k.messages origin) (is.sets.messages origin) group packet)
       ∙ ap (λ b. b || ((server == 0) && names k.forwarder group packet))
-      (same_and (logs_of (s.message origin) group packet) (not (group == group_ending k.ring server))
+      (same_and (logs_of (s.message origin) group packet) (not (group == group_ending_at k.ring server))
       (not (is_tail c group server))
       (λ log. ap not (sym (ends_here c s event may k is group server
       (log_below origin (s.message origin) refl group packet log) below))))

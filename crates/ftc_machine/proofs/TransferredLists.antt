@@ -19,7 +19,7 @@ use Rattle.ftc_protocol.specs.Known.{knows}
 use Rattle.ftc_machine.specs.Frontier.{IsFrontier, AreFrontiers, numbers_of, frontier_at}
 use Rattle.ftc_protocol.specs.Recovery.{list_got}
 use Rattle.ftc_machine.specs.RecoveryEffect.{got_vector, tail_added, both_known}
-use Rattle.ftc_machine.specs.Tails.{group_ending}
+use Rattle.ftc_ring.specs.Groups.{group_ending_at}
 use Rattle.ftc_protocol.specs.Setting.{Setting, servers, shape, is_member, is_tail, IsSetting}
 use Rattle.ftc_protocol.specs.State.{ChainState}
 use Rattle.ftc_machine.specs.LegalityTests.{list_of}
@@ -103,8 +103,8 @@ module _ (c : Setting) (setting : IsSetting c) (s : ChainState) (lawful : IsLawf
   tails : ℕ → Visits
   tails x group packet = is_tail c group x && s.lists x group packet
 
-  tail_cases : (x : ℕ) → ((c.failures ≤ x) × (group_ending (shape c) x ≡ x - c.failures))
-      ⊎ ((x < c.failures) × (group_ending (shape c) x ≡ x + servers c - c.failures))
+  tail_cases : (x : ℕ) → ((c.failures ≤ x) × (group_ending_at (shape c) x ≡ x - c.failures))
+      ⊎ ((x < c.failures) × (group_ending_at (shape c) x ≡ x + servers c - c.failures))
   tail_cases x = elim (cases_lt x c.failures) [
     | inl less ↦ inr (
       less,
@@ -120,13 +120,13 @@ module _ (c : Setting) (setting : IsSetting c) (s : ChainState) (lawful : IsLawf
     )
   ]
 
-  tail_below : (x : ℕ) → x < servers c → group_ending (shape c) x < servers c
+  tail_below : (x : ℕ) → x < servers c → group_ending_at (shape c) x < servers c
   tail_below x below = let small : c.failures < servers c = setting.ring.failures in omega (arith, tail_cases x)
 
-  tail_apart : (x : ℕ) → x < servers c → apart (servers c) (group_ending (shape c) x) x ≡ c.failures
+  tail_apart : (x : ℕ) → x < servers c → apart (servers c) (group_ending_at (shape c) x) x ≡ c.failures
   tail_apart x below =
       let small : c.failures < servers c = setting.ring.failures in
-      let far = apart_cases (servers c) (group_ending (shape c) x) x (tail_below x below) below in
+      let far = apart_cases (servers c) (group_ending_at (shape c) x) x (tail_below x below) below in
       let cases = tail_cases x in
       omega arith
 
@@ -137,10 +137,10 @@ module _ (c : Setting) (setting : IsSetting c) (s : ChainState) (lawful : IsLawf
   unfolding tails
   tail_reaches x below set commits size reaches =
       let numbers = numbers_of (footprints_in k.visits.items) in
-      let group = group_ending (shape c) x in
+      let group = group_ending_at (shape c) x in
       let low : group < servers c = tail_below x below in
       subst (λ (ring : RingShape). AreFrontiers c.partitions s.trace numbers (union set (tails x))
-      (group_raised commits (group_ending ring x) (vector_of (list_of k x) (group_ending ring x)))) (sym is.ring)
+      (group_raised commits (group_ending_at ring x) (vector_of (list_of k x) (group_ending_at ring x)))) (sym is.ring)
       (joined_reaches c.partitions s.trace numbers few set (tails x) commits group (vector_of (list_of k x) group)
       (let most = setting.ring.servers in omega arith)
       (λ other packet differs. false_from_ne_true (is_tail c other x && s.lists x other packet) (λ member.
@@ -176,9 +176,9 @@ module _ (c : Setting) (setting : IsSetting c) (s : ChainState) (lawful : IsLawf
       (merged_reaches c.partitions s.trace numbers few (s.known r) (s.known t) (frontiers_of k.known.items r)
       (frontiers_of k.known.items t) (is.sets.known r rl) (is.sets.known t tl)) in
       let size : length (tail_added k r merged_known) ≡ MOST_SERVERS =
-      length-set merged_known (group_ending k.ring r)
-      (merged (vector_of merged_known (group_ending k.ring r))
-      (vector_of (list_of k r) (group_ending k.ring r))) ∙ merged_length (frontiers_of k.known.items r)
+      length-set merged_known (group_ending_at k.ring r)
+      (merged (vector_of merged_known (group_ending_at k.ring r))
+      (vector_of (list_of k r) (group_ending_at k.ring r))) ∙ merged_length (frontiers_of k.known.items r)
       (frontiers_of k.known.items t) in
       let both = tail_reaches t tl (union known (tails r)) (tail_added k r merged_known) size one in
       same_reach c.partitions s.trace numbers group (union (union known (tails r)) (tails t) group)

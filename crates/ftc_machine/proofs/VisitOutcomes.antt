@@ -22,7 +22,8 @@ use Rattle.ftc_machine.specs.Frontier.{Numbers}
 use Rattle.ftc_protocol.specs.Setting.{Setting, rule_at}
 use Rattle.ftc_machine.specs.Slots.{slot_at}
 use Rattle.ftc_protocol.specs.State.{ChainState, Message}
-use Rattle.ftc_machine.specs.VisitEffect.{bytes_kept, logs_kept, outcome_kept, logs_behind}
+use Rattle.ftc_machine.specs.Simulation.{logs_in}
+use Rattle.ftc_machine.specs.VisitEffect.{bytes_kept, outcome_kept, logs_behind}
 use Rattle.ftc_protocol.specs.Visits.{just, union}
 use Rattle.ftc_machine.proofs.AfterVisit.{below, live}
 use Rattle.ftc_protocol.proofs.UndoneList.{any_name}
@@ -72,7 +73,7 @@ module _ (partitions : ℕ) (trace : List Entry) (numbers : Numbers) where
 
   pub logs_same : (o : Option Message) (slot : Option MessageOfMachine) →
       IsMessageSlot partitions trace numbers o slot → (group number : ℕ) →
-      names (logs_kept slot) group number ≡ logs_of o group number
+      names (logs_in slot) group number ≡ logs_of o group number
   logs_same None None is group number = refl
   logs_same None (Some kept) is group number = absurd is
   logs_same (Some message) None is group number = absurd is
@@ -96,9 +97,9 @@ module _ (c : Setting) (s : ChainState) (server packet worker : ℕ)
       && nat_lt 0 c.failures)) group number
   logs_are answers group number =
       ap (λ (ring : RingShape). names (if is_some_list answers && nat_lt 0 ring.failures then
-      logs_kept (slot_at k.messages packet) ++ record { server = server; packet = packet } ∷ []
-      else logs_kept (slot_at k.messages packet)) group number) is.ring
-      ∙ (joined_names (logs_kept (slot_at k.messages packet)) server packet (is_some_list answers
+      logs_in (slot_at k.messages packet) ++ record { server = server; packet = packet } ∷ []
+      else logs_in (slot_at k.messages packet)) group number) is.ring
+      ∙ (joined_names (logs_in (slot_at k.messages packet)) server packet (is_some_list answers
       && nat_lt 0 c.failures) group number
       ∙ ap (λ b. b || just server packet (is_some_list answers && nat_lt 0 c.failures) group number)
       (logs_same c.partitions s.trace (Rattle.ftc_machine.specs.Frontier.numbers_of (footprints_in k.visits.items))

@@ -24,7 +24,7 @@ use Rattle.ftc_protocol.specs.Recovery.{is_between}
 use Rattle.ftc_protocol.specs.Run.{IsRun, state_after}
 use Rattle.ftc_protocol.specs.Setting.{Setting, IsSetting}
 use Rattle.ftc_machine.specs.Slots.{has_such}
-use Rattle.ftc_machine.specs.Tails.{group_ending}
+use Rattle.ftc_ring.specs.Groups.{group_ending_at}
 use Rattle.ftc_protocol.specs.State.{ChainState, opening}
 use Rattle.ftc_machine.specs.LegalityTests.{footprints_of, list_of, is_ready}
 
@@ -71,8 +71,8 @@ got_vector machine server previous following group =
 -- to what is known the list of that group is added
 abbrev pub tail_added : MachineState → ℕ → List (List ℕ) → List (List ℕ)
 tail_added machine server known =
-    group_raised known (group_ending machine.ring server)
-    (vector_of (list_of machine server) (group_ending machine.ring server))
+    group_raised known (group_ending_at machine.ring server)
+    (vector_of (list_of machine server) (group_ending_at machine.ring server))
 
 -- what two servers know to be at the tails
 abbrev pub both_known : MachineState → ℕ → ℕ → List (List ℕ)

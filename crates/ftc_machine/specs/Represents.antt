@@ -1,12 +1,11 @@
 -- What the machine keeps, and the state for which it stands.
-use Rattle.std.specs.Prelude.{ℕ, ◌≡◌, ◌<◌, ◌+◌, true, List, [], ◌∷◌, ◌++◌, drop, slice_index_or, Option, Some, None}
+use Rattle.std.specs.Prelude.{ℕ, ◌≡◌, ◌<◌, ◌+◌, true, List, [], drop, slice_index_or, Option, Some, None}
 use Rattle.std.specs.Prelude.{is_some}
 use Rattle.std.specs.Option.{option_map_or}
 use Rattle.ftc_base.specs.Sets.{has}
-use Rattle.ftc_journal.specs.declared.event.VisitName.{VisitName}
 use Rattle.ftc_ring.specs.Live.{is_live}
 use Rattle.ftc_serial.specs.Contents.{content_at}
-use Rattle.ftc_serial.specs.Serial.{Entry, Visited, Given}
+use Rattle.ftc_serial.specs.Serial.{Entry}
 use Rattle.ftc_serial.specs.Trace.{names}
 use Rattle.ftc_protocol.specs.declared.fate.Fate.{Fate}
 use Rattle.ftc_protocol.specs.declared.fate.Fate.TheVariants as became
@@ -21,6 +20,7 @@ use Rattle.ftc_journal.specs.declared.event.Event.{Event}
 use Rattle.ftc_script.specs.Script.{ScriptShape, loses_of}
 use Rattle.ftc_protocol.specs.Setting.{Setting, servers, shape, count, IsSetting}
 use Rattle.ftc_protocol.specs.Legal.{IsLegal}
+pub use Rattle.ftc_protocol.specs.Recovery.{visits_in}
 use Rattle.ftc_protocol.specs.Run.{IsRun, state_after}
 use Rattle.ftc_machine.specs.Slots.{slot_at}
 use Rattle.ftc_machine.specs.Frontier.{Numbers, AreRising, AreFrontiers, Footprints, numbers_of, AreFootprints}
@@ -34,12 +34,6 @@ footprints_in visits server packet = slot_at (slice_index_or visits server []) p
 
 abbrev pub frontiers_of : List (List (List ℕ)) → ℕ → List (List ℕ)
 frontiers_of reaches server = slice_index_or reaches server []
-
--- the visits of a trace, the first of them first
-abbrev pub visits_in : List Entry → List VisitName
-visits_in [] = []
-visits_in (Visited server packet outcome ∷ older) = visits_in older ++ record { server = server; packet = packet } ∷ []
-visits_in (Given packet bytes ∷ older) = visits_in older
 
 -- a message is where it is kept to be; a queued one carries what it is kept to carry
 abbrev pub IsPlace : ℕ → List Entry → Numbers → Visits → Where → Place → Type 0

@@ -12,16 +12,13 @@ use Rattle.ftc_machine.specs.declared.state.MachineState.{MachineState}
 use Rattle.ftc_machine.specs.declared.state.message.Message.{Message}
 use Rattle.ftc_protocol.specs.Changes.{is_some_list}
 use Rattle.ftc_protocol.specs.Next.{bytes_in}
+use Rattle.ftc_machine.specs.Simulation.{logs_in}
 use Rattle.ftc_machine.specs.Slots.{slot_at}
 
--- the bytes and the logs that a message carries, none where there is no message
+-- the bytes that a message carries, none where there is no message
 abbrev pub bytes_kept : Option Message → List ℕ
 bytes_kept None = []
 bytes_kept (Some message) = bytes_in message.packet
-
-abbrev pub logs_kept : Option Message → List VisitName
-logs_kept None = []
-logs_kept (Some message) = message.logs
 
 -- what the rule does with the packet of that number, over the server's own store
 abbrev pub outcome_kept : MachineState → Rule → ℕ → ℕ → Outcome
@@ -32,8 +29,8 @@ outcome_kept machine rule server packet =
 abbrev pub logs_behind : MachineState → ℕ → ℕ → List Answer → List VisitName
 logs_behind machine server packet answers =
     if is_some_list answers && nat_lt 0 machine.ring.failures
-    then logs_kept (slot_at machine.messages packet) ++ record { server = server; packet = packet } ∷ []
-    else logs_kept (slot_at machine.messages packet)
+    then logs_in (slot_at machine.messages packet) ++ record { server = server; packet = packet } ∷ []
+    else logs_in (slot_at machine.messages packet)
 
 -- there is room for what a visit of that packet at that server leaves
 pub record HasRoom (machine : MachineState) (server packet : ℕ) : Type 0 where

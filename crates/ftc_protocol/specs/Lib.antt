@@ -1,3 +1,4 @@
+pub mod ChainRing
 pub mod Setting
 pub mod Visits
 pub mod Changes

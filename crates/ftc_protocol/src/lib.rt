@@ -3,6 +3,7 @@
 //! vector, log, frame or lock: what the chain of servers does is judged by them. Nothing here runs.
 #![tactic(auto)]
 
+mod chain_ring;
 mod driving;
 mod endings;
 mod examples;
@@ -13,6 +14,7 @@ mod packets;
 mod settings;
 mod states;
 
+pub use chain_ring::ring_of;
 pub use driving::{
     drive, finish, first_job, jobs_of_events, plain_drive, play, releases, times_apart, work,
 };

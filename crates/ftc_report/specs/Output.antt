@@ -1,18 +1,11 @@
 -- The bytes of the packets that came out.
-use Rattle.std.specs.Prelude.{ℕ, ◌<◌, ◌≤◌, List, [], ◌++◌, length, slice_get}
+use Rattle.std.specs.Prelude.{ℕ, ◌<◌, ◌≤◌, List, ◌++◌, length}
 use Rattle.std.specs.List.{flat_map, AllByRecursion}
-use Rattle.std.specs.Option.{option_map_or}
 use Rattle.ftc_base.specs.declared.limits.TheConstants.{MOST_CAPTURED}
 use Rattle.ftc_base.specs.declared.released.Released.{Released}
-use Rattle.ftc_pcap.specs.Grammar.{record_bytes, rewritten}
 use Rattle.ftc_pcap.specs.declared.capture.Capture.{Capture}
 use Rattle.ftc_pcap.specs.declared.packets.Packet.{Packet}
-
--- a released packet's record: its own stamps and original length, and the bytes with which it left
-abbrev pub released_record : Capture → Released → List ℕ
-released_record capture released =
-    option_map_or (λ packet. record_bytes capture.big (rewritten packet released.bytes))
-    (slice_get capture.packets released.packet) []
+pub use Rattle.ftc_pcap.specs.ReleasedRecord.{released_record}
 
 -- the capture's header, and the record of each released packet in the order of release
 abbrev pub out_bytes : Capture → List Released → List ℕ

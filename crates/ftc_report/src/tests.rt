@@ -1,4 +1,4 @@
-ghost use Rattle.std.specs.Prelude.{◌≡◌, IfOk, IfSome, length};
+ghost use Rattle.std.specs.Prelude.{◌≡◌, IfOk, length};
 
 use crate::stores::value_text;
 use crate::{out_of, print, report};
@@ -7,7 +7,7 @@ use ftc_journal::{Journal, read};
 use ftc_machine::replay;
 use ftc_mbox::{ChainSpec, Rule};
 use ftc_pcap::{Capture, Packet, Packets};
-use ftc_protocol::{Fate, Fates};
+use ftc_protocol::{Fate, Fates, ring_of};
 use ftc_ring::Ring;
 use ftc_script::{Script, accepted, read_script};
 use ftc_serial::Serial;
@@ -100,8 +100,11 @@ fn each_line_is_in_its_place(rt: HostRuntime) -> Result<(), Fail> {
     let fates = fates_of(alloc, fates.as_slice())?;
     let taps = taps_of(alloc, ["packets 3 bytes 126", "list 3"].as_slice())?;
     // 10 + 0 + 0 + 5 is 7 modulo 8, and with a 6 it is 0.
-    let expected =
-        b"ftc-report 1\npackets 5\nreleased 1\nfiltered 1\nlost 2\nfate 0 released\nfate 1 filtered 1\nfate 2 lost 12\nfate 3 inside\nfate 4 lost 0\nstore 0 2\nkey 6d0000 0000000000000001\nkey 6d0007 0000000000000001\nstore 1 0\ntap packets 3 bytes 126\ntap list 3\n".as_slice();
+    let expected = b"ftc-report 1\npackets 5\nreleased 1\nfiltered 1\nlost 2\nfate 0 released\n\
+        fate 1 filtered 1\nfate 2 lost 12\nfate 3 inside\nfate 4 lost 0\nstore 0 2\n\
+        key 6d0000 0000000000000001\nkey 6d0007 0000000000000001\nstore 1 0\n\
+        tap packets 3 bytes 126\ntap list 3\n"
+        .as_slice();
     assert_eq!(rt; print(alloc, &fates, &serial, &taps)?.as_slice(), expected);
     Ok(())
 }
@@ -134,14 +137,6 @@ release 1
 take 1 1
 carry 1
 ";
-
-/// The ring of a chain.
-fn ring_of(spec: &ChainSpec) -> Option<Ring>
-    ensures { IfSome result (λ ring. ring ≡ record { servers = length spec.now.rules; failures = spec.now.failures }) }
-{
-    let servers = spec.rules().len() as u8;
-    Ring::new(servers, spec.failures())
-}
 
 /// The script of a text, for that ring and so many packets.
 fn script_of(alloc: Global, text: &str, ring: &Ring, packets: u32) -> Result<Script, Fail>
@@ -181,7 +176,7 @@ fn an_undone_visit_is_not_reported(rt: HostRuntime) -> Result<(), Fail> {
     let alloc = rt.alloc();
     let spec = chain_of(alloc, true)?;
     let packets = packets_of(alloc, &rt)?;
-    let ring = ring_of(&spec).expect(&rt, "a ring");
+    let ring = ring_of(&spec);
     let lines = "at 1 crash 0\nat 1 recover 0\n";
     let script = script_of(alloc, lines, &ring, packets.len() as u32)?;
     let Ok(journal) = read(alloc, CRASH) else {
@@ -190,7 +185,9 @@ fn an_undone_visit_is_not_reported(rt: HostRuntime) -> Result<(), Fail> {
     let text = reported(alloc, &spec, &packets, &script, &journal)?;
     // 10 + 0 + 0 + 6 is 0 modulo 8.
     let expected =
-        b"ftc-report 1\npackets 2\nreleased 1\nfiltered 0\nlost 1\nfate 0 lost 2\nfate 1 released\nstore 0 1\nkey 6d0000 0000000000000001\nstore 1 0\n".as_slice();
+        b"ftc-report 1\npackets 2\nreleased 1\nfiltered 0\nlost 1\nfate 0 lost 2\nfate 1 released\n\
+        store 0 1\nkey 6d0000 0000000000000001\nstore 1 0\n"
+            .as_slice();
     assert_eq!(rt; text.as_slice(), expected);
     Ok(())
 }

@@ -4,9 +4,11 @@
 mod distance;
 mod laws;
 mod live;
+mod membership;
 mod recovery;
 mod ring;
 
+pub use distance::{apart, next_of, server_of};
 pub use laws::{admissible, distances, groups, origins, recoveries, steps, the_live};
 pub use ring::Ring;
 

@@ -4,7 +4,7 @@ ghost use Rattle.std.specs.Prelude.{◌≡◌, ◌≤◌, ◌<◌, ◌↔◌, Is
 ghost use Rattle.ftc_base.specs.declared.limits.TheConstants.{MOST_SERVERS};
 ghost use Rattle.ftc_ring.specs.Ring.{IsRing, IsMember, next_of, previous_of, tail_of};
 
-use crate::distance::{apart, server_of};
+use crate::distance::{apart, next_of, server_of};
 use ftc_base::ServerId;
 use ftc_base::limits::MOST_SERVERS;
 use std::marker::Model;
@@ -89,12 +89,7 @@ impl Ring {
         ensures same { result ≡ next_of self.now.servers server }
         ensures within { result < self.now.servers }
     {
-        let number = server.number() + 1;
-        if number == self.servers {
-            server_of(0)
-        } else {
-            server_of(number)
-        }
+        server_of(next_of(self.servers, server))
     }
 
     /// The server from which a link leads to a server.

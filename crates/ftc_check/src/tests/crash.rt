@@ -44,7 +44,8 @@ carry 1
 
 // Packet 0 was inside server 0 at event 2. For packet 1, 10 + 0 + 0 + 6 is 0 modulo 8.
 const REPORT: &[u8] =
-    b"ftc-report 1\npackets 2\nreleased 1\nfiltered 0\nlost 1\nfate 0 lost 2\nfate 1 released\nstore 0 1\nkey 6d0000 0000000000000001\nstore 1 0\n";
+    b"ftc-report 1\npackets 2\nreleased 1\nfiltered 0\nlost 1\nfate 0 lost 2\nfate 1 released\n\
+    store 0 1\nkey 6d0000 0000000000000001\nstore 1 0\n";
 
 /// The header, the packet that is lost, and the one that comes out.
 fn capture_text(alloc: Global) -> Result<Bytes, NoMemory> {

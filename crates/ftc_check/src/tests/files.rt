@@ -1,11 +1,9 @@
-ghost use Rattle.std.specs.Prelude.{◌≡◌, length};
-
 use crate::{Checked, check};
 use ftc_base::{Items, NoMemory};
 use ftc_journal::read;
 use ftc_mbox::{ChainSpec, Rule};
 use ftc_pcap::read_capture;
-use ftc_ring::Ring;
+use ftc_protocol::ring_of;
 use ftc_script::{accepted, read_script};
 use std::alloc::Global;
 use std::test::Fail;
@@ -22,14 +20,8 @@ const JOURNAL: &str = "ftc-journal 2\nenter 0\nvisit 0 0 63\npass 0 0\nrelease 0
 
 // 10 + 0 + 0 + 5 is 7 modulo 8.
 const REPORT: &str =
-    "ftc-report 1\npackets 1\nreleased 1\nfiltered 0\nlost 0\nfate 0 released\nstore 0 1\nkey 6d0007 0000000000000001\n";
-
-/// The ring of a chain.
-fn ring_of(spec: &ChainSpec) -> Ring
-    ensures { result ≡ record { servers = length spec.now.rules; failures = spec.now.failures } }
-{
-    Ring::new(spec.rules().len() as u8, spec.failures()).unwrap()
-}
+    "ftc-report 1\npackets 1\nreleased 1\nfiltered 0\nlost 0\nfate 0 released\nstore 0 1\n\
+    key 6d0007 0000000000000001\n";
 
 /// What the check says of these files. None where a text is refused.
 pub fn judged(
@@ -90,7 +82,8 @@ fn files_of_one_run_are_right(rt: HostRuntime) -> Result<(), Fail> {
     let alloc = rt.alloc();
     assert_eq!(rt; answer_to(alloc, JOURNAL)?, Some(Checked::Yes));
     let report =
-        "ftc-report 1\npackets 1\nreleased 1\nfiltered 0\nlost 0\nfate 0 released\nstore 0 1\nkey 6d0007 0000000000000001\ntap packets 1\n";
+        "ftc-report 1\npackets 1\nreleased 1\nfiltered 0\nlost 0\nfate 0 released\nstore 0 1\n\
+        key 6d0007 0000000000000001\ntap packets 1\n";
     assert_eq!(rt;
         answer(alloc, CAPTURE.as_slice(), JOURNAL, report)?,
         Some(Checked::Yes)

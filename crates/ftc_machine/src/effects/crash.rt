@@ -2,7 +2,6 @@
 
 ghost use Rattle.std.specs.Prelude.{ℕ, ◌≡◌, ◌<◌, ◌≤◌, length, option_map, OnOk, OnErr};
 ghost use Rattle.ftc_journal.specs.declared.event.Event.TheVariants as event;
-ghost use Rattle.ftc_ring.specs.Ring.{next_of};
 ghost use Rattle.ftc_machine.specs.declared.state.message.Message.{Message as AMessage};
 ghost use Rattle.ftc_machine.specs.Simulation.{SimulatesEvent};
 ghost use Rattle.ftc_machine.specs.Represents.{RepresentsSame};
@@ -17,16 +16,9 @@ use crate::state::message::{Message, Place};
 use crate::state::slots::Slots;
 use ftc_base::{NoMemory, ServerId};
 use ftc_protocol::Fate;
+use ftc_ring::next_of;
 use ftc_vector::GroupVectors;
 use std::alloc::Global;
-
-/// The number of the server to which a link leads, in a ring of so many.
-pub fn next_of(servers: u8, link: ServerId) -> u8
-    ensures { result ≡ next_of servers link }
-{
-    let number = link.number() + 1;
-    if number == servers { 0 } else { number }
-}
 
 /// Whether there is a message that the server holds, or that is queued to it.
 fn is_at(servers: u8, server: ServerId, message: Option<&Message>) -> bool

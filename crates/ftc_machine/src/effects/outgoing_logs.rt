@@ -4,7 +4,7 @@ ghost use Rattle.std.specs.Prelude.{◌≡◌, ◌==◌, ◌&&◌, ◌||◌, ℕ
 ghost use Rattle.ftc_serial.specs.Trace.{names};
 ghost use Rattle.ftc_machine.specs.Simulation.{logs_in};
 ghost use Rattle.ftc_machine.specs.Slots.{slot_at};
-ghost use Rattle.ftc_machine.specs.Tails.{group_ending};
+ghost use Rattle.ftc_ring.specs.Groups.{group_ending_at};
 
 use crate::state::MachineState;
 use crate::trace::is_among;
@@ -59,11 +59,11 @@ impl MachineState {
         logs: &[VisitName],
     ) -> Result<VisitNames, NoMemory>
         ensures { IfOk result (λ list. (group packet : ℕ) → names list group packet ≡
-            ((names logs.now group packet && not (group == group_ending self.now.ring server))
+            ((names logs.now group packet && not (group == group_ending_at self.now.ring server))
             || ((server == 0) && names self.now.forwarder group packet))) }
     {
         let mut list = self.forwarded(alloc, server)?;
-        add_others(&mut list, logs, self.group_ending(server))?;
+        add_others(&mut list, logs, self.ring.group_ending_at(server))?;
         Ok(list)
     }
 }

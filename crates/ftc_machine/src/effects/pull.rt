@@ -26,7 +26,8 @@ impl MachineState {
         let from = usize::from(link.number());
         let to = usize::from(receiver.number());
         let got = part(&self.lists[from], self.groups_behind(receiver));
-        let news = has_gain(&got, &self.lists[to], self.group_ending(receiver));
+        let ending = self.ring.group_ending_at(receiver);
+        let news = has_gain(&got, &self.lists[to], ending);
         self.lists[to].merge(&got);
         self.gaps = with_if(self.gaps, news, receiver).without(link.number());
         Ok(())

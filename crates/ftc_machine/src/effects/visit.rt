@@ -5,13 +5,13 @@ ghost use Rattle.ftc_journal.specs.declared.event.Event.TheVariants as event;
 ghost use Rattle.ftc_serial.specs.Told.{outcome_of};
 ghost use Rattle.ftc_serial.specs.Trace.{names};
 ghost use Rattle.ftc_protocol.specs.Changes.{is_touching};
-ghost use Rattle.ftc_machine.specs.Simulation.{SimulatesEvent};
+ghost use Rattle.ftc_machine.specs.Simulation.{SimulatesEvent, logs_in};
 ghost use Rattle.ftc_machine.specs.Represents.{RepresentsSame};
 ghost use Rattle.ftc_protocol.specs.Next.{logs_of, outcome_at};
 ghost use Rattle.ftc_protocol.specs.Setting.{Setting, rule_at};
 ghost use Rattle.ftc_machine.specs.Slots.{slot_at};
 ghost use Rattle.ftc_protocol.specs.State.{ChainState};
-ghost use Rattle.ftc_machine.specs.VisitEffect.{bytes_kept, outcome_kept, logs_kept, logs_behind, HasRoom};
+ghost use Rattle.ftc_machine.specs.VisitEffect.{bytes_kept, outcome_kept, logs_behind, HasRoom};
 ghost use Rattle.ftc_protocol.specs.Visits.{union, just};
 
 use crate::effects::visited_message::{visit_fate, visit_message};
@@ -54,7 +54,7 @@ impl MachineState {
 
     /// The logs of a message, once more.
     fn logs(&self, alloc: Global, packet: PacketNo) -> Result<VisitNames, NoMemory>
-        ensures { IfOk result (λ logs. logs ≡ logs_kept (slot_at self.now.messages packet)) }
+        ensures { IfOk result (λ logs. logs ≡ logs_in (slot_at self.now.messages packet)) }
     {
         match self.messages.get(packet as usize) {
             Some(message) => message.logs.copy(alloc),

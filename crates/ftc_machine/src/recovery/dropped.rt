@@ -5,13 +5,13 @@ ghost use Rattle.ftc_machine.specs.LostPackets.{drop_kept, loses_kept, fate_lost
 ghost use Rattle.ftc_machine.specs.RecoveryEffect.{is_dropped_kept};
 ghost use Rattle.ftc_machine.specs.Slots.{slot_at, has_such};
 
-use crate::effects::crash::next_of;
 use crate::effects::losses::lose;
 use crate::state::MachineState;
 use crate::state::message::{Message, Place};
 use crate::state::slots::Slots;
 use ftc_base::ServerId;
 use ftc_protocol::Fate;
+use ftc_ring::next_of;
 
 impl MachineState {
     /// Whether a message goes, where this is the live server after the new one.

@@ -6,9 +6,9 @@ ghost use Rattle.ftc_ring.specs.Live.{source_between};
 ghost use Rattle.ftc_vector.specs.Commits.{vector_of};
 ghost use Rattle.ftc_machine.specs.RecoveryEffect.{got_vector, tail_added, both_known};
 
-use crate::recovery::distance::apart;
 use crate::state::MachineState;
 use ftc_base::ServerId;
+use ftc_ring::apart;
 use ftc_vector::GroupVectors;
 
 impl MachineState {
@@ -64,7 +64,7 @@ impl MachineState {
         requires { server < self.now.ring.servers }
         ensures { known.new ≡ tail_added self.now server known.old }
     {
-        let group = self.group_ending(server);
+        let group = self.ring.group_ending_at(server);
         known.raise(group, self.lists[usize::from(server.number())].of(group));
     }
 

@@ -13,10 +13,11 @@ ghost use Rattle.ftc_machine.specs.Slots.{has_such};
 ghost use Rattle.ftc_protocol.specs.State.{ChainState};
 ghost use Rattle.ftc_machine.specs.LegalityTests.{footprints_of, list_of};
 
-use crate::recovery::distance::{apart, span};
+use crate::recovery::distance::span;
 use crate::state::MachineState;
 use ftc_base::{NoMemory, PacketNo, ServerId};
 use ftc_journal::{VisitName, VisitNames};
+use ftc_ring::apart;
 use std::alloc::Global;
 
 impl MachineState {

@@ -1,9 +1,7 @@
 //! What is kept of a chain at its start.
 
 ghost use Rattle.std.specs.Prelude.{◌≡◌, ◌≤◌, ℕ, IfOk, length, slice_index_or, []};
-ghost use Rattle.std.specs.FinMap.{empty};
 ghost use Rattle.ftc_base.specs.declared.limits.TheConstants.{MOST_PARTITIONS};
-ghost use Rattle.ftc_serial.specs.Contents.{content_at};
 ghost use Rattle.ftc_protocol.specs.Setting.{Setting, shape};
 ghost use Rattle.ftc_protocol.specs.State.{opening};
 ghost use Rattle.ftc_machine.specs.Frontier.{frontier_at};
@@ -12,10 +10,9 @@ ghost use Rattle.ftc_machine.specs.Represents.{Represents, frontiers_of};
 use crate::state::MachineState;
 use crate::state::footprint::Footprint;
 use crate::state::slots::Slots;
-use ftc_base::limits::MOST_PARTITIONS;
 use ftc_base::{Items, NoMemory, ServerSet};
 use ftc_ring::Ring;
-use ftc_store::Store;
+use ftc_serial::empty_stores;
 use ftc_vector::GroupVectors;
 use std::alloc::Global;
 
@@ -30,20 +27,6 @@ fn empty_sets(alloc: Global, count: usize) -> Result<Vec<GroupVectors>, NoMemory
         sets.push(GroupVectors::new())?;
     }
     Ok(sets)
-}
-
-/// For each of so many servers an empty store.
-fn empty_stores(alloc: Global, count: usize, partitions: u8) -> Result<Vec<Store>, NoMemory>
-    requires some { 1 ≤ partitions }
-    requires within { partitions ≤ MOST_PARTITIONS }
-    ensures count { IfOk result (λ stores. length stores.items ≡ count) }
-    ensures empty { IfOk result (λ stores. (server : ℕ) → content_at stores.items server ≡ empty) }
-{
-    let mut stores = Vec::new(alloc);
-    for _ in 0..count {
-        stores.push(Store::new(alloc, partitions))?;
-    }
-    Ok(stores)
 }
 
 /// For each of so many servers no footprint.

@@ -8,20 +8,7 @@ use ftc_base::ServerId;
 use ftc_vector::{GroupVectors, Vector, merge};
 
 impl MachineState {
-    ghost use Rattle.ftc_machine.specs.Tails.{group_ending, known_at};
-
-    /// The group whose tail a server is.
-    pub fn group_ending(&self, server: ServerId) -> ServerId
-        ensures { result ≡ group_ending self.now.ring server }
-    {
-        let (number, failures) = (server.number(), self.ring.failures());
-        let group = if failures <= number {
-            number - failures
-        } else {
-            number + self.ring.servers() - failures
-        };
-        ServerId::new(group).unwrap()
-    }
+    ghost use Rattle.ftc_machine.specs.Tails.{known_at};
 
     /// How far reaches what a server knows.
     pub fn knows(&self, server: ServerId) -> GroupVectors
@@ -29,7 +16,7 @@ impl MachineState {
         ensures { result ≡ known_at self.now server }
     {
         let place = usize::from(server.number());
-        let ending = self.group_ending(server);
+        let ending = self.ring.group_ending_at(server);
         let mut known = self.known[place];
         known.bounds();
         known.raise(ending, self.lists[place].of(ending));
@@ -45,7 +32,7 @@ impl MachineState {
         let mut known = *self.known[place].of(group);
         // The contracts of these calls tell how many partitions and how many groups there are.
         let _ = (known.at(0), group.number());
-        if group == self.group_ending(server) {
+        if group == self.ring.group_ending_at(server) {
             merge(&mut known, self.lists[place].of(group));
         }
         known

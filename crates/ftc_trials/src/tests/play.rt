@@ -1,6 +1,6 @@
 //! A run that is played from its texts.
 
-ghost use Rattle.std.specs.Prelude.{◌≡◌, IfOk, IfSome, length};
+ghost use Rattle.std.specs.Prelude.{◌≡◌, IfOk};
 
 use crate::{Change, Trial};
 use ftc_base::{Bytes, Lines, Refuse, split_line};
@@ -8,6 +8,7 @@ use ftc_conf::read_chain;
 use ftc_machine::{Machine, replay, trace_of};
 use ftc_mbox::ChainSpec;
 use ftc_pcap::{Packet, Packets};
+use ftc_protocol::ring_of;
 use ftc_report::print;
 use ftc_ring::Ring;
 use ftc_script::{Script, accepted, read_script};
@@ -57,14 +58,6 @@ fn refusal(trial: &Trial, text: &str) -> Fail {
     Fail::new(format_args!("{}: the {text} is refused", trial.name))
 }
 
-/// The ring of a chain.
-fn ring_of(spec: &ChainSpec) -> Option<Ring>
-    ensures { IfSome result (λ ring. ring ≡ record { servers = length spec.now.rules; failures = spec.now.failures }) }
-{
-    let servers = spec.rules().len() as u8;
-    Ring::new(servers, spec.failures())
-}
-
 /// The script of a trial, for its ring and for so many packets.
 fn script_of(alloc: Global, trial: &Trial, ring: &Ring, packets: u32) -> Result<Script, Fail>
     ensures ring { IfOk result (λ script. script.ring ≡ ring.now) }
@@ -85,7 +78,7 @@ pub fn play(rt: &impl Abort, alloc: Global, trial: &Trial, journal: &[u8]) -> Re
         return Err(refusal(trial, "chain"));
     };
     let packets = packets_of(rt, alloc, trial.packets)?;
-    let ring = ring_of(&spec).expect(rt, "a ring");
+    let ring = ring_of(&spec);
     let script = script_of(alloc, trial, &ring, packets.len() as u32)?;
     let Ok(journal) = ftc_journal::read(alloc, journal) else {
         return Err(refusal(trial, "journal"));

@@ -10,7 +10,7 @@ use Rattle.ftc_protocol.specs.Next.{logs_of}
 use Rattle.ftc_machine.specs.Frontier.{numbers_of}
 use Rattle.ftc_protocol.specs.Setting.{is_tail}
 use Rattle.ftc_machine.specs.Slots.{slot_at}
-use Rattle.ftc_machine.specs.Tails.{group_ending}
+use Rattle.ftc_ring.specs.Groups.{group_ending_at}
 use Rattle.ftc_protocol.specs.State.{Message}
 use Rattle.ftc_machine.proofs.OnwardLogs.{logs_go_on}
 use Rattle.ftc_machine.proofs.ReplacedPlaces.{cleared}
@@ -24,15 +24,15 @@ returns-clause-ok c setting s may is =
     let zero : c.unwrap-first.result ≡ 0 = search rules in
     let are : (group packet : ℕ) →
     names c.in_ok-self.field-0 group packet
-    ≡ ((names (logs_in (slot_at k.messages c.args.origin)) group packet && not (group == group_ending k.ring 0))
+    ≡ ((names (logs_in (slot_at k.messages c.args.origin)) group packet && not (group == group_ending_at k.ring 0))
     || ((0 == 0) && names k.forwarder group packet)) =
     λ group packet.
     c.in_ok-self.ensures group packet
     ∙ ap (λ (logs : List VisitName). (names logs group packet
-    && not (group == group_ending k.ring c.unwrap-first.result))
+    && not (group == group_ending_at k.ring c.unwrap-first.result))
     || ((c.unwrap-first.result == 0) && names k.forwarder group packet)) c.logs_of.ensures
     ∙ ap (λ first. (names (logs_in (slot_at k.messages c.args.origin)) group packet
-    && not (group == group_ending k.ring first)) || ((first == 0) && names k.forwarder group packet)) zero in
+    && not (group == group_ending_at k.ring first)) || ((first == 0) && names k.forwarder group packet)) zero in
     record {
       ring = is.ring;
       partitions = is.partitions;

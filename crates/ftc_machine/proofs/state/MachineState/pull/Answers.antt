@@ -8,7 +8,8 @@ use Rattle.ftc_machine.specs.Represents.{footprints_in, frontiers_of}
 use Rattle.ftc_machine.specs.Gain.{HasGain}
 use Rattle.ftc_machine.specs.Frontier.{numbers_of}
 use Rattle.ftc_protocol.specs.Setting.{servers}
-use Rattle.ftc_machine.specs.Tails.{group_ending, is_behind, part_of}
+use Rattle.ftc_ring.specs.Groups.{group_ending_at, is_later_member}
+use Rattle.ftc_machine.specs.Tails.{part_of}
 use Rattle.ftc_machine.proofs.AfterPull.{link_below, next_below, lists_pulled, stores_pulled, news_is, gaps_pulled}
 use Rattle.ftc_machine.proofs.RisingNumbers.{rising_more}
 use Rattle.ftc_machine.proofs.state.MachineState.pull.Goals as goal
@@ -30,9 +31,9 @@ returns-clause-ok c setting s may is =
     c.next-receiver.ensures.same ∙ ap (λ number. next_of number link) size in
     let from : c.from-from.result ≡ link = c.from-from.ensures ∙ c.number.ensures.same in
     let to : c.from-to.result ≡ receiver = c.from-to.ensures ∙ c.number-2.ensures.same ∙ next in
-    let are : (group : ℕ) → has groups group ≡ (nat_lt group k.ring.servers && is_behind k.ring group receiver) =
+    let are : (group : ℕ) → has groups group ≡ (nat_lt group k.ring.servers && is_later_member k.ring group receiver) =
     λ group. c.groups_behind.ensures group ∙ ap (λ server. nat_lt group k.ring.servers
-    && is_behind k.ring group server) next in
+    && is_later_member k.ring group server) next in
     let got : c.part-got.result ≡ part_of (has groups) (frontiers_of rows link) =
     c.part-got.ensures ∙ ap (part_of (has groups))
     (get_or_read rows c.from-from.result c.index.result.now (let all = long size in
@@ -49,13 +50,13 @@ returns-clause-ok c setting s may is =
     ∙ ap (all_merged (frontiers_of rows c.from-to.result)) got in
     let are_news : (news ≡ true)
     ↔ HasGain (part_of (has groups) (frontiers_of rows link)) (frontiers_of rows receiver)
-    (group_ending k.ring receiver) =
+    (group_ending_at k.ring receiver) =
     subst (λ (reach : List (List ℕ)). (news ≡ true)
-    ↔ HasGain reach (frontiers_of rows receiver) (group_ending k.ring receiver)) got
+    ↔ HasGain reach (frontiers_of rows receiver) (group_ending_at k.ring receiver)) got
     (subst (λ (reach : List (List ℕ)). (news ≡ true)
-    ↔ HasGain c.part-got.result reach (group_ending k.ring receiver)) row
+    ↔ HasGain c.part-got.result reach (group_ending_at k.ring receiver)) row
     (subst (λ group. (news ≡ true) ↔ HasGain c.part-got.result c.index-2.result.now group)
-    (c.group_ending.ensures ∙ ap (group_ending k.ring) next) c.has_gain-news.ensures)) in
+    (c.group_ending_at-ending.ensures.same ∙ ap (group_ending_at k.ring) next) c.has_gain-news.ensures)) in
     let gaps : (other : ℕ) → has c.without-self.result other
     ≡ (not (other == link) && ((other == receiver && news) || has k.gaps other)) =
     λ other.

@@ -8,7 +8,7 @@ use Rattle.ftc_machine.specs.Represents.{footprints_in}
 use Rattle.ftc_machine.specs.Frontier.{numbers_of}
 use Rattle.ftc_protocol.specs.Setting.{servers}
 use Rattle.ftc_protocol.specs.State.{Message}
-use Rattle.ftc_machine.specs.Tails.{group_ending}
+use Rattle.ftc_ring.specs.Groups.{group_ending_at}
 use Rattle.ftc_machine.proofs.AfterLeaving.{after_sending, leaves, last_is, queued_is, gap_is, messages_kept, sent_kept}
 use Rattle.ftc_machine.proofs.AfterLeaving.{forwarder_kept, buffer_kept, gaps_kept, fates_kept}
 use Rattle.ftc_machine.proofs.RisingNumbers.{rising_more}
@@ -35,7 +35,7 @@ returns-clause-ok c setting s now may is =
     let logs = λ (group number : ℕ).
     ap (λ (logs : List VisitName). names logs group number) c.behind-message.ensures.logs ∙ c.in_ok-logs.ensures group
     number
-    ∙ ap (λ (logs : List VisitName). (names logs group number && not (group == group_ending k.ring server))
+    ∙ ap (λ (logs : List VisitName). (names logs group number && not (group == group_ending_at k.ring server))
     || ((server == 0) && names k.forwarder group number)) c.logs_of.ensures in
     after_sending setting s server origin lost _ (record {
       ring = is.ring;
