@@ -101,7 +101,7 @@ count_with_items test is_before (item ∷ items) others =
 
 -- ---- logs
 
-follows_on : (last : Option (ℕ × ℕ)) (log other : Logged) → log_follows last log.origin log.group ≡ true
+pub follows_on : (last : Option (ℕ × ℕ)) (log other : Logged) → log_follows last log.origin log.group ≡ true
     → is_earlier log other ≡ true → log_follows last other.origin other.group ≡ true
 follows_on None log other follows earlier = refl
 follows_on (Some last) log other follows earlier = grind (arith, nat_tests, follows, earlier)
@@ -110,10 +110,10 @@ follows_else : (log other : Logged) → is_log_of log.origin log.group other ≡
     → is_earlier log other ≡ true
 follows_else log other apart later = grind (arith, nat_tests, apart, later)
 
-later_apart : (log other : Logged) → is_earlier log other ≡ true → is_log_of log.origin log.group other ≡ false
+pub later_apart : (log other : Logged) → is_earlier log other ≡ true → is_log_of log.origin log.group other ≡ false
 later_apart log other earlier = grind (arith, nat_tests, earlier)
 
-logs_rise-behind : (last : Option (ℕ × ℕ)) (log : Logged) (logs : List Logged)
+pub logs_rise-behind : (last : Option (ℕ × ℕ)) (log : Logged) (logs : List Logged)
     → log_follows last log.origin log.group ≡ true → logs_rise (Some (log.origin, log.group)) logs ≡ true
     → logs_rise last logs ≡ true
 logs_rise-behind last log [] follows rising = refl
@@ -122,7 +122,7 @@ logs_rise-behind last log (next ∷ logs) follows rising =
     and_from (log_follows last next.origin next.group) (logs_rise (Some (next.origin, next.group)) logs)
     (follows_on last log next follows parts.0) parts.1
 
-later_apart_each : (log : Logged) (logs : List Logged) → logs_rise (Some (log.origin, log.group)) logs ≡ true
+pub later_apart_each : (log : Logged) (logs : List Logged) → logs_rise (Some (log.origin, log.group)) logs ≡ true
     → HasNone log logs
 later_apart_each log [] rising = tt
 later_apart_each log (next ∷ logs) rising =
@@ -131,7 +131,7 @@ later_apart_each log (next ∷ logs) rising =
       later_apart_each log logs (logs_rise-behind (Some (log.origin, log.group)) next logs parts.0 parts.1),
     )
 
-logs_rise-with : (last : Option (ℕ × ℕ)) (log : Logged) (logs : List Logged)
+pub logs_rise-with : (last : Option (ℕ × ℕ)) (log : Logged) (logs : List Logged)
     → log_follows last log.origin log.group ≡ true → HasNone log logs → logs_rise last logs ≡ true
     → logs_rise last (with_item is_earlier log logs) ≡ true
 logs_rise-with last log [] follows none rising = and_from (log_follows last log.origin log.group) true follows refl

@@ -12,4 +12,6 @@ pub mod NeedLaws
 pub mod CommitLaws
 pub mod MessageLaws
 pub mod Members
+mod Merged
 pub mod InOrder
+pub mod Searched

@@ -20,6 +20,10 @@ with_items is_before (item ∷ items) others = with_item is_before item (with_it
 abbrev pub is_earlier : Logged → Logged → Bool
 is_earlier log other = log_follows (Some (log.origin, log.group)) other.origin other.group
 
+-- it stands before the log of that packet and group
+abbrev pub is_before : ℕ → ℕ → Logged → Bool
+is_before origin group log = log_follows (Some (log.origin, log.group)) origin group
+
 -- it is the log of that packet and group
 abbrev pub is_log_of : ℕ → ℕ → Logged → Bool
 is_log_of origin group log = log.origin == origin && log.group == group

@@ -10,13 +10,14 @@ ghost use Rattle.ftc_message.specs.Same.{same_log};
 ghost use Rattle.ftc_message.specs.SameLaws.{log_list_equivalence};
 ghost use Rattle.std.specs.Cmp.{partial_equiv_from_equiv};
 ghost use Rattle.std.specs.Cmp.Lexicographic.{pointwise};
-ghost use Rattle.ftc_message.specs.Ordered.{with_item, with_items, is_earlier, is_log_of, HasNone, AreApart};
+ghost use Rattle.ftc_message.specs.Ordered.{with_item, with_items, is_earlier, is_before, is_log_of, HasNone, AreApart};
 ghost use Rattle.ftc_message.specs.Ordered.{logs_without};
 
 use crate::log::Log;
 use ftc_base::{Items, NoMemory, PacketNo, ServerId, ServerSet};
 use std::alloc::Global;
 use std::marker::Model;
+use std::mem;
 
 /// Logs in any order.
 pub type LogList = Items<Log>;
@@ -39,42 +40,48 @@ impl Model for Logs {
     ghost invariant = { λ logs. AreLogs logs.list.items };
 }
 
-/// Whether the first log stands before the second.
-fn is_earlier(log: &Log, other: &Log) -> bool
-    ensures { result ≡ is_earlier log.now other.now }
+/// Whether a log stands before that of a packet and a group.
+fn is_before(log: &Log, origin: PacketNo, group: ServerId) -> bool
+    ensures { result ≡ is_before origin group log.now }
 {
-    log.origin() < other.origin()
-        || (log.origin() == other.origin() && log.group().number() < other.group().number())
+    log.origin() < origin || (log.origin() == origin && log.group().number() < group.number())
 }
 
-/// How many of the logs stand before this one, up to the first that doesn't.
-fn place_of(logs: &[Log], log: &Log) -> usize
-    ensures place { result ≡ prefix_len (λ other. is_earlier other log.now) logs.now }
+/// Whether it is the log of that packet and group.
+fn is_of(log: &Log, origin: PacketNo, group: ServerId) -> bool
+    ensures { result ≡ is_log_of origin group log.now }
+{
+    log.origin() == origin && log.group() == group
+}
+
+/// How many of the logs, which rise, stand before that of a packet and a group.
+fn place_of(logs: &[Log], origin: PacketNo, group: ServerId) -> usize
+    requires { logs_rise None logs.now ≡ true }
+    ensures place { result ≡ prefix_len (is_before origin group) logs.now }
     ensures within { result ≤ length logs.now }
 {
-    for (place, other) in logs.iter().enumerate() {
-        if !is_earlier(other, log) {
-            return place;
-        }
-    }
-    logs.len()
+    logs.partition_point(|log| is_before(log, origin, group))
 }
 
-/// Puts a log at its place. There is room for it.
+/// Puts a log at its place among others, which rise. There is room for it.
 fn put(list: &mut Vec<Log>, log: Log)
-    requires { vec_len list.old < vec_capacity list.old }
+    requires room { vec_len list.old < vec_capacity list.old }
+    requires rising { logs_rise None list.old.items ≡ true }
     ensures items { list.new.items ≡ with_item is_earlier log list.old.items }
     ensures len { vec_len list.new ≡ vec_len list.old + 1 }
     ensures capacity { vec_capacity list.old ≤ vec_capacity list.new }
 {
-    let place = place_of(list.as_slice(), &log);
+    let place = place_of(list.as_slice(), log.origin(), log.group());
     let put: Result<_, _> = list.insert(place, log);
     put.unwrap();
 }
 
-/// Puts each log at its place. There is room for them.
+/// Puts each log at its place. Both lists rise, no log is in both, and there is room for them.
 fn put_all(list: &mut Vec<Log>, logs: Vec<Log>)
-    requires { vec_len list.old + vec_len logs ≤ vec_capacity list.old }
+    requires room { vec_len list.old + vec_len logs ≤ vec_capacity list.old }
+    requires rising { logs_rise None list.old.items ≡ true }
+    requires others { logs_rise None logs.items ≡ true }
+    requires apart { AreApart logs.items list.old.items }
     ensures { list.new.items ≡ with_items is_earlier logs.items list.old.items }
 {
     let mut rest = logs;
@@ -163,15 +170,22 @@ impl Logs {
         Ok(())
     }
 
-    /// Puts the other logs among these, each at its place. No log is in both lists.
+    /// Puts the other logs among these, each at its place. No log is in both lists. It costs by the shorter list, and
+    /// by the logs of the longer one that stand behind some of the shorter.
     pub fn merge(&mut self, other: Logs) -> Result<(), NoMemory>
         requires { AreApart other self.old }
         ensures ok { OnOk result (self.new ≡ with_items is_earlier other self.old) }
         ensures err { OnErr result (self.new ≡ self.old) }
     {
-        let others = other.into_vec();
-        self.list.reserve(others.len())?;
-        put_all(&mut self.list, others);
+        let mut others = other.into_vec();
+        if others.len() <= self.list.len() {
+            self.list.reserve(others.len())?;
+            put_all(&mut self.list, others);
+            return Ok(());
+        }
+        others.reserve(self.list.len())?;
+        let fewer = mem::replace(&mut self.list, others);
+        put_all(&mut self.list, fewer);
         Ok(())
     }
 
@@ -186,9 +200,13 @@ impl Logs {
     pub fn find(&self, origin: PacketNo, group: ServerId) -> Option<&Log>
         ensures { option_copied result ≡ find (is_log_of origin group) self.now }
     {
-        self.list
-            .iter()
-            .find(|log| log.origin() == origin && log.group() == group)
+        let logs = self.list.as_slice();
+        let log = logs.get(place_of(logs, origin, group))?;
+        if is_of(log, origin, group) {
+            Some(log)
+        } else {
+            None
+        }
     }
 
     /// Whether there is a log of that packet and group.

@@ -12,7 +12,7 @@ use std::marker::Model;
 /// How many groups there may be, one for each server.
 pub(crate) const GROUPS: usize = MOST_SERVERS as usize;
 
-/// A vector for each group, from group 0 on, held in place: a copy takes no memory, but moves 8 KiB. A
+/// A vector for each group, from group 0 on, held in place: a copy takes no memory, but moves them all. A
 /// contract sees the list of the vectors.
 #[derive(Clone, Copy, Debug, PartialEq, Eq)]
 pub struct GroupVectors {

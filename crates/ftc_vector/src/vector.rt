@@ -62,7 +62,7 @@ impl Vector {
     pub fn is_zero(&self) -> bool
         ensures { result ≡ list_all (λ number. number == 0) self.now }
     {
-        // All 64 are read, since a loop with no way out of its middle is the faster one.
+        // All are read, since a loop with no way out of its middle is the faster one.
         let mut bits = 0;
         for number in &self.numbers {
             bits |= *number;

@@ -1,0 +1,37 @@
+use Rattle.std.proofs.Common.{◌∙◌, Bool, Some, None, cond, sym, ap, arith}
+use Rattle.std.specs.Option.{option_copied}
+use Rattle.std.proofs.lemmas.Bool.Decides.{nat_tests}
+use Rattle.std.proofs.lemmas.Option.{slice_get_past, slice_get-get_or}
+use Rattle.ftc_message.specs.Logged.{Logged}
+use Rattle.ftc_message.proofs.Searched.{found_by}
+use Rattle.ftc_message.proofs.logs.Logs.find.Goals as goal
+
+pub returns-in_err-log : goal.returns-in_err-log
+returns-in_err-log c =
+    let logs = c.as_slice-logs.result.now in
+    let past = slice_get_past logs c.place_of.result (grind (arith, nat_tests, c.in_err-log.ensures.lookup.0)) in
+    ap option_copied c.from_residual.ensures
+    ∙ found_by c.args.origin c.args.group c.place_of.result c.self.inside.list.items logs c.args.self.now None
+    c.self.invariant.rising c.as_slice-logs.ensures.value c.self.view_is c.place_of.ensures.place (sym past)
+
+pub returns-then-is_of : goal.returns-then-is_of
+returns-then-is_of c =
+    let logs = c.as_slice-logs.result.now in
+    let log = c.in_ok-log.log.now in
+    let there = slice_get-get_or logs c.place_of.result log
+    (grind (arith, nat_tests, c.in_ok-log.ensures.lookup.0)) in
+    ap (λ (b : Bool). cond b (Some log) None) (sym c.if-is_of.true ∙ c.is_of.ensures)
+    ∙ found_by c.args.origin c.args.group c.place_of.result c.self.inside.list.items logs c.args.self.now (Some log)
+    c.self.invariant.rising c.as_slice-logs.ensures.value c.self.view_is c.place_of.ensures.place
+    (ap (λ (l : Logged). Some l) c.in_ok-log.ensures.lookup.1 ∙ sym there)
+
+pub returns-else-is_of : goal.returns-else-is_of
+returns-else-is_of c =
+    let logs = c.as_slice-logs.result.now in
+    let log = c.in_ok-log.log.now in
+    let there = slice_get-get_or logs c.place_of.result log
+    (grind (arith, nat_tests, c.in_ok-log.ensures.lookup.0)) in
+    ap (λ (b : Bool). cond b (Some log) None) (sym c.if-is_of.false ∙ c.is_of.ensures)
+    ∙ found_by c.args.origin c.args.group c.place_of.result c.self.inside.list.items logs c.args.self.now (Some log)
+    c.self.invariant.rising c.as_slice-logs.ensures.value c.self.view_is c.place_of.ensures.place
+    (ap (λ (l : Logged). Some l) c.in_ok-log.ensures.lookup.1 ∙ sym there)
