@@ -1,6 +1,6 @@
 -- The first partition at which a log is ahead, and what it says of the log's number there.
-use Rattle.std.proofs.Common.{◌≡◌, ◌≢◌, ◌≤◌, ◌<◌, ◌+◌, ◌∙◌, ℕ, suc, zero, Bool, true, false, Option, Some, None, List, refl}
-use Rattle.std.proofs.Common.{sym, ap, cond, subst, arith, inl, inr}
+use Rattle.std.proofs.Common.{◌≡◌, ◌≤◌, ◌<◌, ◌+◌, ◌∙◌, ℕ, suc, zero, Bool, true, false, Some, None, List, refl, sym, ap}
+use Rattle.std.proofs.Common.{cond, subst, arith, inl, inr}
 use Rattle.std.specs.Prelude.{find}
 use Rattle.std.specs.List.{range_with_len}
 use Rattle.std.proofs.lemmas.Bool.{cases_lt}

@@ -1,34 +1,31 @@
 -- What is watched where all messages are looked at anew.
-use Rattle.std.proofs.Common.{◌≡◌, ◌≢◌, ◌≤◌, ◌+◌, ◌∙◌, ◌++◌, ◌&&◌, ◌||◌, not, ℕ, Bool, true, false, List, [], ◌∷◌, Option}
-use Rattle.std.proofs.Common.{Some, None, length, refl, sym, ap, cond, subst, arith}
-use Rattle.std.specs.Prelude.{◌==◌, find, filter, is_some}
-use Rattle.std.specs.List.{list_all, list_any, flat_map}
-use Rattle.std.proofs.lemmas.Bool.{eqb-true, eq-eqb}
-use Rattle.ftc_message.specs.Logged.{Logged, logs_rise}
+use Rattle.std.proofs.Common.{◌≡◌, ◌≤◌, ◌∙◌, ◌++◌, ◌||◌, not, ℕ, Bool, true, false, List, [], ◌∷◌, Option, Some, None}
+use Rattle.std.proofs.Common.{length, refl, sym, ap, cond, arith}
+use Rattle.std.specs.Prelude.{◌==◌, filter, is_some}
+use Rattle.std.specs.List.{list_all, list_any}
+use Rattle.std.proofs.lemmas.Bool.{eqb-true, eq-eqb, false≢true}
+use Rattle.std.proofs.lemmas.Option.{none-some}
+use Rattle.ftc_message.specs.Logged.{Logged}
 use Rattle.ftc_replica.specs.Held.{Held}
 use Rattle.ftc_replica.specs.declared.waits.Wait.{Wait}
 use Rattle.ftc_server.specs.declared.held.HeldMessage.{HeldMessage}
-use Rattle.ftc_server.specs.Holding.{found, is_held, is_of, log_of, are_distinct, are_rising, rests}
+use Rattle.ftc_server.specs.Holding.{found, is_held, is_of, log_of, are_rising, rests, origins_of}
 use Rattle.ftc_server.specs.Replicas.{is_had, is_ready}
-use Rattle.ftc_server.specs.Waiting.{is_ahead, waits_of, waits_of_message, waits_of_all, is_unreached, is_wait_of, is_named}
-use Rattle.ftc_server.specs.Waiting.{is_idle, is_put_off, is_settled, AreWatched}
-use Rattle.ftc_server.proofs.EachHeld.{IsHeldIn, each_held}
+use Rattle.ftc_server.specs.Waiting.{is_ahead, waits_of_message, waits_of_all, is_unreached, is_wait_of, is_named}
+use Rattle.ftc_server.specs.Waiting.{is_idle, is_settled, AreWatched}
+use Rattle.ftc_server.proofs.EachHeld.{each_held}
 use Rattle.ftc_server.proofs.Finding.{both, and_both, test_of_found}
 use Rattle.ftc_server.proofs.Lacking.{ahead_is_lacking, idle_put_off, ready_not_idle}
 use Rattle.ftc_server.proofs.Taken.{count_behind, all_more}
 use Rattle.ftc_server.proofs.Watched.{origin_of_found}
 use Rattle.ftc_server.proofs.StillWatched.{flat_all, flat_any, logs_named, logs_unreached, logs_watched, logs_once}
 use Rattle.ftc_server.proofs.StillWatched.{logs_of_packet, none_of_another, none_of_it}
-
-clash : false ≡ true → ⊥
-clash is = cc
-
-log_none : (log : Logged) → Some log ≡ None → ⊥
-log_none log is = cc
+use Rattle.ftc_server.specs.Tickets.{AreDistinct}
+use Rattle.ftc_server.proofs.Keeping.{held_among}
 
 or_settled : (rests' idle : Bool) → not rests' || idle ≡ true → rests' ≡ true → idle ≡ true
 or_settled true idle is it = is
-or_settled false idle is it = absurd (clash it)
+or_settled false idle is it = absurd (false≢true it)
 
 -- a message that rests and is settled is idle
 rests_idle : (replicas : List (Option Held)) (items : List HeldMessage) (resting : List ℕ) (packet : ℕ)
@@ -50,11 +47,11 @@ nothing_watched replicas items resting ready settled = record {
   watched = λ packet origin group log its ahead.
       elim (found packet items) as (λ f. found packet items ≡ f → log_of group origin f ≡ Some log →
       list_any (is_wait_of packet origin group) [] ≡ true) [
-        | None ↦ λ _ never. absurd (log_none log (sym never))
+        | None ↦ λ _ never. absurd (none-some log never)
         | Some held ↦ λ there in_it.
             let all = test_of_found (is_ready replicas) (is_of packet) items held ready there in
             let had = test_of_found (is_had replicas) _ held.message.logs log all in_it in
-            absurd (clash (sym (ahead_is_lacking replicas log ahead) ∙ had))
+            absurd (false≢true (sym (ahead_is_lacking replicas log ahead) ∙ had))
       ] refl its;
   rest = λ packet held there it_rests.
       absurd (ready_not_idle replicas held.message.logs
@@ -75,33 +72,6 @@ pub kept_ready : (replicas : List (Option Held)) (items : List HeldMessage) →
     list_all (is_ready replicas) (filter (is_ready replicas) items) ≡ true
 kept_ready replicas items = all_kept_pass (is_ready replicas) items
 
-none_kept : (keep : HeldMessage → Bool) (origin : ℕ) (items : List HeldMessage) → not (is_held origin items) ≡ true →
-    not (is_held origin (filter keep items)) ≡ true
-none_kept keep origin [] none = refl
-none_kept keep origin (first ∷ items) none =
-    elim (is_of origin first) as (λ t. is_of origin first ≡ t →
-    not (is_some (cond t (Some first) (found origin items))) ≡ true →
-    not (is_held origin (cond (keep first) (first ∷ filter keep items) (filter keep items))) ≡ true) [
-      | true ↦ λ _ never. absurd (clash never)
-      | false ↦ λ isnt later. elim (keep first) as (λ k.
-          not (is_held origin (cond k (first ∷ filter keep items) (filter keep items))) ≡ true) [
-            | true ↦ ap (λ (b : Bool). not (is_some (cond b (Some first) (found origin (filter keep items))))) isnt
-                ∙ none_kept keep origin items later
-            | false ↦ none_kept keep origin items later
-          ]
-    ] refl none
-
-pub distinct_kept : (keep : HeldMessage → Bool) (items : List HeldMessage) → are_distinct items ≡ true →
-    are_distinct (filter keep items) ≡ true
-distinct_kept keep [] distinct = refl
-distinct_kept keep (first ∷ items) distinct =
-    let parts = both (not (is_held first.message.origin items)) (are_distinct items) distinct in
-    elim (keep first) as (λ k. are_distinct (cond k (first ∷ filter keep items) (filter keep items)) ≡ true) [
-      | true ↦ and_both (not (is_held first.message.origin (filter keep items))) (are_distinct (filter keep items))
-          (none_kept keep first.message.origin items parts.0) (distinct_kept keep items parts.1)
-      | false ↦ distinct_kept keep items parts.1
-    ]
-
 -- ---- the waits of all messages
 
 pub all_unreached : (replicas : List (Option Held)) (items : List HeldMessage) →
@@ -111,7 +81,7 @@ all_unreached replicas (held ∷ items) =
     all_more (is_unreached replicas) (waits_of_message replicas held) (waits_of_all replicas items)
     (logs_unreached replicas held.message.origin held.message.logs) (all_unreached replicas items)
 
-all_named : (replicas : List (Option Held)) (items : List HeldMessage) → are_distinct items ≡ true →
+all_named : (replicas : List (Option Held)) (items : List HeldMessage) → AreDistinct (origins_of items) →
     list_all are_rising items ≡ true → list_all (is_named items) (waits_of_all replicas items) ≡ true
 all_named replicas items distinct rising =
     flat_all (is_named items) (waits_of_message replicas) items
@@ -136,9 +106,9 @@ others_than replicas packet [] none = refl
 others_than replicas packet (held ∷ items) none =
     elim (is_of packet held) as (λ t. is_of packet held ≡ t →
     not (is_some (cond t (Some held) (found packet items))) ≡ true →
-    list_all (λ (wait : Wait). not (wait.packet == packet)) (waits_of_message replicas held ++ waits_of_all replicas items)
-    ≡ true) [
-      | true ↦ λ _ never. absurd (clash never)
+    list_all (λ (wait : Wait). not (wait.packet == packet))
+    (waits_of_message replicas held ++ waits_of_all replicas items) ≡ true) [
+      | true ↦ λ _ never. absurd (false≢true never)
       | false ↦ λ isnt later.
           all_more (λ (wait : Wait). not (wait.packet == packet)) (waits_of_message replicas held)
           (waits_of_all replicas items)
@@ -148,34 +118,35 @@ others_than replicas packet (held ∷ items) none =
     ] refl none
 
 all_once : (replicas : List (Option Held)) (packet origin group : ℕ) (items : List HeldMessage) →
-    are_distinct items ≡ true → list_all are_rising items ≡ true →
+    AreDistinct (origins_of items) → list_all are_rising items ≡ true →
     length (filter (is_wait_of packet origin group) (waits_of_all replicas items)) ≤ 1
 all_once replicas packet origin group [] distinct rising = omega arith
 all_once replicas packet origin group (held ∷ items) distinct rising =
-    let parts = both (not (is_held held.message.origin items)) (are_distinct items) distinct in
     let rise = both (are_rising held) (list_all are_rising items) rising in
     let whole = count_behind (is_wait_of packet origin group) (waits_of_message replicas held)
     (waits_of_all replicas items) in
     elim (held.message.origin == packet) as (λ t. (held.message.origin == packet) ≡ t →
-    length (filter (is_wait_of packet origin group) (waits_of_message replicas held ++ waits_of_all replicas items)) ≤ 1) [
+    length (filter (is_wait_of packet origin group) (waits_of_message replicas held ++ waits_of_all replicas items))
+    ≤ 1) [
       | true ↦ λ same.
           let first = logs_once replicas held.message.origin packet origin group held.message.logs rise.0 in
           let later : length (filter (is_wait_of packet origin group) (waits_of_all replicas items)) ≡ 0 =
           none_of_it packet origin group (waits_of_all replicas items)
           (others_than replicas packet items
-          (ap (λ (p : ℕ). not (is_held p items)) (sym (eqb-true held.message.origin packet same)) ∙ parts.0)) in
+          (ap (λ (p : ℕ). not (is_held p items)) (sym (eqb-true held.message.origin packet same))
+          ∙ ap not (held_among items held.message.origin ∙ distinct.0))) in
           omega (arith, whole, first, later)
       | false ↦ λ differs.
           let first : length (filter (is_wait_of packet origin group) (waits_of_message replicas held)) ≡ 0 =
           none_of_another held.message.origin packet origin group (waits_of_message replicas held)
-          (λ e. clash (sym differs ∙ eq-eqb held.message.origin packet e))
+          (λ e. false≢true (sym differs ∙ eq-eqb held.message.origin packet e))
           (logs_of_packet replicas held.message.origin held.message.logs) in
-          let later = all_once replicas packet origin group items parts.1 rise.1 in
+          let later = all_once replicas packet origin group items distinct.1 rise.1 in
           omega (arith, whole, first, later)
     ] refl
 
 pub all_watched : (replicas : List (Option Held)) (items : List HeldMessage) (resting : List ℕ) →
-    are_distinct items ≡ true → list_all are_rising items ≡ true →
+    AreDistinct (origins_of items) → list_all are_rising items ≡ true →
     list_all (is_settled replicas resting) items ≡ true →
     AreWatched replicas items resting (waits_of_all replicas items)
 all_watched replicas items resting distinct rising settled =
@@ -184,7 +155,7 @@ all_watched replicas items resting distinct rising settled =
     λ packet origin group log its ahead.
     elim (found packet items) as (λ f. found packet items ≡ f → log_of group origin f ≡ Some log →
     list_any (is_wait_of packet origin group) (waits_of_all replicas items) ≡ true) [
-      | None ↦ λ _ never. absurd (log_none log (sym never))
+      | None ↦ λ _ never. absurd (none-some log never)
       | Some held ↦ λ there in_it.
           flat_any (is_wait_of packet origin group) (waits_of_message replicas) (is_of packet) items held there
           (ap (λ (p : ℕ). list_any (is_wait_of p origin group) (waits_of_message replicas held))

@@ -1,9 +1,9 @@
 -- What is still to be woken after a partition was looked at.
-use Rattle.std.proofs.Common.{◌≡◌, ◌≤◌, ◌<◌, ◌+◌, ◌∙◌, ◌&&◌, ◌||◌, not, ℕ, Bool, true, false, List, [], ◌∷◌, Option, Some, None, refl}
-use Rattle.std.proofs.Common.{sym, ap, cond, subst, arith, inl, inr}
+use Rattle.std.proofs.Common.{◌≡◌, ◌≤◌, ◌+◌, ◌∙◌, ◌&&◌, ◌||◌, not, ℕ, Bool, true, false, List, Option, None, refl, sym}
+use Rattle.std.proofs.Common.{ap, arith}
 use Rattle.std.specs.Prelude.{◌==◌, nat_le, nat_lt, find}
 use Rattle.std.specs.List.{list_all}
-use Rattle.std.proofs.lemmas.Bool.{eqb-true, eq-eqb, le-leb, leb-true, cases_lt}
+use Rattle.std.proofs.lemmas.Bool.{eqb-true, or_left, false≢true}
 use Rattle.std.proofs.lemmas.Bool.Decides.{nat_tests}
 use Rattle.ftc_base.specs.Sets.{has}
 use Rattle.ftc_base.specs.declared.limits.TheConstants.{MOST_PARTITIONS}
@@ -12,34 +12,8 @@ use Rattle.ftc_replica.specs.declared.waits.Wait.{Wait}
 use Rattle.ftc_replica.specs.Waiting.{waits_for}
 use Rattle.ftc_server.specs.Replicas.{replica_at}
 use Rattle.ftc_server.specs.Waiting.{is_unreached, is_changed_to, is_due, number_in, StaysWhere}
-use Rattle.ftc_server.proofs.Finding.{both, and_both}
-use Rattle.ftc_server.proofs.Watched.{implies_all}
-
-none_passes : {A : Type 0} (test : A → Bool) (items : List A) → find test items ≡ None →
-    list_all (λ item. not (test item)) items ≡ true
-none_passes test [] none = refl
-none_passes {A} test (item ∷ items) none =
-    elim (test item) as (λ t. cond t (Some item) (find test items) ≡ None →
-    not t && list_all (λ i. not (test i)) items ≡ true) [
-      | true ↦ λ some. absurd cc
-      | false ↦ λ later. none_passes test items later
-    ] none
-
-pub all_both : {A : Type 0} (first second : A → Bool) (items : List A) → list_all first items ≡ true →
-    list_all second items ≡ true → list_all (λ item. first item && second item) items ≡ true
-all_both first second [] one two = refl
-all_both first second (item ∷ items) one two =
-    let a = both (first item) (list_all first items) one in
-    let b = both (second item) (list_all second items) two in
-    and_both (first item && second item) (list_all (λ i. first i && second i) items)
-    (and_both (first item) (second item) a.0 b.0) (all_both first second items a.1 b.1)
-
-pub due_or : (a b : Bool) → a ≡ true → a || b ≡ true
-due_or true b is = refl
-due_or false b is = absurd cc
-
-true_is_not : false ≡ true → ⊥
-true_is_not is = cc
+use Rattle.ftc_server.proofs.Finding.{both}
+use Rattle.ftc_server.proofs.ListTests.{all_both, implies_all, none_passes}
 
 later_due : (unreached group changed from_here below number at wait : Bool) →
     unreached || (group && (changed && (from_here && (below && number)))) ≡ true →
@@ -53,7 +27,7 @@ later_due false true true false below number at wait is isnt same later next = a
 later_due false true true true false number at wait is isnt same later next = absurd cc
 later_due false true true true true false at wait is isnt same later next = absurd cc
 later_due false true true true true true true true is isnt same later next = absurd cc
-later_due false true true true true true true false is isnt same later next = absurd (true_is_not (same refl refl))
+later_due false true true true true true true false is isnt same later next = absurd (false≢true (same refl refl))
 later_due false true true true true true false wait is isnt same later next =
     ap (λ (l : Bool). l && true) (next refl refl)
 
@@ -62,8 +36,9 @@ after_place : (from place : ℕ) → nat_le from place ≡ true → (place == fr
 after_place from place at isnt = grind (arith, nat_tests, at, isnt)
 
 one_later : (replicas : List (Option Held)) (group changed from : ℕ) (wait : Wait) →
-    is_due replicas group changed from wait && not (waits_for group from (number_in (replica_at replicas group) from) wait)
-    ≡ true → is_due replicas group changed (from + 1) wait ≡ true
+    is_due replicas group changed from wait
+    && not (waits_for group from (number_in (replica_at replicas group) from) wait) ≡ true →
+    is_due replicas group changed (from + 1) wait ≡ true
 one_later replicas group changed from wait is =
     let parts = both (is_due replicas group changed from wait)
     (not (waits_for group from (number_in (replica_at replicas group) from) wait)) is in
@@ -83,7 +58,7 @@ due_next replicas group changed from number old new stays is none due =
     implies_all (λ wait. is_due replicas group changed from wait && not (test wait))
     (is_due replicas group changed (from + 1)) new (one_later replicas group changed from)
     (all_both (is_due replicas group changed from) (λ wait. not (test wait)) new
-    (stays (is_due replicas group changed from) (λ wait unreached. due_or (is_unreached replicas wait)
+    (stays (is_due replicas group changed from) (λ wait unreached. or_left (is_unreached replicas wait)
     (is_changed_to replicas group changed from wait) unreached) due)
     (none_passes test new (ap (λ (n : ℕ). find (waits_for group from n) new) (sym is) ∙ none)))
 
@@ -102,7 +77,7 @@ unchanged_at : (changed from place : ℕ) → has changed from ≡ false → has
     (place == from) ≡ false
 unchanged_at changed from place isnt is =
     elim (place == from) as (λ t. (place == from) ≡ t → t ≡ false) [
-      | true ↦ λ same. absurd (true_is_not (sym isnt ∙ (ap (has changed) (sym (eqb-true place from same)) ∙ is)))
+      | true ↦ λ same. absurd (false≢true (sym isnt ∙ (ap (has changed) (sym (eqb-true place from same)) ∙ is)))
       | false ↦ λ _. refl
     ] refl
 

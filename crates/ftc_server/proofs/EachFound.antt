@@ -1,13 +1,13 @@
 -- Logs that rise: each is found by its packet and group.
-use Rattle.std.proofs.Common.{◌≡◌, ◌≢◌, ◌≤◌, ◌<◌, ◌+◌, ◌∙◌, ◌++◌, ◌&&◌, ◌||◌, not, ℕ, Bool, true, false, List, [], ◌∷◌, Option}
-use Rattle.std.proofs.Common.{Some, None, length, refl, sym, ap, cond, subst, arith}
+use Rattle.std.proofs.Common.{◌≡◌, ◌≤◌, ◌∙◌, ◌||◌, ℕ, Bool, true, false, List, [], ◌∷◌, Option, Some, None, length}
+use Rattle.std.proofs.Common.{refl, ap, cond, subst, arith}
 use Rattle.std.specs.Prelude.{◌==◌, find, filter}
-use Rattle.std.specs.List.{list_all, list_any, flat_map}
-use Rattle.std.proofs.lemmas.Bool.{eqb-true, eq-eqb}
+use Rattle.std.specs.List.{list_all, list_any}
+use Rattle.std.proofs.lemmas.Bool.{eqb-true}
 use Rattle.std.proofs.lemmas.Bool.Decides.{nat_tests}
 use Rattle.ftc_message.specs.Logged.{Logged, log_follows, logs_rise}
 use Rattle.ftc_message.specs.Ordered.{is_log_of}
-use Rattle.ftc_server.proofs.Finding.{both, and_both, passes_found}
+use Rattle.ftc_server.proofs.Finding.{both, and_both, test_of_found}
 use Rattle.ftc_server.proofs.NextLog.{goes_on, another, is_itself}
 
 -- a log behind another is another
@@ -38,16 +38,6 @@ all_follow last (first ∷ logs) rising =
     (list_all (λ (log : Logged). log_follows last log.origin log.group) logs) parts.0
     (through last first logs parts.0 (all_follow (Some (first.origin, first.group)) logs parts.1))
 
-found_passes : (test : Logged → Bool) (is : Logged → Bool) (logs : List Logged) (log : Logged) →
-    list_all test logs ≡ true → find is logs ≡ Some log → test log ≡ true
-found_passes test is [] log all there = absurd cc
-found_passes test is (first ∷ logs) log all there =
-    let parts = both (test first) (list_all test logs) all in
-    elim (is first) as (λ t. cond t (Some first) (find is logs) ≡ Some log → test log ≡ true) [
-      | true ↦ λ same. let e : first ≡ log = cc in ap test (sym e) ∙ parts.0
-      | false ↦ λ later. found_passes test is logs log parts.1 later
-    ] there
-
 -- what holds of each log that is found so holds of all
 pub record IsFoundIn (logs : List Logged) (log : Logged) : Type 0 where
   pub there : find (is_log_of log.origin log.group) logs ≡ Some log
@@ -62,7 +52,7 @@ found_later : (first : Logged) (logs : List Logged) (log : Logged) →
     IsFoundIn logs log → IsFoundIn (first ∷ logs) log
 found_later first logs log follow is = record {
   there = ap (λ (b : Bool). cond b (Some first) (find (is_log_of log.origin log.group) logs))
-      (follows_other first log (found_passes (λ (l : Logged). log_follows (Some (first.origin, first.group)) l.origin
+      (follows_other first log (test_of_found (λ (l : Logged). log_follows (Some (first.origin, first.group)) l.origin
       l.group) (is_log_of log.origin log.group) logs log follow is.there))
       ∙ is.there;
 }

@@ -1,17 +1,19 @@
 -- Held messages of which no two have one origin: each is found by its origin.
-use Rattle.std.proofs.Common.{◌≡◌, ◌≢◌, ◌∙◌, ◌&&◌, ◌||◌, not, ℕ, Bool, true, false, List, [], ◌∷◌, Option, Some, None}
-use Rattle.std.proofs.Common.{refl, sym, ap, cond, subst}
-use Rattle.std.specs.Prelude.{◌==◌, find, is_some, option_map}
+use Rattle.std.proofs.Common.{◌≡◌, ◌∙◌, ◌&&◌, ◌||◌, not, ℕ, Bool, true, false, List, [], ◌∷◌, Option, Some, refl, sym}
+use Rattle.std.proofs.Common.{ap, cond}
+use Rattle.std.specs.Prelude.{find, is_some}
 use Rattle.std.specs.List.{list_all}
-use Rattle.std.proofs.lemmas.Bool.{eqb-true, eq-eqb}
+use Rattle.std.proofs.lemmas.Bool.{eqb-true, eq-eqb, false≢true}
 use Rattle.ftc_replica.specs.Held.{Held}
 use Rattle.ftc_replica.specs.declared.waits.Wait.{Wait}
 use Rattle.ftc_server.specs.declared.held.HeldMessage.{HeldMessage}
-use Rattle.ftc_server.specs.Holding.{found, is_held, is_of, are_distinct, are_rising, rests}
+use Rattle.ftc_server.specs.Holding.{found, is_held, is_of, are_rising, rests, origins_of}
 use Rattle.ftc_server.specs.Work.{has_work}
 use Rattle.ftc_server.specs.Waiting.{AreWatched, is_unreached}
 use Rattle.ftc_server.proofs.Finding.{both, and_both, test_of_found}
 use Rattle.ftc_server.proofs.Lacking.{put_off_idles}
+use Rattle.ftc_server.specs.Tickets.{AreDistinct}
+use Rattle.ftc_server.proofs.Keeping.{held_among}
 
 pub record IsHeldIn (items : List HeldMessage) (held : HeldMessage) : Type 0 where
   pub there : found held.message.origin items ≡ Some held
@@ -22,29 +24,25 @@ first_there first items = record {
       (eq-eqb first.message.origin first.message.origin refl);
 }
 
-not_twice : (b : Bool) → not b ≡ true → b ≡ true → ⊥
-not_twice true isnt is = absurd cc
-not_twice false isnt is = absurd cc
-
 later_there : (first : HeldMessage) (items : List HeldMessage) (held : HeldMessage) →
-    not (is_held first.message.origin items) ≡ true → IsHeldIn items held → IsHeldIn (first ∷ items) held
+    is_held first.message.origin items ≡ false → IsHeldIn items held → IsHeldIn (first ∷ items) held
 later_there first items held none is = record {
   there = elim (is_of held.message.origin first) as (λ t. is_of held.message.origin first ≡ t →
       cond t (Some first) (found held.message.origin items) ≡ Some held) [
-        | true ↦ λ same. absurd (not_twice (is_held first.message.origin items) none
-            (ap (λ (o : ℕ). is_held o items) (eqb-true first.message.origin held.message.origin same)
-            ∙ ap (λ (h : Option HeldMessage). is_some h) is.there))
+        | true ↦ λ same. absurd (false≢true (sym none
+            ∙ (ap (λ (o : ℕ). is_held o items) (eqb-true first.message.origin held.message.origin same)
+            ∙ ap (λ (h : Option HeldMessage). is_some h) is.there)))
         | false ↦ λ _. is.there
       ] refl;
 }
 
-pub each_held : (test : HeldMessage → Bool) (items : List HeldMessage) → are_distinct items ≡ true →
+pub each_held : (test : HeldMessage → Bool) (items : List HeldMessage) → AreDistinct (origins_of items) →
     ((held : HeldMessage) → IsHeldIn items held → test held ≡ true) → list_all test items ≡ true
 each_held test [] distinct each = refl
 each_held test (first ∷ items) distinct each =
-    let parts = both (not (is_held first.message.origin items)) (are_distinct items) distinct in
     and_both (test first) (list_all test items) (each first (first_there first items))
-    (each_held test items parts.1 (λ held is. each held (later_there first items held parts.0 is)))
+    (each_held test items distinct.1 (λ held is. each held (later_there first items held
+    (held_among items first.message.origin ∙ distinct.0) is)))
 
 -- ---- those that rest have no work, so that the first with work is the first that doesn't rest and has work
 
@@ -68,7 +66,7 @@ or_not true work idle = ap not (idle refl)
 or_not false work idle = refl
 
 pub awake_first : (replicas : List (Option Held)) (items : List HeldMessage) (resting : List ℕ) (waiting : List Wait) →
-    are_distinct items ≡ true → list_all are_rising items ≡ true → AreWatched replicas items resting waiting →
+    AreDistinct (origins_of items) → list_all are_rising items ≡ true → AreWatched replicas items resting waiting →
     list_all (is_unreached replicas) waiting ≡ true →
     find (λ (held : HeldMessage). not (rests held.message.origin resting) && has_work replicas held) items
     ≡ find (has_work replicas) items

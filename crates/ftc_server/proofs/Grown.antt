@@ -1,32 +1,30 @@
 -- Replicas whose numbers rise: what is had stays had, and what is ahead was ahead.
-use Rattle.std.proofs.Common.{◌≡◌, ◌≢◌, ◌≤◌, ◌<◌, ◌+◌, ◌∙◌, ◌&&◌, ◌||◌, not, ℕ, zero, suc, Bool, true, false, List, [], ◌∷◌, Option, Some, None, refl}
-use Rattle.std.proofs.Common.{sym, ap, cond, subst, arith, inl, inr}
+use Rattle.std.proofs.Common.{◌≡◌, ◌≢◌, ◌≤◌, ◌<◌, ◌+◌, ◌∙◌, ◌&&◌, ◌||◌, not, ℕ, zero, suc, Bool, true, false, List, []}
+use Rattle.std.proofs.Common.{◌∷◌, Option, Some, None, refl, sym, ap, cond, subst, arith}
 use Rattle.std.specs.Prelude.{⊤, ◌==◌, is_some, nat_le, nat_lt, option_map, slice_set}
 use Rattle.std.specs.List.{list_all, list_any}
-use Rattle.std.proofs.lemmas.Bool.{cases_lt, le-leb, leb-true, eqb-true, eq-eqb, ltb-true}
+use Rattle.std.proofs.lemmas.Bool.{le-leb, leb-true, eqb-true, eq-eqb, ltb-true, false≢true, or_left, or_right}
 use Rattle.std.proofs.lemmas.Bool.Decides.{nat_tests}
 use Rattle.ftc_base.specs.Sets.{has}
 use Rattle.ftc_base.specs.declared.limits.TheConstants.{MOST_PARTITIONS}
 use Rattle.ftc_message.specs.Logged.{Logged}
 use Rattle.ftc_replica.specs.Held.{Held, applied}
-use Rattle.ftc_replica.specs.Kept.{covers_log}
 use Rattle.ftc_replica.specs.declared.waits.Wait.{Wait}
-use Rattle.ftc_vector.specs.Order.{IsCovered, reaches, covers}
-use Rattle.ftc_vector.specs.Vector.{mark_at, number_at, raised, need_of, need_at}
+use Rattle.ftc_vector.specs.Order.{reaches, covers}
+use Rattle.ftc_vector.specs.Vector.{mark_at, number_at, raised, need_of}
 use Rattle.ftc_vector.proofs.OrderTests.{covered}
 use Rattle.ftc_vector.proofs.Partitions.{get_or-by_partition}
 use Rattle.ftc_server.specs.declared.held.HeldMessage.{HeldMessage}
-use Rattle.ftc_server.specs.Holding.{found, log_of, rests}
+use Rattle.ftc_server.specs.Holding.{found, log_of}
 use Rattle.ftc_server.specs.Replicas.{replica_at, has_log, is_had, with_applied, pruned, ArePruned}
 use Rattle.ftc_vector.specs.Commits.{vector_of}
 use Rattle.ftc_server.specs.Waiting.{is_ahead_at, first_ahead, ahead_of, is_ahead, waits, is_had_or_waits, is_put_off}
-use Rattle.ftc_server.specs.Waiting.{is_wait_of, AreWatched, has_reached, is_unreached, is_named, carries}
-use Rattle.ftc_server.specs.Waiting.{is_changed_to, is_due, number_in}
-use Rattle.ftc_server.proofs.Ahead.{first_passes, none_passes, nowhere_ahead}
+use Rattle.ftc_server.specs.Waiting.{AreWatched, has_reached, is_unreached, is_named, carries, is_changed_to, is_due}
+use Rattle.ftc_server.specs.Waiting.{number_in}
+use Rattle.ftc_server.proofs.Ahead.{first_passes, none_passes}
 use Rattle.ftc_server.proofs.Finding.{both, and_both}
-use Rattle.ftc_server.proofs.Due.{all_both, due_or}
 use Rattle.ftc_server.proofs.Installing.{applied_at}
-use Rattle.ftc_server.proofs.Watched.{implies_all}
+use Rattle.ftc_server.proofs.ListTests.{not_both, all_both, implies_all}
 
 -- no number falls
 abbrev pub HasGrown : Option Held → Option Held → Type 0
@@ -46,8 +44,8 @@ reaches_more low high None below is = refl
 reaches_more low high (Some least) below is = le-leb least high (omega (arith, below, leb-true least low is))
 
 covered_still : (old new : List ℕ) (need : List (Option ℕ)) →
-    ((partition : ℕ) → partition < MOST_PARTITIONS → number_at old partition ≤ number_at new partition) → covers old need ≡ true →
-    covers new need ≡ true
+    ((partition : ℕ) → partition < MOST_PARTITIONS → number_at old partition ≤ number_at new partition) →
+    covers old need ≡ true → covers new need ≡ true
 covered_still old new need grown is =
     let was = (covered old need).0 is in
     (covered new need).1 (record {
@@ -63,30 +61,24 @@ had_at (Some old) None log grown is = absurd grown
 
 pub had_still : (old new : List (Option Held)) (log : Logged) → AreGrown old new → is_had old log ≡ true →
     is_had new log ≡ true
-had_still old new log grown is = had_at (replica_at old log.group) (replica_at new log.group) log (grown.each log.group) is
+had_still old new log grown is =
+    had_at (replica_at old log.group) (replica_at new log.group) log (grown.each log.group) is
 
 -- ---- what is ahead was ahead
-
-false_true : (b : Bool) → not b ≡ true → b ≡ true → ⊥
-false_true true isnt is = absurd cc
-false_true false isnt is = absurd cc
 
 ahead_before : (low high : ℕ) (mark : Option ℕ) → low ≤ high → not (reaches high mark) ≡ true →
     not (reaches low mark) ≡ true
 ahead_before low high mark below is =
     elim (reaches low mark) as (λ t. reaches low mark ≡ t → not t ≡ true) [
-      | true ↦ λ was. absurd (false_true (reaches high mark) is (reaches_more low high mark below was))
+      | true ↦ λ was. absurd (not_both (reaches high mark) is (reaches_more low high mark below was))
       | false ↦ λ _. refl
     ] refl
-
-clash : false ≡ true → ⊥
-clash is = cc
 
 some_first : (vector : List ℕ) (log : Logged) (p : ℕ) → p < MOST_PARTITIONS → is_ahead_at vector log p ≡ true →
     is_some (first_ahead vector log) ≡ true
 some_first vector log p within is =
     elim (first_ahead vector log) as (λ f. first_ahead vector log ≡ f → is_some f ≡ true) [
-      | None ↦ λ none. absurd (clash (sym (none_passes vector log none p within) ∙ is))
+      | None ↦ λ none. absurd (false≢true (sym (none_passes vector log none p within) ∙ is))
       | Some first ↦ λ _. refl
     ] refl
 
@@ -191,7 +183,7 @@ applied_grown replicas log was there = record {
         | false ↦ λ differs.
             subst (λ (slot : Option Held). HasGrown (replica_at replicas group) slot)
             (sym (other_place replicas log.group group (option_map (applied log) (replica_at replicas log.group))
-            (λ same. clash (sym differs ∙ eq-eqb log.group group same))))
+            (λ same. false≢true (sym differs ∙ eq-eqb log.group group same))))
             (same_grown (replica_at replicas group))
       ] refl;
 }
@@ -201,10 +193,6 @@ due_number : (changed : Bool) (number before after : ℕ) → after ≡ cond cha
     not (nat_le number before) ≡ true → nat_le number after ≡ true → (changed ≡ true) × (number ≡ after)
 due_number true number before after is above below = (refl, grind (arith, nat_tests, is, above, below))
 due_number false number before after is above below = absurd (grind (arith, nat_tests, is, above, below))
-
-or_changed : (a b : Bool) → b ≡ true → a || b ≡ true
-or_changed true b is = refl
-or_changed false b is = is
 
 due_one : (replicas : List (Option Held)) (log : Logged) (was : Held) (items : List HeldMessage) (wait : Wait) →
     replica_at replicas log.group ≡ Some was → is_named items wait && is_unreached replicas wait ≡ true →
@@ -218,10 +206,10 @@ due_one replicas log was items wait there is =
     elim (log.group == wait.group) as (λ t. (log.group == wait.group) ≡ t →
     is_due later log.group log.changed 0 wait ≡ true) [
       | false ↦ λ differs.
-          due_or (is_unreached later wait) (is_changed_to later log.group log.changed 0 wait)
+          or_left (is_unreached later wait) (is_changed_to later log.group log.changed 0 wait)
           (ap (λ (slot : Option Held). not (has_reached slot wait.partition wait.number))
           (other_place replicas log.group wait.group (option_map (applied log) (replica_at replicas log.group))
-          (λ same. clash (sym differs ∙ eq-eqb log.group wait.group same))) ∙ facts.1)
+          (λ same. false≢true (sym differs ∙ eq-eqb log.group wait.group same))) ∙ facts.1)
       | true ↦ λ same'.
           let same = eqb-true log.group wait.group same' in
           let here : replica_at replicas wait.group ≡ Some was = ap (replica_at replicas) (sym same) ∙ there in
@@ -233,14 +221,14 @@ due_one replicas log was items wait there is =
           elim (nat_le wait.number after) as (λ r. nat_le wait.number after ≡ r →
           is_due later log.group log.changed 0 wait ≡ true) [
             | false ↦ λ unreached.
-                due_or (is_unreached later wait) (is_changed_to later log.group log.changed 0 wait)
+                or_left (is_unreached later wait) (is_changed_to later log.group log.changed 0 wait)
                 (ap (λ (slot : Option Held). not (has_reached slot wait.partition wait.number)) now
                 ∙ ap not unreached)
             | true ↦ λ reached.
                 let due = due_number (has log.changed wait.partition) wait.number
                 (number_at was.vector wait.partition) after (raised_at was.vector log.changed wait.partition within)
                 before reached in
-                or_changed (is_unreached later wait) (is_changed_to later log.group log.changed 0 wait)
+                or_right (is_unreached later wait) (is_changed_to later log.group log.changed 0 wait)
                 (and_both (wait.group == log.group) _ (eq-eqb wait.group log.group (sym same))
                 (and_both (has log.changed wait.partition) _ due.0
                 (and_both (nat_le 0 wait.partition) _ (le-leb 0 wait.partition (omega arith))

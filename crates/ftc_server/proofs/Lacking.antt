@@ -1,41 +1,31 @@
 -- A log that waits is lacking and can't be applied, and a message that rests has no work.
-use Rattle.std.proofs.Common.{◌≡◌, ◌≤◌, ◌<◌, ◌+◌, ◌∙◌, ◌&&◌, ◌||◌, not, ℕ, Bool, true, false, List, [], ◌∷◌, Option, Some, None, length}
-use Rattle.std.proofs.Common.{refl, sym, ap, cond, subst, arith}
+use Rattle.std.proofs.Common.{◌≡◌, ◌≤◌, ◌<◌, ◌+◌, ◌∙◌, ◌&&◌, ◌||◌, not, ℕ, Bool, true, false, List, [], ◌∷◌, Option}
+use Rattle.std.proofs.Common.{Some, None, length, refl, sym, ap, cond, subst, arith}
 use Rattle.std.specs.Prelude.{◌==◌, find, is_some, nat_lt}
 use Rattle.std.specs.List.{list_all, list_any}
-use Rattle.std.proofs.lemmas.Bool.{eqb-true, eq-eqb, leb-true, le-leb, ltb-true}
+use Rattle.std.proofs.lemmas.Bool.{le-leb, ltb-true, false≢true, false_from_ne_true, and_right}
+use Rattle.std.proofs.lemmas.Option.{same_Some}
 use Rattle.ftc_base.specs.Sets.{has}
 use Rattle.ftc_base.specs.declared.limits.TheConstants.{MOST_PARTITIONS}
 use Rattle.ftc_message.specs.Logged.{Logged, logs_rise}
 use Rattle.ftc_message.specs.Ordered.{is_log_of}
 use Rattle.ftc_replica.specs.Held.{Held}
 use Rattle.ftc_replica.specs.declared.waits.Wait.{Wait}
-use Rattle.ftc_vector.specs.Order.{reaches, covers, is_ready as is_ready_at}
+use Rattle.ftc_vector.specs.Order.{reaches}
 use Rattle.ftc_vector.specs.Vector.{mark_at, number_at, need_of, need_at}
 use Rattle.ftc_vector.proofs.OrderTests.{covered, ready}
 use Rattle.ftc_vector.proofs.Needs.{mark_at-need_of}
 use Rattle.ftc_server.specs.declared.held.HeldMessage.{HeldMessage}
-use Rattle.ftc_server.specs.Holding.{found, log_of, rests}
+use Rattle.ftc_server.specs.Holding.{found, log_of}
 use Rattle.ftc_server.specs.Replicas.{replica_at, has_log, is_had, may_apply, may_apply_to, is_ready}
-use Rattle.ftc_server.specs.Work.{is_packet_of, next_log, work_behind, work_for, has_work, last_work}
-use Rattle.ftc_server.specs.Waiting.{is_ahead_at, first_ahead, ahead_of, is_ahead, has_reached, is_reached, is_unreached}
-use Rattle.ftc_server.specs.Waiting.{is_wait_of, waits, carries, is_named, is_had_or_waits, is_put_off}
-use Rattle.ftc_server.specs.Waiting.{is_had_or_ahead, is_idle, is_idle_one, AreWatched}
-use Rattle.ftc_server.proofs.Ahead.{first_passes, nowhere_ahead}
-use Rattle.ftc_server.proofs.Finding.{both, and_both, test_of_found, passes_found}
-use Rattle.ftc_server.proofs.Named.{IsOf, of_whom, IsCarried, carried}
+use Rattle.ftc_server.specs.Work.{is_packet_of, next_log, work_behind, has_work, last_work}
+use Rattle.ftc_server.specs.Waiting.{first_ahead, ahead_of, is_ahead, has_reached, is_unreached, is_wait_of, waits}
+use Rattle.ftc_server.specs.Waiting.{carries, is_named, is_had_or_waits, is_put_off, is_had_or_ahead, is_idle}
+use Rattle.ftc_server.proofs.Ahead.{first_passes}
+use Rattle.ftc_server.proofs.Finding.{both, and_both, test_of_found}
+use Rattle.ftc_server.proofs.Named.{of_whom, carried, marked}
 use Rattle.ftc_server.proofs.EachFound.{each_found, some_found, any_found}
-
-clash : false ≡ true → ⊥
-clash is = cc
-
-not_both : (b : Bool) → not b ≡ true → b ≡ true → ⊥
-not_both true isnt is = absurd cc
-not_both false isnt is = absurd cc
-
-isnt_true : (b : Bool) → (b ≡ true → ⊥) → b ≡ false
-isnt_true true never = absurd (never refl)
-isnt_true false never = refl
+use Rattle.ftc_server.proofs.ListTests.{not_both, all_both}
 
 -- ---- a number that a had log, or one that may be applied, carries is reached
 
@@ -76,10 +66,6 @@ applied_reached (Some held) log partition number may within mark =
 
 -- ---- a log that is ahead is lacking
 
-marked_at : (number : ℕ) (mark : Option ℕ) → not (reaches number mark) ≡ true → (least : ℕ) × (mark ≡ Some least)
-marked_at number None is = absurd cc
-marked_at number (Some least) is = (least, refl)
-
 ahead_lacks : (slot : Option Held) (log : Logged) → is_some (ahead_of slot log) ≡ true → has_log slot log ≡ false
 ahead_lacks None log is = absurd cc
 ahead_lacks (Some held) log is =
@@ -88,8 +74,8 @@ ahead_lacks (Some held) log is =
       | None ↦ λ none some. absurd cc
       | Some p ↦ λ first some.
           let passes = first_passes held.vector log p first in
-          let mark = marked_at (number_at held.vector p) (mark_at log.before p) passes.0 in
-          isnt_true (has_log (Some held) log) (λ had.
+          let mark = marked (number_at held.vector p) (mark_at log.before p) passes.0 in
+          false_from_ne_true (has_log (Some held) log) (λ had.
           not_both (reaches (number_at held.vector p) (mark_at log.before p)) passes.0
           (ap (reaches (number_at held.vector p)) mark.1
           ∙ had_reached (Some held) log p mark.0 had passes.1 mark.1))
@@ -112,15 +98,6 @@ waiting_one test is (wait ∷ items) all any =
       | false ↦ λ _ later. waiting_one test is items parts.1 later
     ] refl any
 
-all_two : (first second : Wait → Bool) (items : List Wait) → list_all first items ≡ true →
-    list_all second items ≡ true → list_all (λ (wait : Wait). first wait && second wait) items ≡ true
-all_two first second [] one two = refl
-all_two first second (wait ∷ items) one two =
-    let a = both (first wait) (list_all first items) one in
-    let b = both (second wait) (list_all second items) two in
-    and_both (first wait && second wait) (list_all (λ (w : Wait). first w && second w) items)
-    (and_both (first wait) (second wait) a.0 b.0) (all_two first second items a.1 b.1)
-
 -- some number that the log carries isn't reached
 pub record IsUnreachedIn (replicas : List (Option Held)) (log : Logged) : Type 0 where
   pub partition : ℕ
@@ -129,9 +106,6 @@ pub record IsUnreachedIn (replicas : List (Option Held)) (log : Logged) : Type 0
   pub mark : mark_at log.before partition ≡ Some number
   pub unreached : not (has_reached (replica_at replicas log.group) partition number) ≡ true
 
-some_log : (a b : Logged) → Some a ≡ Some b → a ≡ b
-some_log a b is = cc
-
 pub waits_for_more : (replicas : List (Option Held)) (items : List HeldMessage) (waiting : List Wait) (packet : ℕ)
     (held : HeldMessage) (log : Logged) → found packet items ≡ Some held →
     find (is_log_of log.origin log.group) held.message.logs ≡ Some log → list_all (is_named items) waiting ≡ true →
@@ -139,7 +113,7 @@ pub waits_for_more : (replicas : List (Option Held)) (items : List HeldMessage) 
 waits_for_more replicas items waiting packet held log there in_logs named unreached any =
     let one = waiting_one (λ (w : Wait). is_named items w && is_unreached replicas w)
     (is_wait_of packet log.origin log.group) waiting
-    (all_two (is_named items) (is_unreached replicas) waiting named unreached) any in
+    (all_both (is_named items) (is_unreached replicas) waiting named unreached) any in
     let wait = one.0 in
     let facts = both (is_named items wait) (is_unreached replicas wait) one.2 in
     let parts = both (nat_lt wait.partition MOST_PARTITIONS) (carries wait.partition wait.number
@@ -151,7 +125,7 @@ waits_for_more replicas items waiting packet held log there in_logs named unreac
     ∙ (ap (λ (o : ℕ). log_of log.group o (found wait.packet items)) of.origin_is
     ∙ (ap (λ (p : ℕ). log_of log.group log.origin (found p items)) of.packet_is
     ∙ (ap (log_of log.group log.origin) there ∙ in_logs))) in
-    let same = some_log its.log log (sym its.there ∙ here) in
+    let same = same_Some its.log log (sym its.there ∙ here) in
     record {
       partition = wait.partition;
       number = wait.number;
@@ -162,19 +136,15 @@ waits_for_more replicas items waiting packet held log there in_logs named unreac
     }
 
 pub isnt_had : (replicas : List (Option Held)) (log : Logged) → IsUnreachedIn replicas log → is_had replicas log ≡ false
-isnt_had replicas log is = isnt_true (is_had replicas log) (λ had.
+isnt_had replicas log is = false_from_ne_true (is_had replicas log) (λ had.
     not_both (has_reached (replica_at replicas log.group) is.partition is.number) is.unreached
     (had_reached (replica_at replicas log.group) log is.partition is.number had is.within is.mark))
-
-no_apply : (a b : Bool) → b ≡ false → a && b ≡ false
-no_apply true b is = is
-no_apply false b is = refl
 
 isnt_allowed : (replicas : List (Option Held)) (log : Logged) → IsUnreachedIn replicas log →
     may_apply replicas log ≡ false
 isnt_allowed replicas log is =
-    no_apply (not (length log.writes == 0)) (may_apply_to (replica_at replicas log.group) log)
-    (isnt_true (may_apply_to (replica_at replicas log.group) log) (λ may.
+    and_right (not (length log.writes == 0)) (may_apply_to (replica_at replicas log.group) log)
+    (false_from_ne_true (may_apply_to (replica_at replicas log.group) log) (λ may.
     not_both (has_reached (replica_at replicas log.group) is.partition is.number) is.unreached
     (applied_reached (replica_at replicas log.group) log is.partition is.number may is.within is.mark)))
 
@@ -203,10 +173,6 @@ none_next replicas waiting (log ∷ logs) all =
           ]
     ] parts.0
 
-or_right : (a b : Bool) → b ≡ true → a || b ≡ true
-or_right true b is = refl
-or_right false b is = is
-
 had_or_not : (had wait may : Bool) → had || wait ≡ true → (wait ≡ true → may ≡ false) → had || not may ≡ true
 had_or_not true wait may is never = refl
 had_or_not false wait may is never = ap not (never is)
@@ -232,12 +198,13 @@ put_off_idles replicas items waiting packet held there origin_is rising named un
     waits_for_more replicas items waiting its held log there_so in_logs named unreached any in
     let some = some_found (waits waiting its) logs rising parts.0 in
     no_work replicas held
-    (none_next replicas None logs (each_found (λ (log : Logged). is_had replicas log || not (may_apply replicas log)) logs
-    rising (λ log in_logs. had_or_not (is_had replicas log) (waits waiting its log) (may_apply replicas log)
+    (none_next replicas None logs
+    (each_found (λ (log : Logged). is_had replicas log || not (may_apply replicas log)) logs rising
+    (λ log in_logs. had_or_not (is_had replicas log) (waits waiting its log) (may_apply replicas log)
     (test_of_found (is_had_or_waits replicas waiting its) (is_log_of log.origin log.group) logs log parts.1 in_logs)
     (λ any. isnt_allowed replicas log (more log in_logs any)))))
-    (isnt_true (is_ready replicas held) (λ ready'.
-    clash (sym (isnt_had replicas some.0 (more some.0 some.1 some.2))
+    (false_from_ne_true (is_ready replicas held) (λ ready'.
+    false≢true (sym (isnt_had replicas some.0 (more some.0 some.1 some.2))
     ∙ test_of_found (is_had replicas) (is_log_of some.0.origin some.0.group) logs some.0 ready' some.1)))
 
 -- ---- a message that is idle is put off, where what is ahead is watched
@@ -278,8 +245,9 @@ ready_not_idle replicas (log ∷ logs) all idle =
     let parts = both (is_ahead replicas log || list_any (is_ahead replicas) logs)
     (list_all (is_had_or_ahead replicas) (log ∷ logs)) idle in
     let each = both (is_had_or_ahead replicas log) (list_all (is_had_or_ahead replicas) logs) parts.1 in
-    elim (is_ahead replicas log) as (λ t. is_ahead replicas log ≡ t → t || list_any (is_ahead replicas) logs ≡ true → ⊥) [
-      | true ↦ λ ahead _. clash (sym (ahead_is_lacking replicas log ahead) ∙ had.0)
+    elim (is_ahead replicas log) as (λ t. is_ahead replicas log ≡ t → t || list_any (is_ahead replicas) logs ≡ true
+    → ⊥) [
+      | true ↦ λ ahead _. false≢true (sym (ahead_is_lacking replicas log ahead) ∙ had.0)
       | false ↦ λ _ later. ready_not_idle replicas logs had.1 (and_both (list_any (is_ahead replicas) logs)
           (list_all (is_had_or_ahead replicas) logs) later each.1)
     ] refl parts.0

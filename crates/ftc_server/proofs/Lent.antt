@@ -5,9 +5,10 @@ use Rattle.std.specs.Prelude.{◌==◌, nat_lt, IfSome, slice_index}
 use Rattle.std.specs.List.{AllByRecursion, Any, list_all, list_any}
 use Rattle.std.proofs.Math.Logic.{∥∥₁_elim}
 use Rattle.std.proofs.Math.Bool.{Bool-set}
-use Rattle.std.proofs.lemmas.Bool.{eqb-true, eq-eqb}
+use Rattle.std.proofs.lemmas.Bool.{eqb-true, eq-eqb, or_left, or_right, not-true, and_right}
 use Rattle.std.proofs.lemmas.Bool.Decides.{nat_tests}
 use Rattle.std.proofs.lemmas.List.Folds.{Any-from_list_any}
+use Rattle.std.proofs.lemmas.Option.{same_Some}
 use Rattle.ftc_base.specs.declared.limits.TheConstants.{MOST_PARTITIONS, MOST_READS}
 use Rattle.ftc_base.specs.declared.ask.Answer.{Answer}
 use Rattle.ftc_base.specs.declared.ask.Write.{Write}
@@ -47,7 +48,7 @@ use Rattle.ftc_server.specs.Replicas.{may_rise}
 use Rattle.ftc_server.specs.Slots.{AreSlots, IsSlot, ask_of, is_open, is_without}
 use Rattle.ftc_server.specs.Visited.{need_of_log}
 use Rattle.ftc_server.proofs.Finding.{both, and_both, test_of_found}
-use Rattle.ftc_server.proofs.Slotting.{asked_there, asked_of, some_same}
+use Rattle.ftc_server.proofs.Slotting.{asked_there, asked_of}
 
 -- ---- keys, as a test
 
@@ -82,21 +83,13 @@ are_lent head worker answers writes = keys_rise None writes && list_all (is_lent
 
 -- ---- from the slot to the test
 
-or_true : (a b : Bool) → a ≡ true → a || b ≡ true
-or_true true b is = refl
-or_true false b is = absurd cc
-
-or_either : (a b : Bool) → b ≡ true → a || b ≡ true
-or_either true b is = refl
-or_either false b is = is
-
 any_there : (earlier later : List Answer) (answer : Answer) (key : List ℕ) → answer.key ≡ key
     → list_any (is_key key) (earlier ++ answer ∷ later) ≡ true
 any_there [] later answer key same =
-    or_true (is_key key answer) (list_any (is_key key) later)
+    or_left (is_key key answer) (list_any (is_key key) later)
     (ap (λ (k : List ℕ). same_bytes k key) same ∙ same_itself key)
 any_there (first ∷ earlier) later answer key same =
-    or_either (is_key key first) (list_any (is_key key) (earlier ++ answer ∷ later))
+    or_right (is_key key first) (list_any (is_key key) (earlier ++ answer ∷ later))
     (any_there earlier later answer key same)
 
 turn_at : (asks : List Answer → Ask) (earlier later : List Answer) (answer : Answer) →
@@ -234,7 +227,7 @@ pub still_unvisited : (rule : Rule) (head : HeadState) (items : List HeldMessage
 still_unvisited rule head items worker running held slots runs there =
     ∥∥₁_elim slots (Bool-set _ _) (λ s.
     let slot = s.each worker running runs in
-    let same : held ≡ slot.held = some_same held slot.held (sym there ∙ slot.there) in
+    let same : held ≡ slot.held = same_Some held slot.held (sym there ∙ slot.there) in
     ap (λ (h : HeldMessage). h.visited) same ∙ slot.unvisited)
 
 -- ---- numbers
@@ -270,27 +263,19 @@ log_rises group partitions vector packet answers writes log is may partition car
 
 -- ---- logs and needs of other groups
 
-pub not_so : (a : Bool) → not a ≡ true → a ≡ false
-not_so true is = absurd cc
-not_so false is = refl
-
-and_last : (a b : Bool) → b ≡ false → a && b ≡ false
-and_last true b is = is
-and_last false b is = refl
-
 pub none_of_group : (group : ℕ) (log : Logged) (logs : List Logged) → log.group ≡ group
     → list_all (λ (other : Logged). not (other.group == group)) logs ≡ true → HasNone log logs
 none_of_group group log logs same all =
     each_of (λ (other : Logged). is_log_of log.origin log.group other
     ≡ false) (λ (other : Logged). not (other.group == group)) logs
-    (λ other is. and_last (other.origin == log.origin) (other.group == log.group)
-    (ap (λ (g : ℕ). other.group == g) same ∙ not_so (other.group == group) is)) all
+    (λ other is. and_right (other.origin == log.origin) (other.group == log.group)
+    (ap (λ (g : ℕ). other.group == g) same ∙ not-true (other.group == group) is)) all
 
 pub no_need_of_group : (group : ℕ) (log : Logged) (needs : List Need) → log.group ≡ group
     → list_all (λ (other : Need). not (other.group == group)) needs ≡ true → HasNoNeed (need_of_log log) needs
 no_need_of_group group log needs same all =
     each_of (λ (other : Need). is_need_of log.group other ≡ false) (λ (other : Need). not (other.group == group)) needs
-    (λ other is. ap (λ (g : ℕ). other.group == g) same ∙ not_so (other.group == group) is) all
+    (λ other is. ap (λ (g : ℕ). other.group == g) same ∙ not-true (other.group == group) is) all
 
 -- a message that is unvisited is without logs and needs of the group
 pub open_is : (group : ℕ) (held : HeldMessage) → held.visited ≡ false → is_open group held ≡ true →
@@ -309,7 +294,7 @@ pub record IsEnding (server : Server) (worker : ℕ) (end : End) (held : HeldMes
 slot_of : (slot : Option Running) (packet : ℕ) → packet_of slot ≡ Some packet → wounded_of slot ≡ None
     → (running : Running) × (slot ≡ Some running) × (running.packet ≡ packet) × (running.wounded ≡ None)
 slot_of None packet is unwounded = absurd cc
-slot_of (Some running) packet is unwounded = (running, refl, some_same running.packet packet is, unwounded)
+slot_of (Some running) packet is unwounded = (running, refl, same_Some running.packet packet is, unwounded)
 
 pub ending : (server : Server) (worker packet : ℕ) (end : End) (held : HeldMessage) (bytes : List ℕ)
     → packet_at server.head.slots worker ≡ Some packet → wounded_at server.head.slots worker ≡ None
@@ -341,7 +326,7 @@ pub may_change : (server : Server) (worker : ℕ) (end : End) (held : HeldMessag
     → IsEnding server worker end held bytes → FlowsAreFound → CanEnd bytes end.verdict
 may_change server worker end held bytes is flows =
     let asks : ask server.rule bytes is.running.answers ≡ Finish end =
-    some_same (ask server.rule bytes is.running.answers) (Finish end)
+    same_Some (ask server.rule bytes is.running.answers) (Finish end)
     (sym (ap (λ (f : Option HeldMessage). ask_of server.rule is.running f) is.there
     ∙ ap (option_map (λ (b : List ℕ). ask server.rule b is.running.answers)) is.with_packet) ∙ is.asked) in
     subst (CanFollow bytes) asks (follows server.rule bytes is.running.answers flows)

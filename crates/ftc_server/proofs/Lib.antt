@@ -5,6 +5,7 @@ pub mod Resting
 pub mod Keeping
 pub mod Ticketed
 pub mod Finding
+pub mod ListTests
 pub mod Slotting
 pub mod Working
 pub mod Lent
@@ -26,3 +27,5 @@ pub mod EachHeld
 pub mod StillWatched
 pub mod Anew
 pub mod VisitedWaits
+pub mod Noted
+pub mod HadBefore

@@ -1,8 +1,6 @@
 -- The wait of a log, and the log of a wait.
-use Rattle.std.proofs.Common.{◌≡◌, ◌≤◌, ◌<◌, ◌∙◌, ◌&&◌, ◌||◌, not, ℕ, Bool, true, false, List, [], ◌∷◌, Option, Some, None, refl}
-use Rattle.std.proofs.Common.{sym, ap, cond, subst, arith}
-use Rattle.std.specs.Prelude.{◌==◌, find, is_some}
-use Rattle.std.specs.List.{list_all, list_any}
+use Rattle.std.proofs.Common.{◌≡◌, ◌<◌, ◌∙◌, ◌&&◌, not, ℕ, true, List, Option, Some, None, refl, sym, ap, subst}
+use Rattle.std.specs.Prelude.{◌==◌, is_some}
 use Rattle.std.proofs.lemmas.Bool.{eqb-true, eq-eqb}
 use Rattle.ftc_base.specs.declared.limits.TheConstants.{MOST_PARTITIONS}
 use Rattle.ftc_message.specs.Logged.{Logged}
@@ -12,10 +10,10 @@ use Rattle.ftc_replica.specs.declared.waits.Wait.{Wait}
 use Rattle.ftc_vector.specs.Order.{reaches}
 use Rattle.ftc_vector.specs.Vector.{mark_at, number_at}
 use Rattle.ftc_server.specs.declared.held.HeldMessage.{HeldMessage}
-use Rattle.ftc_server.specs.Holding.{found, log_of}
+use Rattle.ftc_server.specs.Holding.{log_of}
 use Rattle.ftc_server.specs.Replicas.{replica_at}
-use Rattle.ftc_server.specs.Waiting.{is_ahead_at, ahead_of, is_ahead, wait_at, carried_at, wait_of, has_reached, is_reached}
-use Rattle.ftc_server.specs.Waiting.{is_unreached, is_wait_of, is_number, carries, is_named}
+use Rattle.ftc_server.specs.Waiting.{ahead_of, is_ahead, wait_at, carried_at, wait_of, has_reached, is_unreached}
+use Rattle.ftc_server.specs.Waiting.{is_wait_of, is_number, carries}
 use Rattle.ftc_server.proofs.Ahead.{first_passes}
 use Rattle.ftc_server.proofs.Finding.{both, and_both, passes_found}
 
@@ -127,7 +125,7 @@ pub wait_is : (replicas : List (Option Held)) (packet : ℕ) (log : Logged) (wai
 wait_is replicas packet log wait is = wait_for replicas packet log (replica_at replicas log.group) wait refl is
 
 -- a log that is ahead has a wait
-marked : (number : ℕ) (mark : Option ℕ) → not (reaches number mark) ≡ true → (carried : ℕ) × (mark ≡ Some carried)
+pub marked : (number : ℕ) (mark : Option ℕ) → not (reaches number mark) ≡ true → (carried : ℕ) × (mark ≡ Some carried)
 marked number None is = absurd cc
 marked number (Some carried) is = (carried, refl)
 

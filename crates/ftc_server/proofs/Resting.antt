@@ -319,11 +319,3 @@ pub place_within : (tickets : List Ticket) (place origin : ℕ)
 place_within tickets place origin there =
     let within = (first_at (is_same origin) (ticket_origins tickets) place 0 there).within in
     omega (arith, count_origins tickets)
-
-pub not_true : (b : Bool) → not b ≡ true → b ≡ false
-not_true true is = absurd cc
-not_true false is = refl
-
-pub not_false : (b : Bool) → not b ≡ false → b ≡ true
-not_false true is = refl
-not_false false is = absurd cc

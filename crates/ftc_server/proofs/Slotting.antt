@@ -1,10 +1,11 @@
 -- What each call leaves of the slots.
 use Rattle.std.proofs.Common.{◌≡◌, ◌≢◌, ◌∙◌, ◌||◌, ◌⊎◌, inl, inr, ℕ, zero, suc, Bool, true, false, List, [], ◌∷◌, ◌++◌}
 use Rattle.std.proofs.Common.{Option, Some, None, refl, sym, ap, subst, ⊎_elim, length, ◌<◌, option_map}
-use Rattle.std.specs.Prelude.{slice_set, ◌==◌, is_some, not, filter}
-use Rattle.std.proofs.lemmas.Bool.{cases_Bool, cases_eq, eq-eqb}
+use Rattle.std.specs.Prelude.{slice_set, ◌==◌, is_some, filter}
+use Rattle.std.proofs.lemmas.Bool.{cases_Bool, cases_eq, eq-eqb, or_parts}
 use Rattle.std.specs.List.{list_any, list_all}
 use Rattle.std.proofs.Math.Logic.{∥∥₁_elim}
+use Rattle.std.proofs.lemmas.Option.{same_Some}
 use Rattle.ftc_base.specs.declared.ask.Answer.{Answer}
 use Rattle.ftc_base.specs.declared.ask.Ask.{Ask}
 use Rattle.ftc_base.specs.declared.ask.Ask.TheVariants.{Read}
@@ -117,9 +118,6 @@ slots_found rule head items after there slots =
     })
 
 -- ---- no answers, and one more
-
-pub some_same : {A : Type 0} (x y : A) → Some x ≡ Some y → x ≡ y
-some_same x y same = cc
 
 no_front : {A : Type 0} (earlier later : List A) (x : A) → [] ≡ earlier ++ x ∷ later → ⊥
 no_front [] later x same = absurd cc
@@ -253,7 +251,7 @@ slots_restart rule head items worker running runs slots =
     ⊎_elim
     (λ is.
     let same : again ≡ restarted running =
-    some_same again (restarted running) (sym at ∙ ap (λ (w : ℕ). slot_at new.slots w) is ∙ now) in
+    same_Some again (restarted running) (sym at ∙ ap (λ (w : ℕ). slot_at new.slots w) is ∙ now) in
     record {
       before = running;
       was = ap (λ (w : ℕ). slot_at head.slots w) is ∙ runs;
@@ -279,7 +277,7 @@ slots_begun rule head items worker packet held bytes within fresh there unvisite
     let start = begun packet (next_age head) in
     let now : slot_at new.slots worker ≡ Some start = slot_set head.slots worker (Some start) within in
     let own_is : (running : Running) → slot_at new.slots worker ≡ Some running → running ≡ start =
-    λ running at. some_same running start (sym at ∙ now) in
+    λ running at. same_Some running start (sym at ∙ now) in
     let was : (other : ℕ) (running : Running) → other ≢ worker → slot_at new.slots other ≡ Some running →
     slot_at head.slots other ≡ Some running =
     λ other running differs at. sym (slot_other head.slots worker other (Some start) differs) ∙ at in
@@ -317,7 +315,7 @@ slots_begun rule head items worker packet held bytes within fresh there unvisite
 wounded_is : (by : ℕ) (slot : Option Running) (again : Running) → wounded_by by slot ≡ Some again
     → (before : Running) × (slot ≡ Some before) × (record before { wounded = Some by } ≡ again)
 wounded_is by None again is = absurd cc
-wounded_is by (Some before) again is = (before, refl, some_same (record before { wounded = Some by }) again is)
+wounded_is by (Some before) again is = (before, refl, same_Some (record before { wounded = Some by }) again is)
 
 no_wound : {A : Type 0} (by : ℕ) → ◌≡◌ {A = Option ℕ} (Some by) None → A
 no_wound by is = absurd cc
@@ -381,7 +379,7 @@ pub asked_there : (rule : Rule) (head : HeadState) (items : Items) (worker : ℕ
     (slot : IsSlot rule head items worker running) → ask_of rule running (found running.packet items) ≡ Some asked
     → ask rule slot.packet running.answers ≡ asked
 asked_there rule head items worker running asked slot is =
-    some_same (ask rule slot.packet running.answers) asked
+    same_Some (ask rule slot.packet running.answers) asked
     (sym (ap (λ (f : Option HeldMessage). ask_of rule running f) slot.there
     ∙ ap (option_map (λ (bytes : List ℕ). ask rule bytes running.answers)) slot.with_packet) ∙ is)
 
@@ -403,7 +401,7 @@ slots_read rule old new items worker key change (Value value) reads asked slots 
     followed rule old new items items slots (λ other again at.
     ⊎_elim
     (λ is.
-    let same = some_same again more (sym at ∙ ap (λ (w : ℕ). slot_at new.slots w) is ∙ read.answered) in
+    let same = same_Some again more (sym at ∙ ap (λ (w : ℕ). slot_at new.slots w) is ∙ read.answered) in
     record {
       before = running;
       was = ap (λ (w : ℕ). slot_at old.slots w) is ∙ runs.slot;
@@ -444,14 +442,6 @@ slots_read rule old new items worker key change IdleRead reads asked slots =
     subst (λ (h : HeadState). AreSlots rule h items) (sym reads.1) slots
 slots_read rule old new items worker key change NotAsked reads asked slots = absurd reads
 
-or_none : (a b : Bool) → a || b ≡ false → a ≡ false
-or_none true b is = absurd cc
-or_none false b is = refl
-
-or_rest : (a b : Bool) → a || b ≡ false → b ≡ false
-or_rest true b is = absurd cc
-or_rest false b is = is
-
 runs_none : (slots : List (Option Running)) (packet worker : ℕ) (running : Running) →
     list_any (runs_packet packet) slots ≡ false
     → slot_at slots worker ≡ Some running → running.packet == packet ≡ false
@@ -463,12 +453,12 @@ runs_none (slot ∷ slots) packet zero running none runs =
       | None ↦ λ is _. absurd cc
       | Some another ↦ λ is either.
           let same : another ≡ running = cc in
-          ap (λ (r : Running). r.packet == packet) (sym same) ∙ or_none (another.packet == packet)
-          (list_any (runs_packet packet) slots) either
+          ap (λ (r : Running). r.packet == packet) (sym same) ∙ (or_parts (another.packet == packet)
+          (list_any (runs_packet packet) slots) either).0
     ] runs none
 runs_none (slot ∷ slots) packet (suc worker) running none runs =
     runs_none slots packet worker running
-    (or_rest (runs_packet packet slot) (list_any (runs_packet packet) slots) none) runs
+    (or_parts (runs_packet packet slot) (list_any (runs_packet packet) slots) none).1 runs
 
 -- no slot runs the packet
 pub not_run : (head : HeadState) (packet : ℕ) → is_running head packet ≡ false
@@ -535,7 +525,7 @@ slots_without rule head items origin held there waiting slots =
     (λ worker running runs slot.
     found_without origin running.packet items (λ same.
     let here : held ≡ slot.held =
-    some_same held slot.held (sym there ∙ ap (λ (o : ℕ). found o items) (sym same) ∙ slot.there) in
+    same_Some held slot.held (sym there ∙ ap (λ (o : ℕ). found o items) (sym same) ∙ slot.there) in
     let waits : is_waiting slot.held ≡ true = is_waiting_so slot.held slot.packet slot.unvisited slot.with_packet in
     true_false (is_waiting slot.held) waits (ap is_waiting (sym here) ∙ waiting))) slots
 
@@ -565,10 +555,6 @@ pub asked_somewhat : (server : Server) (worker : ℕ) → is_some (packet_at ser
     → ∥ AreSlots server.rule server.head server.held.items ∥₁ → ⊥
 asked_somewhat server worker some none slots =
     ∥∥₁_elim slots (λ x y. absurd x) (λ s. asked_slot server worker (slot_at server.head.slots worker) refl s some none)
-
-pub is_so : (b : Bool) → not b ≡ false → b ≡ true
-is_so true isnt = refl
-is_so false isnt = absurd cc
 
 pub idle_slots : (rule : Rule) (head : HeadState) (items : Items) → ((worker : ℕ) → slot_at head.slots worker ≡ None)
     → AreSlots rule head items

@@ -1,37 +1,30 @@
 -- What stays watched as held messages come, change and go.
-use Rattle.std.proofs.Common.{◌≡◌, ◌≢◌, ◌≤◌, ◌<◌, ◌+◌, ◌∙◌, ◌++◌, ◌&&◌, ◌||◌, not, ℕ, Bool, true, false, List, [], ◌∷◌, Option}
-use Rattle.std.proofs.Common.{Some, None, length, refl, sym, ap, cond, subst, arith}
+use Rattle.std.proofs.Common.{◌≡◌, ◌≢◌, ◌≤◌, ◌∙◌, ◌++◌, ◌&&◌, ◌||◌, not, ℕ, Bool, true, false, List, [], ◌∷◌, Option}
+use Rattle.std.proofs.Common.{Some, None, length, refl, sym, ap, cond, arith}
 use Rattle.std.specs.Prelude.{◌==◌, find, filter, is_some, nat_lt}
 use Rattle.std.specs.List.{list_all, list_any, flat_map}
-use Rattle.std.proofs.lemmas.Bool.{eqb-true, eq-eqb, lt-ltb, ltb-true}
+use Rattle.std.proofs.lemmas.Bool.{eqb-true, eq-eqb, lt-ltb, ltb-true, false≢true}
+use Rattle.std.proofs.lemmas.Option.{none-some, same_Some}
 use Rattle.ftc_base.specs.declared.limits.TheConstants.{MOST_PARTITIONS}
-use Rattle.ftc_message.specs.declared.message.Message.{Message}
 use Rattle.ftc_message.specs.Logged.{Logged, logs_rise}
 use Rattle.ftc_message.specs.Ordered.{is_log_of}
 use Rattle.ftc_replica.specs.Held.{Held}
 use Rattle.ftc_replica.specs.declared.waits.Wait.{Wait}
-use Rattle.ftc_vector.specs.Vector.{mark_at}
 use Rattle.ftc_server.specs.declared.held.HeldMessage.{HeldMessage}
-use Rattle.ftc_server.specs.Holding.{found, is_held, is_of, log_of, are_distinct, are_rising, without, arrived, rests}
+use Rattle.ftc_server.specs.Holding.{found, is_held, is_of, log_of, are_rising, without, rests, origins_of}
 use Rattle.ftc_server.specs.Replicas.{replica_at, is_had, is_ready}
-use Rattle.ftc_server.specs.Waiting.{is_ahead, wait_of, waits_of, one_or_none, is_unreached, is_wait_of, waits, carries}
+use Rattle.ftc_server.specs.Waiting.{is_ahead, wait_of, waits_of, one_or_none, is_unreached, is_wait_of, carries}
 use Rattle.ftc_server.specs.Waiting.{has_reached, is_named, is_idle, is_idle_one, is_put_off, AreWatched}
 use Rattle.ftc_server.proofs.EachFound.{each_found, one_of_each}
-use Rattle.ftc_server.proofs.Finding.{both, and_both, found_behind, found_without, passes_found, test_of_found}
+use Rattle.ftc_server.proofs.Finding.{both, and_both, found_behind, found_without, test_of_found}
 use Rattle.ftc_server.proofs.Lacking.{had_reached, idle_put_off}
-use Rattle.ftc_server.proofs.Named.{is_its_own, of_whom, IsCarried, carried, log_of_whom, IsWaitFor, wait_is, wait_there}
+use Rattle.ftc_server.proofs.Named.{is_its_own, of_whom, carried, log_of_whom, IsWaitFor, wait_is, wait_there}
 use Rattle.ftc_server.proofs.Named.{is_number_so}
 use Rattle.ftc_server.proofs.Taken.{count_behind, all_more, any_before, any_behind}
-use Rattle.ftc_server.proofs.Watched.{implies_all, put_off_still, origin_of_found}
-
-clash : false ≡ true → ⊥
-clash is = cc
-
-some_none : (held : HeldMessage) → Some held ≡ None → ⊥
-some_none held is = cc
-
-same_some : (a b : HeldMessage) → Some a ≡ Some b → a ≡ b
-same_some a b is = cc
+use Rattle.ftc_server.proofs.Watched.{put_off_still, origin_of_found}
+use Rattle.ftc_server.proofs.ListTests.{not_both, all_both, implies_all}
+use Rattle.ftc_server.specs.Tickets.{AreDistinct}
+use Rattle.ftc_server.proofs.Keeping.{held_among}
 
 -- ---- the waits of the logs of one message
 
@@ -117,7 +110,8 @@ count_one : (replicas : List (Option Held)) (packet other origin group : ℕ) (l
     ≤ length (filter (is_log_of origin group) (log ∷ []))
 count_one replicas packet other origin group log =
     elim (wait_of replicas packet log) as (λ w. wait_of replicas packet log ≡ w →
-    length (filter (is_wait_of other origin group) (one_or_none w)) ≤ length (filter (is_log_of origin group) (log ∷ []))) [
+    length (filter (is_wait_of other origin group) (one_or_none w))
+    ≤ length (filter (is_log_of origin group) (log ∷ []))) [
       | None ↦ λ _. omega arith
       | Some wait ↦ λ is.
           let it = wait_is replicas packet log wait is in
@@ -181,9 +175,6 @@ none_of_another packet other origin group (wait ∷ items) differs all =
       | false ↦ λ _. none_of_another packet other origin group items differs parts.1
     ] refl
 
-log_none : (log : Logged) → Some log ≡ None → ⊥
-log_none log is = cc
-
 -- none is of a packet whose message isn't held
 unheld : (items : List HeldMessage) (packet : ℕ) (waiting : List Wait) → found packet items ≡ None →
     list_all (is_named items) waiting ≡ true →
@@ -194,17 +185,14 @@ unheld items packet waiting none named =
       | true ↦ λ same.
           let parts = both (nat_lt wait.partition MOST_PARTITIONS)
           (carries wait.partition wait.number (log_of wait.group wait.origin (found wait.packet items))) is in
-          let its = carried wait.partition wait.number (log_of wait.group wait.origin (found wait.packet items)) parts.1 in
+          let its = carried wait.partition wait.number (log_of wait.group wait.origin (found wait.packet items))
+          parts.1 in
           let none_so : log_of wait.group wait.origin (found wait.packet items) ≡ None =
           ap (λ (p : ℕ). log_of wait.group wait.origin (found p items)) (eqb-true wait.packet packet same)
           ∙ ap (log_of wait.group wait.origin) none in
-          absurd (log_none its.log (sym its.there ∙ none_so))
+          absurd (none-some its.log (sym none_so ∙ its.there))
       | false ↦ λ _. refl
     ] refl) named
-
-not_both : (b : Bool) → not b ≡ true → b ≡ true → ⊥
-not_both true isnt is = absurd cc
-not_both false isnt is = absurd cc
 
 pub none_of_it : (packet origin group : ℕ) (items : List Wait) →
     list_all (λ (wait : Wait). not (wait.packet == packet)) items ≡ true →
@@ -229,7 +217,7 @@ found_last [] held packet none is =
 found_last (first ∷ items) held packet none is =
     elim (is_of packet first) as (λ t. cond t (Some first) (found packet items) ≡ None →
     cond t (Some first) (found packet (items ++ held ∷ [])) ≡ Some held) [
-      | true ↦ λ some. absurd (some_none first some)
+      | true ↦ λ some. absurd (none-some first (sym some))
       | false ↦ λ later. found_last items held packet later is
     ] none
 
@@ -238,14 +226,14 @@ only_last : (items : List HeldMessage) (held other : HeldMessage) (packet : ℕ)
 only_last [] held other packet none is =
     elim (is_of packet held) as (λ t. is_of packet held ≡ t → cond t (Some held) None ≡ Some other →
     (held ≡ other) × (held.message.origin ≡ packet)) [
-      | true ↦ λ its same. (same_some held other same, eqb-true held.message.origin packet its)
-      | false ↦ λ _ never. absurd (some_none other (sym never))
+      | true ↦ λ its same. (same_Some held other same, eqb-true held.message.origin packet its)
+      | false ↦ λ _ never. absurd (none-some other never)
     ] refl is
 only_last (first ∷ items) held other packet none is =
     elim (is_of packet first) as (λ t. cond t (Some first) (found packet items) ≡ None →
     cond t (Some first) (found packet (items ++ held ∷ [])) ≡ Some other →
     (held ≡ other) × (held.message.origin ≡ packet)) [
-      | true ↦ λ some _. absurd (some_none first some)
+      | true ↦ λ some _. absurd (none-some first (sym some))
       | false ↦ λ later there. only_last items held other packet later there
     ] none is
 
@@ -259,7 +247,7 @@ pub record IsLast (items : List HeldMessage) (held other : HeldMessage) (packet 
   pub same : held ≡ other
   pub origin_is : held.message.origin ≡ packet
 
-which : (A : Type 0) (items : List HeldMessage) (held other : HeldMessage) (packet : ℕ) →
+pub which : (A : Type 0) (items : List HeldMessage) (held other : HeldMessage) (packet : ℕ) →
     found packet (items ++ held ∷ []) ≡ Some other → (found packet items ≡ Some other → A) →
     (IsLast items held other packet → A) → A
 which A items held other packet there before last =
@@ -278,14 +266,16 @@ named_behind items held wait named =
     let parts = both (nat_lt wait.partition MOST_PARTITIONS)
     (carries wait.partition wait.number (log_of wait.group wait.origin (found wait.packet items))) named in
     and_both (nat_lt wait.partition MOST_PARTITIONS)
-    (carries wait.partition wait.number (log_of wait.group wait.origin (found wait.packet (items ++ held ∷ [])))) parts.0
+    (carries wait.partition wait.number (log_of wait.group wait.origin (found wait.packet (items ++ held ∷ []))))
+    parts.0
     (elim (found wait.packet items) as (λ f. found wait.packet items ≡ f →
     carries wait.partition wait.number (log_of wait.group wait.origin f) ≡ true →
-    carries wait.partition wait.number (log_of wait.group wait.origin (found wait.packet (items ++ held ∷ []))) ≡ true) [
+    carries wait.partition wait.number (log_of wait.group wait.origin (found wait.packet (items ++ held ∷ [])))
+    ≡ true) [
       | Some first ↦ λ is carried'.
           ap (λ f. carries wait.partition wait.number (log_of wait.group wait.origin f))
           (found_behind (is_of wait.packet) items (held ∷ []) first is) ∙ carried'
-      | None ↦ λ _ never. absurd (clash never)
+      | None ↦ λ _ never. absurd (false≢true never)
     ] refl parts.1)
 
 pub taken_watched : (replicas : List (Option Held)) (items : List HeldMessage) (resting later : List ℕ)
@@ -317,7 +307,8 @@ taken_watched replicas items resting later waiting held stands new rising quiet 
                 omega (arith, whole, before, now)
             | false ↦ λ differs.
                 let now : length (filter (is_wait_of packet log_origin group) more) ≡ 0 =
-                none_of_another origin packet log_origin group more (λ e. clash (sym differs ∙ eq-eqb origin packet e))
+                none_of_another origin packet log_origin group more
+                (λ e. false≢true (sym differs ∙ eq-eqb origin packet e))
                 (logs_of_packet replicas origin held.message.logs) in
                 let before = stands.once packet log_origin group in
                 omega (arith, whole, now, before)
@@ -325,9 +316,10 @@ taken_watched replicas items resting later waiting held stands new rising quiet 
       watched = λ packet log_origin group log its ahead.
           elim (found packet all) as (λ f. found packet all ≡ f → log_of group log_origin f ≡ Some log →
           list_any (is_wait_of packet log_origin group) (waiting ++ more) ≡ true) [
-            | None ↦ λ _ never. absurd (log_none log (sym never))
+            | None ↦ λ _ never. absurd (none-some log never)
             | Some other ↦ λ is log_is.
-                which (list_any (is_wait_of packet log_origin group) (waiting ++ more) ≡ true) items held other packet is
+                which (list_any (is_wait_of packet log_origin group) (waiting ++ more) ≡ true)
+                items held other packet is
                 (λ before. any_before (is_wait_of packet log_origin group) waiting more
                 (stands.watched packet log_origin group log (ap (log_of group log_origin) before ∙ log_is) ahead))
                 (λ last. any_behind (is_wait_of packet log_origin group) waiting more
@@ -340,7 +332,7 @@ taken_watched replicas items resting later waiting held stands new rising quiet 
           (λ before. put_off_still replicas waiting (waiting ++ more) other
           (λ (log : Logged) any. any_before (is_wait_of other.message.origin log.origin log.group) waiting more any)
           (stands.rest packet other before (sym (quiet packet) ∙ it_rests)))
-          (λ last. absurd (clash (sym awake ∙ (ap (λ (p : ℕ). rests p later) last.origin_is ∙ it_rests))));
+          (λ last. absurd (false≢true (sym awake ∙ (ap (λ (p : ℕ). rests p later) last.origin_is ∙ it_rests))));
     }
 
 -- ---- a message is looked at anew
@@ -376,47 +368,20 @@ settled_watched replicas items old new waiting origin rising stands looked = rec
 
 -- ---- a message leaves that lacks nothing
 
-still_none : (origin other : ℕ) (items : List HeldMessage) → not (is_held other items) ≡ true →
-    not (is_held other (without origin items)) ≡ true
-still_none origin other [] none = refl
-still_none origin other (first ∷ items) none =
-    elim (is_of other first) as (λ t. is_of other first ≡ t →
-    not (is_some (cond t (Some first) (found other items))) ≡ true →
-    not (is_held other (cond (is_of origin first) items (first ∷ without origin items))) ≡ true) [
-      | true ↦ λ _ never. absurd (clash never)
-      | false ↦ λ isnt later. elim (is_of origin first) as (λ o.
-          not (is_held other (cond o items (first ∷ without origin items))) ≡ true) [
-            | true ↦ later
-            | false ↦ ap (λ (b : Bool). not (is_some (cond b (Some first) (found other (without origin items))))) isnt
-                ∙ still_none origin other items later
-          ]
-    ] refl none
-
-pub distinct_without : (origin : ℕ) (items : List HeldMessage) → are_distinct items ≡ true →
-    are_distinct (without origin items) ≡ true
-distinct_without origin [] distinct = refl
-distinct_without origin (first ∷ items) distinct =
-    let parts = both (not (is_held first.message.origin items)) (are_distinct items) distinct in
-    elim (is_of origin first) as (λ t. are_distinct (cond t items (first ∷ without origin items)) ≡ true) [
-      | true ↦ parts.1
-      | false ↦ and_both (not (is_held first.message.origin (without origin items))) (are_distinct (without origin items))
-          (still_none origin first.message.origin items parts.0) (distinct_without origin items parts.1)
-    ]
-
-gone : (origin : ℕ) (items : List HeldMessage) → are_distinct items ≡ true →
+gone : (origin : ℕ) (items : List HeldMessage) → AreDistinct (origins_of items) →
     not (is_held origin (without origin items)) ≡ true
 gone origin [] distinct = refl
 gone origin (first ∷ items) distinct =
-    let parts = both (not (is_held first.message.origin items)) (are_distinct items) distinct in
     elim (is_of origin first) as (λ t. is_of origin first ≡ t →
     not (is_held origin (cond t items (first ∷ without origin items))) ≡ true) [
-      | true ↦ λ is. ap (λ (o : ℕ). not (is_held o items)) (sym (eqb-true first.message.origin origin is)) ∙ parts.0
+      | true ↦ λ is. ap (λ (o : ℕ). not (is_held o items)) (sym (eqb-true first.message.origin origin is))
+          ∙ ap not (held_among items first.message.origin ∙ distinct.0)
       | false ↦ λ isnt.
           ap (λ (b : Bool). not (is_some (cond b (Some first) (found origin (without origin items))))) isnt
-          ∙ gone origin items parts.1
+          ∙ gone origin items distinct.1
     ] refl
 
-isnt_it : (origin packet : ℕ) (items : List HeldMessage) (held : HeldMessage) → are_distinct items ≡ true →
+pub isnt_it : (origin packet : ℕ) (items : List HeldMessage) (held : HeldMessage) → AreDistinct (origins_of items) →
     found packet (without origin items) ≡ Some held → packet ≢ origin
 isnt_it origin packet items held distinct there = λ same.
     not_both (is_held origin (without origin items)) (gone origin items distinct)
@@ -457,26 +422,18 @@ named_without : (items : List HeldMessage) (origin : ℕ) (wait : Wait) →
     is_named items wait && not (wait.packet == origin) ≡ true → is_named (without origin items) wait ≡ true
 named_without items origin wait is =
     let parts = both (is_named items wait) (not (wait.packet == origin)) is in
-    ap (λ f. nat_lt wait.partition MOST_PARTITIONS && carries wait.partition wait.number (log_of wait.group wait.origin f))
+    ap (λ f. nat_lt wait.partition MOST_PARTITIONS
+    && carries wait.partition wait.number (log_of wait.group wait.origin f))
     (found_without origin wait.packet items (λ same. not_both (wait.packet == origin) parts.1
     (eq-eqb wait.packet origin same)))
     ∙ parts.0
 
-two_of : (first second : Wait → Bool) (items : List Wait) → list_all first items ≡ true →
-    list_all second items ≡ true → list_all (λ (wait : Wait). first wait && second wait) items ≡ true
-two_of first second [] one two = refl
-two_of first second (wait ∷ items) one two =
-    let a = both (first wait) (list_all first items) one in
-    let b = both (second wait) (list_all second items) two in
-    and_both (first wait && second wait) (list_all (λ (w : Wait). first w && second w) items)
-    (and_both (first wait) (second wait) a.0 b.0) (two_of first second items a.1 b.1)
-
 was_resting : (old same new : Bool) → new ≡ old && not same → new ≡ true → old ≡ true
 was_resting true same new is rests' = refl
-was_resting false same new is rests' = absurd (clash (sym is ∙ rests'))
+was_resting false same new is rests' = absurd (false≢true (sym is ∙ rests'))
 
 pub left_watched : (replicas : List (Option Held)) (items : List HeldMessage) (resting later : List ℕ)
-    (waiting : List Wait) (origin : ℕ) (held : HeldMessage) → are_distinct items ≡ true →
+    (waiting : List Wait) (origin : ℕ) (held : HeldMessage) → AreDistinct (origins_of items) →
     AreWatched replicas items resting waiting → list_all (is_unreached replicas) waiting ≡ true →
     found origin items ≡ Some held → is_ready replicas held ≡ true →
     ((other : ℕ) → rests other later ≡ rests other resting && not (other == origin)) →
@@ -486,15 +443,16 @@ left_watched replicas items resting later waiting origin held distinct stands un
     record {
       named = implies_all (λ (wait : Wait). is_named items wait && not (wait.packet == origin)) (is_named left) waiting
           (named_without items origin)
-          (two_of (is_named items) (λ (wait : Wait). not (wait.packet == origin)) waiting stands.named
+          (all_both (is_named items) (λ (wait : Wait). not (wait.packet == origin)) waiting stands.named
           (nothing_waits replicas items waiting origin held there ready stands.named unreached));
       once = stands.once;
       watched = λ packet log_origin group log its ahead.
           elim (found packet left) as (λ f. found packet left ≡ f → log_of group log_origin f ≡ Some log →
           list_any (is_wait_of packet log_origin group) waiting ≡ true) [
-            | None ↦ λ _ never. absurd (log_none log (sym never))
+            | None ↦ λ _ never. absurd (none-some log never)
             | Some other ↦ λ is log_is.
-                let was = sym (found_without origin packet items (isnt_it origin packet items other distinct is)) ∙ is in
+                let was = sym (found_without origin packet items (isnt_it origin packet items other distinct is))
+                ∙ is in
                 stands.watched packet log_origin group log (ap (log_of group log_origin) was ∙ log_is) ahead
           ] refl its;
       rest = λ packet other is it_rests.
@@ -504,34 +462,3 @@ left_watched replicas items resting later waiting origin held distinct stands un
     }
 
 -- ---- the origins stay distinct
-
-other_way : (a b : ℕ) → (a == b) ≡ false → (b == a) ≡ false
-other_way a b differs = elim (b == a) as (λ t. (b == a) ≡ t → t ≡ false) [
-  | true ↦ λ same. absurd (clash (sym differs ∙ eq-eqb a b (sym (eqb-true b a same))))
-  | false ↦ λ _. refl
-] refl
-
-none_behind : (items : List HeldMessage) (held : HeldMessage) (origin : ℕ) → not (is_held origin items) ≡ true →
-    (origin == held.message.origin) ≡ false → not (is_held origin (items ++ held ∷ [])) ≡ true
-none_behind [] held origin none differs =
-    ap (λ (b : Bool). not (is_some (cond b (Some held) None))) (other_way origin held.message.origin differs)
-none_behind (first ∷ items) held origin none differs =
-    elim (is_of origin first) as (λ t. not (is_some (cond t (Some first) (found origin items))) ≡ true →
-    not (is_some (cond t (Some first) (found origin (items ++ held ∷ [])))) ≡ true) [
-      | true ↦ λ never. absurd (clash never)
-      | false ↦ λ later. none_behind items held origin later differs
-    ] none
-
-pub distinct_behind : (items : List HeldMessage) (held : HeldMessage) → are_distinct items ≡ true →
-    is_held held.message.origin items ≡ false → are_distinct (items ++ held ∷ []) ≡ true
-distinct_behind [] held distinct new = refl
-distinct_behind (first ∷ items) held distinct new =
-    let parts = both (not (is_held first.message.origin items)) (are_distinct items) distinct in
-    elim (is_of held.message.origin first) as (λ t. is_of held.message.origin first ≡ t →
-    is_some (cond t (Some first) (found held.message.origin items)) ≡ false →
-    not (is_held first.message.origin (items ++ held ∷ [])) && are_distinct (items ++ held ∷ []) ≡ true) [
-      | true ↦ λ _ never. absurd (clash (sym never))
-      | false ↦ λ isnt new'.
-          and_both (not (is_held first.message.origin (items ++ held ∷ []))) (are_distinct (items ++ held ∷ []))
-          (none_behind items held first.message.origin parts.0 isnt) (distinct_behind items held parts.1 new')
-    ] refl new

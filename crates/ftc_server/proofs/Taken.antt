@@ -1,11 +1,12 @@
 -- A list without one of its items, and with more behind it.
-use Rattle.std.proofs.Common.{◌≡◌, ◌≤◌, ◌+◌, ◌∙◌, ◌++◌, ◌&&◌, ◌||◌, ℕ, Bool, true, false, List, [], ◌∷◌, length, refl}
-use Rattle.std.proofs.Common.{suc, sym, ap, cond, subst, arith}
+use Rattle.std.proofs.Common.{◌≡◌, ◌≤◌, ◌+◌, ◌∙◌, ◌++◌, ◌||◌, ℕ, Bool, true, false, List, [], ◌∷◌, length, refl, suc}
+use Rattle.std.proofs.Common.{sym, ap, cond, arith}
 use Rattle.std.specs.Prelude.{filter}
 use Rattle.std.specs.List.{list_all, list_any}
 use Rattle.std.proofs.lemmas.List.{length-append}
 use Rattle.std.proofs.lemmas.List.Elements.{filter-append}
 use Rattle.std.proofs.lemmas.List.Folds.{list_all-append, list_any-append}
+use Rattle.std.proofs.lemmas.Bool.{or_left, or_right}
 use Rattle.ftc_server.proofs.Finding.{both, and_both}
 
 -- the whole is what stands before the item, the item, and what stands after it
@@ -93,14 +94,6 @@ any_out test whole rest item out any fails =
     ap (list_any test) out.rest_is ∙ (list_any-append test out.before out.after
     ∙ or_false (list_any test out.before) (test item) (list_any test out.after)
     (sym (list_any-append test out.before (item ∷ out.after)) ∙ ap (list_any test) (sym out.whole_is) ∙ any) fails)
-
-or_left : (a b : Bool) → a ≡ true → a || b ≡ true
-or_left true b is = refl
-or_left false b is = absurd cc
-
-or_right : (a b : Bool) → b ≡ true → a || b ≡ true
-or_right true b is = refl
-or_right false b is = is
 
 pub any_before : {A : Type 0} (test : A → Bool) (items more : List A) → list_any test items ≡ true →
     list_any test (items ++ more) ≡ true

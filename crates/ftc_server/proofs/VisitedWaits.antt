@@ -1,9 +1,10 @@
 -- What stays watched where a message gets the log of its visit.
-use Rattle.std.proofs.Common.{◌≡◌, ◌≢◌, ◌≤◌, ◌∙◌, ◌++◌, ◌&&◌, ◌||◌, not, ℕ, Bool, true, false, List, [], ◌∷◌, Option}
-use Rattle.std.proofs.Common.{Some, None, refl, sym, ap, cond, subst, inl, inr}
+use Rattle.std.proofs.Common.{◌≡◌, ◌∙◌, ◌&&◌, ◌||◌, not, ℕ, Bool, true, false, List, [], ◌∷◌, Option, Some, None, refl}
+use Rattle.std.proofs.Common.{sym, ap, cond}
 use Rattle.std.specs.Prelude.{◌==◌, find, is_some, nat_lt}
 use Rattle.std.specs.List.{list_all, list_any}
-use Rattle.std.proofs.lemmas.Bool.{eqb-true, eq-eqb}
+use Rattle.std.proofs.lemmas.Bool.{eqb-true, eq-eqb, false≢true, or_left}
+use Rattle.std.proofs.lemmas.Option.{none-some, same_Some}
 use Rattle.ftc_base.specs.declared.limits.TheConstants.{MOST_PARTITIONS}
 use Rattle.ftc_message.specs.Logged.{Logged}
 use Rattle.ftc_message.specs.Ordered.{with_item, is_earlier, is_log_of}
@@ -11,23 +12,14 @@ use Rattle.ftc_replica.specs.Held.{Held}
 use Rattle.ftc_replica.specs.declared.waits.Wait.{Wait}
 use Rattle.ftc_server.specs.declared.held.HeldMessage.{HeldMessage}
 use Rattle.ftc_server.specs.declared.visited.Visited.{Visited}
-use Rattle.ftc_server.specs.Holding.{found, is_held, is_of, log_of, are_distinct, with_changed, rests}
+use Rattle.ftc_server.specs.Holding.{found, is_of, log_of, with_changed, rests}
 use Rattle.ftc_server.specs.Replicas.{replica_at, has_log, is_had}
 use Rattle.ftc_server.specs.Visited.{logs_after, visited_by}
-use Rattle.ftc_server.specs.Waiting.{ahead_of, is_ahead, has_reached, is_reached, is_unreached, is_wait_of, waits, carries}
-use Rattle.ftc_server.specs.Waiting.{is_named, is_had_or_waits, is_put_off, AreWatched}
-use Rattle.ftc_server.proofs.Finding.{both, and_both, found_changed, passes_found}
+use Rattle.ftc_server.specs.Waiting.{ahead_of, has_reached, is_unreached, waits, carries, is_named, is_had_or_waits}
+use Rattle.ftc_server.specs.Waiting.{is_put_off, AreWatched}
+use Rattle.ftc_server.proofs.Finding.{both, and_both, found_changed}
 use Rattle.ftc_server.proofs.Named.{log_of_whom}
-use Rattle.ftc_server.proofs.Watched.{implies_all, origin_of_found}
-
-clash : false ≡ true → ⊥
-clash is = cc
-
-some_none : (held : HeldMessage) → Some held ≡ None → ⊥
-some_none held is = cc
-
-log_none : (log : Logged) → Some log ≡ None → ⊥
-log_none log is = cc
+use Rattle.ftc_server.proofs.ListTests.{all_both, implies_all}
 
 -- ---- one more item in its place
 
@@ -51,7 +43,7 @@ or_into false later more implies is = implies is
 
 any_with : {A : Type 0} (is_before : A → A → Bool) (test : A → Bool) (item : A) (items : List A) →
     list_any test items ≡ true → list_any test (with_item is_before item items) ≡ true
-any_with is_before test item [] any = absurd (clash any)
+any_with is_before test item [] any = absurd (false≢true any)
 any_with is_before test item (other ∷ items) any =
     elim (is_before other item) as (λ t.
     list_any test (cond t (other ∷ with_item is_before item items) (item ∷ other ∷ items)) ≡ true) [
@@ -90,14 +82,14 @@ same_after replicas logs = record {
 
 had_without : (slot : Option Held) (log : Logged) → is_some slot ≡ false → has_log slot log ≡ true
 had_without None log none = refl
-had_without (Some held) log none = absurd (clash (sym none))
+had_without (Some held) log none = absurd (false≢true (sym none))
 
 isnt_its : (replicas : List (Option Held)) (own : Logged) (origin group : ℕ) →
     is_some (replica_at replicas own.group) ≡ false → is_some (replica_at replicas group) ≡ true →
     is_log_of origin group own ≡ false
 isnt_its replicas own origin group none there =
     elim (is_log_of origin group own) as (λ t. is_log_of origin group own ≡ t → t ≡ false) [
-      | true ↦ λ is. absurd (clash (sym none
+      | true ↦ λ is. absurd (false≢true (sym none
           ∙ (ap (λ (g : ℕ). is_some (replica_at replicas g))
           (eqb-true own.group group (both (own.origin == origin) (own.group == group) is).1) ∙ there)))
       | false ↦ λ _. refl
@@ -128,61 +120,23 @@ logs_are_after replicas failures (Some own) logs none =
 abbrev changed : Visited → HeldMessage → HeldMessage
 changed visited held = visited_by visited held
 
-same_held : (a b : HeldMessage) → Some a ≡ Some b → a ≡ b
-same_held a b is = cc
-
 found_itself : (packet : ℕ) (visited : Visited) (items : List HeldMessage) (before : HeldMessage) →
     found packet items ≡ Some before →
     found packet (with_changed packet (changed visited) items) ≡ Some (changed visited before)
-found_itself packet visited [] before there = absurd (some_none before (sym there))
+found_itself packet visited [] before there = absurd (none-some before there)
 found_itself packet visited (first ∷ items) before there =
     elim (is_of packet first) as (λ t. is_of packet first ≡ t →
     cond t (Some first) (found packet items) ≡ Some before →
     found packet (cond t (changed visited first ∷ items) (first ∷ with_changed packet (changed visited) items))
     ≡ Some (changed visited before)) [
       | true ↦ λ is same.
-          let e : first ≡ before = same_held first before same in
+          let e : first ≡ before = same_Some first before same in
           ap (λ (b : Bool). cond b (Some (changed visited first)) (found packet items)) is
           ∙ ap (λ (h : HeldMessage). Some (changed visited h)) e
       | false ↦ λ isnt later.
           ap (λ (b : Bool). cond b (Some first) (found packet (with_changed packet (changed visited) items))) isnt
           ∙ found_itself packet visited items before later
     ] refl there
-
-held_same : (packet origin : ℕ) (visited : Visited) (items : List HeldMessage) →
-    is_held origin (with_changed packet (visited_by visited) items) ≡ is_held origin items
-held_same packet origin visited [] = refl
-held_same packet origin visited (first ∷ items) =
-    elim (is_of packet first) as (λ t. is_held origin (cond t (visited_by visited first ∷ items)
-    (first ∷ with_changed packet (visited_by visited) items)) ≡ is_held origin (first ∷ items)) [
-      | true ↦ elim (is_of origin first) as (λ o. is_some (cond o (Some (visited_by visited first)) (found origin items))
-          ≡ is_some (cond o (Some first) (found origin items))) [
-            | true ↦ refl
-            | false ↦ refl
-          ]
-      | false ↦ elim (is_of origin first) as (λ o.
-          is_some (cond o (Some first) (found origin (with_changed packet (visited_by visited) items)))
-          ≡ is_some (cond o (Some first) (found origin items))) [
-            | true ↦ refl
-            | false ↦ held_same packet origin visited items
-          ]
-    ]
-
-pub distinct_changed : (packet : ℕ) (visited : Visited) (items : List HeldMessage) → are_distinct items ≡ true →
-    are_distinct (with_changed packet (visited_by visited) items) ≡ true
-distinct_changed packet visited [] distinct = refl
-distinct_changed packet visited (first ∷ items) distinct =
-    let parts = both (not (is_held first.message.origin items)) (are_distinct items) distinct in
-    elim (is_of packet first) as (λ t.
-    are_distinct (cond t (visited_by visited first ∷ items) (first ∷ with_changed packet (visited_by visited) items))
-    ≡ true) [
-      | true ↦ and_both (not (is_held first.message.origin items)) (are_distinct items) parts.0 parts.1
-      | false ↦
-          and_both (not (is_held first.message.origin (with_changed packet (visited_by visited) items)))
-          (are_distinct (with_changed packet (visited_by visited) items))
-          (ap not (held_same packet first.message.origin visited items) ∙ parts.0)
-          (distinct_changed packet visited items parts.1)
-    ]
 
 -- where the group has a replica, the log of a held message is found as before
 log_as_before : (replicas : List (Option Held)) (items : List HeldMessage) (packet : ℕ) (visited : Visited)
@@ -202,30 +156,17 @@ log_as_before replicas items packet visited before other origin group there afte
           ∙ (ap (log_of group origin) (sym there) ∙ ap (λ (p : ℕ). log_of group origin (found p items)) (sym e))))
       | false ↦ λ differs.
           ap (log_of group origin) (found_changed packet other (visited_by visited) items (λ held. refl)
-          (λ same. clash (sym differs ∙ eq-eqb other packet same)))
+          (λ same. false≢true (sym differs ∙ eq-eqb other packet same)))
     ] refl
 
 unreached_there : (slot : Option Held) (partition number : ℕ) → not (has_reached slot partition number) ≡ true →
     is_some slot ≡ true
-unreached_there None partition number is = absurd (clash is)
+unreached_there None partition number is = absurd (false≢true is)
 unreached_there (Some held) partition number is = refl
 
 ahead_there : (slot : Option Held) (log : Logged) → is_some (ahead_of slot log) ≡ true → is_some slot ≡ true
-ahead_there None log is = absurd (clash is)
+ahead_there None log is = absurd (false≢true is)
 ahead_there (Some held) log is = refl
-
-had_or_some : (had wait : Bool) → had ≡ true → had || wait ≡ true
-had_or_some true wait is = refl
-had_or_some false wait is = absurd (clash is)
-
-both_all : (first second : Wait → Bool) (items : List Wait) → list_all first items ≡ true →
-    list_all second items ≡ true → list_all (λ (wait : Wait). first wait && second wait) items ≡ true
-both_all first second [] one two = refl
-both_all first second (wait ∷ items) one two =
-    let a = both (first wait) (list_all first items) one in
-    let b = both (second wait) (list_all second items) two in
-    and_both (first wait && second wait) (list_all (λ (w : Wait). first w && second w) items)
-    (and_both (first wait) (second wait) a.0 b.0) (both_all first second items a.1 b.1)
 
 -- the visited message is put off where it was
 put_off_after : (replicas : List (Option Held)) (waiting : List Wait) (visited : Visited) (before : HeldMessage) →
@@ -234,12 +175,13 @@ put_off_after : (replicas : List (Option Held)) (waiting : List Wait) (visited :
 put_off_after replicas waiting visited before after off =
     let packet = before.message.origin in
     let logs = before.message.logs in
-    let parts = both (list_any (waits waiting packet) logs) (list_all (is_had_or_waits replicas waiting packet) logs) off in
+    let parts = both (list_any (waits waiting packet) logs)
+    (list_all (is_had_or_waits replicas waiting packet) logs) off in
     and_both (list_any (waits waiting packet) visited.logs)
     (list_all (is_had_or_waits replicas waiting packet) visited.logs)
     (after.any (waits waiting packet) parts.0)
     (after.all (is_had_or_waits replicas waiting packet)
-    (λ log had. had_or_some (is_had replicas log) (waits waiting packet log) had) parts.1)
+    (λ log had. or_left (is_had replicas log) (waits waiting packet log) had) parts.1)
 
 pub visited_watched : (replicas : List (Option Held)) (items : List HeldMessage) (resting later : List ℕ)
     (waiting : List Wait) (packet : ℕ) (visited : Visited) (before : HeldMessage) →
@@ -259,7 +201,7 @@ visited_watched replicas items resting later waiting packet visited before stand
           (carries wait.partition wait.number (log_of wait.group wait.origin (found wait.packet all))) parts.0
           (ap (carries wait.partition wait.number) (as_before wait.packet wait.origin wait.group there after
           (unreached_there (replica_at replicas wait.group) wait.partition wait.number facts.1)) ∙ parts.1))
-          (both_all (is_named items) (is_unreached replicas) waiting stands.named unreached);
+          (all_both (is_named items) (is_unreached replicas) waiting stands.named unreached);
       once = stands.once;
       watched = λ other origin group log its ahead.
           let whom = log_of_whom group origin (found other all) log its in
@@ -271,7 +213,7 @@ visited_watched replicas items resting later waiting packet visited before stand
           elim (other == packet) as (λ t. (other == packet) ≡ t → is_put_off replicas waiting held ≡ true) [
             | true ↦ λ its.
                 let e = eqb-true other packet its in
-                let it : visited_by visited before ≡ held = same_held (visited_by visited before) held
+                let it : visited_by visited before ≡ held = same_Some (visited_by visited before) held
                 (sym (found_itself packet visited items before there)
                 ∙ (ap (λ (p : ℕ). found p all) (sym e) ∙ is)) in
                 ap (is_put_off replicas waiting) (sym it)
@@ -279,7 +221,7 @@ visited_watched replicas items resting later waiting packet visited before stand
                 (stands.rest packet before there (ap (λ (p : ℕ). rests p resting) (sym e) ∙ rested))
             | false ↦ λ differs.
                 let was = sym (found_changed packet other (visited_by visited) items (λ h. refl)
-                (λ e. clash (sym differs ∙ eq-eqb other packet e))) ∙ is in
+                (λ e. false≢true (sym differs ∙ eq-eqb other packet e))) ∙ is in
                 stands.rest other held was rested
           ] refl;
     }

@@ -1,9 +1,10 @@
 -- What stays watched as waits come and go.
-use Rattle.std.proofs.Common.{◌≡◌, ◌≢◌, ◌≤◌, ◌<◌, ◌+◌, ◌∙◌, ◌++◌, ◌&&◌, ◌||◌, not, ℕ, Bool, true, false, List, [], ◌∷◌, Option}
-use Rattle.std.proofs.Common.{Some, None, length, refl, sym, ap, cond, subst, arith}
+use Rattle.std.proofs.Common.{◌≡◌, ◌≢◌, ◌≤◌, ◌<◌, ◌+◌, ◌∙◌, ◌++◌, ◌&&◌, ◌||◌, not, ℕ, Bool, true, false, List, [], ◌∷◌}
+use Rattle.std.proofs.Common.{Option, Some, None, length, refl, sym, ap, cond, subst, arith}
 use Rattle.std.specs.Prelude.{◌==◌, nat_lt, find, filter}
 use Rattle.std.specs.List.{list_all, list_any}
 use Rattle.std.proofs.lemmas.Bool.{eqb-true, eq-eqb, lt-ltb}
+use Rattle.std.proofs.lemmas.Option.{same_Some, none-some}
 use Rattle.ftc_base.specs.declared.limits.TheConstants.{MOST_PARTITIONS}
 use Rattle.ftc_base.proofs.Firsts.{around_found, all_stay}
 use Rattle.ftc_message.specs.Logged.{Logged}
@@ -13,13 +14,15 @@ use Rattle.ftc_replica.specs.Waiting.{waits_for, without_first}
 use Rattle.ftc_server.specs.declared.held.HeldMessage.{HeldMessage}
 use Rattle.ftc_server.specs.Holding.{found, log_of, rests}
 use Rattle.ftc_server.specs.Replicas.{replica_at, is_had}
-use Rattle.ftc_server.specs.Waiting.{has_reached, is_ahead, wait_of, wait_of_found, one_or_none, is_reached, is_unreached, is_wait_of}
-use Rattle.ftc_server.specs.Waiting.{waits, carries, is_named, is_had_or_waits, is_put_off, AreWatched, StaysWhere}
+use Rattle.ftc_server.specs.Waiting.{has_reached, is_ahead, wait_of, wait_of_found, one_or_none, is_reached}
+use Rattle.ftc_server.specs.Waiting.{is_unreached, is_wait_of, waits, carries, is_named, is_had_or_waits, is_put_off}
+use Rattle.ftc_server.specs.Waiting.{AreWatched, StaysWhere}
 use Rattle.ftc_server.proofs.Finding.{both, and_both, passes_found}
 use Rattle.ftc_server.proofs.Taken.{IsOut, one, one_of, count_behind, count_out, all_out, all_more, any_out}
 use Rattle.ftc_server.proofs.Taken.{any_before, any_behind, count_all}
-use Rattle.ftc_server.proofs.Named.{is_its_own, IsOf, of_whom, IsCarried, is_number_so, carried, log_of_whom}
-use Rattle.ftc_server.proofs.Named.{IsWaitFor, wait_is, wait_there}
+use Rattle.ftc_server.proofs.Named.{is_its_own, of_whom, is_number_so, carried, log_of_whom, IsWaitFor, wait_is}
+use Rattle.ftc_server.proofs.Named.{wait_there}
+use Rattle.ftc_server.proofs.ListTests.{not_both, implies_any, implies_all}
 
 -- the first that waits for a number is out
 pub first_out : (group partition number : ℕ) (whole : List Wait) (wait : Wait) →
@@ -38,26 +41,6 @@ pub none_out : (group partition number : ℕ) (whole : List Wait) → find (wait
 none_out group partition number whole none = all_stay (waits_for group partition number) whole none
 
 -- ---- a message is put off as long as more wait
-
-implies_any : {A : Type 0} (test other : A → Bool) (items : List A) → ((item : A) → test item ≡ true →
-    other item ≡ true) → list_any test items ≡ true → list_any other items ≡ true
-implies_any test other [] implies any = absurd cc
-implies_any test other (item ∷ items) implies any =
-    elim (test item) as (λ t. test item ≡ t → t || list_any test items ≡ true →
-    other item || list_any other items ≡ true) [
-      | true ↦ λ is any'. ap (λ (b : Bool). b || list_any other items) (implies item is)
-      | false ↦ λ isnt later. elim (other item) as (λ o. o || list_any other items ≡ true) [
-        | true ↦ refl
-        | false ↦ implies_any test other items implies later
-      ]
-    ] refl any
-
-pub implies_all : {A : Type 0} (test other : A → Bool) (items : List A) → ((item : A) → test item ≡ true →
-    other item ≡ true) → list_all test items ≡ true → list_all other items ≡ true
-implies_all test other [] implies all = refl
-implies_all test other (item ∷ items) implies all =
-    let parts = both (test item) (list_all test items) all in
-    and_both (other item) (list_all other items) (implies item parts.0) (implies_all test other items implies parts.1)
 
 or_implies : (had wait later : Bool) → (wait ≡ true → later ≡ true) → had || wait ≡ true → had || later ≡ true
 or_implies true wait later implies is = refl
@@ -88,12 +71,6 @@ pub record IsAgain (replicas : List (Option Held)) (items : List HeldMessage) (w
   pub ahead : (packet origin group : ℕ) (log : Logged) → is_wait_of packet origin group wait ≡ true →
       log_of group origin (found packet items) ≡ Some log → is_ahead replicas log ≡ true →
       list_any (is_wait_of packet origin group) again ≡ true
-
-some_is_some : (a b : Logged) → Some a ≡ Some b → a ≡ b
-some_is_some a b is = cc
-
-some_wait : (v w : Wait) → Some v ≡ Some w → v ≡ w
-some_wait v w is = cc
 
 one_count : (test : Bool) (wait : Wait) (bound : ℕ) → (test ≡ true → 1 ≤ bound) →
     length (cond test (wait ∷ []) []) ≤ bound
@@ -129,9 +106,6 @@ again_one replicas items wait next log there made =
           (made.origin_is ∙ (whom.0 ∙ of.origin_is)) (made.group_is ∙ (whom.1 ∙ of.group_is)));
     }
 
-none_is_some : (w : Wait) → None ≡ Some w → ⊥
-none_is_some w is = cc
-
 again_none : (replicas : List (Option Held)) (items : List HeldMessage) (wait : Wait) (log : Logged) →
     log_of wait.group wait.origin (found wait.packet items) ≡ Some log →
     wait_of replicas wait.packet log ≡ None → IsAgain replicas items wait []
@@ -145,10 +119,10 @@ again_none replicas items wait log there none = record {
       sym there ∙ (ap (λ (g : ℕ). log_of g wait.origin (found wait.packet items)) of.group_is
       ∙ (ap (λ (o : ℕ). log_of group o (found wait.packet items)) of.origin_is
       ∙ (ap (λ (p : ℕ). log_of group origin (found p items)) of.packet_is ∙ its_log))) in
-      let is_same = some_is_some log other same_log in
+      let is_same = same_Some log other same_log in
       let next = wait_there replicas wait.packet log (subst (λ (l : Logged). is_ahead replicas l ≡ true) (sym is_same)
       ahead) in
-      absurd (none_is_some next.0 (sym none ∙ next.1));
+      absurd (none-some next.0 (sym none ∙ next.1));
 }
 
 pub again : (replicas : List (Option Held)) (items : List HeldMessage) (wait : Wait) →
@@ -177,20 +151,17 @@ other_packet wait packet origin group differs =
       | false ↦ λ _. refl
     ] refl
 
-not_both : (b : Bool) → b ≡ true → not b ≡ true → ⊥
-not_both true is isnt = absurd cc
-not_both false is isnt = absurd cc
-
 roused : (old new : Bool) (packet other : ℕ) → new ≡ old && not (other == packet) → new ≡ true →
     (old ≡ true) × (packet ≢ other)
 roused true new packet other is rests =
-    (refl, λ same. not_both (other == packet) (eq-eqb other packet (sym same)) (sym is ∙ rests))
+    (refl, λ same. not_both (other == packet) (sym is ∙ rests) (eq-eqb other packet (sym same)))
 roused false new packet other is rests = absurd cc
 
 pub origin_of_found : (packet : ℕ) (items : List HeldMessage) (held : HeldMessage) → found packet items ≡ Some held →
     held.message.origin ≡ packet
 origin_of_found packet items held there =
-    eqb-true held.message.origin packet (passes_found (λ (h : HeldMessage). h.message.origin == packet) items held there)
+    eqb-true held.message.origin packet
+    (passes_found (λ (h : HeldMessage). h.message.origin == packet) items held there)
 
 pub woken : (replicas : List (Option Held)) (items : List HeldMessage) (resting later : List ℕ)
     (old rest new again : List Wait) (wait : Wait) → AreWatched replicas items resting old → IsOut old rest wait →
@@ -211,8 +182,8 @@ woken replicas items resting later old rest new again wait stands out next is qu
             | true ↦ λ its. any_behind (test packet origin group) rest again
                 (next.ahead packet origin group log its there ahead)
             | false ↦ λ others. any_before (test packet origin group) rest again
-                (any_out (test packet origin group) old rest wait out (stands.watched packet origin group log there ahead)
-                others)
+                (any_out (test packet origin group) old rest wait out
+                (stands.watched packet origin group log there ahead) others)
           ] refl;
       rest = λ packet held there rests'.
           let was = roused (rests packet resting) (rests packet later) wait.packet packet (quiet packet) rests' in
@@ -245,10 +216,6 @@ reached_by replicas group partition number wait is =
     (eqb-true wait.partition partition later.0)
     ∙ ap (has_reached (replica_at replicas group) partition) (eqb-true wait.number number later.1))
 
-not_of_true : (b : Bool) → not b ≡ true → b ≡ true → ⊥
-not_of_true true isnt is = absurd cc
-not_of_true false isnt is = absurd cc
-
 none_waits : (replicas : List (Option Held)) (group partition number : ℕ) (again : List Wait) →
     has_reached (replica_at replicas group) partition number ≡ true → list_all (is_unreached replicas) again ≡ true →
     length (filter (waits_for group partition number) again) ≡ 0
@@ -258,7 +225,7 @@ none_waits replicas group partition number (wait ∷ again) reached all =
     elim (waits_for group partition number wait) as (λ t. waits_for group partition number wait ≡ t →
     length (cond t (wait ∷ filter (waits_for group partition number) again)
     (filter (waits_for group partition number) again)) ≡ 0) [
-      | true ↦ λ is. absurd (not_of_true (is_reached replicas wait) parts.0
+      | true ↦ λ is. absurd (not_both (is_reached replicas wait) parts.0
           (reached_by replicas group partition number wait is ∙ reached))
       | false ↦ λ _. none_waits replicas group partition number again reached parts.1
     ] refl

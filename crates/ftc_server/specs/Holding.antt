@@ -1,22 +1,28 @@
 -- The messages that a server holds.
-use Rattle.std.specs.Prelude.{ℕ, ◌≡◌, ◌≤◌, ◌&&◌, ◌==◌, Bool, true, false, not, List, [], ◌∷◌, Option, Some, None}
-use Rattle.std.specs.Prelude.{find, is_some, if◌then◌else◌}
+use Rattle.std.specs.Prelude.{ℕ, ◌≡◌, ◌≤◌, ◌==◌, Bool, false, not, List, [], ◌∷◌, Option, Some, None, find, is_some}
+use Rattle.std.specs.Prelude.{if◌then◌else◌, nat_eq, unwrap_or}
 use Rattle.std.specs.List.{list_any}
+use Rattle.std.specs.Map.{lookup}
 use Rattle.ftc_message.specs.declared.message.Message.{Message}
 use Rattle.ftc_message.specs.Logged.{Logged, logs_rise}
 use Rattle.ftc_message.specs.Ordered.{is_log_of}
 use Rattle.ftc_server.specs.declared.held.HeldMessage.{HeldMessage}
 
--- in the order of taking, the origins of those that rest, which are passed over where one with work is looked for, and
--- for how many more there is room
+-- in the order of taking, the origins of those that rest, which are passed over where one with work is looked for, how
+-- many of the first logs of the message of an origin are noted as had, and for how many more there is room
 pub record Holding : Type 0 where
   pub items : List HeldMessage
   pub resting : List ℕ
+  pub had : List (ℕ × ℕ)
   pub spare : ℕ
 
 -- the message of that origin rests
 abbrev pub rests : ℕ → List ℕ → Bool
 rests origin resting = list_any (λ other. other == origin) resting
+
+-- how many of the first logs of the message of that origin are noted as had
+abbrev pub noted : ℕ → List (ℕ × ℕ) → ℕ
+noted origin had = unwrap_or (lookup (nat_eq origin) had) 0
 
 -- the message doesn't rest
 abbrev pub is_awake : List ℕ → HeldMessage → Bool
@@ -41,11 +47,6 @@ log_of group packet (Some held) = find (is_log_of packet group) held.message.log
 -- the logs of the message rise
 abbrev pub are_rising : HeldMessage → Bool
 are_rising held = logs_rise None held.message.logs
-
--- no two messages have one origin
-abbrev pub are_distinct : List HeldMessage → Bool
-are_distinct [] = true
-are_distinct (held ∷ items) = not (is_held held.message.origin items) && are_distinct items
 
 abbrev pub origins_of : List HeldMessage → List ℕ
 origins_of [] = []

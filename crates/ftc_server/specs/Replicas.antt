@@ -1,6 +1,6 @@
 -- The replicas of a server, by group, and which logs they have.
 use Rattle.std.specs.Prelude.{ℕ, ◌≡◌, ◌-◌, ◌^◌, ◌==◌, ◌&&◌, Bool, true, false, not, nat_lt, List, length, Option, Some}
-use Rattle.std.specs.Prelude.{None, is_some, slice_index_or, slice_set, option_map}
+use Rattle.std.specs.Prelude.{None, is_some, slice_index_or, slice_set, option_map, take}
 use Rattle.std.specs.List.{list_all}
 use Rattle.ftc_vector.specs.Order.{is_ready as is_ready_at}
 use Rattle.ftc_vector.specs.Commits.{vector_of}
@@ -21,6 +21,10 @@ has_log (Some held) log = covers_log held.vector log
 -- the replica of the log's group has it; of a group that the server isn't a later member of nothing is lacking
 abbrev pub is_had : List (Option Held) → Logged → Bool
 is_had replicas log = has_log (replica_at replicas log.group) log
+
+-- the replicas have so many of the first logs
+abbrev pub has_first : List (Option Held) → ℕ → List Logged → Bool
+has_first replicas count logs = list_all (is_had replicas) (take count logs)
 
 -- the log may be applied to the replica
 abbrev pub may_apply_to : Option Held → Logged → Bool

@@ -1,23 +1,14 @@
 -- Where a server stands in the ring.
-use Rattle.std.specs.Prelude.{ℕ, ◌+◌, ◌-◌, ◌==◌, ◌&&◌, Bool, not, nat_le, List, filter, Option, Some, None}
-use Rattle.std.specs.Prelude.{if◌then◌else◌}
+use Rattle.std.specs.Prelude.{ℕ, ◌+◌, ◌==◌, Bool, not, List, filter, Option, Some, None, if◌then◌else◌}
 use Rattle.ftc_message.specs.Logged.{Logged}
-use Rattle.ftc_ring.specs.Ring.{RingShape, apart}
+pub use Rattle.ftc_ring.specs.Groups.{group_ending_at, is_later_member}
+use Rattle.ftc_ring.specs.Ring.{RingShape}
 use Rattle.ftc_replica.specs.Held.{Held}
 use Rattle.ftc_vector.specs.Commits.{group_raised}
-
--- the group whose last member a server is
-abbrev pub group_ending_at : RingShape → ℕ → ℕ
-group_ending_at ring server =
-    if nat_le ring.failures server then server - ring.failures else server + ring.servers - ring.failures
 
 -- it is the last server of the chain
 abbrev pub is_last : RingShape → ℕ → Bool
 is_last ring server = server + 1 == ring.servers
-
--- it belongs to the group and doesn't head it
-abbrev pub is_later_member : RingShape → ℕ → ℕ → Bool
-is_later_member ring group server = not (group == server) && nat_le (apart ring.servers group server) ring.failures
 
 -- the logs that go on from a server: not those of the group whose last member it is
 abbrev pub onward : RingShape → ℕ → List Logged → List Logged

@@ -1,6 +1,6 @@
 -- What each call does to a server.
-use Rattle.std.specs.Prelude.{ℕ, ◌≡◌, ◌++◌, ◌∷◌, ◌==◌, ◌<◌, ◌≤◌, ◌&&◌, Bool, nat_lt, List, [], length, filter, Option, Some}
-use Rattle.std.specs.Prelude.{None, slice_set, if◌then◌else◌}
+use Rattle.std.specs.Prelude.{ℕ, ◌≡◌, ◌++◌, ◌∷◌, ◌==◌, ◌<◌, ◌≤◌, ◌&&◌, Bool, nat_lt, List, [], length, filter, Option}
+use Rattle.std.specs.Prelude.{Some, None, slice_set, if◌then◌else◌}
 use Rattle.ftc_base.specs.declared.ask.Write.{Write}
 use Rattle.ftc_base.specs.declared.ask.Finish.{Finish as End}
 use Rattle.ftc_base.specs.declared.ask.Ask.TheVariants.{Read, Finish}

@@ -1,6 +1,6 @@
 -- What the logs wait for that can't be applied yet, and which messages are passed over until then.
-use Rattle.std.specs.Prelude.{ℕ, ◌≡◌, ◌≤◌, ◌==◌, ◌&&◌, ◌||◌, ◌+◌, ◌++◌, Bool, true, false, not, nat_le, nat_lt}
-use Rattle.std.specs.Prelude.{List, [], ◌∷◌, Option, Some, None, find, filter, length, is_some}
+use Rattle.std.specs.Prelude.{ℕ, ◌≡◌, ◌≤◌, ◌==◌, ◌&&◌, ◌||◌, Bool, true, false, not, nat_le, nat_lt, List, [], ◌∷◌}
+use Rattle.std.specs.Prelude.{Option, Some, None, find, filter, length, is_some}
 use Rattle.std.specs.List.{list_all, list_any, flat_map, range_with_len}
 use Rattle.ftc_base.specs.Sets.{has}
 use Rattle.ftc_base.specs.declared.limits.TheConstants.{MOST_PARTITIONS}
@@ -10,8 +10,8 @@ use Rattle.ftc_replica.specs.declared.waits.Wait.{Wait}
 use Rattle.ftc_vector.specs.Order.{reaches}
 use Rattle.ftc_vector.specs.Vector.{mark_at, number_at}
 use Rattle.ftc_server.specs.declared.held.HeldMessage.{HeldMessage}
-use Rattle.ftc_server.specs.Holding.{found, log_of, rests}
-use Rattle.ftc_server.specs.Replicas.{replica_at, is_had}
+use Rattle.ftc_server.specs.Holding.{found, log_of, noted, rests}
+use Rattle.ftc_server.specs.Replicas.{replica_at, is_had, has_first}
 
 -- the vector is below the number that the log carries for the partition
 abbrev pub is_ahead_at : List ℕ → Logged → ℕ → Bool
@@ -156,6 +156,11 @@ StaysWhere replicas old new = (test : Wait → Bool) →
 -- a message that rests is idle
 abbrev pub is_settled : List (Option Held) → List ℕ → HeldMessage → Bool
 is_settled replicas resting held = not (rests held.message.origin resting) || is_idle replicas held.message.logs
+
+-- of each message, as many of the first logs are had as are noted
+abbrev pub AreHadBefore : List (Option Held) → List HeldMessage → List (ℕ × ℕ) → Type 0
+AreHadBefore replicas items had = (packet : ℕ) (held : HeldMessage) → found packet items ≡ Some held →
+    has_first replicas (noted packet had) held.message.logs ≡ true
 
 -- how many logs the messages have together
 abbrev pub logs_of_all : List HeldMessage → List Logged

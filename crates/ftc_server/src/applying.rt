@@ -7,6 +7,7 @@ ghost use Rattle.ftc_server.specs.State.{fields_of};
 ghost use Rattle.ftc_server.specs.Looks.{log_in, may_apply_in};
 ghost use Rattle.ftc_server.specs.Steps.{HasApplied};
 
+use crate::noting::note_had;
 use crate::replicas::{apply, is_allowed, replica_of};
 use crate::server::Server;
 use crate::standing::learn;
@@ -79,6 +80,7 @@ impl Server {
         );
         let replicas = self.others.as_slice();
         wake_changed(&mut self.waits, &mut self.held, replicas, group, changed);
+        note_had(&mut self.held, replicas, origin);
         settle(&mut self.held, replicas, origin);
         Ok(())
     }

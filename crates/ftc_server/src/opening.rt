@@ -10,7 +10,7 @@ ghost use Rattle.ftc_server.specs.Steps.{IsOpening, IsRevived, HasLearnt, is_of_
 use crate::held::HeldMessages;
 use crate::recovering::GroupReplicas;
 use crate::server::Server;
-use crate::standing::{is_later_member, learn};
+use crate::standing::learn;
 use ftc_base::{NoMemory, ServerId};
 use ftc_edge::{Buffer, Forwarder};
 use ftc_mbox::Rule;
@@ -34,7 +34,7 @@ fn empty_at(
     requires within { partitions ≤ MOST_PARTITIONS }
     ensures { result ≡ empty_at ring.now id partitions group }
 {
-    if is_later_member(ring, group, id) {
+    if ring.is_later_member(group, id) {
         Some(Replica::new(alloc, partitions))
     } else {
         None

@@ -100,6 +100,8 @@ impl Server {
         requires room { is_last self.old.ring self.old.id ≡ true → 1 ≤ self.old.buffer.spare }
         ensures { HasPassed self.old self.new origin }
     {
+        // The contract of this call tells that no two held messages have one origin.
+        let _ = self.held.len();
         let Some(HeldMessage { message, .. }) = self.held.take_out(origin) else {
             return;
         };
@@ -118,6 +120,8 @@ impl Server {
         ensures ok { OnOk result (HasCarried self.old self.new origin) }
         ensures err { OnErr result (fields_of self.new ≡ fields_of self.old) }
     {
+        // The contract of this call tells that no two held messages have one origin.
+        let _ = self.held.len();
         let Some(held) = self.held.get(origin) else {
             return Ok(());
         };

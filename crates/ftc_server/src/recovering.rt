@@ -66,8 +66,11 @@ impl Server {
             news.into_vec(),
         );
         let replicas = self.others.as_slice();
+        // The contract of this call tells that no two held messages have one origin.
+        let _ = self.held.len();
         watch_all(&mut waits, &self.held, replicas);
         self.waits = waits;
+        self.held.forget_all();
         settle_all(&mut self.held, replicas);
         Ok(())
     }

@@ -4,10 +4,10 @@ ghost use Rattle.std.specs.Prelude.{◌≡◌, ◌≤◌, ◌<◌, ℕ, true, le
 ghost use Rattle.std.specs.List.{list_all};
 ghost use Rattle.ftc_base.specs.declared.limits.TheConstants.{MOST_PARTITIONS};
 ghost use Rattle.ftc_server.specs.Replicas.{replica_at};
-ghost use Rattle.ftc_server.specs.Holding.{are_distinct, are_rising};
+ghost use Rattle.ftc_server.specs.Holding.{are_rising};
 ghost use Rattle.ftc_server.specs.Standing.{is_later_member};
 ghost use Rattle.ftc_server.specs.Slots.{AreSlots, is_open};
-ghost use Rattle.ftc_server.specs.Waiting.{AreWatched, is_unreached};
+ghost use Rattle.ftc_server.specs.Waiting.{AreWatched, AreHadBefore, is_unreached};
 
 use crate::held::HeldMessages;
 use ftc_base::ServerId;
@@ -52,8 +52,8 @@ pub struct Server {
         is_some (replica_at others.items group) ≡ is_later_member ring group id },
     ghost open: { list_all (is_open id) held.items ≡ true },
     ghost slots: { ∥ AreSlots rule head held.items ∥₁ },
-    ghost distinct: { are_distinct held.items ≡ true },
     ghost rising: { list_all are_rising held.items ≡ true },
     ghost watched: { AreWatched others.items held.items held.resting waits.items },
+    ghost had: { AreHadBefore others.items held.items held.had },
     ghost unreached: { list_all (is_unreached others.items) waits.items ≡ true },
 }

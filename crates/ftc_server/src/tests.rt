@@ -129,6 +129,7 @@ fn logs_out_of_order(rt: HostRuntime) -> Result<(), Fail> {
     assert_eq!(rt; server.first_work(), Some(5));
     assert!(rt; apply(&mut server, 7)? && !apply(&mut server, 6)?);
     assert!(rt; apply(&mut server, 5)?);
+    assert_eq!(rt; (server.held.had(5), server.held.had(6)), (1, 0));
     assert_eq!(rt; server.first_work(), Some(6));
     assert!(rt; apply(&mut server, 6)?);
     let vector = server.vector_of(id(0));

@@ -1,14 +1,15 @@
 //! What logs wait for that can't be applied yet.
 
-ghost use Rattle.std.specs.Prelude.{◌≡◌, ◌≤◌, ◌<◌, ◌++◌, ◌==◌, ◌&&◌, ◌||◌, ◌∷◌, ◌+◌, [], ℕ, Some, IfSome, length};
+ghost use Rattle.std.specs.Prelude.{◌≡◌, ◌≤◌, ◌<◌, ◌++◌, ◌==◌, ◌&&◌, ◌||◌, ◌∷◌, ◌+◌, [], ℕ, Some, IfSome, length, true};
 ghost use Rattle.std.specs.List.{flat_map, list_any, list_all};
 ghost use Rattle.ftc_base.specs.declared.limits.TheConstants.{MOST_PARTITIONS};
 ghost use Rattle.ftc_server.specs.Holding.{found, rests};
-ghost use Rattle.ftc_server.specs.Replicas.{replica_at};
+ghost use Rattle.ftc_server.specs.Replicas.{replica_at, has_first};
 ghost use Rattle.ftc_server.specs.Waiting.{ahead_of, is_ahead, is_had_or_ahead, wait_of, waits_of, is_idle};
-ghost use Rattle.ftc_server.specs.Waiting.{is_idle_one, is_ahead_at};
+ghost use Rattle.ftc_server.specs.Waiting.{is_idle_one, is_ahead_at, AreHadBefore};
 
-use crate::held::HeldMessages;
+use crate::held::{HeldMessage, HeldMessages};
+use crate::noting::logs_behind;
 use crate::replicas::{is_had, replica_of};
 use ftc_base::PacketNo;
 use ftc_message::Log;
@@ -120,23 +121,28 @@ fn are_had_or_ahead(replicas: &[Option<Replica>], logs: &[Log]) -> bool
     logs.iter().all(|log| is_had_or_ahead(replicas, log))
 }
 
-/// Whether some log is ahead, and so is each that is lacking.
-fn is_idle(replicas: &[Option<Replica>], logs: &[Log]) -> bool
-    ensures { result ≡ is_idle replicas.now logs.now }
+/// Whether some log of a held message is ahead, and so is each that is lacking. So many of its first logs are had.
+fn is_idle(replicas: &[Option<Replica>], held: &HeldMessage, had: usize) -> bool
+    requires { has_first replicas.now had held.now.message.logs ≡ true }
+    ensures { result ≡ is_idle replicas.now held.now.message.logs }
 {
-    is_some_ahead(replicas, logs) && are_had_or_ahead(replicas, logs)
+    let logs = logs_behind(held, had);
+    // Mostly the first of them may be applied, so that one look tells it.
+    are_had_or_ahead(replicas, logs) && is_some_ahead(replicas, logs)
 }
 
 /// A held message is passed over from now on where all that it lacks is ahead.
 pub fn settle(held: &mut HeldMessages, replicas: &[Option<Replica>], origin: PacketNo)
+    requires { AreHadBefore replicas.now held.old.items held.old.had }
     ensures items { held.new.items ≡ held.old.items }
     ensures spare { held.new.spare ≡ held.old.spare }
+    ensures had { held.new.had ≡ held.old.had }
     ensures resting { (other : ℕ) → rests other held.new.resting
         ≡ rests other held.old.resting
         || (other == origin && is_idle_one replicas.now (found origin held.old.items)) }
 {
     let is_idle = match held.get(origin) {
-        Some(found) => is_idle(replicas, found.message.logs.as_slice()),
+        Some(found) => is_idle(replicas, found, held.had(origin)),
         None => false,
     };
     if is_idle {

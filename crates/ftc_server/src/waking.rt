@@ -53,6 +53,7 @@ fn wake_one(
     ensures watched { AreWatched replicas.now held.new.items held.new.resting waits.new.items }
     ensures items { held.new.items ≡ held.old.items }
     ensures spare { held.new.spare ≡ held.old.spare }
+    ensures had { held.new.had ≡ held.old.had }
     ensures others { StaysWhere replicas.now waits.old.items waits.new.items }
     ensures fewer { result ≡ true → length (filter (waits_for group partition number) waits.new.items)
         < length (filter (waits_for group partition number) waits.old.items) }
@@ -80,6 +81,7 @@ fn wake_all(
     ensures watched { AreWatched replicas.now held.new.items held.new.resting waits.new.items }
     ensures items { held.new.items ≡ held.old.items }
     ensures spare { held.new.spare ≡ held.old.spare }
+    ensures had { held.new.had ≡ held.old.had }
     ensures others { StaysWhere replicas.now waits.old.items waits.new.items }
     ensures none { find (waits_for group partition number) waits.new.items ≡ None }
 {
@@ -111,6 +113,7 @@ pub fn wake_changed(
     ensures watched { AreWatched replicas.now held.new.items held.new.resting waits.new.items }
     ensures items { held.new.items ≡ held.old.items }
     ensures spare { held.new.spare ≡ held.old.spare }
+    ensures had { held.new.had ≡ held.old.had }
     ensures unreached { list_all (is_unreached replicas.now) waits.new.items ≡ true }
 {
     if waits.is_empty() {

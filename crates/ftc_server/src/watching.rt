@@ -1,9 +1,8 @@
 //! What the logs of all held messages wait for, found anew.
 
 ghost use Rattle.std.specs.Prelude.{◌≡◌, ◌≤◌, ◌++◌, true, length, IfOk};
-ghost use Rattle.ftc_server.specs.Holding.{are_distinct};
 ghost use Rattle.std.specs.List.{list_all};
-ghost use Rattle.ftc_server.specs.Waiting.{logs_of_all, waits_of_all, is_settled};
+ghost use Rattle.ftc_server.specs.Waiting.{logs_of_all, waits_of_all, is_settled, AreHadBefore};
 
 use crate::held::HeldMessages;
 use crate::waiting::{settle, watch};
@@ -41,9 +40,10 @@ pub fn watch_all(waits: &mut Waits, held: &HeldMessages, replicas: &[Option<Repl
 
 /// Each held message is looked at anew: it is passed over from now on only where all that it lacks is ahead.
 pub fn settle_all(held: &mut HeldMessages, replicas: &[Option<Replica>])
-    requires { are_distinct held.old.items ≡ true }
+    requires { AreHadBefore replicas.now held.old.items held.old.had }
     ensures items { held.new.items ≡ held.old.items }
     ensures spare { held.new.spare ≡ held.old.spare }
+    ensures had { held.new.had ≡ held.old.had }
     ensures resting { list_all (is_settled replicas.now held.new.resting) held.new.items ≡ true }
 {
     for place in 0..held.len() {

@@ -2,11 +2,13 @@
 
 ghost use Rattle.std.specs.Prelude.{◌≡◌, ℕ, true, Some, None};
 ghost use Rattle.std.specs.Option.{option_copied};
+ghost use Rattle.ftc_server.specs.Replicas.{has_first, is_ready};
 ghost use Rattle.ftc_server.specs.Work.{next_log, last_work, work_for, has_work};
 ghost use Rattle.ftc_server.specs.Looks.{work_in, first_work_in, may_apply_in};
 ghost use Rattle.ftc_server.specs.declared.work.Work.TheVariants.{Apply};
 
 use crate::held::HeldMessage;
+use crate::noting::logs_behind;
 use crate::replicas::{are_had, is_had, may_apply};
 use crate::server::Server;
 use ftc_base::{PacketNo, ServerId};
@@ -56,26 +58,44 @@ fn last_work(held: &HeldMessage) -> Work
     }
 }
 
-/// The work of a held message.
-pub fn work_for(replicas: &[Option<Replica>], held: &HeldMessage) -> Option<Work>
+/// The first log of a held message that is lacking and may be applied, where no lacking log of its packet stands
+/// before it. So many of its first logs are had.
+fn next_of<'a>(replicas: &[Option<Replica>], held: &'a HeldMessage, had: usize) -> Option<&'a Log>
+    requires { has_first replicas.now had held.now.message.logs ≡ true }
+    ensures { option_copied result ≡ next_log replicas.now None held.now.message.logs }
+{
+    next_log(replicas, logs_behind(held, had))
+}
+
+/// Whether all logs of a held message are had. So many of the first ones are.
+fn is_ready(replicas: &[Option<Replica>], held: &HeldMessage, had: usize) -> bool
+    requires { has_first replicas.now had held.now.message.logs ≡ true }
+    ensures { result ≡ is_ready replicas.now held.now }
+{
+    are_had(replicas, logs_behind(held, had))
+}
+
+/// The work of a held message. So many of its first logs are had.
+pub fn work_for(replicas: &[Option<Replica>], held: &HeldMessage, had: usize) -> Option<Work>
+    requires { has_first replicas.now had held.now.message.logs ≡ true }
     ensures { result ≡ work_for replicas.now held.now }
 {
-    let logs = held.message.logs.as_slice();
-    match next_log(replicas, logs) {
+    match next_of(replicas, held, had) {
         Some(log) => Some(Work::Apply {
             group: log.group(),
             packet: log.origin(),
         }),
-        None if are_had(replicas, logs) => Some(last_work(held)),
+        None if is_ready(replicas, held, had) => Some(last_work(held)),
         None => None,
     }
 }
 
-/// Whether a held message has work.
-pub fn has_work(replicas: &[Option<Replica>], held: &HeldMessage) -> bool
+/// Whether a held message has work. So many of its first logs are had.
+pub fn has_work(replicas: &[Option<Replica>], held: &HeldMessage, had: usize) -> bool
+    requires { has_first replicas.now had held.now.message.logs ≡ true }
     ensures { result ≡ has_work replicas.now held.now }
 {
-    work_for(replicas, held).is_some()
+    work_for(replicas, held, had).is_some()
 }
 
 impl Server {
@@ -90,13 +110,15 @@ impl Server {
         let held = self.held.get(origin)?;
         // The contract of this call tells that the logs rise.
         let _ = held.message.logs.len();
-        work_for(self.others.as_slice(), held)
+        work_for(self.others.as_slice(), held, self.held.had(origin))
     }
 
     /// The first held message, in the order of taking, that has work.
     pub fn first_work(&self) -> Option<PacketNo>
         ensures { result ≡ first_work_in self.now }
     {
+        // The contract of this call tells that no two held messages have one origin.
+        let _ = self.held.len();
         let replicas = self.others.as_slice();
         match self.held.first_with_work(replicas) {
             Some(held) => Some(held.message.origin),

@@ -44,7 +44,9 @@ fn origin_at(held: &HeldMessages, place: usize) -> Option<PacketNo> {
 }
 
 /// The origin of the first message with work that doesn't rest.
-fn first(held: &HeldMessages, replicas: &[Option<Replica>]) -> Option<PacketNo> {
+fn first(held: &mut HeldMessages, replicas: &[Option<Replica>]) -> Option<PacketNo> {
+    // What is noted of a message has to hold of these replicas.
+    held.forget_all();
     let held = held.first_with_work(replicas)?;
     Some(held.message.origin)
 }
@@ -59,27 +61,27 @@ fn take_out(held: &mut HeldMessages, origin: PacketNo) -> Option<PacketNo> {
 fn messages_that_rest(rt: HostRuntime) -> Result<(), Fail> {
     let replicas = [Some(Replica::new(rt.alloc(), 4))];
     let mut held = HeldMessages::new(rt.alloc());
-    assert_eq!(rt; first(&held, &replicas), None);
+    assert_eq!(rt; first(&mut held, &replicas), None);
     for origin in [5, 3, 9] {
         assert!(rt; hold(&mut held, rt.alloc(), origin, false)?);
     }
     assert!(rt; hold(&mut held, rt.alloc(), 7, true)?);
     assert!(rt; !hold(&mut held, rt.alloc(), 3, false)?);
-    assert_eq!(rt; first(&held, &replicas), Some(5));
+    assert_eq!(rt; first(&mut held, &replicas), Some(5));
     held.rest(5);
-    assert_eq!(rt; first(&held, &replicas), Some(3));
+    assert_eq!(rt; first(&mut held, &replicas), Some(3));
     for origin in [3, 3, 11] {
         held.rest(origin);
     }
-    assert_eq!(rt; first(&held, &replicas), Some(9));
+    assert_eq!(rt; first(&mut held, &replicas), Some(9));
     held.rest(9);
-    assert_eq!(rt; first(&held, &replicas), None);
+    assert_eq!(rt; first(&mut held, &replicas), None);
     for origin in [9, 3, 9, 11, 7] {
         held.rouse(origin);
     }
-    assert_eq!(rt; first(&held, &replicas), Some(3));
+    assert_eq!(rt; first(&mut held, &replicas), Some(3));
     held.rouse(5);
-    assert_eq!(rt; first(&held, &replicas), Some(5));
+    assert_eq!(rt; first(&mut held, &replicas), Some(5));
     Ok(())
 }
 
@@ -94,7 +96,7 @@ fn messages_out_of_the_middle(rt: HostRuntime) -> Result<(), Fail> {
     held.rest(9);
     assert_eq!(rt; take_out(&mut held, 3), Some(3));
     assert_eq!(rt; take_out(&mut held, 3), None);
-    assert_eq!(rt; first(&held, &replicas), Some(4));
+    assert_eq!(rt; first(&mut held, &replicas), Some(4));
     assert!(rt; hold(&mut held, rt.alloc(), 3, false)?);
     held.drop_unready(&replicas);
     assert!(rt; held.len() == 4 && held.get(7).is_none());
@@ -102,10 +104,10 @@ fn messages_out_of_the_middle(rt: HostRuntime) -> Result<(), Fail> {
         assert_eq!(rt; origin_at(&held, place), Some(origin));
         assert!(rt; held.get(origin).is_some());
     }
-    assert_eq!(rt; first(&held, &replicas), Some(4));
+    assert_eq!(rt; first(&mut held, &replicas), Some(4));
     held.rouse(9);
-    assert_eq!(rt; first(&held, &replicas), Some(9));
+    assert_eq!(rt; first(&mut held, &replicas), Some(9));
     assert_eq!(rt; take_out(&mut held, 9), Some(9));
-    assert_eq!(rt; first(&held, &replicas), Some(4));
+    assert_eq!(rt; first(&mut held, &replicas), Some(4));
     Ok(())
 }

@@ -1,4 +1,4 @@
-use Rattle.std.proofs.Common.{◌≡◌, ◌∙◌, true, false, None, Some, inl, inr, sym, ap, refl, not, arith}
+use Rattle.std.proofs.Common.{◌≡◌, true, None, inl, inr, sym, ap, not, arith}
 use Rattle.std.proofs.lemmas.Bool.{cases_lt}
 use Rattle.ftc_vector.specs.Order.{reaches}
 use Rattle.ftc_vector.specs.Vector.{number_at, mark_at}

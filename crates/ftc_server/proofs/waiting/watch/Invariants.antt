@@ -1,5 +1,5 @@
 -- the logs so far have their waits, and there is room for those of the others
-use Rattle.std.proofs.Common.{◌≡◌, ◌≤◌, ◌+◌, ◌++◌, length, take}
+use Rattle.std.proofs.Common.{◌≡◌, ◌≤◌, ◌+◌, ◌++◌, take}
 use Rattle.std.specs.List.{flat_map}
 use Rattle.ftc_server.specs.Waiting.{waits_of}
 use Rattle.ftc_server.proofs.waiting.watch.Given as goal

@@ -10,6 +10,7 @@ invariant-loop-group l = record {
   watched : AreWatched l.replicas l.held.items l.held.resting l.waits.items;
   items : l.held.items ≡ l.fn.held.items;
   spare : l.held.spare ≡ l.fn.held.spare;
+  had : l.held.had ≡ l.fn.held.had;
   others : StaysWhere l.replicas l.fn.waits.items l.waits.items;
 }
 

@@ -1,4 +1,4 @@
-use Rattle.std.proofs.Common.{◌≡◌, ◌≤◌, ◌+◌, ◌∙◌, ℕ, List, Option, true, false, sym, ap, subst, arith}
+use Rattle.std.proofs.Common.{◌≡◌, ◌+◌, ◌∙◌, ℕ, List, Option, true, false, sym, subst, arith}
 use Rattle.std.specs.List.{list_all}
 use Rattle.ftc_base.specs.Sets.{has}
 use Rattle.ftc_replica.specs.Held.{Held}
@@ -14,6 +14,7 @@ IsHere first replicas group changed from held waits = record {
   watched : AreWatched replicas held.items held.resting waits.items;
   items : held.items ≡ first.items;
   spare : held.spare ≡ first.spare;
+  had : held.had ≡ first.had;
   due : list_all (is_due replicas group changed from) waits.items ≡ true;
 }
 
@@ -37,8 +38,9 @@ loop-partition-preserved c =
             watched = w.wake_all.ensures.watched;
             items = w.wake_all.ensures.items ∙ inv.items;
             spare = w.wake_all.ensures.spare ∙ inv.spare;
-            due = due_next replicas group changed from w.number_of-number.result c.loop-partition.waits.items waits.items
-                w.wake_all.ensures.others w.number_of-number.ensures w.wake_all.ensures.none inv.due;
+            had = w.wake_all.ensures.had ∙ inv.had;
+            due = due_next replicas group changed from w.number_of-number.result c.loop-partition.waits.items
+                waits.items w.wake_all.ensures.others w.number_of-number.ensures w.wake_all.ensures.none inv.due;
           })
       | else-has w ↦
           let isnt : has changed from ≡ false = sym c.has.ensures ∙ w.if-has.false in
@@ -48,6 +50,7 @@ loop-partition-preserved c =
             watched = inv.watched;
             items = inv.items;
             spare = inv.spare;
+            had = inv.had;
             due = due_skipped replicas group changed from c.loop-partition.waits.items isnt inv.due;
           })
     ]

@@ -9,5 +9,6 @@ invariant-loop-partition l = record {
   watched : AreWatched l.replicas l.held.items l.held.resting l.waits.items;
   items : l.held.items ≡ l.fn.held.items;
   spare : l.held.spare ≡ l.fn.held.spare;
+  had : l.held.had ≡ l.fn.held.had;
   due : list_all (is_due l.replicas l.group l.changed l.partition) l.waits.items ≡ true;
 }

@@ -1,7 +1,6 @@
-use Rattle.std.proofs.Common.{◌≡◌, ◌≤◌, ◌∙◌, ◌+◌, List, None, Some, length, refl, sym, ap, subst, arith}
+use Rattle.std.proofs.Common.{◌≡◌, ◌∙◌, List, None, Some, refl, sym, ap, subst}
 use Rattle.std.specs.Prelude.{find}
 use Rattle.std.specs.List.{list_all}
-use Rattle.ftc_replica.specs.declared.waits.Wait.{Wait}
 use Rattle.ftc_replica.specs.Waiting.{waits_for, without_first}
 use Rattle.ftc_server.specs.declared.held.HeldMessage.{HeldMessage}
 use Rattle.ftc_server.specs.Holding.{found, log_of}

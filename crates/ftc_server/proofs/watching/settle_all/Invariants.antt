@@ -8,5 +8,6 @@ abbrev pub invariant-loop-place : goal.invariant-loop-place
 invariant-loop-place l = record {
   items : l.held.items ≡ l.fn.held.items;
   spare : l.held.spare ≡ l.fn.held.spare;
+  had : l.held.had ≡ l.fn.held.had;
   settled : list_all (is_settled l.replicas l.held.resting) (take l.place l.held.items) ≡ true;
 }

@@ -12,7 +12,7 @@ pub index_mut-requires : goal.index_mut-requires
 index_mut-requires c =
     let within = held_within c.self.inside.list.items c.args.origin c.in-Some.place
     (ap (λ (view : Holding). position (is_of c.args.origin) view.items) c.self.view_is
-    ∙ sym c.place_of.ensures.place ∙ c.in-Some.is) in
+    ∙ sym c.place_of-place.ensures.place ∙ c.in-Some.is) in
     omega (arith, c.self.inside.list.ok)
 
 pub invariant_of-self : goal.invariant_of-self
@@ -21,7 +21,7 @@ invariant_of-self c =
     let held = c.index_mut.result.now in
     let within = held_within items c.args.origin c.in-Some.place
     (ap (λ (view : Holding). position (is_of c.args.origin) view.items) c.self.view_is
-    ∙ sym c.place_of.ensures.place ∙ c.in-Some.is) in
+    ∙ sym c.place_of-place.ensures.place ∙ c.in-Some.is) in
     record {
       origins = c.self.invariant.origins
           ∙ sym (ap (λ (h : HeldMessage). origins_of (slice_set items c.in-Some.place h)) c.change.ensures
@@ -36,7 +36,7 @@ returns-in-Some-clause-items c =
     let items = c.self.inside.list.items in
     let change = visited_by c.args.visited in
     let there = ap (λ (view : Holding). position is view.items) c.self.view_is
-    ∙ sym c.place_of.ensures.place ∙ c.in-Some.is in
+    ∙ sym c.place_of-place.ensures.place ∙ c.in-Some.is in
     let first = first_at is items c.in-Some.place c.index_mut.result.now there in
     ap (λ (held : HeldMessage). slice_set items c.in-Some.place held)
     (c.change.ensures ∙ ap change c.index_mut.ensures.value)
@@ -46,5 +46,6 @@ returns-in-Some-clause-items c =
 pub returns-in-None-clause-items : goal.returns-in-None-clause-items
 returns-in-None-clause-items c =
     let items = c.args.self.now.items in
-    let none = none_found (is_of c.args.origin) items (sym c.place_of.ensures.place ∙ c.in-None.is) in
-    sym (none_changed c.args.origin (visited_by c.args.visited) items none)
+    let none = none_found (is_of c.args.origin) items (sym c.place_of-place.ensures.place ∙ c.in-None.is) in
+    ap (λ (view : Holding). view.items) c.self.view_is
+    ∙ sym (none_changed c.args.origin (visited_by c.args.visited) items none)

@@ -7,16 +7,17 @@ use Rattle.ftc_message.specs.Logged.{Logged}
 use Rattle.ftc_message.specs.Ordered.{is_log_of}
 use Rattle.ftc_server.specs.declared.held.HeldMessage.{HeldMessage}
 use Rattle.ftc_server.specs.declared.server.Server.{Server}
-use Rattle.ftc_server.specs.Holding.{found, are_distinct, are_rising, rests}
+use Rattle.ftc_server.specs.Holding.{found, are_rising, rests}
 use Rattle.ftc_server.specs.Looks.{log_of, log_in, may_apply_one, may_apply_in}
 use Rattle.ftc_server.specs.Replicas.{replica_at, may_rise_in, may_apply_to, with_applied}
 use Rattle.ftc_server.specs.Standing.{with_replica}
 use Rattle.ftc_server.specs.Slots.{AreSlots, is_open}
-use Rattle.ftc_server.specs.Waiting.{AreWatched, is_due, is_unreached, is_idle_one}
+use Rattle.ftc_server.specs.Waiting.{AreHadBefore, AreWatched, is_due, is_unreached, is_idle_one}
 use Rattle.ftc_server.proofs.StillWatched.{settled_watched}
 use Rattle.ftc_server.proofs.Finding.{both, passes_found}
 use Rattle.ftc_server.proofs.Grown.{applied_grown, applied_due, watched_grown}
 use Rattle.ftc_server.proofs.Installing.{applied_at, ready_replica}
+use Rattle.ftc_server.proofs.HadBefore.{had_grown, had_same}
 use Rattle.ftc_server.proofs.server.Server.apply.Goals as goal
 
 pub apply-requires-clause-rise : goal.apply-requires-clause-rise
@@ -53,7 +54,7 @@ returns-clause-ok c =
           ∙ ap (λ (slot : Option Held). with_replica server.ring server.id c.args.group slot server.known)
           (ap (λ (others : List (Option Held)). replica_at others c.args.group) after
           ∙ applied_at server.others.items c.args.group log replica.0 same before);
-      held = c.settle.ensures.items ∙ c.wake_changed.ensures.items;
+      held = c.settle.ensures.items ∙ (c.note_had.ensures.items ∙ c.wake_changed.ensures.items);
       rest = refl;
     }
 
@@ -103,21 +104,19 @@ wake_changed-requires-clause-due c =
 pub invariant_of-self-2-clause-open : goal.invariant_of-self-2-clause-open
 invariant_of-self-2-clause-open c =
     let server = c.args.self.now in
-    ap (list_all (is_open server.id)) (c.settle.ensures.items ∙ c.wake_changed.ensures.items) ∙ server.«open»
+    ap (list_all (is_open server.id))
+    (c.settle.ensures.items ∙ (c.note_had.ensures.items ∙ c.wake_changed.ensures.items)) ∙ server.«open»
 
 pub invariant_of-self-2-clause-slots : goal.invariant_of-self-2-clause-slots
 invariant_of-self-2-clause-slots c =
     let server = c.args.self.now in
     subst (λ (items : List HeldMessage). ∥ AreSlots server.rule server.head items ∥₁)
-    (sym (c.settle.ensures.items ∙ c.wake_changed.ensures.items)) server.«slots»
-
-pub invariant_of-self-2-clause-distinct : goal.invariant_of-self-2-clause-distinct
-invariant_of-self-2-clause-distinct c =
-    ap are_distinct (c.settle.ensures.items ∙ c.wake_changed.ensures.items) ∙ c.args.self.now.«distinct»
+    (sym (c.settle.ensures.items ∙ (c.note_had.ensures.items ∙ c.wake_changed.ensures.items))) server.«slots»
 
 pub invariant_of-self-2-clause-rising : goal.invariant_of-self-2-clause-rising
 invariant_of-self-2-clause-rising c =
-    ap (list_all are_rising) (c.settle.ensures.items ∙ c.wake_changed.ensures.items) ∙ c.args.self.now.«rising»
+    ap (list_all are_rising) (c.settle.ensures.items ∙ (c.note_had.ensures.items ∙ c.wake_changed.ensures.items))
+    ∙ c.args.self.now.«rising»
 
 both_same : (a b : List (Option Held)) (x y : List HeldMessage) → a ≡ b → x ≡ y →
     ◌≡◌ {A = List (Option Held) × List HeldMessage} (a, x) (b, y)
@@ -135,15 +134,41 @@ invariant_of-self-2-clause-watched c =
     (both_same c.as_slice-replicas.result.now others c.wake_changed.new.held.items items
     c.as_slice-replicas.ensures.value c.wake_changed.ensures.items) c.wake_changed.ensures.watched in
     subst (λ (all : List HeldMessage). AreWatched others all c.settle.new.held.resting waiting)
-    (sym (c.settle.ensures.items ∙ c.wake_changed.ensures.items))
+    (sym (c.settle.ensures.items ∙ (c.note_had.ensures.items ∙ c.wake_changed.ensures.items)))
     (settled_watched others items woken c.settle.new.held.resting waiting c.args.origin server.«rising» stands
     (λ other. c.settle.ensures.resting other
+    ∙ (ap (λ (resting : List ℕ). rests other resting || (other == c.args.origin
+    && is_idle_one c.as_slice-replicas.result.now (found c.args.origin c.note_had.new.held.items)))
+    c.note_had.ensures.resting
+    ∙ (ap (λ (all : List HeldMessage). rests other woken || (other == c.args.origin
+    && is_idle_one c.as_slice-replicas.result.now (found c.args.origin all))) c.note_had.ensures.items
     ∙ (ap (λ (replicas : List (Option Held)). rests other woken || (other == c.args.origin
     && is_idle_one replicas (found c.args.origin c.wake_changed.new.held.items))) c.as_slice-replicas.ensures.value
     ∙ ap (λ (all : List HeldMessage). rests other woken || (other == c.args.origin
-    && is_idle_one others (found c.args.origin all))) c.wake_changed.ensures.items)))
+    && is_idle_one others (found c.args.origin all))) c.wake_changed.ensures.items)))))
 
 pub invariant_of-self-2-clause-unreached : goal.invariant_of-self-2-clause-unreached
 invariant_of-self-2-clause-unreached c =
     ap (λ (others : List (Option Held)). list_all (is_unreached others) c.wake_changed.new.waits.items)
     (sym c.as_slice-replicas.ensures.value) ∙ c.wake_changed.ensures.unreached
+
+pub note_had-requires : goal.note_had-requires
+note_had-requires c =
+    let server = c.args.self.now in
+    let log = c.in-Some-find.log.now in
+    let later = with_applied server.others.items log in
+    let of = of_group server c.args.origin c.args.group c.args.packet c.in-Some.held.now log c.in-Some.ensures
+    c.in-Some-find.ensures c.requires.ready in
+    subst (λ (others : List (Option Held)). AreHadBefore others c.wake_changed.new.held.items
+    c.wake_changed.new.held.had) (sym (c.as_slice-replicas.ensures.value ∙ c.in_ok-apply.ensures.ok))
+    (had_same later server.held.items c.wake_changed.new.held.items server.held.had c.wake_changed.new.held.had
+    c.wake_changed.ensures.items c.wake_changed.ensures.had
+    (had_grown server.others.items later server.held.items server.held.had
+    (applied_grown server.others.items log of.0 of.2) server.«had»))
+
+pub invariant_of-self-2-clause-had : goal.invariant_of-self-2-clause-had
+invariant_of-self-2-clause-had c =
+    subst (λ (others : List (Option Held)). AreHadBefore others c.settle.new.held.items c.settle.new.held.had)
+    c.as_slice-replicas.ensures.value
+    (had_same c.as_slice-replicas.result.now c.note_had.new.held.items c.settle.new.held.items c.note_had.new.held.had
+    c.settle.new.held.had c.settle.ensures.items c.settle.ensures.had c.note_had.ensures.had)

@@ -2,6 +2,7 @@ use Rattle.std.proofs.Common.{◌≡◌, ◌∙◌, ◌&&◌, not, ℕ, Bool, Li
 use Rattle.std.specs.Prelude.{is_some, nat_le, IfSome}
 use Rattle.std.proofs.lemmas.Bool.{eq-eqb}
 use Rattle.std.proofs.Math.Logic.{∥∥₁_map}
+use Rattle.std.proofs.lemmas.Option.{same_Some}
 use Rattle.std.specs.List.{list_all}
 use Rattle.ftc_base.specs.declared.ask.Ask.TheVariants.{Finish}
 use Rattle.ftc_server.specs.declared.held.HeldMessage.{HeldMessage}
@@ -15,7 +16,7 @@ use Rattle.ftc_txn.specs.Slots.{Running, packet_of, slot_at}
 use Rattle.ftc_txn.specs.Steps.{HasCommitted}
 use Rattle.ftc_server.specs.Steps.{with_kept, with_written}
 use Rattle.ftc_server.specs.declared.server.Server.{Server}
-use Rattle.ftc_server.specs.Holding.{found, with_changed, are_distinct, are_rising}
+use Rattle.ftc_server.specs.Holding.{found, with_changed, are_rising}
 use Rattle.ftc_server.specs.Prepared.{IsLogLeft}
 use Rattle.ftc_server.specs.Replicas.{replica_at}
 use Rattle.ftc_server.specs.Standing.{is_later_member}
@@ -24,9 +25,10 @@ use Rattle.ftc_server.specs.Slots.{AreSlots, is_open}
 use Rattle.ftc_server.specs.Visited.{visited_by, logs_after}
 use Rattle.ftc_server.proofs.Finding.{all_changed}
 use Rattle.ftc_server.proofs.Lent.{its_writes}
-use Rattle.ftc_server.proofs.VisitedWaits.{AreAfter, logs_are_after, distinct_changed, visited_watched}
-use Rattle.ftc_server.proofs.Slotting.{slots_commit, asked_of, some_same}
+use Rattle.ftc_server.proofs.VisitedWaits.{AreAfter, logs_are_after, visited_watched}
+use Rattle.ftc_server.proofs.Slotting.{slots_commit, asked_of}
 use Rattle.ftc_server.proofs.WouldLog.{runs_unwounded, committed}
+use Rattle.ftc_server.proofs.HadBefore.{had_visited}
 use Rattle.ftc_server.proofs.server.Server.end_visit.Goals as goal
 
 pub log_left-log-requires-clause-writes : goal.log_left-log-requires-clause-writes
@@ -70,7 +72,7 @@ invariant_of-self-2-clause-slots c =
     let running = c.in-Ok.ensures.running in
     let change = visited_by c.in-Ok.visited in
     let same : running.packet ≡ c.in-Some.packet =
-    some_same running.packet c.in-Some.packet (sym (ap packet_of c.in-Ok.ensures.runs) ∙ sym c.in-Some.ensures) in
+    same_Some running.packet c.in-Some.packet (sym (ap packet_of c.in-Ok.ensures.runs) ∙ sym c.in-Some.ensures) in
     subst (λ (items : List HeldMessage). ∥ AreSlots server.rule c.commit_logged.new.self items ∥₁)
     (ap (λ (packet : ℕ). with_changed packet change server.held.items) same ∙ sym c.visit.ensures.items)
     (∥∥₁_map server.slots (slots_commit server.rule server.head c.commit_logged.new.self server.held.items c.args.worker
@@ -82,12 +84,6 @@ invariant_of-self-2-clause-open c =
     let server = c.args.self.now in
     subst (λ (items : List HeldMessage). list_all (is_open server.id) items ≡ true) (sym c.visit.ensures.items)
     (all_changed (is_open server.id) _ (visited_by _) server.held.items (λ held. refl) server.«open»)
-
-pub invariant_of-self-2-clause-distinct : goal.invariant_of-self-2-clause-distinct
-invariant_of-self-2-clause-distinct c =
-    let server = c.args.self.now in
-    ap are_distinct c.visit.ensures.items
-    ∙ distinct_changed c.in-Some.packet c.in-Ok.visited server.held.items server.«distinct»
 
 pub invariant_of-self-2-clause-rising : goal.invariant_of-self-2-clause-rising
 invariant_of-self-2-clause-rising c =
@@ -102,8 +98,9 @@ not_its_own ring id =
 
 -- the log of a visit is of the server's own group, of which there is no replica beside the head
 own_group : (server : Server) (log : Option Logged) (worker : ℕ) (running : Running) (writes : List Write) →
-    slot_at server.head.slots worker ≡ Some running → IsLogLeft server.head (slot_at server.head.slots worker) writes log →
-    (own : Logged) → log ≡ Some own → is_some (replica_at server.others.items own.group) ≡ false
+    slot_at server.head.slots worker ≡ Some running →
+    IsLogLeft server.head (slot_at server.head.slots worker) writes log → (own : Logged) → log ≡ Some own →
+    is_some (replica_at server.others.items own.group) ≡ false
 own_group server log worker running writes runs left own is =
     let left_so : IsLogLeft server.head (Some running) writes log =
     subst (λ (slot : Option Running). IsLogLeft server.head slot writes log) runs left in
@@ -119,7 +116,7 @@ invariant_of-self-2-clause-watched c =
     let prepared = c.in-Ok.ensures in
     let log = c.log_left-log.result in
     let same : c.in-Some.packet ≡ prepared.running.packet =
-    some_same c.in-Some.packet prepared.running.packet (c.in-Some.ensures ∙ ap packet_of prepared.runs) in
+    same_Some c.in-Some.packet prepared.running.packet (c.in-Some.ensures ∙ ap packet_of prepared.runs) in
     let there : found c.in-Some.packet server.held.items ≡ Some prepared.before =
     ap (λ (packet : ℕ). found packet server.held.items) same ∙ prepared.there in
     let logs_are : c.in-Ok.visited.logs ≡ logs_after server.ring.failures log prepared.before.message.logs =
@@ -144,7 +141,7 @@ returns c =
     c.commit_logged.result prepared.runs c.requires.unwounded c.log_left-log.ensures
     (sym c.is_err-2.ensures.value ∙ c.if-is_err-2.false) c.commit_logged.ensures.ok in
     let same : c.in-Some.packet ≡ running.packet =
-    some_same c.in-Some.packet running.packet (c.in-Some.ensures ∙ ap packet_of prepared.runs) in (
+    same_Some c.in-Some.packet running.packet (c.in-Some.ensures ∙ ap packet_of prepared.runs) in (
       running,
       c.args.finish.now,
       made.0,
@@ -166,3 +163,9 @@ returns c =
         rest = refl;
       },
     )
+
+pub invariant_of-self-2-clause-had : goal.invariant_of-self-2-clause-had
+invariant_of-self-2-clause-had c =
+    let server = c.args.self.now in
+    had_visited server.others.items server.held.items c.visit.new.self.items server.held.had c.visit.new.self.had
+    c.in-Some.packet c.in-Ok.visited c.visit.ensures.items c.visit.ensures.unseen c.visit.ensures.had server.«had»

@@ -6,13 +6,14 @@ use Rattle.ftc_server.specs.declared.held.HeldMessage.{HeldMessage}
 use Rattle.ftc_message.specs.Logged.{Logged}
 use Rattle.ftc_replica.specs.Held.{Held}
 use Rattle.ftc_replica.specs.declared.waits.Wait.{Wait}
-use Rattle.ftc_server.specs.Holding.{is_of, found, arrived, are_distinct, are_rising, rests}
+use Rattle.ftc_server.specs.Holding.{is_of, found, arrived, are_rising, rests}
 use Rattle.ftc_server.specs.Slots.{is_open}
-use Rattle.ftc_server.specs.Waiting.{AreWatched, is_unreached, waits_of, is_idle_one}
+use Rattle.ftc_server.specs.Waiting.{AreWatched, AreHadBefore, is_unreached, waits_of, is_idle_one}
 use Rattle.ftc_server.proofs.Finding.{all_behind, found_behind}
 use Rattle.ftc_server.proofs.Slotting.{slots_found}
 use Rattle.ftc_server.proofs.Taken.{all_more}
-use Rattle.ftc_server.proofs.StillWatched.{taken_watched, settled_watched, logs_unreached, distinct_behind}
+use Rattle.ftc_server.proofs.StillWatched.{taken_watched, settled_watched, logs_unreached}
+use Rattle.ftc_server.proofs.HadBefore.{had_same, had_taken}
 use Rattle.ftc_server.proofs.server.Server.take.Goals as goal
 
 pub invariant_of-self-clause-open : goal.invariant_of-self-clause-open
@@ -32,14 +33,6 @@ invariant_of-self-clause-slots c =
     ap (found running.packet) (c.settle.ensures.items ∙ c.hold.ensures.items)
     ∙ found_behind (is_of running.packet) server.held.items (arrived c.args.message c.args.by_ring
     ∷ []) held there) slots)
-
-pub invariant_of-self-clause-distinct : goal.invariant_of-self-clause-distinct
-invariant_of-self-clause-distinct c =
-    let server = c.args.self.now in
-    let held = arrived c.args.message c.args.by_ring in
-    subst (λ (items : List HeldMessage). are_distinct items ≡ true)
-    (sym (c.settle.ensures.items ∙ c.hold.ensures.items))
-    (distinct_behind server.held.items held server.«distinct» c.requires.new)
 
 pub invariant_of-self-clause-rising : goal.invariant_of-self-clause-rising
 invariant_of-self-clause-rising c =
@@ -66,8 +59,8 @@ invariant_of-self-clause-watched c =
     let all = server.held.items ++ held ∷ [] in
     let rising : list_all are_rising all ≡ true =
     all_behind are_rising server.held.items held server.«rising» c.len.ensures.bounds.rising in
-    let held_so = taken_watched replicas server.held.items server.held.resting c.hold.new.self.resting server.waits.items
-    held server.«watched» c.requires.new c.len.ensures.bounds.rising
+    let held_so = taken_watched replicas server.held.items server.held.resting c.hold.new.self.resting
+    server.waits.items held server.«watched» c.requires.new c.len.ensures.bounds.rising
     (λ other. ap (rests other) c.hold.ensures.resting) c.hold.ensures.awake in
     subst (λ (items : List HeldMessage). AreWatched replicas items c.settle.new.held.resting c.watch.new.waits.items)
     (sym (c.settle.ensures.items ∙ c.hold.ensures.items))
@@ -93,3 +86,21 @@ invariant_of-self-clause-unreached c =
     ap (list_all (is_unreached replicas)) waits_are
     ∙ all_more (is_unreached replicas) server.waits.items (flat_map (waits_of replicas origin) c.args.message.logs)
     server.«unreached» (logs_unreached replicas origin c.args.message.logs)
+
+pub settle-requires : goal.settle-requires
+settle-requires c =
+    let server = c.args.self.now in
+    subst (λ (others : List (Option Held)). AreHadBefore others c.hold.new.self.items c.hold.new.self.had)
+    (sym c.as_slice-3.ensures.value)
+    (had_taken server.others.items server.held.items c.hold.new.self.items server.held.had c.hold.new.self.had
+    (arrived c.args.message c.args.by_ring) c.hold.ensures.items c.requires.new c.hold.ensures.unseen c.hold.ensures.had
+    server.«had»)
+
+pub invariant_of-self-clause-had : goal.invariant_of-self-clause-had
+invariant_of-self-clause-had c =
+    let server = c.args.self.now in
+    had_same server.others.items c.hold.new.self.items c.settle.new.held.items c.hold.new.self.had
+    c.settle.new.held.had c.settle.ensures.items c.settle.ensures.had
+    (had_taken server.others.items server.held.items c.hold.new.self.items server.held.had c.hold.new.self.had
+    (arrived c.args.message c.args.by_ring) c.hold.ensures.items c.requires.new c.hold.ensures.unseen c.hold.ensures.had
+    server.«had»)

@@ -1,4 +1,5 @@
 use Rattle.std.proofs.Common.{◌∙◌, ◌&&◌, not, sym, ap, refl, ℕ, false, length, arith}
+use Rattle.std.proofs.lemmas.Bool.{not-true, not-false}
 use Rattle.std.specs.Prelude.{◌==◌, nat_eq}
 use Rattle.std.specs.Map.{lookup}
 use Rattle.std.specs.List.{position}
@@ -7,7 +8,7 @@ use Rattle.ftc_server.specs.Holding.{rests}
 use Rattle.ftc_server.specs.Tickets.{Ticketing, is_same, is_among, resting_origins}
 use Rattle.ftc_server.proofs.Ticketing.{agree, none_resting, rising_awake, position_none}
 use Rattle.ftc_server.proofs.Resting.{roused_tickets, origins_set, rests_roused, none_roused, place_within, changed_of}
-use Rattle.ftc_server.proofs.Resting.{agrees_at, ticket_of, not_awake, fewer_awake, not_true, not_false}
+use Rattle.ftc_server.proofs.Resting.{agrees_at, ticket_of, not_awake, fewer_awake}
 use Rattle.ftc_server.proofs.tickets.Tickets.rouse.Goals as goal
 
 pub returns-in_default-clause-resting : goal.returns-in_default-clause-resting
@@ -39,7 +40,7 @@ returns-then-not-ticket-clause-resting c = λ other.
     ∙ sym (ap (λ (o : ℕ). rests o (resting_origins tickets)) of.same)
     ∙ agrees_at (resting_origins tickets) tickets c.in-Some.place ticket (agree tickets c.self.invariant.0.distinct)
     of.within of.is
-    ∙ not_true ticket.rests c.if-not-ticket.true)
+    ∙ not-true ticket.rests c.if-not-ticket.true)
 
 pub index_mut-requires : goal.index_mut-requires
 index_mut-requires c =
@@ -61,7 +62,7 @@ put_number-requires-clause-new c =
     let within = place_within tickets c.in-Some.place c.args.origin there in
     ap (is_among ticket.number) c.self.invariant.0.awake
     ∙ not_awake 0 tickets c.in-Some.place ticket c.self.invariant.0.rising within c.index-ticket.ensures
-    (not_false ticket.rests c.if-not-ticket.false)
+    (not-false ticket.rests c.if-not-ticket.false)
 
 pub put_number-requires-clause-room : goal.put_number-requires-clause-room
 put_number-requires-clause-room c =
@@ -71,7 +72,7 @@ put_number-requires-clause-room c =
     ∙ sym c.place_of.ensures.place ∙ c.in-Some.is in
     let within = place_within tickets c.in-Some.place c.args.origin there in
     let fewer = fewer_awake tickets c.in-Some.place ticket within c.index-ticket.ensures
-    (not_false ticket.rests c.if-not-ticket.false) in
+    (not-false ticket.rests c.if-not-ticket.false) in
     omega (
       arith,
       fewer,
@@ -95,7 +96,7 @@ invariant_of-self c =
           c.self.inside.awake.items c.self.inside.next
           c.self.invariant.0 changed.of.within c.index_mut.ensures.value (record { number = refl; origin = refl })
           (ap (λ (t : Ticket). t.rests) changed.same
-          ∙ not_false c.index-ticket.result.now.rests c.if-not-ticket.false) refl),
+          ∙ not-false c.index-ticket.result.now.rests c.if-not-ticket.false) refl),
       record {
         list = c.self.invariant.1.list;
         awake = omega (arith, c.self.invariant.1.awake, c.put_number.ensures.capacity);
@@ -125,7 +126,7 @@ returns-clause-resting c = λ other.
     c.index-ticket.ensures c.index_mut.ensures.value in
     rests_roused tickets c.in-Some.place lent (record lent { rests = false }) other c.self.invariant.0.distinct
     changed.of.within c.index_mut.ensures.value
-    (ap (λ (t : Ticket). t.rests) changed.same ∙ not_false c.index-ticket.result.now.rests c.if-not-ticket.false) refl
+    (ap (λ (t : Ticket). t.rests) changed.same ∙ not-false c.index-ticket.result.now.rests c.if-not-ticket.false) refl
     ∙ ap (λ (view : Ticketing). rests other view.resting && not (other == lent.origin)) c.self.view_is
     ∙ ap (λ (origin : ℕ). rests other c.args.self.now.resting && not (other == origin))
     (ap (λ (t : Ticket). t.origin) changed.same ∙ changed.of.same)
