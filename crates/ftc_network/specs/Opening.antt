@@ -3,15 +3,11 @@ use Rattle.std.specs.Prelude.{ℕ, ◌≡◌, ◌<◌, List, [], false, length, 
 use Rattle.ftc_link.specs.Queue.{Queue}
 use Rattle.ftc_mbox.specs.Chain.{Chain}
 use Rattle.ftc_mbox.specs.declared.rule.Rule.TheVariants.{Pass}
+pub use Rattle.ftc_protocol.specs.ChainRing.{ring_of}
 use Rattle.ftc_protocol.specs.Setting.{Setting}
-use Rattle.ftc_ring.specs.Ring.{RingShape}
 use Rattle.ftc_server.specs.declared.server.Server.{Server}
 use Rattle.ftc_server.specs.Steps.{IsOpening, empty_held}
 use Rattle.ftc_network.specs.Parts.{server_in, link_in}
-
--- the ring of a chain
-abbrev pub ring_of : Chain → RingShape
-ring_of chain = record { servers = length chain.rules; failures = chain.failures }
 
 -- a setting of that chain
 pub record IsOfChain (chain : Chain) (setting : Setting) : Type 0 where

@@ -1,7 +1,6 @@
-//! Servers by their numbers, and where a server and the link that leaves it stand in their lists.
+//! Where a server and the link that leaves it stand in their lists.
 
-ghost use Rattle.std.specs.Prelude.{◌≡◌, ◌<◌};
-ghost use Rattle.ftc_base.specs.declared.limits.TheConstants.{MOST_SERVERS};
+ghost use Rattle.std.specs.Prelude.{◌≡◌};
 
 use ftc_base::ServerId;
 
@@ -10,15 +9,4 @@ pub fn place_of(server: ServerId) -> usize
     ensures { result ≡ server }
 {
     usize::from(server.number())
-}
-
-/// The server of a number that a ring has.
-pub fn server_of(number: u8) -> ServerId
-    requires { number < MOST_SERVERS }
-    ensures { result ≡ number }
-{
-    match ServerId::new(number) {
-        Some(server) => server,
-        None => unreachable!(),
-    }
 }

@@ -13,10 +13,11 @@ ghost use Rattle.ftc_network.specs.Slots.{SlotQuits, SlotReads};
 ghost use Rattle.ftc_network.specs.Stand.{IsNetwork};
 
 use crate::network::Network;
-use crate::places::{place_of, server_of};
+use crate::places::place_of;
 use ftc_base::limits::MOST_SLOTS;
 use ftc_base::{Answers, Bytes, Key, NoMemory, PacketNo, ServerId, WorkerId};
 use ftc_refinement::what_stays;
+use ftc_ring::server_of;
 use ftc_server::{ReadAnswer, Server};
 
 /// What a slot runs at a server reads a key.
@@ -158,6 +159,8 @@ impl Network {
     pub fn server_of(&self, worker: WorkerId) -> Option<ServerId>
         ensures inside { IfSome result (λ server. server < self.now.ring.servers) }
         ensures some { IfSome result (λ server. runs_in (head_at self.now server) worker ≢ None) }
+        ensures first { IfSome result (λ server. (before : ℕ) → before < server →
+            runs_in (head_at self.now before) worker ≡ None) }
         ensures none { IsNone result → (server : ℕ) → runs_in (head_at self.now server) worker ≡ None }
     {
         for number in 0..self.ring.servers() {

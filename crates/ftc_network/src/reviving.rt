@@ -2,42 +2,16 @@
 
 ghost use Rattle.std.specs.Prelude.{◌≡◌, ◌≤◌, ◌<◌, ◌++◌, IfOk, OnOk};
 ghost use Rattle.ftc_base.specs.declared.limits.TheConstants.{MOST_PARTITIONS};
-ghost use Rattle.ftc_ring.specs.Ring.{apart};
 ghost use Rattle.ftc_server.specs.Looks.{replica_in};
-ghost use Rattle.ftc_server.specs.Standing.{is_later_member};
 ghost use Rattle.ftc_network.specs.Reviving.{got_of, fetched_of, all_fetched, IsAnew};
 
 use ftc_base::{NoMemory, ServerId};
 use ftc_mbox::Rule;
 use ftc_recover::fetch_one;
 use ftc_replica::Replica;
-use ftc_ring::Ring;
+use ftc_ring::{Ring, apart};
 use ftc_server::{GroupReplica, GroupReplicas, Server};
 use std::alloc::Global;
-
-/// How many links lead from one server to another.
-fn apart(ring: &Ring, from: ServerId, to: ServerId) -> u8
-    requires from { from < ring.now.servers }
-    requires to { to < ring.now.servers }
-    ensures { result ≡ apart ring.now.servers from to }
-{
-    let servers = ring.servers();
-    let (from, to) = (from.number(), to.number());
-    if from <= to {
-        to - from
-    } else {
-        to + servers - from
-    }
-}
-
-/// Whether a server is a member of a group, and not its head.
-fn is_later_member(ring: &Ring, group: ServerId, server: ServerId) -> bool
-    requires group { group < ring.now.servers }
-    requires server { server < ring.now.servers }
-    ensures { result ≡ is_later_member ring.now group server }
-{
-    group != server && apart(ring, group, server) <= ring.failures()
-}
 
 /// A copy of what a server has of a group.
 fn fetched(alloc: Global, from: &Server, group: ServerId) -> Result<Replica, NoMemory>
@@ -66,7 +40,8 @@ fn got(
     requires previous { previous.now.id < ring.now.servers }
     ensures { IfOk result (λ replica. replica ≡ got_of ring.now server previous.now following.now group) }
 {
-    if apart(ring, previous.id, server) <= apart(ring, group, server) {
+    let servers = ring.servers();
+    if apart(servers, previous.id, server) <= apart(servers, group, server) {
         fetched(alloc, previous, group)
     } else {
         fetched(alloc, following, group)
@@ -89,7 +64,7 @@ fn add_group(
     ensures { OnOk result
         (replicas.new ≡ replicas.old ++ fetched_of ring.now server previous.now following.now group) }
 {
-    if is_later_member(ring, group, server) {
+    if ring.is_later_member(group, server) {
         let replica = got(alloc, ring, server, group, previous, following)?;
         replicas.push(GroupReplica { group, replica })?;
     }

@@ -1,11 +1,9 @@
 //! A network at its start.
 
-ghost use Rattle.std.specs.Prelude.{◌≡◌, length, IfSome};
-
 use crate::Network;
 use ftc_base::{Items, ServerId, WorkerId};
 use ftc_mbox::{ChainSpec, Rule};
-use ftc_ring::Ring;
+use ftc_protocol::ring_of;
 use std::alloc::Global;
 use std::test::Fail;
 
@@ -17,18 +15,10 @@ fn two_passes(alloc: Global) -> Result<ChainSpec, Fail> {
     Ok(ChainSpec::new(1, 4, rules))
 }
 
-/// The ring of a chain.
-fn ring_of(spec: &ChainSpec) -> Option<Ring>
-    ensures { IfSome result (λ ring. ring ≡ record { servers = length spec.now.rules; failures = spec.now.failures }) }
-{
-    let servers = spec.rules().len() as u8;
-    Ring::new(servers, spec.failures())
-}
-
 #[test]
 fn all_servers_are_up_and_nothing_is_withheld(rt: HostRuntime) -> Result<(), Fail> {
     let spec = two_passes(rt.alloc())?;
-    let ring = ring_of(&spec).expect(&rt, "a ring");
+    let ring = ring_of(&spec);
     let mut network = Network::new(rt.alloc(), ring, &spec)?;
     assert_eq!(rt; network.servers.len(), 2);
     assert_eq!(rt; network.links.len(), 2);
@@ -43,7 +33,7 @@ fn all_servers_are_up_and_nothing_is_withheld(rt: HostRuntime) -> Result<(), Fai
 #[test]
 fn no_slot_runs_anything(rt: HostRuntime) -> Result<(), Fail> {
     let spec = two_passes(rt.alloc())?;
-    let ring = ring_of(&spec).expect(&rt, "a ring");
+    let ring = ring_of(&spec);
     let network = Network::new(rt.alloc(), ring, &spec)?;
     let worker = WorkerId::new(3).unwrap();
     let server = ServerId::new(1).unwrap();

@@ -1,5 +1,5 @@
-use Rattle.std.proofs.Common.{◌≡◌, ◌≤◌, ◌+◌, ◌∙◌, ◌++◌, Bool, true, false, List, Option, Some, None, length, cond, sym, ap}
-use Rattle.std.proofs.Common.{subst, arith}
+use Rattle.std.proofs.Common.{◌≡◌, ◌≤◌, ◌+◌, ◌∙◌, ◌++◌, Bool, true, false, List, Option, Some, None, length, cond, sym}
+use Rattle.std.proofs.Common.{ap, subst, arith}
 use Rattle.std.proofs.lemmas.List.{length-append}
 use Rattle.std.proofs.Math.Bool.{Bool-set}
 use Rattle.std.proofs.Math.Logic.{∥∥₁_elim}
@@ -127,7 +127,8 @@ returns-in_err-send_on-in-Some-clause-heads c =
 
 pub returns-in_err-message-in-Some-clause-slot : goal.returns-in_err-message-in-Some-clause-slot
 returns-in_err-message-in-Some-clause-slot c = as_err c.from_residual.result _
-    (buffered_still c.args.slot.now c.in-Some.live c.outgoing.new.self c.in-Some.is c.in_err-message-in-Some.ensures.same
+    (buffered_still c.args.slot.now c.in-Some.live c.outgoing.new.self c.in-Some.is
+    c.in_err-message-in-Some.ensures.same
     (λ setting state number at room. c.what_stays.ensures.buffered setting state number c.in-Some.live
     c.outgoing.new.self at room))
 
