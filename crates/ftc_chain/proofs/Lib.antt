@@ -4,6 +4,7 @@ mod Drained
 mod HeadsKept
 mod HeadsSeen
 mod LinkFrames
+mod LiveMembers
 mod Made
 mod NewHeads
 mod Outlets

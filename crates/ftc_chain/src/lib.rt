@@ -8,6 +8,7 @@ mod events;
 mod frames;
 mod given;
 mod happening;
+mod members;
 mod messages;
 mod outlet;
 mod releasing;
