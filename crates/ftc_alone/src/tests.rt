@@ -1,5 +1,6 @@
 mod calls;
 mod doing;
+mod filtered;
 mod given;
 mod runs;
 mod slots;

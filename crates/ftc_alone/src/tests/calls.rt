@@ -6,11 +6,13 @@ use crate::tests::doing::{
     step, take_seen, told, visit,
 };
 use crate::tests::given::{Frame, Parts, Wrong};
-use ftc_base::{Bytes, Items, Key, NoMemory, PacketNo, Refuse, ServerId, Value, WorkerId};
+use ftc_base::{
+    Bytes, Items, Key, NoMemory, PacketNo, Refuse, ServerId, ServerSet, Value, WorkerId,
+};
 use ftc_chain::Chain;
 use ftc_journal::Job;
 use ftc_mbox::{ChainSpec, Plan};
-use ftc_message::Seen;
+use ftc_message::{Message, Seen};
 use ftc_server::{CommitAnswer, ReadAnswer};
 use std::alloc::Global;
 
@@ -58,6 +60,10 @@ pub enum Call {
     AgesLeft(ServerId),
     /// The oldest released packet is taken out.
     Drain,
+    /// The oldest frame of a link is read.
+    See(ServerId),
+    /// The key of that packet is looked up in what a server's store has of a group.
+    LookUp(ServerId, ServerId, Frame),
 }
 
 /// What came of a call.
@@ -86,7 +92,13 @@ pub enum Came {
     /// A packet by its bytes, where there is one.
     Packet(Option<Frame>),
     Next(Option<Job>),
-    /// There is no such key or no such plan.
+    /// A message by the packet in it, the groups of its logs, and how many needs it has.
+    Message {
+        packet: Option<Frame>,
+        groups: ServerSet,
+        needs: usize,
+    },
+    /// There is no such key, plan, frame or store.
     Nothing,
 }
 
@@ -197,9 +209,53 @@ fn drain(chain: &mut Chain<'_>) -> Came {
     }
 }
 
+/// The groups of the logs of a message.
+fn groups_of(message: &Message) -> ServerSet {
+    let mut groups = ServerSet::new();
+    for log in message.logs.as_slice() {
+        groups = groups.with(log.group().number());
+    }
+    groups
+}
+
+/// What a message has.
+fn came_of_message(message: &Message) -> Came {
+    let packet = match &message.packet {
+        Some(bytes) => Frame::of(bytes.as_slice()),
+        None => None,
+    };
+    Came::Message {
+        packet,
+        groups: groups_of(message),
+        needs: message.needs.len(),
+    }
+}
+
+/// Reads the oldest frame of a link.
+fn see(alloc: Global, chain: &Chain<'_>, link: ServerId) -> Result<Came, NoMemory> {
+    let Some(bytes) = frame(chain, link)? else {
+        return Ok(Came::Nothing);
+    };
+    match Seen::make(alloc, bytes.as_slice()) {
+        Ok(seen) => Ok(came_of_message(&seen.message)),
+        Err(Refuse::NoMemory) => Err(NoMemory),
+        Err(Refuse::Bad(_)) => Ok(Came::Nothing),
+    }
+}
+
+/// Looks a key up in what a server has of a group.
+fn look_up(chain: &Chain<'_>, server: ServerId, group: ServerId, key: Option<Key>) -> Came {
+    match (chain.store_of(server, group), key) {
+        (Some(store), Some(key)) => Came::Count(count_of(&store.get(&key))),
+        _ => Came::Nothing,
+    }
+}
+
 /// Makes a call that changes nothing.
-fn ask(chain: &Chain<'_>, call: &Call) -> Result<Came, NoMemory> {
+fn ask(alloc: Global, chain: &Chain<'_>, call: &Call) -> Result<Came, NoMemory> {
     match *call {
+        Call::See(link) => see(alloc, chain, link),
+        Call::LookUp(server, group, of) => Ok(look_up(chain, server, group, of.key())),
         Call::Reads(worker) => Ok(Came::Reads(reads(chain, worker))),
         Call::Look(worker) => Ok(frame_of(&look(chain, worker)?)),
         Call::IsListed(server, packet) => Ok(Came::Is(lists(chain, server, packet)?)),
@@ -225,7 +281,7 @@ fn make(alloc: Global, chain: &mut Chain<'_>, call: &Call) -> Result<Came, NoMem
         }
         Call::TakeSeen(link, origin) => Ok(Came::Is(see_and_take(alloc, chain, link, origin)?)),
         Call::Drain => Ok(drain(chain)),
-        _ => ask(chain, call),
+        _ => ask(alloc, chain, call),
     }
 }
 

@@ -5,6 +5,7 @@ ghost use Rattle.std.specs.Prelude.{◌≡◌, length, IfOk, IfSome};
 use ftc_base::limits::MOST_RECORDS;
 use ftc_base::{Bytes, Items, Key, NoMemory, Refuse, ServerId, WorkerId};
 use ftc_chain::Chain;
+use ftc_firewall::FirewallRule;
 use ftc_mbox::{ChainSpec, Rule};
 use ftc_pcap::{Packet, Packets};
 use ftc_ring::Ring;
@@ -80,6 +81,15 @@ pub fn two_monitors(alloc: Global) -> Result<ChainSpec, NoMemory> {
     let mut rules = Items::new(alloc);
     rules.push(Rule::Monitor { groups: 8 })?;
     rules.push(Rule::Monitor { groups: 8 })?;
+    Ok(ChainSpec::new(1, 4, rules))
+}
+
+/// A monitor and a firewall that lets nothing through, of whose servers one may be down.
+pub fn monitor_and_firewall(alloc: Global) -> Result<ChainSpec, NoMemory> {
+    let mut rules = Items::new(alloc);
+    let lines = Items::new(alloc);
+    rules.push(Rule::Monitor { groups: 8 })?;
+    rules.push(Rule::Firewall(FirewallRule { lines }))?;
     Ok(ChainSpec::new(1, 4, rules))
 }
 
