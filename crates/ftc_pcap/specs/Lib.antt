@@ -1,3 +1,4 @@
 pub mod Packets
 pub mod Grammar
+pub mod ReleasedRecord
 pub mod Placing

@@ -11,6 +11,7 @@ mod step;
 mod visit;
 
 pub use laws::{removal, removal_from_history, what_is_taken_in_turn, what_it_reads};
+pub use opening::empty_stores;
 pub use position::Place;
 pub use serial::{BadStep, NotWaiting, Serial};
 pub use step::{Step, Trace};

@@ -7,6 +7,7 @@ use Rattle.std.proofs.lemmas.Bool.Decides.{nat_tests}
 use Rattle.ftc_base.specs.Reading.{◌>>=◌, ◌>>◌, unless}
 use Rattle.ftc_base.specs.Endpoint.{parts_of}
 use Rattle.ftc_base.specs.Sets.{has}
+use Rattle.ftc_base.specs.declared.limits.TheConstants.{MOST_SERVERS}
 use Rattle.ftc_base.proofs.Members.{has-zero}
 use Rattle.ftc_base.proofs.Separated as tests
 use Rattle.ftc_ring.specs.Ring.{RingShape, IsRing}
@@ -41,7 +42,7 @@ both_of (Err fault) next b e = absurd cc
 none_of_zero : {A : Type 0} (member : ℕ) → has 0 member ≡ true → A
 none_of_zero member is = let zero = has-zero member in absurd (cc (is, zero))
 
-tick_in_accepts : (servers packets last : ℕ) (numbers : List ℕ) (tick : Tick) → servers ≤ 16
+tick_in_accepts : (servers packets last : ℕ) (numbers : List ℕ) (tick : Tick) → servers ≤ MOST_SERVERS
     → tick_in servers packets last numbers ≡ Ok tick → IsTick servers packets last tick
 tick_in_accepts servers packets last [] tick small e = absurd cc
 tick_in_accepts servers packets last (at ∷ numbers) tick small e =
@@ -63,7 +64,7 @@ tick_in_accepts servers packets last (at ∷ numbers) tick small e =
       within = λ server is. members_below servers 0 numbers server (omega arith) within (none_of_zero server) is;
     })
 
-tick_of_accepts : (servers packets last : ℕ) (words : List (List ℕ)) (tick : Tick) → servers ≤ 16
+tick_of_accepts : (servers packets last : ℕ) (words : List (List ℕ)) (tick : Tick) → servers ≤ MOST_SERVERS
     → tick_of servers packets last words ≡ Ok tick → IsTick servers packets last tick
 tick_of_accepts servers packets last [] tick small e = absurd cc
 tick_of_accepts servers packets last (first ∷ words) tick small e =
@@ -71,7 +72,7 @@ tick_of_accepts servers packets last (first ∷ words) tick small e =
     (λ numbers. tick_in servers packets last numbers) tick e in
     tick_in_accepts servers packets last one.0 tick small one.2
 
-line_accepts : (servers packets : ℕ) (ticks : List Tick) (line : List ℕ) (next : List Tick) → servers ≤ 16
+line_accepts : (servers packets : ℕ) (ticks : List Tick) (line : List ℕ) (next : List Tick) → servers ≤ MOST_SERVERS
     → AreTicks servers packets 0 ticks → with_line servers packets ticks line ≡ Ok next
     → AreTicks servers packets 0 next × (length next ≤ MOST_BEATS)
 line_accepts servers packets ticks line next small are e =
@@ -96,7 +97,7 @@ ended_ok ticks (byte ∷ bytes) all e = let two = both_of {B = List Tick} (room 
     (cc two.2)
 
 from_accepts : (servers packets : ℕ) (r : Result (List Tick) BeatsFault) (lines : List (List ℕ)) (all : List Tick)
-    → servers ≤ 16 → ((ticks : List Tick) → r ≡ Ok ticks
+    → servers ≤ MOST_SERVERS → ((ticks : List Tick) → r ≡ Ok ticks
     → AreTicks servers packets 0 ticks × (length ticks ≤ MOST_BEATS)) → ticks_from servers packets r lines ≡ Ok all
     → AreTicks servers packets 0 all × (length all ≤ MOST_BEATS)
 from_accepts servers packets (Err fault) lines all small are e = absurd cc
@@ -115,7 +116,7 @@ nothing_accepted : (servers packets : ℕ) (r : Result (List Tick) BeatsFault) (
 nothing_accepted servers packets r [] none e = (tt, omega arith)
 nothing_accepted servers packets r (tick ∷ ticks) none e = absurd (cc (none, e))
 
-in_accepts : (servers packets : ℕ) (parts : List (List ℕ)) (ticks : List Tick) → servers ≤ 16
+in_accepts : (servers packets : ℕ) (parts : List (List ℕ)) (ticks : List Tick) → servers ≤ MOST_SERVERS
     → ticks_in servers packets parts ≡ Ok ticks → AreTicks servers packets 0 ticks × (length ticks ≤ MOST_BEATS)
 in_accepts servers packets [] ticks small e = absurd cc
 in_accepts servers packets (first ∷ []) ticks small e = absurd cc

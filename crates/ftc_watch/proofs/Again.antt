@@ -7,6 +7,7 @@ use Rattle.std.proofs.lemmas.Bool.Decides.{nat_tests}
 use Rattle.ftc_base.specs.Reading.{◌>>=◌, ◌>>◌, unless}
 use Rattle.ftc_base.specs.Endpoint.{parts_of}
 use Rattle.ftc_base.specs.Sets.{has}
+use Rattle.ftc_base.specs.declared.limits.TheConstants.{MOST_MEMBERS, MOST_SERVERS}
 use Rattle.ftc_base.proofs.Members.{has-zero, same}
 use Rattle.ftc_base.proofs.Separated.{Without, written, parts_of-part, parts_of-join, without-join}
 use Rattle.ftc_base.proofs.Decimals.{number_of-decimal, without_decimal}
@@ -56,7 +57,7 @@ rises_all set least low (suc more) up = either_way {A = rises_from least (from_o
     (λ no. ap (rises_from least) (no_member_here set low more no) ∙ rises_all set least (low + 1) more (omega arith))
 
 -- which members the set of some members has
-has_again : (set made low more k : ℕ) → low + more ≤ 64
+has_again : (set made low more k : ℕ) → low + more ≤ MOST_MEMBERS
     → has (with_members made (from_on set low more)) k ≡ (has made k ||
     (nat_le low k && nat_lt k (low + more) && has set k))
 has_again set made low zero k within = grind (arith, nat_tests)
@@ -70,7 +71,7 @@ has_again set made low (suc more) k within = either_way {A = has (with_members m
     ∙ has_again set made (low + 1) more k (omega arith)
     ∙ (let own : k ≡ low → has set k ≡ false = (λ (e : k ≡ low). ap (has set) e ∙ no) in grind (arith, nat_tests, own)))
 
-set_again : (servers set : ℕ) → servers ≤ 16 → ((k : ℕ) → has set k ≡ true → k < servers)
+set_again : (servers set : ℕ) → servers ≤ MOST_SERVERS → ((k : ℕ) → has set k ≡ true → k < servers)
     → set_of (members_of servers set) ≡ set
 set_again servers set small within = same (set_of (members_of servers set)) set (λ k.
     has_again set 0 0 servers k (omega arith) ∙ (let none = has-zero k in
@@ -84,7 +85,8 @@ numbers_again held (number ∷ numbers) all =
     let read : number_word (decimal number) ≡ Ok number = rw (number_of-decimal number MOST_NUMBER all.0 all.0) refl in
     rw read (numbers_again (held ++ number ∷ []) numbers all.1 ∙ ap Ok (append_assoc held (number ∷ []) numbers))
 
-small_members : (set low more : ℕ) → low + more ≤ 64 → AllByRecursion (λ n. n ≤ 4294967295) (from_on set low more)
+small_members : (set low more : ℕ) → low + more ≤ MOST_MEMBERS
+    → AllByRecursion (λ n. n ≤ 4294967295) (from_on set low more)
 small_members set low zero within = tt
 small_members set low (suc more) within = either_way {A = AllByRecursion (λ n. n ≤ 4294967295)
     (from_on set low (suc more))} (has set low)
@@ -102,7 +104,7 @@ without_all separator (number ∷ numbers) low all = (
   without_all separator numbers low all.1,
 )
 
-words_without_space : (servers : ℕ) (tick : Tick) → servers ≤ 16 → tick.at ≤ 4294967295
+words_without_space : (servers : ℕ) (tick : Tick) → servers ≤ MOST_SERVERS → tick.at ≤ 4294967295
     → AllByRecursion (Without 32) (tick_words servers tick)
 words_without_space servers tick small at = (
   written 32 (codes "tick") refl,
@@ -113,7 +115,7 @@ words_without_space servers tick small at = (
   ),
 )
 
-words_without_feed : (servers : ℕ) (tick : Tick) → servers ≤ 16 → tick.at ≤ 4294967295
+words_without_feed : (servers : ℕ) (tick : Tick) → servers ≤ MOST_SERVERS → tick.at ≤ 4294967295
     → AllByRecursion (Without 10) (tick_words servers tick)
 words_without_feed servers tick small at = (
   written 10 (codes "tick") refl,
@@ -124,7 +126,7 @@ words_without_feed servers tick small at = (
   ),
 )
 
-tick_again : (servers packets last : ℕ) (tick : Tick) → servers ≤ 16 → IsTick servers packets last tick
+tick_again : (servers packets last : ℕ) (tick : Tick) → servers ≤ MOST_SERVERS → IsTick servers packets last tick
     → tick_in servers packets last (tick.at ∷ members_of servers tick.servers) ≡ Ok tick
 tick_again servers packets last tick small is =
     let below = below_all tick.servers servers 0 servers (omega arith) in
@@ -134,7 +136,7 @@ tick_again servers packets last tick small is =
     let whole = set_again servers tick.servers small is.within in
     rw (below, entered, ordered, rising, whole) refl
 
-said_again : (servers packets last : ℕ) (tick : Tick) → servers ≤ 16 → tick.at ≤ 4294967295
+said_again : (servers packets last : ℕ) (tick : Tick) → servers ≤ MOST_SERVERS → tick.at ≤ 4294967295
     → IsTick servers packets last tick → tick_of servers packets last (tick_words servers tick) ≡ Ok tick
 said_again servers packets last tick small at is =
     let numbers = numbers_again [] (tick.at ∷ members_of servers tick.servers)
@@ -142,7 +144,7 @@ said_again servers packets last tick small at is =
     ap (λ (r : Result (List ℕ) BeatsCause). r >>= λ ns. tick_in servers packets last ns) numbers
     ∙ tick_again servers packets last tick small is
 
-line_again : (servers packets : ℕ) (ticks : List Tick) (tick : Tick) → servers ≤ 16 → packets ≤ 4294967295
+line_again : (servers packets : ℕ) (ticks : List Tick) (tick : Tick) → servers ≤ MOST_SERVERS → packets ≤ 4294967295
     → length ticks < MOST_BEATS → IsTick servers packets (last_of 0 ticks) tick
     → with_line servers packets ticks (join_with_byte 32 (tick_words servers tick)) ≡ Ok (ticks ++ tick ∷ [])
 line_again servers packets ticks tick small few fits is =
@@ -161,7 +163,7 @@ last_push : (last : ℕ) (ticks : List Tick) (tick : Tick) → last_of last (tic
 last_push last [] tick = refl
 last_push last (first ∷ ticks) tick = last_push first.at ticks tick
 
-lines_again : (servers packets : ℕ) (held ticks : List Tick) → servers ≤ 16 → packets ≤ 4294967295
+lines_again : (servers packets : ℕ) (held ticks : List Tick) → servers ≤ MOST_SERVERS → packets ≤ 4294967295
     → length held + length ticks ≤ MOST_BEATS → AreTicks servers packets (last_of 0 held) ticks
     → ticks_from servers packets (Ok held) (parts_of 10 (ticks_text servers ticks)) ≡ Ok (held ++ ticks)
 lines_again servers packets held [] small few fits are = ap Ok (sym (append-nil held))

@@ -2,6 +2,7 @@ pub mod Sets
 pub mod Ticks
 pub mod Lines
 pub mod Steps
+pub mod Begun
 pub mod Sizes
 pub mod Sound
 pub mod Making

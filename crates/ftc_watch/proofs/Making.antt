@@ -4,6 +4,7 @@ use Rattle.std.proofs.Common.{arith, length-append}
 use Rattle.std.specs.Prelude.{codes, decimal}
 use Rattle.std.specs.List.{AllByRecursion, join_with_byte}
 use Rattle.std.proofs.lemmas.Fmt.{length-decimal-le}
+use Rattle.ftc_base.specs.declared.limits.TheConstants.{MOST_SERVERS}
 use Rattle.ftc_ring.specs.Ring.{RingShape, IsRing}
 use Rattle.ftc_script.specs.declared.line.LoseLine.{LoseLine}
 use Rattle.ftc_script.specs.declared.statement.Statement.{Statement}
@@ -12,6 +13,7 @@ use Rattle.ftc_script.specs.Script.{ScriptShape, IsScript}
 use Rattle.ftc_script.specs.Grammar.{script_of}
 use Rattle.ftc_script.specs.Plain.{words_in, plain_text, steps_in, loses_in}
 use Rattle.ftc_script.proofs.ReadAgain.{reads_back}
+use Rattle.ftc_watch.specs.declared.limits.TheConstants.{MOST_BEATS}
 use Rattle.ftc_watch.specs.declared.tick.Tick.{Tick}
 use Rattle.ftc_watch.specs.Beats.{BeatsShape, IsBeats}
 use Rattle.ftc_watch.specs.Watch.{at_start, ticks_on, watch_of}
@@ -37,7 +39,7 @@ few_steps (Lose link origin ∷ lines) = let few = few_steps lines in omega (ari
 digits_of : (at : ℕ) → at ≤ 4294967295 → length (decimal at) ≤ 10
 digits_of at small = length-decimal-le 10 at (omega arith) (omega arith) (omega arith)
 
-digits_of_server : (server : ℕ) → server < 16 → length (decimal server) ≤ 2
+digits_of_server : (server : ℕ) → server < MOST_SERVERS → length (decimal server) ≤ 2
 digits_of_server server small = length-decimal-le 2 server (omega arith) (omega arith) (omega arith)
 
 line_short : (line : Statement) → IsMove line → length (join_with_byte 32 (words_in line)) ≤ 24
@@ -72,7 +74,7 @@ script_made ring limit packets ticks = record {
   loses = [];
 }
 
-is_script : (ring : RingShape) (limit packets : ℕ) (ticks : List Tick) → IsRing ring → length ticks ≤ 1000
+is_script : (ring : RingShape) (limit packets : ℕ) (ticks : List Tick) → IsRing ring → length ticks ≤ MOST_BEATS
     → Sound ring packets packets (watch_of ring limit packets ticks) → IsScript (script_made ring limit packets ticks)
 is_script ring limit packets ticks shape size is =
     let few = few_steps (watch_of ring limit packets ticks).script in

@@ -6,6 +6,7 @@ use Rattle.std.proofs.lemmas.Bool.Decides.{nat_tests}
 use Rattle.std.specs.Int.RustNames.{bit_or}
 use Rattle.std.proofs.Math.Pow.{pow-lt}
 use Rattle.ftc_base.specs.Sets.{has}
+use Rattle.ftc_base.specs.declared.limits.TheConstants.{MOST_MEMBERS}
 use Rattle.ftc_base.proofs.Members.{has-zero, has-with, same}
 use Rattle.ftc_base.proofs.Separated.{both}
 use Rattle.ftc_watch.specs.Members.{are_below, with_member, with_members}
@@ -13,7 +14,7 @@ use Rattle.ftc_watch.specs.Members.{are_below, with_member, with_members}
 bit_fits : (number : ℕ) → number < 64 → 1 * 2 ^ number % 2 ^ 64 ≡ 2 ^ number
 bit_fits number within = let small : 2 ^ number < 2 ^ 64 = pow-lt within in omega arith
 
-pub has-with_member : (set number member : ℕ) → number < 64
+pub has-with_member : (set number member : ℕ) → number < MOST_MEMBERS
     → has (with_member set number) member ≡ (member == number || has set member)
 unfolding with_member
 has-with_member set number member within = ap (λ bit. has (bit_or set bit) member) (sym (bit_fits number within))
@@ -23,7 +24,7 @@ has-with_member set number member within = ap (λ bit. has (bit_or set bit) memb
 pub no_member : (set : ℕ) → ((member : ℕ) → has set member ≡ false) → set ≡ 0
 no_member set none = same set 0 (λ member. none member ∙ sym (has-zero member))
 
-pub one_member : (more set number : ℕ) → number < 64 → ((member : ℕ)
+pub one_member : (more set number : ℕ) → number < MOST_MEMBERS → ((member : ℕ)
     → has more member ≡ (member == number || has set member)) → more ≡ with_member set number
 one_member more set number within has_more = same more (with_member set number)
     (λ member. has_more member ∙ sym (has-with_member set number member within))
@@ -59,7 +60,8 @@ either true t e = inl refl
 either false t e = inr e
 
 -- members of a set of numbers that are below a bound are below it
-pub members_below : (bound set : ℕ) (numbers : List ℕ) (member : ℕ) → bound ≤ 64 → are_below bound numbers ≡ true
+pub members_below : (bound set : ℕ) (numbers : List ℕ) (member : ℕ) → bound ≤ MOST_MEMBERS
+    → are_below bound numbers ≡ true
     → (has set member ≡ true → member < bound) → has (with_members set numbers) member ≡ true → member < bound
 members_below bound set [] member few all before is = before is
 members_below bound set (number ∷ numbers) member few all before is =

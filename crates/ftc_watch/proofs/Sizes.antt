@@ -3,15 +3,21 @@ use Rattle.std.proofs.Common.{◌≡◌, ℕ, ◌+◌, ◌*◌, ◌≤◌, true,
 use Rattle.std.proofs.Common.{ap, subst, ◌∙◌, arith, length-append}
 use Rattle.std.specs.Prelude.{◌==◌, if◌then◌else◌}
 use Rattle.std.proofs.lemmas.List.FromFn.{length-range_with_len}
+use Rattle.ftc_base.specs.declared.limits.TheConstants.{MOST_SERVERS}
 use Rattle.ftc_ring.specs.Ring.{RingShape}
 use Rattle.ftc_ring.specs.Live.{gone_of}
 use Rattle.ftc_script.specs.Steps.{with_at}
 use Rattle.ftc_script.specs.declared.statement.Statement.TheVariants.{Crash, Recover}
+use Rattle.ftc_watch.specs.declared.limits.TheConstants.{MOST_BEATS}
 use Rattle.ftc_watch.specs.declared.held.Held.{Held}
 use Rattle.ftc_watch.specs.declared.tick.Tick.{Tick}
 use Rattle.ftc_watch.specs.Watcher.{Kept, known}
 use Rattle.ftc_watch.specs.Watch.{Watching, at_start, recover_at, count_at, fence_at, judge_at, at_each, servers_of}
 use Rattle.ftc_watch.specs.Watch.{recover_all, count_all, judge_all, tick_on, ticks_on, watch_of}
+
+-- the greatest number of lines: each server may recover and go down or be held at each tick, and recover at the end
+abbrev pub most_lines : ℕ
+most_lines = 2 * MOST_SERVERS * MOST_BEATS + MOST_SERVERS
 
 -- the lines of both kinds
 abbrev lines_in : Watching → ℕ
@@ -71,30 +77,33 @@ tick_few ring limit w tick =
     let size = length-range_with_len 0 ring.servers in
     omega (arith, one, two, three, size)
 
-ticks_few : (ring : RingShape) (limit : ℕ) (w : Watching) (ticks : List Tick) → ring.servers ≤ 16
-    → lines_in (ticks_on ring limit w ticks) ≤ lines_in w + 32 * length ticks
+ticks_few : (ring : RingShape) (limit : ℕ) (w : Watching) (ticks : List Tick) → ring.servers ≤ MOST_SERVERS
+    → lines_in (ticks_on ring limit w ticks) ≤ lines_in w + 2 * MOST_SERVERS * length ticks
 ticks_few ring limit w [] small = omega arith
 ticks_few ring limit w (tick ∷ ticks) small =
     let one = tick_few ring limit w tick in
     let later = ticks_few ring limit (tick_on ring limit w tick) ticks small in
     omega (arith, one, later)
 
-pub watch_few : (ring : RingShape) (limit packets : ℕ) (ticks : List Tick) → ring.servers ≤ 16 → length ticks ≤ 1000
-    → length (watch_of ring limit packets ticks).script + length (watch_of ring limit packets ticks).held ≤ 32016
+pub watch_few : (ring : RingShape) (limit packets : ℕ) (ticks : List Tick) → ring.servers ≤ MOST_SERVERS
+    → length ticks ≤ MOST_BEATS
+    → length (watch_of ring limit packets ticks).script + length (watch_of ring limit packets ticks).held ≤ most_lines
 watch_few ring limit packets ticks small few =
     let on : Watching = ticks_on ring limit at_start ticks in
-    let one : lines_in on ≤ lines_in at_start + 32 * length ticks = ticks_few ring limit at_start ticks small in
+    let one : lines_in on ≤ lines_in at_start + 2 * MOST_SERVERS * length ticks =
+    ticks_few ring limit at_start ticks small in
     let last : lines_in (recover_all ring packets on) ≤ lines_in on + length (servers_of ring) = each_few
     (recover_at packets) (recovered_few packets) on (servers_of ring) in
     let size = length-range_with_len 0 ring.servers in
     omega (arith, one, last, size)
 
 -- the lines that a watch keeps in the end
-pub kept_few : (ring : RingShape) (limit packets : ℕ) (ticks given : List Tick) (one two : Kept) → ring.servers ≤ 16
-    → length given ≤ 1000 → ticks ≡ given → known one ≡ ticks_on ring limit at_start ticks
-    → known two ≡ recover_all ring packets (known one) → length two.script + length two.held ≤ 32016
+pub kept_few : (ring : RingShape) (limit packets : ℕ) (ticks given : List Tick) (one two : Kept)
+    → ring.servers ≤ MOST_SERVERS → length given ≤ MOST_BEATS → ticks ≡ given
+    → known one ≡ ticks_on ring limit at_start ticks
+    → known two ≡ recover_all ring packets (known one) → length two.script + length two.held ≤ most_lines
 kept_few ring limit packets ticks given one two small few same on last =
     let whole : known two ≡ watch_of ring limit packets given = last
     ∙ ap (recover_all ring packets) (on ∙ ap (ticks_on ring limit at_start) same) in
-    subst (λ (w : Watching). length w.script + length w.held ≤ 32016) (sym whole)
+    subst (λ (w : Watching). length w.script + length w.held ≤ most_lines) (sym whole)
     (watch_few ring limit packets given small few)

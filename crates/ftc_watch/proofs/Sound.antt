@@ -6,6 +6,7 @@ use Rattle.std.specs.List.{AllByRecursion, range_with_len}
 use Rattle.std.proofs.Math.Nat.{eq-or-lt_of_le}
 use Rattle.std.proofs.lemmas.Bool.Decides.{nat_tests}
 use Rattle.ftc_base.proofs.EachOf.{all_push}
+use Rattle.ftc_base.specs.declared.limits.TheConstants.{MOST_SERVERS}
 use Rattle.ftc_ring.specs.Ring.{RingShape, IsRing}
 use Rattle.ftc_ring.specs.Live.{IsLive, IsAdmissible, gone_of}
 use Rattle.ftc_ring.proofs.Nearest.{gone_none, nobody_down}
@@ -24,8 +25,8 @@ use Rattle.ftc_watch.specs.Watch.{count_all, tick_on, ticks_on, watch_of}
 -- a line of a crash or a recovery of a server, with numbers that aren't long
 abbrev pub IsMove : Statement → Type 0
 IsMove Nothing = ⊥
-IsMove (Crash at server) = (at ≤ 4294967295) × (server < 16)
-IsMove (Recover at server) = (at ≤ 4294967295) × (server < 16)
+IsMove (Crash at server) = (at ≤ 4294967295) × (server < MOST_SERVERS)
+IsMove (Recover at server) = (at ≤ 4294967295) × (server < MOST_SERVERS)
 IsMove (Lose link origin) = ⊥
 
 -- the lines so far, which end at that number at the latest, may be done, and these servers are live behind them

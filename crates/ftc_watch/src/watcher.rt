@@ -1,44 +1,48 @@
 //! What a watch knows of the servers, and the lines so far.
 
 ghost use Rattle.std.specs.Prelude.{◌≡◌, ◌<◌, ℕ, true, false, length, IfOk, Some, None, slice_index};
-ghost use Rattle.ftc_base.specs.declared.limits.TheConstants.{MOST_SERVERS};
 ghost use Rattle.ftc_ring.specs.Live.{is_live};
 ghost use Rattle.ftc_script.specs.Steps.{with_at};
 ghost use Rattle.ftc_watch.specs.Watcher.{known};
 ghost use Rattle.ftc_watch.specs.Watch.{at_start, missed_of, recover_at, count_at, fence_at, judge_at};
 
 use crate::held::Held;
+use ftc_base::limits::MOST_SERVERS;
 use ftc_base::{Items, NoMemory, PacketNo, ServerId, ServerSet};
 use ftc_ring::Ring;
 use ftc_script::Statement;
 use std::alloc::Global;
 use std::marker::Model;
 
+/// How many servers there may be, as a length.
+const SERVERS: usize = MOST_SERVERS as usize;
+
 /// Which servers are down, how many ticks each has missed, and the lines so far.
 #[derive(Debug, Drop)]
 pub struct Watcher {
     down: ServerSet,
-    missed: [u8; 16],
+    missed: [u8; SERVERS],
     script: Items<Statement>,
     held: Items<Held>,
 }
 
 impl Model for Watcher {
     ghost use Rattle.std.specs.Prelude.{◌≡◌, length};
+    ghost use Rattle.ftc_base.specs.declared.limits.TheConstants.{MOST_SERVERS};
     ghost use Rattle.ftc_watch.specs.Watcher.{Kept};
 
     ghost Value = { Kept };
 
     ghost view = { λ w. record { down = w.down; missed = w.missed; script = w.script; held = w.held } };
 
-    ghost invariant = { λ w. length w.missed ≡ 16 };
+    ghost invariant = { λ w. length w.missed ≡ MOST_SERVERS };
 }
 
 /// The counts with another one at a server.
-fn with_missed(missed: [u8; 16], server: u8, count: u8) -> [u8; 16]
+fn with_missed(missed: [u8; SERVERS], server: u8, count: u8) -> [u8; SERVERS]
     requires { server < MOST_SERVERS }
     ensures value { (other : ℕ) → slice_index result other ≡ with_at (λ k. slice_index missed k) server count other }
-    ensures size { length result ≡ 16 }
+    ensures size { length result ≡ MOST_SERVERS }
 {
     let mut next = missed;
     next[usize::from(server)] = count;
@@ -81,7 +85,7 @@ impl Watcher {
     {
         Watcher {
             down: ServerSet::new(),
-            missed: [0; 16],
+            missed: [0; SERVERS],
             script: Items::new(alloc),
             held: Items::new(alloc),
         }

@@ -1,7 +1,6 @@
 //! The watch over all ticks.
 
 ghost use Rattle.std.specs.Prelude.{◌≡◌, ◌≤◌, ◌<◌, length, IfOk};
-ghost use Rattle.ftc_base.specs.declared.limits.TheConstants.{MOST_SERVERS};
 ghost use Rattle.ftc_script.specs.Plain.{plain_text};
 ghost use Rattle.ftc_watch.specs.Watch.{recover_all, count_all, judge_all, tick_on, ticks_on, watch_of, at_start};
 ghost use Rattle.ftc_watch.specs.Watcher.{known};
@@ -11,8 +10,8 @@ use crate::beats::Beats;
 use crate::printer::{held_text, script_text};
 use crate::tick::Tick;
 use crate::watcher::Watcher;
-use ftc_base::{Bytes, NoMemory, PacketNo, ServerId, ServerSet};
-use ftc_ring::Ring;
+use ftc_base::{Bytes, NoMemory, PacketNo, ServerSet};
+use ftc_ring::{Ring, server_of};
 use ftc_script::Statement;
 use std::alloc::Global;
 
@@ -27,17 +26,6 @@ pub struct Watched {
     pub fenced: u32,
     /// How many held lines there are.
     pub refused: u32,
-}
-
-/// The server of a number that a ring has.
-fn server_of(number: u8) -> ServerId
-    requires { number < MOST_SERVERS }
-    ensures { result ≡ number }
-{
-    match ServerId::new(number) {
-        Some(server) => server,
-        None => unreachable!(),
-    }
 }
 
 /// Each down server recovers.

@@ -1,4 +1,5 @@
 use Rattle.std.proofs.Common.{ℕ, ap, arith}
+use Rattle.ftc_base.specs.declared.limits.TheConstants.{MOST_SERVERS}
 use Rattle.ftc_watch.specs.Members.{with_members}
 use Rattle.ftc_watch.proofs.Sets.{no_member, one_member, below_next, set_next}
 use Rattle.ftc_watch.proofs.members.set_of.Goals as goal
@@ -11,7 +12,7 @@ loop-number-init c = record {
 
 pub loop-number-preserved : goal.loop-number-preserved
 loop-number-preserved c =
-    let next = below_next 16 c.args.numbers.now c.loop-number.number-index
+    let next = below_next MOST_SERVERS c.args.numbers.now c.loop-number.number-index
     (c.loop-number-test.true) c.loop-number.invariant.within in
     let small = next.0 in
     record {

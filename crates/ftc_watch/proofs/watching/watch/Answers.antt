@@ -1,4 +1,5 @@
 use Rattle.std.proofs.Common.{◌≡◌, ◌≤◌, length, ap, subst, ◌∙◌, arith}
+use Rattle.ftc_base.specs.declared.limits.TheConstants.{MOST_SERVERS}
 use Rattle.ftc_ring.specs.Ring.{RingShape}
 use Rattle.ftc_watch.proofs.Sizes.{kept_few}
 use Rattle.ftc_watch.proofs.watching.watch.Goals as goal
@@ -6,8 +7,8 @@ use Rattle.ftc_watch.proofs.watching.watch.Goals as goal
 pub overflow_cast-result : goal.overflow_cast-result
 overflow_cast-result c =
     let is = c.ticks.ensures.accepted in
-    let small : c.args.ring.now.servers ≤ 16 = subst
-    (λ (ring : RingShape). ring.servers ≤ 16) c.requires.ring is.ring.servers in
+    let small : c.args.ring.now.servers ≤ MOST_SERVERS = subst
+    (λ (ring : RingShape). ring.servers ≤ MOST_SERVERS) c.requires.ring is.ring.servers in
     let few = kept_few c.args.ring.now c.args.limit c.args.packets c.ticks.result.now c.args.beats.now.ticks
     c.in_ok-watcher.watcher c.in_ok-watcher-2.watcher small is.few c.ticks.ensures.same c.in_ok-watcher.ensures
     c.in_ok-watcher-2.ensures in
@@ -18,8 +19,8 @@ overflow_cast-result c =
 pub overflow_cast-result-2 : goal.overflow_cast-result-2
 overflow_cast-result-2 c =
     let is = c.ticks.ensures.accepted in
-    let small : c.args.ring.now.servers ≤ 16 = subst
-    (λ (ring : RingShape). ring.servers ≤ 16) c.requires.ring is.ring.servers in
+    let small : c.args.ring.now.servers ≤ MOST_SERVERS = subst
+    (λ (ring : RingShape). ring.servers ≤ MOST_SERVERS) c.requires.ring is.ring.servers in
     let few = kept_few c.args.ring.now c.args.limit c.args.packets c.ticks.result.now c.args.beats.now.ticks
     c.in_ok-watcher.watcher c.in_ok-watcher-2.watcher small is.few c.ticks.ensures.same c.in_ok-watcher.ensures
     c.in_ok-watcher-2.ensures in
