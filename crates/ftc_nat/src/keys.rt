@@ -2,14 +2,15 @@
 
 ghost use Rattle.std.specs.Prelude.{◌≡◌, ◌≤◌, length};
 ghost use Rattle.ftc_base.specs.Endpoint.{endpoint};
+ghost use Rattle.ftc_base.specs.declared.limits.TheConstants.{MOST_KEY_BYTES};
 ghost use Rattle.ftc_nat.specs.Nat.{outside_port_key, next_port_key, inside_key};
 
 use ftc_base::{Key, Value};
 
-/// The key of these bytes, which are one to sixteen.
+/// The key of these bytes, which are some, but no more than a key may have.
 fn key_of(bytes: &[u8]) -> Key
     requires some { 1 ≤ length bytes.now }
-    requires few { length bytes.now ≤ 16 }
+    requires few { length bytes.now ≤ MOST_KEY_BYTES }
     ensures { result ≡ bytes.now }
 {
     Key::new(bytes).unwrap()

@@ -1,19 +1,12 @@
 -- The records of released packets, and how a file grows by them.
-use Rattle.std.specs.Prelude.{◌≡◌, ◌⊎◌, ◌&&◌, ℕ, Bool, nat_lt, nat_le, List, [], ◌++◌, length, take, slice_get}
+use Rattle.std.specs.Prelude.{◌≡◌, ◌⊎◌, ◌&&◌, ℕ, Bool, nat_lt, nat_le, List, [], ◌++◌, length, take}
 use Rattle.std.specs.List.{filter, flat_map}
-use Rattle.std.specs.Option.{option_map_or}
 use Rattle.ftc_base.specs.declared.limits.TheConstants.{MOST_CAPTURED}
 use Rattle.ftc_base.specs.declared.released.Released.{Released}
 use Rattle.ftc_outside.specs.Desk.{Files, GrewAt}
-use Rattle.ftc_pcap.specs.Grammar.{record_bytes, rewritten}
 use Rattle.ftc_pcap.specs.declared.capture.Capture.{Capture}
 use Rattle.ftc_pcap.specs.declared.packets.Packet.{Packet}
-
--- a released packet's record: its own stamps and original length, and the bytes with which it left
-abbrev pub released_record : Capture → Released → List ℕ
-released_record capture released =
-    option_map_or (λ packet. record_bytes capture.big (rewritten packet released.bytes))
-    (slice_get capture.packets released.packet) []
+pub use Rattle.ftc_pcap.specs.ReleasedRecord.{released_record}
 
 -- the item has a record: its number is one of the capture's, and a record may have so many bytes
 abbrev pub is_writable : List Packet → Released → Bool

@@ -59,7 +59,7 @@ pub record IsRunning (head : HeadState) (worker : ℕ) (running : Running) : Typ
   pub wounded : (by : ℕ) → running.wounded ≡ Some by → HoldsNothing head.locks worker
   pub answers : running.wounded ≡ None → AllByRecursion (IsCurrent head worker) running.answers
 
--- there are 1 to 64 partitions, an idle slot has no lock, what runs is as it must be, and two slots that run have
+-- there are some partitions, an idle slot has no lock, what runs is as it must be, and two slots that run have
 -- different ages
 pub record IsHead (head : HeadState) : Type 0 where
   pub some : 1 ≤ head.partitions
