@@ -5,7 +5,7 @@ use Rattle.ftc_pcap.specs.Grammar.{Spells}
 use Rattle.ftc_pcap.specs.declared.capture.Capture.{Capture}
 use Rattle.ftc_mbox.specs.Chain.{Chain}
 use Rattle.ftc_conf.specs.Grammar.{chain_of}
-use Rattle.ftc_ring.specs.Ring.{RingShape}
+pub use Rattle.ftc_protocol.specs.ChainRing.{ring_of}
 use Rattle.ftc_script.specs.Script.{ScriptShape}
 use Rattle.ftc_script.specs.Grammar.{script_of}
 use Rattle.ftc_journal.specs.Reading.{journal_of}
@@ -22,10 +22,6 @@ pub record HasCapture (name : List ℕ) (files : Files) (capture : Capture) : Ty
   pub text : List ℕ
   pub file : files name ≡ Some text
   pub right : Spells text capture
-
--- the ring of a chain
-abbrev pub ring_of : Chain → RingShape
-ring_of chain = record { servers = length chain.rules; failures = chain.failures }
 
 -- The file spells this script for a chain and its packets; or this journal.
 pub record HasScript (name : List ℕ) (files : Files) (chain : Chain) (packets : ℕ) (script : ScriptShape) : Type 0 where

@@ -17,7 +17,7 @@ use crate::drive::drive;
 use crate::fates::fates_of;
 use crate::output::write_text;
 use crate::status::Status;
-use crate::texts::{Texts, ring_of};
+use crate::texts::Texts;
 use ftc_base::{Bytes, NoMemory, Refuse};
 use ftc_conf::read_chain;
 use ftc_gen::{generate, is_a_capture};
@@ -25,6 +25,7 @@ use ftc_journal::Journal;
 use ftc_mbox::ChainSpec;
 use ftc_outside::{Desk, DeskError};
 use ftc_pcap::{Capture, one_fault, one_reading, read_capture};
+use ftc_protocol::ring_of;
 use ftc_report::summary;
 use ftc_script::{Script, read_script, reads_back};
 use std::alloc::Global;
@@ -32,7 +33,9 @@ use std::alloc::Global;
 /// The chain that a made capture runs through: a translator, a firewall, a balancer and a monitor, of which one may be
 /// down.
 const CHAIN: &str =
-    "f 1\npartitions 16\nnat inside 10.0.0.0/8 outside 203.0.113.5 ports 20000-59999\nfirewall\nallow udp any 198.51.100.10/32 80\nbalance 198.51.100.10:80 to 192.0.2.1,192.0.2.2\nmonitor 16\n";
+    "f 1\npartitions 16\nnat inside 10.0.0.0/8 outside 203.0.113.5 ports 20000-59999\nfirewall\n\
+    allow udp any 198.51.100.10/32 80\nbalance 198.51.100.10:80 to 192.0.2.1,192.0.2.2\n\
+    monitor 16\n";
 
 /// That chain.
 fn made_chain(alloc: Global) -> Result<ChainSpec, NoMemory>

@@ -2,7 +2,6 @@
 
 ghost use Rattle.std.specs.Prelude.{◌≡◌, ◌≢◌, ◌≤◌, length, Err, IfOk, IfErr};
 ghost use Rattle.ftc_outside.specs.Desk.{SameFiles, HasServed};
-ghost use Rattle.ftc_ring.specs.Ring.{IsRing};
 ghost use Rattle.ftc_script.specs.Script.{IsScript};
 ghost use Rattle.ftc.specs.Answers.{IsInputAnswer, IsScriptAnswer, IsRunAnswer};
 ghost use Rattle.ftc_words.specs.Shown.{named_of, shown_mode};
@@ -16,7 +15,7 @@ use ftc_journal::{Journal, read};
 use ftc_mbox::ChainSpec;
 use ftc_outside::Desk;
 use ftc_pcap::{Capture, read_capture};
-use ftc_ring::Ring;
+use ftc_protocol::ring_of;
 use ftc_script::{Script, accepted, read_script};
 use ftc_words::{Mode, Names};
 use std::alloc::Global;
@@ -28,17 +27,6 @@ pub struct Texts {
     pub capture: Capture,
     pub script: Script,
     pub schedule: Journal,
-}
-
-/// The ring of a chain.
-pub fn ring_of(spec: &ChainSpec) -> Ring
-    ensures same { result ≡ ring_of spec.now }
-    ensures right { IsRing result }
-{
-    match Ring::new(spec.rules().len() as u8, spec.failures()) {
-        Some(ring) => ring,
-        None => unreachable!(),
-    }
 }
 
 /// Fetches and reads the chain.

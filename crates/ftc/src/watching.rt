@@ -10,8 +10,9 @@ ghost use Rattle.ftc.specs.Watching.{AreMadeShort, WatchEnds};
 
 use crate::output::write_text;
 use crate::status::Status;
-use crate::texts::{fetch_capture, fetch_chain, ring_of};
+use crate::texts::{fetch_capture, fetch_chain};
 use ftc_outside::{Desk, DeskError};
+use ftc_protocol::ring_of;
 use ftc_ring::Ring;
 use ftc_watch::{Beats, Watched, makes_a_script, read_beats, summary, watch};
 use std::alloc::Global;

@@ -26,7 +26,9 @@ const PACKETS: u32 = 5_000;
 
 /// The chain that a made capture runs through.
 const CHAIN: &[u8] =
-    b"f 1\npartitions 16\nnat inside 10.0.0.0/8 outside 203.0.113.5 ports 20000-59999\nfirewall\nallow udp any 198.51.100.10/32 80\nbalance 198.51.100.10:80 to 192.0.2.1,192.0.2.2\nmonitor 16\n";
+    b"f 1\npartitions 16\nnat inside 10.0.0.0/8 outside 203.0.113.5 ports 20000-59999\nfirewall\n\
+    allow udp any 198.51.100.10/32 80\nbalance 198.51.100.10:80 to 192.0.2.1,192.0.2.2\n\
+    monitor 16\n";
 
 /// A gate that holds each visit for so many nanoseconds, at work.
 #[derive(Clone, Copy)]

@@ -25,18 +25,25 @@ const THREE: &[u8] = b"f 2\npartitions 4\nmonitor 8\nmonitor 8\nmonitor 8\n";
 /// A journal of two packets through them, in pieces: the event that is exchanged with the one behind it, what
 /// stands between, the first release, and the last event.
 const PIECES: [&str; 7] = [
-    "ftc-journal 2\nenter 0\nvisit 0 0 63\npass 0 0\ntake 0 0\napply 1 0 0 0\nvisit 1 0 63\npass 1 0\ntake 1 0\napply 2 0 0 0\napply 2 0 1 0\nvisit 2 0 63\npass 2 0\ntake 2 0\napply 0 0 1 0\napply 0 0 2 0\ncarry 0\nenter 1\nvisit 0 1 63\npass 0 1\ntake 0 1\napply 1 1 2 0\n",
+    "ftc-journal 2\nenter 0\nvisit 0 0 63\npass 0 0\ntake 0 0\napply 1 0 0 0\nvisit 1 0 63\n\
+    pass 1 0\ntake 1 0\napply 2 0 0 0\napply 2 0 1 0\nvisit 2 0 63\npass 2 0\ntake 2 0\n\
+    apply 0 0 1 0\napply 0 0 2 0\ncarry 0\nenter 1\nvisit 0 1 63\npass 0 1\ntake 0 1\n\
+    apply 1 1 2 0\n",
     "apply 1 1 0 1\n",
     "visit 1 1 63\n",
     "pass 1 1\ntake 1 1\n",
     "release 0\n",
-    "apply 2 1 0 1\napply 2 1 1 1\nvisit 2 1 63\npass 2 1\ntake 2 1\napply 0 1 1 1\napply 0 1 2 1\ncarry 1\npropagate 2\npass 0 2\ntake 0 2\napply 1 2 2 1\npass 1 2\ntake 1 2\nrelease 1\npass 2 2\ntake 2 2\n",
+    "apply 2 1 0 1\napply 2 1 1 1\nvisit 2 1 63\npass 2 1\ntake 2 1\napply 0 1 1 1\napply 0 1 2 1\n\
+    carry 1\npropagate 2\npass 0 2\ntake 0 2\napply 1 2 2 1\npass 1 2\ntake 1 2\nrelease 1\n\
+    pass 2 2\ntake 2 2\n",
     "carry 2\n",
 ];
 
 /// The report of that run. 10 + 0 + 0 + 5 is 7 modulo 8.
 const REPORT: &[u8] =
-    b"ftc-report 1\npackets 2\nreleased 2\nfiltered 0\nlost 0\nfate 0 released\nfate 1 released\nstore 0 1\nkey 6d0007 0000000000000002\nstore 1 1\nkey 6d0007 0000000000000002\nstore 2 1\nkey 6d0007 0000000000000002\n";
+    b"ftc-report 1\npackets 2\nreleased 2\nfiltered 0\nlost 0\nfate 0 released\nfate 1 released\n\
+    store 0 1\nkey 6d0007 0000000000000002\nstore 1 1\nkey 6d0007 0000000000000002\nstore 2 1\n\
+    key 6d0007 0000000000000002\n";
 
 /// The pieces of those numbers, in that order.
 fn journal_of<R: Abort + AllocGlobal>(rt: &R, order: &[usize]) -> Result<Bytes, Fail> {

@@ -14,7 +14,9 @@ const TOLD: &[u8] =
 
 /// The chain that a made capture runs through, as a chain's file has it.
 const CHAIN: &[u8] =
-    b"f 1\npartitions 16\nnat inside 10.0.0.0/8 outside 203.0.113.5 ports 20000-59999\nfirewall\nallow udp any 198.51.100.10/32 80\nbalance 198.51.100.10:80 to 192.0.2.1,192.0.2.2\nmonitor 16\n";
+    b"f 1\npartitions 16\nnat inside 10.0.0.0/8 outside 203.0.113.5 ports 20000-59999\nfirewall\n\
+    allow udp any 198.51.100.10/32 80\nbalance 198.51.100.10:80 to 192.0.2.1,192.0.2.2\n\
+    monitor 16\n";
 
 /// How long a capture is of ten packets of 42 bytes, and one of nine: 24 bytes, and 58 for each packet.
 const LENGTH_OF_TEN: usize = 604;

@@ -21,7 +21,8 @@ const ONE_PORT: &[u8] =
 
 /// The report of one packet that a monitor of 8 groups counted and that came out.
 const ONE_RELEASED: &[u8] =
-    b"ftc-report 1\npackets 1\nreleased 1\nfiltered 0\nlost 0\nfate 0 released\nstore 0 1\nkey 6d0007 0000000000000001\n";
+    b"ftc-report 1\npackets 1\nreleased 1\nfiltered 0\nlost 0\nfate 0 released\nstore 0 1\n\
+    key 6d0007 0000000000000001\n";
 
 /// The run is done and leaves these files.
 fn leaves<R: Abort + AllocGlobal + Threads + Wait + Sync>(
@@ -76,7 +77,8 @@ fn a_packet_goes_from_server_to_server(rt: HostRuntime) -> Result<(), Fail> {
     let journal =
         b"ftc-journal 2\nenter 0\nvisit 0 0 63\npass 0 0\ntake 0 0\nvisit 1 0 63\npass 1 0\nrelease 0\n";
     let report =
-        b"ftc-report 1\npackets 1\nreleased 1\nfiltered 0\nlost 0\nfate 0 released\nstore 0 1\nkey 6d0007 0000000000000001\nstore 1 1\nkey 6d0007 0000000000000001\n";
+        b"ftc-report 1\npackets 1\nreleased 1\nfiltered 0\nlost 0\nfate 0 released\nstore 0 1\n\
+        key 6d0007 0000000000000001\nstore 1 1\nkey 6d0007 0000000000000001\n";
     leaves(&rt, chain, bytes, bytes, journal, report)
 }
 
@@ -95,9 +97,11 @@ fn a_packet_without_a_port_is_dropped(rt: HostRuntime) -> Result<(), Fail> {
     let capture = capture_of(&rt, &[&DATAGRAM, &NEIGHBOUR, &REPLY, &STRAY])?;
     let out = capture_of(&rt, &[&DATAGRAM_OUT, &REPLY_IN])?;
     let journal =
-        b"ftc-journal 2\nenter 0\nvisit 0 0 63\npass 0 0\nrelease 0\nenter 1\nvisit 0 1 63\npass 0 1\nenter 2\nvisit 0 2 63\npass 0 2\nrelease 2\nenter 3\nvisit 0 3 63\npass 0 3\n";
-    let report =
-        b"ftc-report 1\npackets 4\nreleased 2\nfiltered 2\nlost 0\nfate 0 released\nfate 1 filtered 0\nfate 2 released\nfate 3 filtered 0\nstore 0 3\nkey 66110a0000051389 4e20\nkey 6e 00004e21\nkey 72114e20 0a0000051389\n";
+        b"ftc-journal 2\nenter 0\nvisit 0 0 63\npass 0 0\nrelease 0\nenter 1\nvisit 0 1 63\n\
+        pass 0 1\nenter 2\nvisit 0 2 63\npass 0 2\nrelease 2\nenter 3\nvisit 0 3 63\npass 0 3\n";
+    let report = b"ftc-report 1\npackets 4\nreleased 2\nfiltered 2\nlost 0\nfate 0 released\n\
+        fate 1 filtered 0\nfate 2 released\nfate 3 filtered 0\nstore 0 3\n\
+        key 66110a0000051389 4e20\nkey 6e 00004e21\nkey 72114e20 0a0000051389\n";
     let (capture, out) = (capture.as_slice(), out.as_slice());
     leaves(&rt, ONE_PORT, capture, out, journal, report)
 }
