@@ -38,6 +38,7 @@ test:
 	mkdir -p bin
 	cp crates/ftc/out/ftc bin/ftc
 	edits/try --match
+	docs/reading
 	$(MAKE) lines wakes
 	@if [ -x "$(CASES)/compare" ]; then \
 		FTC="$$PWD/bin/ftc" "$(CASES)/compare" examples/alone $(addprefix $(CASES)/,$(CASE_SETS)) && \
@@ -57,8 +58,8 @@ lines: bin/ftc
 wakes: bin/ftc
 	./examples/wakes bin/ftc out/wakes
 
-# Some hundreds of random chains with random captures, scripts and schedules, each run checked. Each time they are others,
-# by a seed that is told.
+# Some hundreds of random chains with random captures, scripts and schedules, each run checked. Each time they are
+# others, by a seed that is told.
 trial: bin/ftc
 	./examples/trial bin/ftc out/trial
 

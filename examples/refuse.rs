@@ -2,9 +2,9 @@
 //!
 //! Allocations are counted from 1, from just before the program's first instruction: the loader's are not among them.
 //! REFUSE_FIRST and REFUSE_LAST say from which to which they are refused, with 0 none. REFUSE_COUNTS names a file of 16
-//! bytes, which has at each moment how many were asked for and how many of these were refused; so it is right however the
-//! program ends. The C library's own are counted too: those for a thread that is to be started, which isn't where they are
-//! refused.
+//! bytes, which has at each moment how many were asked for and how many of these were refused; so it is right however
+//! the program ends. The C library's own are counted too: those for a thread that is to be started, which isn't where
+//! they are refused.
 //!
 //! In a debugger `break refused` stops at each refusal, with its callers.
 
@@ -86,7 +86,8 @@ fn start_counting() -> Option<()> {
     Some(())
 }
 
-/// Without its words it ends the program: else a run to which nothing is refused would pass for one to which something is.
+/// Without its words it ends the program: else a run to which nothing is refused would pass for one to which something
+/// is.
 extern "C" fn begin() {
     if start_counting().is_none() {
         unsafe { abort() }
