@@ -81,7 +81,7 @@ module _ (c : Setting) (is : IsSetting c) (s : ChainState) (r : IsLawful c s) (k
         let both = and_parts (is_due_by k (known_last k) kept)
         (not (list_any (has_such (is_due_before k (known_last k) kept.since)) k.buffer)) found.2 in
         let said = said_withheld packet (s.withheld packet) (slot_at k.buffer packet) kept (h.buffer packet)
-            found.1 in (
+        found.1 in (
           said.0,
           due_said packet said.0 kept said.1 said.2 both.0,
           λ other w due.
