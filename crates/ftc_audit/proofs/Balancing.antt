@@ -26,7 +26,8 @@ use Rattle.ftc_store.specs.Store.{Content, written}
 use Rattle.ftc_mbox.specs.declared.rule.Rule.TheVariants.{Balance}
 use Rattle.ftc_mbox.specs.Ask.{ask}
 use Rattle.ftc_serial.specs.declared.visit.Asked.{Asked}
-use Rattle.ftc_serial.specs.Take.{Outcome, asked, answer_at, ended, packet_after, taken}
+use Rattle.ftc_mbox.specs.Change.{packet_after}
+use Rattle.ftc_serial.specs.Take.{Outcome, asked, answer_at, ended, taken}
 use Rattle.ftc_audit.specs.declared.line.ClientLine.{ClientLine}
 use Rattle.ftc_audit.specs.Visits.{Seen}
 use Rattle.ftc_audit.specs.Backends.{destination, client_line_of}

@@ -20,12 +20,12 @@ use Rattle.ftc_store.specs.Store.{Content, changed, written}
 use Rattle.ftc_mbox.specs.declared.rule.Rule.{Rule}
 use Rattle.ftc_mbox.specs.Bounds.{IsRule}
 use Rattle.ftc_mbox.specs.Ask.{ask}
-use Rattle.ftc_mbox.specs.Change.{changed_packet}
+use Rattle.ftc_mbox.specs.Change.{changed_packet, packet_after}
 use Rattle.ftc_serial.specs.declared.position.Position.{Position}
 use Rattle.ftc_serial.specs.declared.position.Position.TheVariants as position
 use Rattle.ftc_serial.specs.declared.step.Step.{Step}
 use Rattle.ftc_serial.specs.declared.visit.Asked.{Asked}
-use Rattle.ftc_serial.specs.Take.{Outcome, asked_from, asked, answer_at, ended, stopped, packet_after, taken}
+use Rattle.ftc_serial.specs.Take.{Outcome, asked_from, asked, answer_at, ended, stopped, taken}
 use Rattle.ftc_serial.specs.Serial.{State, Entry, Visited, Given, serial_opening, entry_of, position_after, after}
 use Rattle.ftc_serial.specs.Entries.{IsRightEntry}
 use Rattle.ftc_serial.proofs.Functions.{with_at_cases}

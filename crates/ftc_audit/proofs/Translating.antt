@@ -28,7 +28,8 @@ use Rattle.ftc_store.specs.Store.{Content, written}
 use Rattle.ftc_mbox.specs.declared.rule.Rule.TheVariants.{Nat}
 use Rattle.ftc_mbox.specs.Ask.{ask}
 use Rattle.ftc_serial.specs.declared.visit.Asked.{Asked}
-use Rattle.ftc_serial.specs.Take.{Outcome, asked, answer_at, ended, packet_after, taken}
+use Rattle.ftc_mbox.specs.Change.{packet_after}
+use Rattle.ftc_serial.specs.Take.{Outcome, asked, answer_at, ended, taken}
 use Rattle.ftc_audit.specs.declared.line.PortLine.{PortLine}
 use Rattle.ftc_audit.specs.Visits.{Seen}
 use Rattle.ftc_audit.specs.Ports.{source_port, port_line_of}

@@ -1,6 +1,6 @@
 //! Workers before slow middleboxes: how long a run takes with so many of them.
 
-ghost use Rattle.std.specs.Prelude.{◌≡◌, ◌≤◌, length, IfSome};
+ghost use Rattle.std.specs.Prelude.{◌≡◌, ◌≤◌, length};
 ghost use Rattle.ftc_base.specs.declared.limits.TheConstants.{MOST_THREADS};
 
 use ftc_base::{PacketNo, ServerId};
@@ -10,7 +10,7 @@ use ftc_gen::generate;
 use ftc_mbox::ChainSpec;
 use ftc_outside::Gate;
 use ftc_pcap::{Capture, read_capture};
-use ftc_ring::Ring;
+use ftc_protocol::ring_of;
 use ftc_script::{Script, accepted, read_script};
 use ftc_workers::run;
 use std::alloc::Global;
@@ -51,14 +51,6 @@ impl<R: Clock + Sync> Gate for SlowGate<'_, R> {
     }
 }
 
-/// The ring of a chain.
-fn ring_of(spec: &ChainSpec) -> Option<Ring>
-    ensures { IfSome result (λ ring. ring ≡ record { servers = length spec.now.rules; failures = spec.now.failures }) }
-{
-    let servers = spec.rules().len() as u8;
-    Ring::new(servers, spec.failures())
-}
-
 /// A chain of middleboxes, a made capture, and the script without lines for them.
 #[derive(Drop)]
 pub struct Load {
@@ -76,7 +68,7 @@ impl Load {
         let spec = read_chain(alloc, CHAIN).ok()?;
         let bytes = generate(alloc, PACKETS, 7).ok()?;
         let capture = read_capture(alloc, bytes.as_slice()).ok()?;
-        let ring = ring_of(&spec)?;
+        let ring = ring_of(&spec);
         let _servers = ring.servers();
         let script = read_script(alloc, b"", &ring, capture.packets.len() as u32).ok()?;
         Some(Load {

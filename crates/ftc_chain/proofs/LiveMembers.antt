@@ -7,13 +7,12 @@ use Rattle.ftc_network.specs.Parts.{server_in}
 use Rattle.ftc_network.specs.Stand.{IsSlot, IsUp, IsNetwork}
 use Rattle.ftc_protocol.specs.Setting.{Setting, servers, is_member}
 use Rattle.ftc_protocol.specs.State.{ChainState}
-use Rattle.ftc_replica.specs.Held.{Held}
+use Rattle.ftc_replica.specs.Held.{Held, pruned_by}
 use Rattle.ftc_ring.specs.Ring.{RingShape, IsMember}
 use Rattle.ftc_server.specs.declared.server.Server.{Server}
 use Rattle.ftc_server.specs.Looks.{replica_in, replica_or_own}
 use Rattle.ftc_server.specs.Replicas.{replica_at}
 use Rattle.ftc_standing.specs.Stand.{IsReplicaSlot}
-use Rattle.ftc_ties.specs.Replica.{pruned_by}
 use Rattle.ftc_ties.specs.Servers.{IsReplicaAt}
 use Rattle.ftc_vector.specs.Commits.{vector_of}
 use Rattle.ftc_chain.specs.Members.{IsLiveMember, IsMemberIn, IsStoreAt, IsVectorAt}

@@ -1,12 +1,13 @@
 //! A chain before its first event.
 
-ghost use Rattle.std.specs.Prelude.{◌≡◌, length, IfOk, IfSome};
+ghost use Rattle.std.specs.Prelude.{◌≡◌, IfOk};
 
 use crate::Chain;
 use ftc_base::{Bytes, Items};
 use ftc_journal::Job;
 use ftc_mbox::{ChainSpec, Rule};
 use ftc_pcap::{Packet, Packets};
+use ftc_protocol::ring_of;
 use ftc_ring::Ring;
 use ftc_script::{Script, accepted, read_script};
 use std::alloc::Global;
@@ -34,14 +35,6 @@ fn one_packet(alloc: Global) -> Result<Packets, Fail> {
     Ok(packets)
 }
 
-/// The ring of a chain.
-fn ring_of(spec: &ChainSpec) -> Option<Ring>
-    ensures { IfSome result (λ ring. ring ≡ record { servers = length spec.now.rules; failures = spec.now.failures }) }
-{
-    let servers = spec.rules().len() as u8;
-    Ring::new(servers, spec.failures())
-}
-
 /// The script without lines, for that ring and so many packets.
 fn empty_script(alloc: Global, ring: &Ring, packets: u32) -> Result<Script, Fail>
     ensures ring { IfOk result (λ script. script.ring ≡ ring.now) }
@@ -60,7 +53,7 @@ fn at_first_a_packet_enters(rt: HostRuntime) -> Result<(), Fail> {
     let alloc = rt.alloc();
     let spec = two_passes(alloc)?;
     let packets = one_packet(alloc)?;
-    let ring = ring_of(&spec).expect(&rt, "a ring");
+    let ring = ring_of(&spec);
     let script = empty_script(alloc, &ring, packets.len() as u32)?;
     let chain = Chain::new(alloc, &spec, &packets, &script)?;
     let enter = Job::Enter { packet: 0 };
@@ -81,7 +74,7 @@ fn without_packets_nothing_is_to_be_done(rt: HostRuntime) -> Result<(), Fail> {
     let alloc = rt.alloc();
     let spec = two_passes(alloc)?;
     let packets = Packets::new(alloc);
-    let ring = ring_of(&spec).expect(&rt, "a ring");
+    let ring = ring_of(&spec);
     let script = empty_script(alloc, &ring, packets.len() as u32)?;
     let chain = Chain::new(alloc, &spec, &packets, &script)?;
     assert_eq!(rt; chain.next(), None);

@@ -1,5 +1,5 @@
--- A packet after a change of one of its ends.
-use Rattle.std.specs.Prelude.{ℕ, List}
+-- A packet after a change of one of its ends, and after a verdict.
+use Rattle.std.specs.Prelude.{ℕ, List, Option, Some, None}
 use Rattle.ftc_base.specs.declared.ask.Change.{Change}
 use Rattle.ftc_base.specs.declared.ask.Change.TheVariants.{Keep, Source, Destination}
 use Rattle.ftc_base.specs.declared.ask.Verdict.{Verdict}
@@ -13,6 +13,11 @@ abbrev pub changed_packet : List ℕ → Change → List ℕ
 changed_packet packet Keep = packet
 changed_packet packet (Source address port) = with_source packet address port
 changed_packet packet (Destination address port) = with_destination packet address port
+
+-- the packet after a verdict, none where it is dropped
+abbrev pub packet_after : List ℕ → Verdict → Option (List ℕ)
+packet_after packet (Forward change) = Some (changed_packet packet change)
+packet_after packet Filter = None
 
 -- only a flow packet is changed
 abbrev pub CanChange : List ℕ → Change → Type 0

@@ -7,5 +7,6 @@ pub mod Fields
 pub mod Reading
 pub mod Front
 pub mod Ordered
+pub mod Added
 pub mod Same
 pub mod SameLaws

@@ -7,7 +7,7 @@ use Rattle.std.proofs.lemmas.Bool.{false_from_ne_true}
 use Rattle.std.proofs.Math.Bool.{or-true, or-false}
 use Rattle.std.specs.List.{list_any}
 use Rattle.ftc_journal.specs.declared.event.Event.TheVariants.{Pull}
-use Rattle.ftc_replica.specs.Held.{Held}
+use Rattle.ftc_replica.specs.Held.{Held, pruned_by}
 use Rattle.ftc_ring.specs.Ring.{apart, next_of}
 use Rattle.ftc_serial.proofs.Functions.{with_at_cases}
 use Rattle.ftc_vector.specs.Commits.{vector_of}
@@ -18,7 +18,6 @@ use Rattle.ftc_protocol.specs.Known.{knows}
 use Rattle.ftc_protocol.specs.Legal.{IsLegal}
 use Rattle.ftc_protocol.specs.Next.{next, is_news, pulled_list}
 use Rattle.ftc_protocol.proofs.RingDistances.{apart_cases, apart_after}
-use Rattle.ftc_ties.specs.Replica.{pruned_by}
 use Rattle.ftc_ties.specs.Servers.{is_shared}
 use Rattle.ftc_ties.proofs.Informing.{knows_stay}
 use Rattle.ftc_ties.proofs.Serving.{IsSteadyState, others_stay}

@@ -6,7 +6,7 @@ use Rattle.std.specs.Prelude.{is_some}
 use Rattle.ftc_base.specs.declared.limits.TheConstants.{MOST_SERVERS}
 use Rattle.ftc_journal.specs.declared.event.Event.TheVariants.{Pull}
 use Rattle.ftc_message.specs.Logged.{Logged}
-use Rattle.ftc_replica.specs.Held.{Held}
+use Rattle.ftc_replica.specs.Held.{Held, pruned_by}
 use Rattle.ftc_replica.specs.InTurn.{applied_all, AreReadyInTurn}
 use Rattle.ftc_replica.specs.Kept.{covers_log, missing}
 use Rattle.ftc_ring.specs.Ring.{RingShape, next_of}
@@ -23,7 +23,6 @@ use Rattle.ftc_protocol.specs.Known.{knows}
 use Rattle.ftc_protocol.specs.Legal.{IsLegal}
 use Rattle.ftc_ties.specs.Keeping.{AreInTurn, with_all}
 use Rattle.ftc_ties.specs.Numbers.{Packets, count_of, vector_in}
-use Rattle.ftc_ties.specs.Replica.{pruned_by}
 use Rattle.ftc_ties.specs.Servers.{IsReplicaAt, is_shared}
 use Rattle.ftc_ties.proofs.Committing.{below}
 use Rattle.ftc_ties.proofs.Counting.{count_mono}

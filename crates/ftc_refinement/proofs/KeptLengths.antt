@@ -10,8 +10,8 @@ use Rattle.ftc_journal.specs.declared.event.Event.TheVariants.{Apply, Carry, Cra
 use Rattle.ftc_journal.specs.declared.event.Event.TheVariants.{Recover, Release, Take, Visit}
 use Rattle.ftc_packet.specs.Rewrite.{with_end, with_source, with_destination}
 use Rattle.ftc_packet.proofs.WordEdits.{length-with_word}
-use Rattle.ftc_mbox.specs.Change.{changed_packet}
-use Rattle.ftc_serial.specs.Take.{Outcome, asked, packet_after}
+use Rattle.ftc_mbox.specs.Change.{changed_packet, packet_after}
+use Rattle.ftc_serial.specs.Take.{Outcome, asked}
 use Rattle.ftc_serial.specs.Words.{with_at}
 use Rattle.ftc_serial.proofs.Functions.{with_at_cases}
 use Rattle.ftc_protocol.specs.Setting.{Setting, servers, packet_at, rule_at}

@@ -6,7 +6,7 @@ use Rattle.std.proofs.lemmas.Bool.{eqb-true, ne_eqb, true≢false}
 use Rattle.ftc_base.specs.declared.ask.Write.{Write}
 use Rattle.ftc_journal.specs.declared.event.Event.TheVariants as event
 use Rattle.ftc_message.specs.Logged.{Logged, logs_rise}
-use Rattle.ftc_replica.specs.Held.{Held as Replicated}
+use Rattle.ftc_replica.specs.Held.{Held as Replicated, pruned_by}
 use Rattle.ftc_serial.specs.Take.{Outcome}
 use Rattle.ftc_serial.specs.Words.{AnyOf}
 use Rattle.ftc_vector.specs.Commits.{vector_of}
@@ -22,7 +22,6 @@ use Rattle.ftc_protocol.specs.Orderly.{IsOrderly}
 use Rattle.ftc_ties.specs.Numbers.{HasBefore, IsTrace}
 use Rattle.ftc_ties.specs.Logs.{IsLogIn}
 use Rattle.ftc_ties.specs.Messages.{AreLogsOf, names_log}
-use Rattle.ftc_ties.specs.Replica.{pruned_by}
 use Rattle.ftc_ties.specs.Servers.{IsReplicaAt}
 use Rattle.ftc_ties.proofs.Logging.{only_one}
 use Rattle.ftc_server.specs.declared.held.HeldMessage.{HeldMessage}

@@ -4,12 +4,11 @@ use Rattle.std.proofs.Common.{ap, cond, inl, inr}
 use Rattle.std.specs.List.{find}
 use Rattle.ftc_message.specs.Logged.{Logged}
 use Rattle.ftc_message.specs.Ordered.{is_log_of}
-use Rattle.ftc_replica.specs.Held.{Held as Replicated}
+use Rattle.ftc_replica.specs.Held.{Held as Replicated, pruned_by}
 use Rattle.ftc_vector.specs.Commits.{vector_of}
 use Rattle.ftc_protocol.specs.Setting.{Setting, is_member}
 use Rattle.ftc_protocol.specs.State.{ChainState}
 use Rattle.ftc_ties.specs.Messages.{names_log}
-use Rattle.ftc_ties.specs.Replica.{pruned_by}
 use Rattle.ftc_ties.specs.Servers.{IsReplicaAt}
 use Rattle.ftc_server.specs.declared.held.HeldMessage.{HeldMessage}
 use Rattle.ftc_server.specs.Looks.{may_apply_one, log_of}

@@ -3,7 +3,7 @@ use Rattle.std.proofs.Common.{◌≡◌, ◌∙◌, ◌<◌, ◌&&◌, ◌⊎◌
 use Rattle.std.proofs.Common.{sym, ap, subst, inl, inr}
 use Rattle.std.specs.List.{list_all, AllByRecursion}
 use Rattle.ftc_message.specs.Logged.{Logged}
-use Rattle.ftc_replica.specs.Held.{Held as Replicated}
+use Rattle.ftc_replica.specs.Held.{Held as Replicated, pruned_by}
 use Rattle.ftc_replica.specs.Kept.{covers_log}
 use Rattle.ftc_vector.specs.Commits.{vector_of}
 use Rattle.ftc_protocol.specs.Setting.{Setting, servers, is_member}
@@ -18,7 +18,6 @@ use Rattle.ftc_ties.specs.Logs.{IsLogIn}
 use Rattle.std.specs.Prelude.{◌↔◌, nat_le}
 use Rattle.std.proofs.lemmas.Bool.Decides.{nat_tests}
 use Rattle.std.proofs.Common.{◌≤◌, arith}
-use Rattle.ftc_ties.specs.Replica.{pruned_by}
 use Rattle.ftc_ties.specs.Servers.{IsReplicaAt}
 use Rattle.ftc_server.specs.declared.server.Server.{Server}
 use Rattle.ftc_server.specs.Looks.{replica_or_own, replica_in}

@@ -3,7 +3,7 @@ use Rattle.std.proofs.Common.{◌≡◌, ◌∙◌, ℕ, true, false, not, List,
 use Rattle.std.proofs.Common.{cond}
 use Rattle.std.specs.Option.{option_map}
 use Rattle.ftc_message.specs.Logged.{Logged}
-use Rattle.ftc_replica.specs.Held.{Held}
+use Rattle.ftc_replica.specs.Held.{Held, pruned_by}
 use Rattle.ftc_store.specs.Store.{Content}
 use Rattle.ftc_txn.specs.Head.{HeadState}
 use Rattle.ftc_protocol.specs.Setting.{Setting}
@@ -14,7 +14,6 @@ use Rattle.ftc_server.specs.State.{ServerState, fields_of}
 use Rattle.ftc_edge.specs.Due.{WithheldPackets}
 use Rattle.ftc_replica.specs.Kept.{KeptLogs, covers_log, missing}
 use Rattle.ftc_vector.specs.Commits.{vector_of}
-use Rattle.ftc_ties.specs.Replica.{pruned_by}
 use Rattle.ftc_ties.specs.Servers.{IsReplicaAt}
 use Rattle.ftc_server.specs.Holding.{Holding}
 use Rattle.ftc_server.specs.Steps.{HasPruned}

@@ -8,19 +8,20 @@ use Rattle.ftc_base.specs.declared.ask.Answer.{Answer}
 use Rattle.ftc_base.specs.declared.ask.Write.{Write}
 use Rattle.ftc_base.specs.declared.ask.Finish.{Finish as End}
 use Rattle.ftc_base.specs.declared.ask.Verdict.{Verdict}
-use Rattle.ftc_base.specs.declared.ask.Verdict.TheVariants.{Forward, Filter}
 use Rattle.ftc_base.specs.Touched.{is_changed}
 use Rattle.ftc_base.specs.declared.limits.TheConstants.{MOST_PARTITIONS}
 use Rattle.ftc_message.specs.declared.need.Need.{Need}
 use Rattle.ftc_message.specs.Logged.{Logged}
-use Rattle.ftc_serial.specs.Take.{Outcome, packet_after}
+use Rattle.ftc_mbox.specs.Change.{packet_after}
+use Rattle.ftc_serial.specs.Take.{Outcome}
 use Rattle.ftc_serial.specs.Reads.{IsRead}
 use Rattle.ftc_vector.specs.Vector.{number_at}
 use Rattle.ftc_vector.proofs.Partitions.{by_partition-from}
 use Rattle.ftc_txn.specs.Touched.{vector_after}
 use Rattle.ftc_txn.specs.Slots.{Running}
 use Rattle.ftc_protocol.specs.Changes.{changes, is_changing, is_some_list}
-use Rattle.ftc_server.specs.Visited.{visit_of, visited_by, packet_after as packet_left, logs_after, needs_after}
+use Rattle.ftc_message.specs.Added.{logs_with, needs_with}
+use Rattle.ftc_server.specs.Visited.{visit_of, visited_by, needs_after}
 use Rattle.ftc_server.specs.declared.held.HeldMessage.{HeldMessage}
 use Rattle.ftc_replica.specs.Held.{Held}
 use Rattle.ftc_store.specs.Store.{Content, written}
@@ -33,7 +34,7 @@ use Rattle.ftc_server.specs.Looks.{replica_or_own}
 use Rattle.ftc_server.specs.Standing.{with_own}
 use Rattle.ftc_server.specs.State.{ServerState}
 use Rattle.ftc_server.specs.Steps.{HasVisited, with_kept}
-use Rattle.ftc_standing.specs.Stand.{HeldItem, ServerContents, IsServer, IsVisited, logs_with, needs_with}
+use Rattle.ftc_standing.specs.Stand.{HeldItem, ServerContents, IsServer, IsVisited}
 use Rattle.ftc_refinement.specs.Contents.{items_of, contents_of, IsServerAt}
 use Rattle.ftc_refinement.proofs.Fields.{IsSameServer, same_contents, stands_with}
 
@@ -43,15 +44,6 @@ outcome_of running end bytes =
     record { answers = running.answers; writes = end.writes.items; packet = packet_after bytes end.verdict }
 
 -- ---- the message
-
-same_packet : (bytes : List ℕ) (verdict : Verdict) → packet_left bytes verdict ≡ packet_after bytes verdict
-same_packet bytes (Forward change) = refl
-same_packet bytes Filter = refl
-
-same_logs : (failures : ℕ) (log : Option Logged) (logs : List Logged) →
-    logs_after failures log logs ≡ logs_with failures log logs
-same_logs failures None logs = refl
-same_logs failures (Some log) logs = refl
 
 same_needs : (packet : Option (List ℕ)) (log : Option Logged) (needs : List Need) →
     needs_after packet log needs ≡ cond (is_some packet) (needs_with log needs) []
@@ -64,10 +56,9 @@ pub visits_message : (failures other : ℕ) (running : Running) (end : End) (byt
     (visited_by (visit_of other log bytes end.verdict held.message) held).message
 visits_message failures other running end bytes log held same = record {
   origin_is = refl;
-  packet_is = same_packet bytes end.verdict;
-  logs_are = ap (λ f. logs_after f log held.message.logs) same ∙ same_logs failures log held.message.logs;
-  needs_are = same_needs (packet_left bytes end.verdict) log held.message.needs
-      ∙ ap (λ p. cond (is_some p) (needs_with log held.message.needs) []) (same_packet bytes end.verdict);
+  packet_is = refl;
+  logs_are = ap (λ f. logs_with f log held.message.logs) same;
+  needs_are = same_needs (packet_after bytes end.verdict) log held.message.needs;
   commits_are = refl;
 }
 

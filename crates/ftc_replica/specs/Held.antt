@@ -5,6 +5,7 @@ use Rattle.std.specs.Coded.{Coded, coded_ℕ, coded_list}
 use Rattle.ftc_store.specs.Store.{Content, written}
 use Rattle.ftc_vector.specs.Vector.{raised}
 use Rattle.ftc_message.specs.Logged.{Logged}
+use Rattle.ftc_replica.specs.Kept.{missing}
 
 abbrev pub content_code : Coded Content
 content_code = code (coded_list coded_ℕ) (coded_list coded_ℕ)
@@ -23,3 +24,7 @@ applied log held = record held {
   vector = raised held.vector log.changed;
   kept = held.kept ++ log ∷ [];
 }
+
+-- without the kept logs that a vector covers
+abbrev pub pruned_by : List ℕ → Held → Held
+pruned_by vector held = record held { kept = missing vector held.kept }

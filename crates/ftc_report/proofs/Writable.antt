@@ -15,13 +15,13 @@ use Rattle.ftc_packet.specs.Rewrite.{with_end, with_source, with_destination}
 use Rattle.ftc_packet.proofs.WordEdits.{length-with_word}
 use Rattle.ftc_pcap.specs.declared.packets.Packet.{Packet}
 use Rattle.ftc_mbox.specs.declared.rule.Rule.{Rule}
-use Rattle.ftc_mbox.specs.Change.{changed_packet}
+use Rattle.ftc_mbox.specs.Change.{changed_packet, packet_after}
 use Rattle.ftc_serial.specs.declared.position.Position.{Position}
 use Rattle.ftc_serial.specs.declared.position.Position.TheVariants as position
 use Rattle.ftc_serial.specs.declared.step.Step.{Step}
 use Rattle.ftc_serial.specs.declared.step.Step.TheVariants.{Visit, Release}
 use Rattle.ftc_serial.specs.Words.{with_at}
-use Rattle.ftc_serial.specs.Take.{Outcome, taken, asked, packet_after}
+use Rattle.ftc_serial.specs.Take.{Outcome, taken, asked}
 use Rattle.ftc_serial.specs.Packets.{bytes_of_packets}
 use Rattle.ftc_serial.specs.Serial.{State, serial_opening, Visited, Given, after, position_after, visit_at, release_at}
 use Rattle.ftc_serial.specs.Serial.{serial_step, serial_run}

@@ -16,7 +16,8 @@ use Rattle.ftc_mbox.specs.InTurn.{Asks, AreInTurn, InTurn, ComesNext}
 use Rattle.ftc_mbox.proofs.InTurn.{in_turn}
 use Rattle.ftc_store.specs.Store.{Content}
 use Rattle.ftc_serial.specs.declared.visit.Asked.{Asked}
-use Rattle.ftc_serial.specs.Take.{asked_from, asked, answer_at, stopped, ended, taken, packet_after}
+use Rattle.ftc_mbox.specs.Change.{packet_after}
+use Rattle.ftc_serial.specs.Take.{asked_from, asked, answer_at, stopped, ended, taken}
 
 one_answer : (content : Content) (answer : Answer) → get content answer.key ≡ answer.value
     → answer_at content answer.key ≡ answer

@@ -46,11 +46,6 @@ pub record Outcome : Type 0 where
   pub writes : List Write
   pub packet : Option (List ℕ)
 
--- the packet after a verdict
-abbrev pub packet_after : List ℕ → Verdict → Option (List ℕ)
-packet_after packet (Forward change) = Some (changed_packet packet change)
-packet_after packet Filter = None
-
 -- The visit of a packet at a middlebox of this rule, over this store.
 abbrev pub taken : Rule → List ℕ → Content → Outcome
 taken rule packet content =

@@ -1,9 +1,9 @@
 //! What one visit reads, writes and decides.
 
 ghost use Rattle.std.specs.Prelude.{◌≡◌, ◌≤◌, ◌<◌, length};
-ghost use Rattle.ftc_mbox.specs.Change.{CanEnd, CanFollow};
+ghost use Rattle.ftc_mbox.specs.Change.{CanEnd, CanFollow, packet_after};
 ghost use Rattle.ftc_store.specs.Store.{written};
-ghost use Rattle.ftc_serial.specs.Take.{asked, taken, stopped, packet_after};
+ghost use Rattle.ftc_serial.specs.Take.{asked, taken, stopped};
 ghost use Rattle.ftc_serial.specs.Told.{outcome_of};
 
 use ftc_base::limits::{MOST_READS, MOST_WRITES};

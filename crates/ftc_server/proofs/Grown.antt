@@ -8,7 +8,7 @@ use Rattle.std.proofs.lemmas.Bool.Decides.{nat_tests}
 use Rattle.ftc_base.specs.Sets.{has}
 use Rattle.ftc_base.specs.declared.limits.TheConstants.{MOST_PARTITIONS}
 use Rattle.ftc_message.specs.Logged.{Logged}
-use Rattle.ftc_replica.specs.Held.{Held, applied}
+use Rattle.ftc_replica.specs.Held.{Held, applied, pruned_by}
 use Rattle.ftc_replica.specs.declared.waits.Wait.{Wait}
 use Rattle.ftc_vector.specs.Order.{reaches, covers}
 use Rattle.ftc_vector.specs.Vector.{mark_at, number_at, raised, need_of}
@@ -16,7 +16,7 @@ use Rattle.ftc_vector.proofs.OrderTests.{covered}
 use Rattle.ftc_vector.proofs.Partitions.{get_or-by_partition}
 use Rattle.ftc_server.specs.declared.held.HeldMessage.{HeldMessage}
 use Rattle.ftc_server.specs.Holding.{found, log_of}
-use Rattle.ftc_server.specs.Replicas.{replica_at, has_log, is_had, with_applied, pruned, ArePruned}
+use Rattle.ftc_server.specs.Replicas.{replica_at, has_log, is_had, with_applied, ArePruned}
 use Rattle.ftc_vector.specs.Commits.{vector_of}
 use Rattle.ftc_server.specs.Waiting.{is_ahead_at, first_ahead, ahead_of, is_ahead, waits, is_had_or_waits, is_put_off}
 use Rattle.ftc_server.specs.Waiting.{AreWatched, has_reached, is_unreached, is_named, carries, is_changed_to, is_due}
@@ -251,11 +251,11 @@ applied_due replicas log was items waiting there named unreached =
 -- ---- after kept logs were dropped
 
 pruned_reached : (vector : List ℕ) (slot : Option Held) (partition number : ℕ) →
-    has_reached (option_map (pruned vector) slot) partition number ≡ has_reached slot partition number
+    has_reached (option_map (pruned_by vector) slot) partition number ≡ has_reached slot partition number
 pruned_reached vector None partition number = refl
 pruned_reached vector (Some held) partition number = refl
 
-pruned_grown_one : (vector : List ℕ) (slot : Option Held) → HasGrown slot (option_map (pruned vector) slot)
+pruned_grown_one : (vector : List ℕ) (slot : Option Held) → HasGrown slot (option_map (pruned_by vector) slot)
 pruned_grown_one vector None = tt
 pruned_grown_one vector (Some held) = λ partition within. omega arith
 

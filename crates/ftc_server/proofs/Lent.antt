@@ -46,7 +46,7 @@ use Rattle.ftc_server.specs.declared.held.HeldMessage.{HeldMessage}
 use Rattle.ftc_server.specs.Holding.{is_of, found}
 use Rattle.ftc_server.specs.Replicas.{may_rise}
 use Rattle.ftc_server.specs.Slots.{AreSlots, IsSlot, ask_of, is_open, is_without}
-use Rattle.ftc_server.specs.Visited.{need_of_log}
+use Rattle.ftc_message.specs.Added.{need_of_log}
 use Rattle.ftc_server.proofs.Finding.{both, and_both, test_of_found}
 use Rattle.ftc_server.proofs.Slotting.{asked_there, asked_of}
 

@@ -14,7 +14,8 @@ use Rattle.ftc_server.specs.declared.held.HeldMessage.{HeldMessage}
 use Rattle.ftc_server.specs.declared.visited.Visited.{Visited}
 use Rattle.ftc_server.specs.Holding.{found, is_of, log_of, with_changed, rests}
 use Rattle.ftc_server.specs.Replicas.{replica_at, has_log, is_had}
-use Rattle.ftc_server.specs.Visited.{logs_after, visited_by}
+use Rattle.ftc_message.specs.Added.{logs_with}
+use Rattle.ftc_server.specs.Visited.{visited_by}
 use Rattle.ftc_server.specs.Waiting.{ahead_of, has_reached, is_unreached, waits, carries, is_named, is_had_or_waits}
 use Rattle.ftc_server.specs.Waiting.{is_put_off, AreWatched}
 use Rattle.ftc_server.proofs.Finding.{both, and_both, found_changed}
@@ -107,7 +108,7 @@ with_own_log replicas own logs none = record {
 
 pub logs_are_after : (replicas : List (Option Held)) (failures : ℕ) (log : Option Logged) (logs : List Logged) →
     ((own : Logged) → log ≡ Some own → is_some (replica_at replicas own.group) ≡ false) →
-    AreAfter replicas logs (logs_after failures log logs)
+    AreAfter replicas logs (logs_with failures log logs)
 logs_are_after replicas failures None logs none = same_after replicas logs
 logs_are_after replicas failures (Some own) logs none =
     elim (failures == 0) as (λ t. AreAfter replicas logs (cond t logs (with_item is_earlier own logs))) [

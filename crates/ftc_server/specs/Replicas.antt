@@ -55,14 +55,10 @@ may_rise_in (Some held) = may_rise held.vector
 abbrev pub with_applied : List (Option Held) → Logged → List (Option Held)
 with_applied replicas log = slice_set replicas log.group (option_map (applied log) (replica_at replicas log.group))
 
--- a replica without the kept logs that a vector covers
-abbrev pub pruned : List ℕ → Held → Held
-pruned vector held = record held { kept = missing vector held.kept }
-
 -- each replica is without the kept logs that are known at its group's tail
 pub record ArePruned (known : List (List ℕ)) (old new : List (Option Held)) : Type 0 where
   pub size : length new ≡ length old
-  pub each : (group : ℕ) → replica_at new group ≡ option_map (pruned (vector_of known group)) (replica_at old group)
+  pub each : (group : ℕ) → replica_at new group ≡ option_map (pruned_by (vector_of known group)) (replica_at old group)
 
 -- the same groups have a replica
 pub record AreOfSame (old new : List (Option Held)) : Type 0 where

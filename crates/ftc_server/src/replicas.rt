@@ -4,9 +4,9 @@ ghost use Rattle.std.specs.Prelude.{◌≡◌, ◌≤◌, true, length, is_some,
 ghost use Rattle.std.specs.List.{list_all};
 ghost use Rattle.std.specs.Option.{option_copied};
 ghost use Rattle.ftc_base.specs.declared.limits.TheConstants.{MOST_SERVERS};
-ghost use Rattle.ftc_replica.specs.Held.{applied};
+ghost use Rattle.ftc_replica.specs.Held.{applied, pruned_by};
 ghost use Rattle.ftc_server.specs.Replicas.{replica_at, has_log, is_had, may_apply_to, may_apply, may_rise_in};
-ghost use Rattle.ftc_server.specs.Replicas.{with_applied, pruned, ArePruned, AreOfSame};
+ghost use Rattle.ftc_server.specs.Replicas.{with_applied, ArePruned, AreOfSame};
 
 use ftc_base::limits::MOST_SERVERS;
 use ftc_base::{NoMemory, ServerId};
@@ -108,7 +108,7 @@ pub fn apply(replicas: &mut Vec<Option<Replica>>, log: &Log) -> Result<(), NoMem
 
 /// Drops the kept logs of a replica that the vector covers.
 fn prune_one(slot: &mut Option<Replica>, vector: &Vector)
-    ensures { slot.new ≡ option_map (pruned vector.now) slot.old }
+    ensures { slot.new ≡ option_map (pruned_by vector.now) slot.old }
 {
     match slot {
         Some(replica) => replica.prune(vector),

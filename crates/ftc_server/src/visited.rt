@@ -3,9 +3,10 @@
 ghost use Rattle.std.specs.Prelude.{◌≡◌, ◌<◌, ◌≤◌, ℕ, true, IfOk, IfSome, Some};
 ghost use Rattle.ftc_base.specs.Sets.{has};
 ghost use Rattle.ftc_vector.specs.Vector.{mark_at};
-ghost use Rattle.ftc_mbox.specs.Change.{CanEnd};
+ghost use Rattle.ftc_mbox.specs.Change.{CanEnd, packet_after};
 ghost use Rattle.ftc_message.specs.Ordered.{HasNone, HasNoNeed};
-ghost use Rattle.ftc_server.specs.Visited.{packet_after, logs_after, need_of_log, with_need, needs_after, visit_of};
+ghost use Rattle.ftc_message.specs.Added.{logs_with, needs_with, need_of_log};
+ghost use Rattle.ftc_server.specs.Visited.{needs_after, visit_of};
 
 use ftc_base::limits::MOST_PARTITIONS;
 use ftc_base::{Bytes, NoMemory, Verdict};
@@ -38,9 +39,9 @@ fn packet_after(packet: &Bytes, verdict: &Verdict) -> Result<Option<Bytes>, NoMe
 }
 
 /// The logs with this one, which is sent on only where a server may fail.
-fn logs_after(alloc: Global, failures: u8, log: &Option<Log>, logs: &Logs) -> Result<Logs, NoMemory>
+fn logs_with(alloc: Global, failures: u8, log: &Option<Log>, logs: &Logs) -> Result<Logs, NoMemory>
     requires { IfSome log.now (λ log. HasNone log logs.now) }
-    ensures { IfOk result (λ after. after ≡ logs_after failures log.now logs.now) }
+    ensures { IfOk result (λ after. after ≡ logs_with failures log.now logs.now) }
 {
     let mut after = logs.copy(alloc)?;
     match log {
@@ -51,11 +52,11 @@ fn logs_after(alloc: Global, failures: u8, log: &Option<Log>, logs: &Logs) -> Re
 }
 
 /// The needs with that of this log.
-fn with_need(alloc: Global, log: &Option<Log>, needs: &Needs) -> Result<Needs, NoMemory>
+fn needs_with(alloc: Global, log: &Option<Log>, needs: &Needs) -> Result<Needs, NoMemory>
     requires other { IfSome log.now (λ log. HasNoNeed (need_of_log log) needs.now) }
     requires numbers { IfSome log.now (λ log. (partition carried : ℕ) → partition < MOST_PARTITIONS →
         mark_at log.before partition ≡ Some carried → has log.changed partition ≡ true → carried < u64.MAX) }
-    ensures { IfOk result (λ after. after ≡ with_need log.now needs.now) }
+    ensures { IfOk result (λ after. after ≡ needs_with log.now needs.now) }
 {
     let mut after = needs.copy(alloc)?;
     match log {
@@ -88,9 +89,9 @@ pub fn visit_of(
     ensures { IfOk result (λ visited. visited ≡ visit_of failures log.now packet.now verdict.now message.now) }
 {
     let after = packet_after(packet, verdict)?;
-    let logs = logs_after(alloc, failures, log, &message.logs)?;
+    let logs = logs_with(alloc, failures, log, &message.logs)?;
     let needs = match &after {
-        Some(_) => with_need(alloc, log, &message.needs)?,
+        Some(_) => needs_with(alloc, log, &message.needs)?,
         None => Needs::new(alloc),
     };
     Ok(Visited {

@@ -4,7 +4,7 @@ use Rattle.std.proofs.Common.{Some, None, refl, sym, subst, zero-add, ifâ—Œthenâ
 use Rattle.std.proofs.lemmas.List.FromFn.{get_or-map-range_with_len, length-map-range_with_len}
 use Rattle.ftc_base.specs.declared.limits.TheConstants.{MOST_SERVERS}
 use Rattle.ftc_journal.specs.declared.event.Event.{Event}
-use Rattle.ftc_replica.specs.Held.{Held as Replicated}
+use Rattle.ftc_replica.specs.Held.{Held as Replicated, pruned_by}
 use Rattle.ftc_serial.specs.Serial.{Entry, Visited, Given}
 use Rattle.ftc_txn.specs.Touched.{is_changed}
 use Rattle.ftc_vector.specs.Vector.{by_partition}
@@ -17,7 +17,6 @@ use Rattle.ftc_protocol.specs.Known.{knows}
 use Rattle.ftc_protocol.specs.Legal.{IsLegal}
 use Rattle.ftc_protocol.specs.Next.{next}
 use Rattle.ftc_ties.specs.Numbers.{count_of}
-use Rattle.ftc_ties.specs.Replica.{pruned_by}
 use Rattle.ftc_ties.specs.Servers.{AreCommits, IsElsewhere, IsReplicaAt}
 use Rattle.ftc_ties.proofs.Informing.{commits_merged, commits_same}
 use Rattle.ftc_ties.proofs.Serving.{IsSteadyState}

@@ -10,7 +10,7 @@ use Rattle.ftc_base.specs.declared.limits.TheConstants.{MOST_SERVERS}
 use Rattle.ftc_journal.specs.declared.event.Event.{Event}
 use Rattle.ftc_journal.specs.declared.event.Event.TheVariants.{Apply, Take}
 use Rattle.ftc_message.specs.Logged.{Logged}
-use Rattle.ftc_replica.specs.Held.{Held as Replicated, applied}
+use Rattle.ftc_replica.specs.Held.{Held as Replicated, applied, pruned_by}
 use Rattle.ftc_replica.specs.Kept.{covers_log, missing}
 use Rattle.ftc_ring.specs.Ring.{next_of}
 use Rattle.ftc_vector.specs.Vector.{merged, need_of}
@@ -27,7 +27,6 @@ use Rattle.ftc_protocol.specs.Next.{next}
 use Rattle.ftc_protocol.specs.Orderly.{aim}
 use Rattle.ftc_ties.specs.Logs.{IsLogIn}
 use Rattle.ftc_ties.specs.Numbers.{vector_in}
-use Rattle.ftc_ties.specs.Replica.{pruned_by}
 use Rattle.ftc_ties.specs.Servers.{IsReplicaAt, AreCommits}
 use Rattle.ftc_ties.proofs.Asking.{need_known}
 use Rattle.ftc_ties.proofs.Informing.{take_learns}

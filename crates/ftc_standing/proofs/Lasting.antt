@@ -12,7 +12,7 @@ use Rattle.ftc_link.specs.Queue.{Queue}
 use Rattle.ftc_message.specs.declared.message.Message.{Message as SentMessage}
 use Rattle.ftc_message.specs.declared.need.Need.{Need}
 use Rattle.ftc_message.specs.Logged.{Logged}
-use Rattle.ftc_replica.specs.Held.{Held as Replicated}
+use Rattle.ftc_replica.specs.Held.{Held as Replicated, pruned_by}
 use Rattle.ftc_vector.specs.Commits.{vector_of}
 use Rattle.ftc_protocol.specs.Setting.{Setting, servers}
 use Rattle.ftc_serial.specs.Serial.{Entry}
@@ -28,7 +28,6 @@ use Rattle.ftc_protocol.specs.Orderly.{IsNeeding, IsWithholding}
 use Rattle.ftc_protocol.proofs.RunLists.{run_next}
 use Rattle.ftc_protocol.proofs.TraceLemmas.{stands_map}
 use Rattle.ftc_ties.specs.Messages.{AreLogsOf, AreNeedsOf, needs_of}
-use Rattle.ftc_ties.specs.Replica.{pruned_by}
 use Rattle.ftc_ties.specs.Servers.{AreCommits, IsElsewhere, IsNeedIn}
 use Rattle.ftc_ties.specs.Tied.{IsTied}
 use Rattle.ftc_ties.proofs.Carrying.{logs_same, logs_stay}

@@ -1,14 +1,13 @@
 -- What stands for the opening state.
 use Rattle.std.proofs.Common.{◌≡◌, ◌<◌, ◌+◌, ◌==◌, ◌∙◌, ℕ, true, false, List, [], length, Option, Some, None, refl, sym}
 use Rattle.std.proofs.Common.{ap, subst, if◌then◌else◌}
-use Rattle.ftc_replica.specs.Held.{Held as Replicated}
+use Rattle.ftc_replica.specs.Held.{Held as Replicated, pruned_by}
 use Rattle.ftc_replica.specs.Kept.{missing}
 use Rattle.ftc_vector.specs.Commits.{vector_of}
 use Rattle.ftc_protocol.specs.Setting.{Setting, servers}
 use Rattle.ftc_protocol.specs.Visits.{no_visits}
 use Rattle.ftc_protocol.specs.State.{opening}
 use Rattle.ftc_protocol.specs.Known.{knows}
-use Rattle.ftc_ties.specs.Replica.{pruned_by}
 use Rattle.ftc_ties.specs.Servers.{AreCommits, IsReplicaAt}
 use Rattle.ftc_ties.proofs.Beginning.{begins, begins_knowing}
 use Rattle.ftc_standing.specs.Stand.{IsSentAs, IsHeldAs, IsWithheldAs, IsLink, HeldItem, ServerContents, IsServer}

@@ -9,7 +9,7 @@ use Rattle.ftc_base.specs.declared.limits.TheConstants.{MOST_SERVERS}
 use Rattle.ftc_journal.specs.declared.event.Event.{Event}
 use Rattle.ftc_journal.specs.declared.event.Event.TheVariants.{Pull}
 use Rattle.ftc_message.specs.Logged.{Logged}
-use Rattle.ftc_replica.specs.Held.{Held as Replicated, applied}
+use Rattle.ftc_replica.specs.Held.{Held as Replicated, applied, pruned_by}
 use Rattle.ftc_replica.specs.InTurn.{applied_all}
 use Rattle.ftc_replica.specs.Kept.{covers_log, missing}
 use Rattle.ftc_ring.specs.Ring.{apart, next_of}
@@ -30,7 +30,6 @@ use Rattle.ftc_protocol.specs.Known.{knows}
 use Rattle.ftc_protocol.specs.Legal.{IsLegal}
 use Rattle.ftc_protocol.specs.Next.{next, pulled_list}
 use Rattle.ftc_ties.specs.Numbers.{Packets, count_of, vector_in}
-use Rattle.ftc_ties.specs.Replica.{pruned_by}
 use Rattle.ftc_ties.specs.Servers.{IsReplicaAt, AreCommits, is_shared}
 use Rattle.ftc_ties.proofs.Committing.{pull_leaves, pull_at_tail}
 use Rattle.ftc_ties.proofs.Counting.{count_mono}

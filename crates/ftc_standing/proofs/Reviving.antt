@@ -9,7 +9,7 @@ use Rattle.ftc_journal.specs.declared.event.Event.{Event}
 use Rattle.ftc_journal.specs.declared.event.Event.TheVariants.{Recover}
 use Rattle.ftc_journal.specs.declared.event.VisitName.{VisitName}
 use Rattle.ftc_message.specs.Logged.{Logged}
-use Rattle.ftc_replica.specs.Held.{Held as Replicated}
+use Rattle.ftc_replica.specs.Held.{Held as Replicated, pruned_by}
 use Rattle.ftc_replica.specs.Kept.{covers_log}
 use Rattle.ftc_ring.specs.Ring.{apart}
 use Rattle.ftc_ring.specs.Live.{source_between}
@@ -29,7 +29,6 @@ use Rattle.ftc_protocol.specs.Next.{next, drop_if}
 use Rattle.ftc_protocol.specs.Orderly.{aim}
 use Rattle.ftc_protocol.specs.Recovery.{previous_live, following_live, is_dropped}
 use Rattle.ftc_protocol.proofs.RingDistances.{apart_cases}
-use Rattle.ftc_ties.specs.Replica.{pruned_by}
 use Rattle.ftc_ties.specs.Numbers.{vector_in}
 use Rattle.ftc_ties.specs.Servers.{IsReplicaAt, AreCommits}
 use Rattle.ftc_ties.proofs.Committing.{recover_leaves}

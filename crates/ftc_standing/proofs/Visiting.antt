@@ -14,7 +14,7 @@ use Rattle.ftc_message.specs.declared.need.Need.{Need}
 use Rattle.ftc_message.specs.declared.message.Message.{Message as SentMessage}
 use Rattle.ftc_message.specs.Ordered.{with_item, is_earlier, is_lower}
 use Rattle.ftc_message.proofs.InOrder.{all-with_item}
-use Rattle.ftc_replica.specs.Held.{Held as Replicated}
+use Rattle.ftc_replica.specs.Held.{Held as Replicated, pruned_by}
 use Rattle.ftc_replica.specs.Kept.{covers_log, missing}
 use Rattle.ftc_serial.specs.Take.{Outcome}
 use Rattle.ftc_serial.proofs.Functions.{with_at_cases}
@@ -37,7 +37,7 @@ use Rattle.ftc_protocol.proofs.Sets.{kept}
 use Rattle.ftc_protocol.proofs.TraceLemmas.{stands_map}
 use Rattle.ftc_ties.specs.Logs.{IsLogIn}
 use Rattle.ftc_ties.specs.Messages.{AreLogsOf, AreNeedsOf, names_log, needs_of}
-use Rattle.ftc_ties.specs.Replica.{pruned_by, committed}
+use Rattle.ftc_ties.specs.Replica.{committed}
 use Rattle.ftc_ties.specs.Servers.{IsReplicaAt, AreCommits, IsNeedIn}
 use Rattle.ftc_ties.proofs.Asking.{need_known}
 use Rattle.ftc_ties.proofs.Carrying.{logs_stay}
@@ -47,7 +47,8 @@ use Rattle.ftc_ties.proofs.Lasting.{commit_logs}
 use Rattle.ftc_ties.proofs.Learning.{visit_tells_none, tail_grows}
 use Rattle.ftc_ties.proofs.Replicating.{vector_same}
 use Rattle.ftc_ties.proofs.Serving.{IsSteadyState, others_stay, steady_next, tail_knows, or_none}
-use Rattle.ftc_standing.specs.Stand.{IsReplicaSlot, AreReplicas, IsSentAs, replica_of, logs_with, need_by, needs_with}
+use Rattle.ftc_message.specs.Added.{logs_with, needs_with, need_of_log}
+use Rattle.ftc_standing.specs.Stand.{IsReplicaSlot, AreReplicas, IsSentAs, replica_of}
 use Rattle.ftc_standing.proofs.Gaining.{missing_twice, missing_last, few_servers}
 use Rattle.ftc_standing.proofs.Lasting.{IsFirmState, tied_after, needing_after, touching_some, changing_some}
 use Rattle.ftc_standing.proofs.Lasting.{needs_stay}
@@ -349,7 +350,7 @@ module _ (c : Setting) (s : ChainState) (f : IsFirmState c s) (k p w : ℕ) (leg
             record {
               each = all-with_item (λ (need : Need). need.group < MOST_SERVERS
                   × IsNeedIn c.partitions (next c s visiting_it).trace need.group p need.marks) is_lower
-                  (need_by one) before.needs (
+                  (need_of_log one) before.needs (
                     small own.1,
                     record {
                       log = one;
@@ -360,7 +361,7 @@ module _ (c : Setting) (s : ChainState) (f : IsFirmState c s) (k p w : ℕ) (leg
                     },
                   )
                   (needs_before packet forwarded).each;
-              names = λ group. any_with_item (λ (need : Need). need.group == group) is_lower (need_by one) before.needs
+              names = λ group. any_with_item (λ (need : Need). need.group == group) is_lower (need_of_log one) before.needs
                   ∙ (ap (λ x. x || needs_of before.needs group) (ap (λ x. x == group) own.1 ∙ eqb_swap k group)
                   ∙ (ap (λ x. (group == k) || x) ((needs_before packet forwarded).names group)
                   ∙ (or_comm_two (group == k) (message.needs group)

@@ -11,7 +11,7 @@ use Rattle.ftc_message.specs.declared.message.Message.{Message as SentMessage}
 use Rattle.ftc_message.specs.declared.need.Need.{Need}
 use Rattle.ftc_message.specs.Logged.{Logged}
 use Rattle.ftc_message.specs.Ordered.{with_item, with_items, is_earlier, is_lower}
-use Rattle.ftc_replica.specs.Held.{Held as Replicated}
+use Rattle.ftc_replica.specs.Held.{Held as Replicated, pruned_by}
 use Rattle.ftc_replica.specs.InTurn.{applied_all}
 use Rattle.ftc_replica.specs.Kept.{missing}
 use Rattle.ftc_serial.specs.Take.{Outcome}
@@ -23,7 +23,6 @@ use Rattle.ftc_protocol.specs.Recovery.{previous_live, following_live}
 use Rattle.ftc_protocol.specs.State.{Held, Message, Withheld, ChainState}
 use Rattle.ftc_protocol.specs.Known.{knows}
 use Rattle.ftc_ties.specs.Messages.{AreLogsOf, AreNeedsOf, onward}
-use Rattle.ftc_ties.specs.Replica.{pruned_by}
 use Rattle.ftc_ties.specs.Servers.{AreCommits, IsReplicaAt, is_shared}
 use Rattle.ftc_standing.specs.Arrivals.{AreArrived}
 use Rattle.ftc_standing.specs.View.{held_at, queued_on, withheld_at, forwarded_at}
@@ -88,19 +87,6 @@ abbrev pub AreItems : Setting → ChainState → ℕ → List HeldItem → Type 
 AreItems setting state server items =
     AreHeld (λ (item : HeldItem). item.visited) (λ (item : HeldItem). item.by_ring) (λ (item : HeldItem). item.message)
     setting state server items
-
--- the logs of a message with that of a visit of its packet, where it touched something and logs are sent on
-abbrev pub logs_with : ℕ → Option Logged → List Logged → List Logged
-logs_with failures None logs = logs
-logs_with failures (Some log) logs = if failures == 0 then logs else with_item is_earlier log logs
-
--- the need of the visit with that log
-abbrev pub need_by : Logged → Need
-need_by log = record { group = log.group; marks = need_of log.before log.changed }
-
-abbrev pub needs_with : Option Logged → List Need → List Need
-needs_with None needs = needs
-needs_with (Some log) needs = with_item is_lower (need_by log) needs
 
 -- the packets of a server's buffer, in the order of withholding
 abbrev pub AreWithheld : Setting → ChainState → ℕ → List WithheldPacket → Type 0

@@ -8,7 +8,7 @@ use Rattle.std.proofs.lemmas.Bool.{true≢false, or_cases, or_left, or_right, an
 use Rattle.std.proofs.lemmas.Bool.{false_from_ne_true, not-true, not_from_false}
 use Rattle.ftc_base.specs.declared.limits.TheConstants.{MOST_PARTITIONS}
 use Rattle.ftc_message.specs.Logged.{Logged}
-use Rattle.ftc_replica.specs.Held.{Held as Replicated}
+use Rattle.ftc_replica.specs.Held.{Held as Replicated, pruned_by}
 use Rattle.ftc_replica.specs.Kept.{covers_log}
 use Rattle.ftc_ring.specs.Ring.{apart}
 use Rattle.ftc_ring.specs.Live.{IsBetween}
@@ -22,7 +22,6 @@ use Rattle.ftc_protocol.specs.Trace.{IsTouching}
 use Rattle.ftc_protocol.proofs.RingDistances.{apart_cases}
 use Rattle.ftc_ties.specs.Logs.{IsLogIn}
 use Rattle.ftc_ties.specs.Numbers.{IsTrace}
-use Rattle.ftc_ties.specs.Replica.{pruned_by}
 use Rattle.ftc_ties.specs.Servers.{IsReplicaAt}
 use Rattle.ftc_server.specs.declared.server.Server.{Server}
 use Rattle.ftc_server.specs.Looks.{replica_or_own, replica_in}

@@ -1,6 +1,6 @@
 //! Small runs of workers.
 
-ghost use Rattle.std.specs.Prelude.{◌≡◌, ◌≤◌, [], length, IfOk, IfSome};
+ghost use Rattle.std.specs.Prelude.{◌≡◌, ◌≤◌, [], length, IfOk};
 ghost use Rattle.ftc_base.specs.declared.limits.TheConstants.{MOST_THREADS};
 ghost use Rattle.ftc_workers.specs.Choices.{MayBegin};
 
@@ -13,6 +13,7 @@ use ftc_journal::{Event, Job};
 use ftc_mbox::{ChainSpec, Rule};
 use ftc_outside::{Desk, FailingDesk, Gate, ListTap, MemoryDesk, OpenGate, Tap};
 use ftc_pcap::{Capture, CaptureFault, read_capture};
+use ftc_protocol::ring_of;
 use ftc_ring::Ring;
 use ftc_script::{Script, accepted, read_script};
 use ftc_stream::{PutFault, Taps};
@@ -73,14 +74,6 @@ fn capture_of(alloc: Global, packets: u8) -> Result<Capture, Refuse<CaptureFault
     read_capture(alloc, text.as_slice())
 }
 
-/// The ring of a chain.
-fn ring_of(spec: &ChainSpec) -> Option<Ring>
-    ensures { IfSome result (λ ring. ring ≡ record { servers = length spec.now.rules; failures = spec.now.failures }) }
-{
-    let servers = spec.rules().len() as u8;
-    Ring::new(servers, spec.failures())
-}
-
 /// The script without lines, for that ring and so many packets.
 fn empty_script(alloc: Global, ring: &Ring, packets: u32) -> Result<Script, Fail>
     ensures ring { IfOk result (λ script. script.ring ≡ ring.now) }
@@ -123,10 +116,7 @@ impl Parts {
         let Ok(capture) = capture_of(alloc, packets) else {
             return Err(Fail::new("the capture is right"));
         };
-        let Some(ring) = ring_of(&spec) else {
-            return Err(Fail::new("a ring"));
-        };
-        let script = empty_script(alloc, &ring, capture.packets.len() as u32)?;
+        let script = empty_script(alloc, &ring_of(&spec), capture.packets.len() as u32)?;
         Ok(Parts {
             spec,
             capture,

@@ -1,6 +1,6 @@
 //! What the chains under test are made from.
 
-ghost use Rattle.std.specs.Prelude.{◌≡◌, length, IfOk, IfSome};
+ghost use Rattle.std.specs.Prelude.{◌≡◌, length, IfOk};
 
 use ftc_base::limits::MOST_RECORDS;
 use ftc_base::{Bytes, Items, Key, NoMemory, Refuse, ServerId, WorkerId};
@@ -8,6 +8,7 @@ use ftc_chain::Chain;
 use ftc_firewall::FirewallRule;
 use ftc_mbox::{ChainSpec, Rule};
 use ftc_pcap::{Packet, Packets};
+use ftc_protocol::ring_of;
 use ftc_ring::Ring;
 use ftc_script::{Script, accepted, read_script};
 use std::alloc::Global;
@@ -116,14 +117,6 @@ fn packets_of(alloc: Global, frames: &[Frame]) -> Result<Packets, NoMemory> {
     Ok(packets)
 }
 
-/// The ring of a chain.
-fn ring_of(spec: &ChainSpec) -> Option<Ring>
-    ensures { IfSome result (λ ring. ring ≡ record { servers = length spec.now.rules; failures = spec.now.failures }) }
-{
-    let servers = spec.rules().len() as u8;
-    Ring::new(servers, spec.failures())
-}
-
 /// The script of a text, for that ring and so many packets.
 fn script_of(alloc: Global, text: &[u8], ring: &Ring, packets: u32) -> Result<Script, Refuse<Wrong>>
     ensures ring { IfOk result (λ script. script.ring ≡ ring.now) }
@@ -156,10 +149,7 @@ impl Parts {
         text: &[u8],
     ) -> Result<Parts, Refuse<Wrong>> {
         let packets = packets_of(alloc, frames)?;
-        let Some(ring) = ring_of(&spec) else {
-            return Err(Refuse::Bad(Wrong));
-        };
-        let script = script_of(alloc, text, &ring, packets.len() as u32)?;
+        let script = script_of(alloc, text, &ring_of(&spec), packets.len() as u32)?;
         Ok(Parts {
             spec,
             packets,

@@ -1,6 +1,6 @@
 use Rattle.std.proofs.Common.{◌≡◌, ◌∙◌, ◌==◌, ◌≤◌, ℕ, List, [], None, length, refl, sym, ap, subst, arith}
 use Rattle.ftc_journal.specs.declared.event.Event.TheVariants as event
-use Rattle.ftc_replica.specs.Held.{Held}
+use Rattle.ftc_replica.specs.Held.{Held, pruned_by}
 use Rattle.ftc_replica.specs.Kept.{missing}
 use Rattle.ftc_message.specs.Logged.{Logged}
 use Rattle.ftc_ring.specs.Ring.{RingShape}
@@ -8,7 +8,6 @@ use Rattle.ftc_store.specs.Store.{Content}
 use Rattle.ftc_vector.specs.Commits.{vector_of, all_merged}
 use Rattle.ftc_protocol.specs.Setting.{servers, is_member}
 use Rattle.ftc_protocol.specs.Next.{next}
-use Rattle.ftc_ties.specs.Replica.{pruned_by}
 use Rattle.ftc_server.specs.Looks.{replica_or_own}
 use Rattle.ftc_server.specs.Steps.{with_installed}
 use Rattle.ftc_standing.specs.Stand.{IsServer}

@@ -13,7 +13,7 @@ use Rattle.std.proofs.lemmas.Bool.{eqb-true}
 use Rattle.ftc_base.specs.declared.ask.Write.{Write}
 use Rattle.ftc_journal.specs.declared.event.Event.TheVariants as event
 use Rattle.ftc_message.specs.Logged.{Logged}
-use Rattle.ftc_replica.specs.Held.{Held as Replicated}
+use Rattle.ftc_replica.specs.Held.{Held as Replicated, pruned_by}
 use Rattle.ftc_vector.specs.Order.{is_ready as is_ready_at}
 use Rattle.ftc_vector.specs.Commits.{vector_of}
 use Rattle.ftc_serial.specs.Take.{Outcome}
@@ -24,7 +24,6 @@ use Rattle.ftc_protocol.specs.Changes.{is_changing}
 use Rattle.ftc_protocol.proofs.TraceLemmas.{stands_map}
 use Rattle.ftc_ties.specs.Logs.{IsLogIn}
 use Rattle.ftc_ties.specs.Messages.{names_log}
-use Rattle.ftc_ties.specs.Replica.{pruned_by}
 use Rattle.ftc_server.specs.Replicas.{may_apply_to, replica_at}
 use Rattle.ftc_server.proofs.NextLog.{next_is}
 use Rattle.ftc_standing.specs.Stand.{IsReplicaSlot}

@@ -20,7 +20,7 @@ use Rattle.ftc_serial.specs.Reads.{IsRead}
 use Rattle.ftc_txn.specs.Logs.{IsLogOf}
 use Rattle.ftc_txn.specs.Touched.{vector_after}
 use Rattle.ftc_vector.specs.Commits.{vector_of}
-use Rattle.ftc_ties.specs.Replica.{pruned_by}
+use Rattle.ftc_replica.specs.Held.{pruned_by}
 use Rattle.ftc_server.specs.declared.held.HeldMessage.{HeldMessage}
 use Rattle.ftc_server.specs.Looks.{ask_of_slot, replica_or_own}
 use Rattle.ftc_server.specs.Slots.{ask_of, AreSlots}

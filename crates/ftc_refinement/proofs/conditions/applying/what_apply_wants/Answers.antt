@@ -8,7 +8,7 @@ use Rattle.ftc_protocol.specs.Orderly.{aim}
 use Rattle.ftc_server.specs.Holding.{found}
 use Rattle.ftc_server.specs.Replicas.{replica_at}
 use Rattle.ftc_ties.specs.Logs.{IsLogIn}
-use Rattle.ftc_ties.specs.Replica.{pruned_by}
+use Rattle.ftc_replica.specs.Held.{pruned_by}
 use Rattle.ftc_vector.specs.Commits.{vector_of}
 use Rattle.ftc_refinement.proofs.LogsToApply.{named_log, later_replica, may_apply_by}
 use Rattle.ftc_refinement.proofs.Messages.{found_as, found_is, log_names}

@@ -22,7 +22,8 @@ use Rattle.ftc_server.specs.Replicas.{replica_at}
 use Rattle.ftc_server.specs.Standing.{is_later_member}
 use Rattle.ftc_server.specs.Waiting.{AreWatched}
 use Rattle.ftc_server.specs.Slots.{AreSlots, is_open}
-use Rattle.ftc_server.specs.Visited.{visited_by, logs_after}
+use Rattle.ftc_message.specs.Added.{logs_with}
+use Rattle.ftc_server.specs.Visited.{visited_by}
 use Rattle.ftc_server.proofs.Finding.{all_changed}
 use Rattle.ftc_server.proofs.Lent.{its_writes}
 use Rattle.ftc_server.proofs.VisitedWaits.{AreAfter, logs_are_after, visited_watched}
@@ -119,7 +120,7 @@ invariant_of-self-2-clause-watched c =
     same_Some c.in-Some.packet prepared.running.packet (c.in-Some.ensures ∙ ap packet_of prepared.runs) in
     let there : found c.in-Some.packet server.held.items ≡ Some prepared.before =
     ap (λ (packet : ℕ). found packet server.held.items) same ∙ prepared.there in
-    let logs_are : c.in-Ok.visited.logs ≡ logs_after server.ring.failures log prepared.before.message.logs =
+    let logs_are : c.in-Ok.visited.logs ≡ logs_with server.ring.failures log prepared.before.message.logs =
     ap (λ (visited : Visited). visited.logs) prepared.visited_is in
     let after = subst (λ (logs : List Logged). AreAfter others prepared.before.message.logs logs) (sym logs_are)
     (logs_are_after others server.ring.failures log prepared.before.message.logs
