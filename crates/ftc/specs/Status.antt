@@ -1,5 +1,6 @@
 -- What the program says of a status: its exit code and its line.
-use Rattle.std.specs.Prelude.{ℕ, List, [], ◌∷◌, ◌++◌, ◌==◌, length, if◌then◌else◌, decimal, codes}
+use Rattle.std.specs.Prelude.{ℕ, List, [], ◌∷◌, ◌++◌, ◌==◌, Option, length, take, if◌then◌else◌, decimal, codes}
+use Rattle.std.specs.Io.KnownBytes.{Appends}
 use Rattle.ftc_base.specs.declared.refusal.Refuse.{Refuse}
 use Rattle.ftc_base.specs.declared.refusal.Refuse.TheVariants as refuse
 use Rattle.ftc_outside.specs.declared.desk.DeskError.{DeskError}
@@ -114,6 +115,10 @@ line_of status.NoMemory = codes "memory: refused"
 -- what is said on standard error: the line and a line feed, or nothing where it is empty
 abbrev pub told_of : Status → List ℕ
 told_of status = if length (line_of status) == 0 then line_of status else line_of status ++ 10 ∷ []
+
+-- a writer whose bytes are known has a front of the line behind them
+abbrev pub AppendsFront : Option (List ℕ) → Option (List ℕ) → List ℕ → Type 0
+AppendsFront old new line = (count : ℕ) × Appends old new (take count line)
 
 -- how a command ends whose desk or text was refused
 abbrev pub desk_status : DeskError → Status

@@ -141,3 +141,13 @@ fn what_is_told(rt: HostRuntime) -> Result<(), Fail> {
     }
     Ok(())
 }
+
+#[test]
+fn a_writer_without_room_has_a_front_of_the_line(rt: HostRuntime) -> Result<(), Fail> {
+    let mut room = [b'.'; 8];
+    let mut left = &mut room[..6];
+    let (_, all) = tell(rt.alloc(), Status::DeskFault, &mut left);
+    assert!(rt; !all);
+    assert_eq!(rt; room.as_slice(), b"desk: ..");
+    Ok(())
+}
