@@ -41,12 +41,12 @@ loop-preserved g c =
     let rest = c.loop.rest.now in
     elim c.match-write.branch [
       | in-Ok w ↦
-      let n = w.in-Ok.taken in (
-        done ++ take n rest,
-        moves _ done rest n whole ∙ ap (λ l. (done ++ take n rest) ++ l) (sym (take_rest rest n))
-        ∙ ap (λ (left : Bor (List ℕ)). (done ++ take n rest) ++ left.now) (sym w.rest-is),
-        Appends-trans _ _ _ done (take n rest) appended w.in-Ok.ensures.bytes,
-      )
+          let n = w.in-Ok.taken in (
+            done ++ take n rest,
+            moves _ done rest n whole ∙ ap (λ l. (done ++ take n rest) ++ l) (sym (take_rest rest n))
+                ∙ ap (λ (left : Bor (List ℕ)). (done ++ take n rest) ++ left.now) (sym w.rest-is),
+            Appends-trans _ _ _ done (take n rest) appended w.in-Ok.ensures.bytes,
+          )
       | in-Err+else-ne w ↦ (
         done,
         whole ∙ ap (λ (left : Bor (List ℕ)). done ++ left.now) (sym w.rest-is),
