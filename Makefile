@@ -9,7 +9,7 @@ JUDGED_SETS = middleboxes ring loss crash
 
 SOURCES := $(shell find crates crates.txt -name out -prune -o -type f -print)
 
-.PHONY: build demo test edits lines wakes trial refusals bench install uninstall clean
+.PHONY: build demo test fmt edits lines wakes trial refusals bench install uninstall clean
 
 # Where `make install` puts the program and its manual page.
 PREFIX ?= /usr/local
@@ -44,6 +44,10 @@ test:
 		FTC="$$PWD/bin/ftc" "$(CASES)/compare" examples/alone $(addprefix $(CASES)/,$(CASE_SETS)) && \
 		"$(CASES)/judge" bin/ftc $(addprefix $(CASES)/,$(JUDGED_SETS)); \
 	fi
+
+# Formats all crates. The gate refuses a crate of which a single line isn't as the formatter writes it.
+fmt:
+	@for crate in crates/*/; do (cd "$$crate" && rt fmt) || exit 1; done
 
 # The edits beyond those that `make test` tries. All of them take as long as the rest of it; `edits/try CRATE` tries one
 # crate's.
