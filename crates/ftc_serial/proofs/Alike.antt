@@ -86,7 +86,7 @@ taken_alike rule packet one other same =
     ap (λ (told : Asked). record {
       answers = told.answers.items;
       writes = told.end.writes.items;
-      packet = Rattle.ftc_serial.specs.Take.packet_after packet told.end.verdict;
+      packet = Rattle.ftc_mbox.specs.Change.packet_after packet told.end.verdict;
     })
     (asked_alike rule packet one other 8 [] same)
 

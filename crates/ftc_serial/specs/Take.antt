@@ -1,5 +1,5 @@
 -- What one visit reads, writes and decides.
-use Rattle.std.specs.Prelude.{ℕ, zero, suc, List, [], ◌∷◌, ◌++◌, Option, Some, None}
+use Rattle.std.specs.Prelude.{ℕ, zero, suc, List, [], ◌∷◌, ◌++◌, Option}
 use Rattle.std.specs.FinMap.{get}
 use Rattle.ftc_base.specs.declared.limits.TheConstants.{MOST_READS}
 use Rattle.ftc_base.specs.declared.ask.Answer.{Answer}
@@ -7,11 +7,10 @@ use Rattle.ftc_base.specs.declared.ask.Write.{Write}
 use Rattle.ftc_base.specs.declared.ask.Ask.{Ask}
 use Rattle.ftc_base.specs.declared.ask.Ask.TheVariants.{Read, Finish}
 use Rattle.ftc_base.specs.declared.ask.Finish.{Finish as End}
-use Rattle.ftc_base.specs.declared.ask.Verdict.{Verdict}
-use Rattle.ftc_base.specs.declared.ask.Verdict.TheVariants.{Forward, Filter}
+use Rattle.ftc_base.specs.declared.ask.Verdict.TheVariants.{Filter}
 use Rattle.ftc_mbox.specs.declared.rule.Rule.{Rule}
 use Rattle.ftc_mbox.specs.Ask.{ask}
-use Rattle.ftc_mbox.specs.Change.{changed_packet}
+use Rattle.ftc_mbox.specs.Change.{packet_after}
 use Rattle.ftc_store.specs.Store.{Content}
 use Rattle.ftc_serial.specs.declared.visit.Asked.{Asked}
 

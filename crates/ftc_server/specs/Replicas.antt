@@ -5,8 +5,8 @@ use Rattle.std.specs.List.{list_all}
 use Rattle.ftc_vector.specs.Order.{is_ready as is_ready_at}
 use Rattle.ftc_vector.specs.Commits.{vector_of}
 use Rattle.ftc_message.specs.Logged.{Logged}
-use Rattle.ftc_replica.specs.Held.{Held, applied}
-use Rattle.ftc_replica.specs.Kept.{covers_log, missing}
+use Rattle.ftc_replica.specs.Held.{Held, applied, pruned_by}
+use Rattle.ftc_replica.specs.Kept.{covers_log}
 use Rattle.ftc_server.specs.declared.held.HeldMessage.{HeldMessage}
 
 -- the replica of a group, where there is one

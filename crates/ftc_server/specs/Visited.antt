@@ -1,13 +1,11 @@
 -- What the visit of its packet makes of a held message.
-use Rattle.std.specs.Prelude.{ℕ, true, ◌==◌, List, [], Option, Some, None, if◌then◌else◌}
+use Rattle.std.specs.Prelude.{ℕ, true, List, [], Option, Some, None}
 use Rattle.ftc_base.specs.declared.ask.Verdict.{Verdict}
-use Rattle.ftc_base.specs.declared.ask.Verdict.TheVariants.{Forward, Filter}
-use Rattle.ftc_mbox.specs.Change.{changed_packet}
-use Rattle.ftc_vector.specs.Vector.{need_of}
+use Rattle.ftc_mbox.specs.Change.{packet_after}
 use Rattle.ftc_message.specs.declared.message.Message.{Message}
 use Rattle.ftc_message.specs.declared.need.Need.{Need}
 use Rattle.ftc_message.specs.Logged.{Logged}
-use Rattle.ftc_message.specs.Ordered.{with_item, is_earlier, is_lower}
+use Rattle.ftc_message.specs.Added.{logs_with, needs_with}
 use Rattle.ftc_server.specs.declared.held.HeldMessage.{HeldMessage}
 use Rattle.ftc_server.specs.declared.visited.Visited.{Visited}
 

@@ -8,14 +8,14 @@ use Rattle.ftc_base.specs.declared.limits.TheConstants.{MOST_SERVERS}
 use Rattle.ftc_edge.specs.declared.buffer.Withheld.{Withheld as WithheldPacket}
 use Rattle.ftc_link.specs.Queue.{Queue}
 use Rattle.ftc_message.specs.declared.message.Message.{Message as SentMessage}
-use Rattle.ftc_message.specs.declared.need.Need.{Need}
 use Rattle.ftc_message.specs.Logged.{Logged}
-use Rattle.ftc_message.specs.Ordered.{with_item, with_items, is_earlier, is_lower}
+use Rattle.ftc_message.specs.Added.{logs_with, needs_with}
+use Rattle.ftc_message.specs.Ordered.{with_items, is_earlier}
 use Rattle.ftc_replica.specs.Held.{Held as Replicated, pruned_by}
 use Rattle.ftc_replica.specs.InTurn.{applied_all}
 use Rattle.ftc_replica.specs.Kept.{missing}
 use Rattle.ftc_serial.specs.Take.{Outcome}
-use Rattle.ftc_vector.specs.Vector.{by_partition, need_of}
+use Rattle.ftc_vector.specs.Vector.{by_partition}
 use Rattle.ftc_vector.specs.Commits.{by_group, vector_of, all_merged, group_raised}
 use Rattle.ftc_ring.specs.Ring.{apart, next_of}
 use Rattle.ftc_protocol.specs.Setting.{Setting, servers, is_member, is_tail}
