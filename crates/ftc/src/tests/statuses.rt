@@ -148,6 +148,6 @@ fn a_writer_without_room_has_a_front_of_the_line(rt: HostRuntime) -> Result<(), 
     let mut left = &mut room[..6];
     let (_, all) = tell(rt.alloc(), Status::DeskFault, &mut left);
     assert!(rt; !all);
-    assert_eq!(rt; room.as_slice(), b"desk: ..");
+    assert_eq!(rt; room.as_slice(), b"desk: ..".as_slice());
     Ok(())
 }
