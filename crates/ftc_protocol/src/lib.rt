@@ -1,6 +1,7 @@
 //! The protocol of the chain of servers, and what is so of every run of it. Its definitions are those of
 //! `specs/`: the state of a run, when an event is legal and what it does, over sets of visits. They have no
-//! vector, log, frame or lock: what the chain of servers does is judged by them. Nothing here runs.
+//! vector, log, frame or lock: what the chain of servers does is judged by them. Nothing here runs
+//! but what makes the ring of a chain.
 #![tactic(auto)]
 
 mod chain_ring;

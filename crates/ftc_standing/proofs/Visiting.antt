@@ -361,7 +361,8 @@ module _ (c : Setting) (s : ChainState) (f : IsFirmState c s) (k p w : ℕ) (leg
                     },
                   )
                   (needs_before packet forwarded).each;
-              names = λ group. any_with_item (λ (need : Need). need.group == group) is_lower (need_of_log one) before.needs
+              names = λ group. any_with_item (λ (need : Need). need.group == group) is_lower (need_of_log one)
+                  before.needs
                   ∙ (ap (λ x. x || needs_of before.needs group) (ap (λ x. x == group) own.1 ∙ eqb_swap k group)
                   ∙ (ap (λ x. (group == k) || x) ((needs_before packet forwarded).names group)
                   ∙ (or_comm_two (group == k) (message.needs group)
