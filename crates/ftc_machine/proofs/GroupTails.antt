@@ -7,9 +7,10 @@ use Rattle.ftc_machine.specs.declared.state.MachineState.{MachineState}
 use Rattle.ftc_machine.specs.Represents.{Represents, FollowsRun, footprints_in, frontiers_of}
 use Rattle.ftc_protocol.specs.Known.{knows}
 use Rattle.ftc_machine.specs.Frontier.{AreFrontiers, numbers_of, frontier_at}
-use Rattle.ftc_protocol.specs.Setting.{Setting, servers, is_tail, IsSetting}
+use Rattle.ftc_protocol.specs.Setting.{Setting, servers, shape, is_tail, IsSetting}
 use Rattle.ftc_protocol.specs.State.{ChainState}
 use Rattle.ftc_ring.specs.Groups.{group_ending_at}
+use Rattle.ftc_ring.proofs.Geometry.{ends}
 use Rattle.ftc_machine.specs.Tails.{known_at, part_of}
 use Rattle.ftc_protocol.specs.Visits.{Visits}
 use Rattle.ftc_machine.specs.Lawful.{IsLawful}
@@ -24,26 +25,6 @@ same_test true other there back = sym (there refl)
 same_test false true there back = back refl
 same_test false false there back = refl
 
--- the server ends that group alone
-pub ends : (n f group server : ℕ) → group < n → server < n → f < n →
-    (apart n group server == f) ≡ (group == group_ending_at (record { servers = n; failures = f }) server)
-ends n f group server below within small =
-    let far = apart_cases n group server below within in
-    let ending : ((f ≤ server) × (group_ending_at (record { servers = n; failures = f }) server ≡ server - f))
-    ⊎ ((server < f) × (group_ending_at (record { servers = n; failures = f }) server ≡ server + n - f)) =
-    elim (nat_le f server) as (λ b. nat_le f server ≡ b →
-    ((f ≤ server) × ((if b then server - f else server + n - f) ≡ server - f))
-    ⊎ ((server < f) × ((if b then server - f else server + n - f) ≡ server + n - f))) [
-      | true ↦ λ is. inl (leb-true f server is, refl)
-      | false ↦ λ is. inr (leb-false f server is, refl)
-    ] refl in
-    same_test (apart n group server == f) (group == group_ending_at (record { servers = n; failures = f }) server)
-    (λ is. let at : apart n group server ≡ f = eqb-true (apart n group server) f is in
-    eq-eqb group (group_ending_at (record { servers = n; failures = f }) server) (omega arith))
-    (λ is. let at : group ≡ group_ending_at (record { servers = n; failures = f }) server = eqb-true group
-    (group_ending_at (record { servers = n; failures = f }) server) is in
-    eq-eqb (apart n group server) f (omega arith))
-
 module _ (c : Setting) (setting : IsSetting c) (s : ChainState) (r : IsLawful c s) (k : MachineState)
     (is : Represents c s k) where
   -- of a group of the chain
@@ -51,7 +32,7 @@ module _ (c : Setting) (setting : IsSetting c) (s : ChainState) (r : IsLawful c 
       is_tail c group server ≡ (group == group_ending_at k.ring server)
   reached_ends group server below within =
       subst (λ (ring : RingShape). is_tail c group server ≡ (group == group_ending_at ring server)) (sym is.ring)
-      (ends (servers c) c.failures group server below within setting.ring.failures)
+      (sym (ends (shape c) group server setting.ring below within))
 
   -- what a server knows
   pub reached_knows : (server : ℕ) → server < servers c →

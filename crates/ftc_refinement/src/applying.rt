@@ -12,7 +12,7 @@ ghost use Rattle.ftc_server.specs.Steps.{HasApplied};
 ghost use Rattle.ftc_refinement.specs.Contents.{IsServerAt};
 
 use ftc_protocol::order_of_a_state;
-use ftc_server::ends;
+use ftc_ring::ends;
 use ftc_standing::a_log_is_applied;
 
 /// The log of a held message is applied to the replica of its group.

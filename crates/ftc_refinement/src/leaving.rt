@@ -19,7 +19,7 @@ ghost use Rattle.ftc_standing.specs.Stand.{IsLink};
 ghost use Rattle.ftc_refinement.specs.Contents.{IsServerAt};
 
 use ftc_protocol::order_of_a_state;
-use ftc_server::ends;
+use ftc_ring::ends;
 use ftc_standing::{
     a_message_is_carried, a_message_is_sent, a_message_leaves, a_packet_is_released,
 };

@@ -16,7 +16,7 @@ ghost use Rattle.ftc_refinement.specs.Contents.{IsServerAt};
 ghost use Rattle.ftc_refinement.specs.Pulled.{ArePulled};
 
 use ftc_protocol::order_of_a_state;
-use ftc_server::ends;
+use ftc_ring::ends;
 use ftc_standing::a_server_has_pulled;
 
 /// The receiver of a link puts in place what it pulled. One of the groups that both ends share is the one whose tail

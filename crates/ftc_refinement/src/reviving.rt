@@ -17,7 +17,7 @@ ghost use Rattle.ftc_server.specs.Steps.{IsRevived};
 ghost use Rattle.ftc_refinement.specs.Contents.{IsServerAt};
 ghost use Rattle.ftc_refinement.specs.Got.{AreGot};
 
-use ftc_server::ends;
+use ftc_ring::ends;
 use ftc_standing::a_server_is_replaced;
 
 /// A server begins anew with what it gets from the two live servers next to it and with what both know.

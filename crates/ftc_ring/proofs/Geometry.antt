@@ -1,7 +1,8 @@
 -- One link on and one link back, by distance.
-use Rattle.std.proofs.Common.{◌≡◌, ℕ, ◌+◌, ◌<◌, ◌≤◌, ◌⊎◌, arith}
+use Rattle.std.proofs.Common.{◌≡◌, ℕ, ◌+◌, ◌<◌, ◌≤◌, ◌==◌, ◌⊎◌, arith}
 use Rattle.std.proofs.lemmas.Bool.Decides.{nat_tests}
-use Rattle.ftc_ring.specs.Ring.{apart, next_of, previous_of}
+use Rattle.ftc_ring.specs.Ring.{RingShape, IsRing, apart, next_of, previous_of}
+use Rattle.ftc_ring.specs.Groups.{group_ending_at}
 
 pub apart_cases : (n a b : ℕ) → a < n → b < n → ((a ≤ b) × (apart n a b + a ≡ b))
     ⊎ ((b < a) × (apart n a b + a ≡ b + n))
@@ -36,3 +37,8 @@ previous_itself n k lk more = grind (arith, nat_tests)
 
 pub itself : (n k : ℕ) → apart n k k ≡ 0
 itself n k = grind (arith, nat_tests)
+
+-- a server is the last member of the group that ends at it, and of no other
+pub ends : (ring : RingShape) (group server : ℕ) → IsRing ring → group < ring.servers → server < ring.servers →
+    (group == group_ending_at ring server) ≡ (apart ring.servers group server == ring.failures)
+ends ring group server is below within = let small = is.failures in grind (arith, nat_tests)

@@ -1,7 +1,8 @@
 //! Laws about the ring, which every caller may rest on.
 
-ghost use Rattle.std.specs.Prelude.{◌≡◌, ◌≢◌, ◌≤◌, ◌<◌, ◌+◌, ◌-◌, ◌⊎◌, ◌↔◌, ℕ, Bool, Some, None};
+ghost use Rattle.std.specs.Prelude.{◌≡◌, ◌≢◌, ◌≤◌, ◌<◌, ◌+◌, ◌-◌, ◌==◌, ◌⊎◌, ◌↔◌, ℕ, Bool, Some, None};
 ghost use Rattle.ftc_ring.specs.Ring.{RingShape, IsRing, apart, IsMember, next_of, previous_of, tail_of};
+ghost use Rattle.ftc_ring.specs.Groups.{group_ending_at};
 ghost use Rattle.ftc_ring.specs.Live.{IsLive, IsDown, IsGone, IsAdmissible, IsFirstLive, IsFirstGone, IsLiveBefore};
 ghost use Rattle.ftc_ring.specs.Live.{IsLiveAfter, IsAlone, IsBetween, first_live_of, gone_of, live_before_of};
 ghost use Rattle.ftc_ring.specs.Live.{live_after_of, source_between, source_of, span};
@@ -45,6 +46,12 @@ pub fn origins()
         apart n r j + apart n j k ≡ apart n r k }
     ensures ordered { (n j x y : ℕ) → j ≤ x → x ≤ y → apart n j x ≤ apart n j y }
     ensures before { (n j x y : ℕ) → x < n → y < n → j ≤ x → apart n j y ≤ apart n j x → (j ≤ y) × (y ≤ x) }
+{}
+
+/// A server is the last member of the group that ends at it, and of no other.
+pub fn ends()
+    ensures { (ring : RingShape) (group server : ℕ) → IsRing ring → group < ring.servers → server < ring.servers →
+        (group == group_ending_at ring server) ≡ (apart ring.servers group server == ring.failures) }
 {}
 
 /// The members of a group.

@@ -9,7 +9,7 @@ mod recovery;
 mod ring;
 
 pub use distance::{apart, next_of, server_of};
-pub use laws::{admissible, distances, groups, origins, recoveries, steps, the_live};
+pub use laws::{admissible, distances, ends, groups, origins, recoveries, steps, the_live};
 pub use ring::Ring;
 
 #[cfg(test)]

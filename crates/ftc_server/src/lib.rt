@@ -32,7 +32,6 @@ pub use laws::rising;
 pub use recovering::{GroupReplica, GroupReplicas};
 pub use replicas::is_had;
 pub use server::Server;
-pub use standing::ends;
 pub use work::Work;
 
 #[cfg(test)]

@@ -1,8 +1,7 @@
 //! Where a server stands in the ring.
 
-ghost use Rattle.std.specs.Prelude.{◌≡◌, ◌<◌, ◌==◌, ℕ, IfOk};
-ghost use Rattle.ftc_ring.specs.Ring.{RingShape, IsRing, apart};
-ghost use Rattle.ftc_server.specs.Standing.{group_ending_at, is_last, onward, with_own};
+ghost use Rattle.std.specs.Prelude.{◌≡◌, ◌<◌, IfOk};
+ghost use Rattle.ftc_server.specs.Standing.{is_last, onward, with_own};
 
 use ftc_base::{NoMemory, ServerId, ServerSet};
 use ftc_message::Logs;
@@ -37,9 +36,3 @@ pub fn learn(known: &mut Commits, ring: &Ring, server: ServerId, group: ServerId
         known.raise(group, vector);
     }
 }
-
-/// A server is the last member of the group that ends at it, and of no other.
-pub fn ends()
-    ensures { (ring : RingShape) (group server : ℕ) → IsRing ring → group < ring.servers → server < ring.servers →
-        (group == group_ending_at ring server) ≡ (apart ring.servers group server == ring.failures) }
-{}
