@@ -1,7 +1,7 @@
 //! The messages that a server holds.
 
 ghost use Rattle.std.specs.Prelude.{◌≡◌, ◌≢◌, ◌≤◌, ◌<◌, ◌+◌, ◌++◌, ◌==◌, ◌&&◌, ◌||◌, ◌⊎◌, ℕ, false, not, [], ◌∷◌};
-ghost use Rattle.std.specs.Prelude.{length, filter, OnOk, IsOk, IsNone, slice_get, Some};
+ghost use Rattle.std.specs.Prelude.{length, filter, OnOk, IsOk, IfSome, IsNone, slice_get, Some};
 ghost use Rattle.std.specs.List.{position};
 ghost use Rattle.std.specs.Iterator.Runs.{YieldsRefsInOrder, YieldsRefsInReverse};
 ghost use Rattle.std.specs.Option.{option_copied};
@@ -204,12 +204,13 @@ impl HeldMessages {
         self.tickets.rouse(origin);
     }
 
-    /// Takes the message of that origin out. The others stay in their order.
+    /// Takes the message of that origin out. The others stay in their order, and nothing is noted of it.
     pub fn take_out(&mut self, origin: PacketNo) -> Option<HeldMessage>
         ensures taken { result ≡ found origin self.old.items }
         ensures others { self.new.items ≡ without origin self.old.items }
         ensures resting { (other : ℕ) → rests other self.new.resting
             ≡ rests other self.old.resting && not (other == origin) }
+        ensures unseen { IfSome result (λ _taken. noted origin self.new.had ≡ 0) }
         ensures had { (other : ℕ) → other ≢ origin → noted other self.new.had ≡ noted other self.old.had }
         ensures spare { self.new.spare ≡ self.old.spare }
     {
