@@ -89,7 +89,7 @@ fn freed_by(found: Found) -> Found {
 
 impl<'a, L: Run> Latch<'a, L> {
     /// All slots are idle, and nothing was counted yet.
-    pub fn new(chain: Chain<'a>, book: Book<L>, outlet: Option<Sender>) -> Latch<'a, L>
+    pub fn new(chain: Chain<'a>, book: Book<L>, outlet: Option<Sender>, lead: Lead) -> Latch<'a, L>
         requires start { visits chain.journal ≡ L.start + book.total }
         requires given { given_of chain ≡ L.given }
         requires idle { AreIdle chain }
@@ -100,7 +100,7 @@ impl<'a, L: Run> Latch<'a, L> {
             chain,
             book,
             outlet,
-            lead: Lead::new(),
+            lead,
             batch: Batch::new(),
             ended: false,
             stopped: false,

@@ -1,9 +1,10 @@
 //! The one latch, and what tells of changes under it.
 //!
-//! One worker at a time looks for jobs, and does one after the other: two would only stand in each other's way under
-//! the latch. Where it may be held for long, before a gate that isn't open or by an older transaction, it wakes
-//! another, which looks for jobs in its place if it still is held then. A worker that comes back from a visit looks
-//! itself, unless another does. So wherever a job can be done, a worker is awake that looks for one, or comes to.
+//! Before an open gate one worker at a time looks for jobs, and does one after the other: two would only stand in each
+//! other's way under the latch. Where it may be held for long, by an older transaction, it wakes another, which looks
+//! for jobs in its place if it still is held then. A worker that comes back from a visit looks itself, unless another
+//! does. Before a gate that holds visits all look, and each change wakes one that found nothing. So wherever a job can
+//! be done, a worker is awake that looks for one, or comes to.
 
 ghost use Rattle.std.specs.Prelude.{◌≡◌, ◌<◌, ◌+◌};
 
@@ -55,6 +56,16 @@ impl<'a, L: Run> Shared<'a, L> {
         self.latch.lock(rt)
     }
 
+    /// The chain changed: tells the writer where much is unwritten, and a worker that waits for a job.
+    fn tell(&self, latch: &mut Latch<'a, L>) {
+        if latch.flush() {
+            self.output.notify_one();
+        }
+        if latch.lead.is_awaited() {
+            self.work.notify_one();
+        }
+    }
+
     /// What lay under the latch.
     pub fn into_inner(self) -> Latch<'a, L> {
         let Shared {
@@ -98,7 +109,7 @@ pub fn rules<L: Run, R: Wait>(
     shared.lock(rt).rules(alloc)
 }
 
-/// Finds something to do. Where another worker looks for jobs, or where there is nothing, it waits.
+/// Finds something to do. Where another worker leads, or where there is nothing, it waits.
 pub fn find<L: Run, R: Wait>(rt: &R, shared: &Shared<'_, L>, worker: WorkerId) -> Found {
     let mut latch = shared.lock(rt);
     if !latch.lead.take(worker) {
@@ -110,17 +121,15 @@ pub fn find<L: Run, R: Wait>(rt: &R, shared: &Shared<'_, L>, worker: WorkerId) -
     let found = latch.find(worker);
     match found {
         Found::Nothing => {
-            latch.lead.give_up(worker);
+            latch.lead.wait(worker);
             if latch.batch.close() {
                 shared.output.notify_one();
             }
-            let _latch = shared.work.wait(rt, latch);
+            shared.work.wait(rt, latch).lead.wake();
             Found::Nothing
         }
         Found::Stepped | Found::Freed => {
-            if latch.flush() {
-                shared.output.notify_one();
-            }
+            shared.tell(&mut latch);
             found
         }
         other => other,
@@ -151,9 +160,7 @@ pub fn take<L: Run, R: Wait>(
 ) -> bool {
     let mut latch = shared.lock(rt);
     let taken = latch.take_seen(link, origin, seen);
-    if latch.flush() {
-        shared.output.notify_one();
-    }
+    shared.tell(&mut latch);
     taken
 }
 
@@ -196,9 +203,7 @@ fn try_commit<L: Run, R: Wait>(
 {
     let mut latch = shared.lock(rt);
     let answer = latch.commit(worker, plan, mine);
-    if latch.flush() {
-        shared.output.notify_one();
-    }
+    shared.tell(&mut latch);
     match answer {
         CommitAnswer::Done => Turn::Over,
         CommitAnswer::NoMemory => Turn::NoMemory,

@@ -183,16 +183,36 @@ fn three_workers_make_six_visits(rt: HostRuntime) -> Result<(), Fail> {
     Ok(())
 }
 
+/// How workers end over 200 packets through three monitors.
+const MANY: Ran = Ran {
+    finished: true,
+    commits: 600,
+    visits: 600,
+};
+
 #[test]
 fn many_packets_go_through(rt: HostRuntime) -> Result<(), Fail> {
     let parts = Parts::new(rt.alloc(), three_monitors(rt.alloc())?, 200)?;
     let ended = run_parts(&rt, &parts, 4, &OpenGate)?;
-    let expected = Ran {
-        finished: true,
-        commits: 600,
-        visits: 600,
-    };
-    assert_eq!(rt; ended, expected);
+    assert_eq!(rt; ended, MANY);
+    Ok(())
+}
+
+/// A gate that holds each visit for a moment. Workers that found nothing meanwhile have to be woken.
+#[derive(Clone, Copy)]
+struct SlowGate;
+
+impl Gate for SlowGate {
+    fn pause(&self, _server: ServerId, _packet: PacketNo) {
+        thread::yield_now();
+    }
+}
+
+#[test]
+fn many_packets_pass_a_gate_that_holds(rt: HostRuntime) -> Result<(), Fail> {
+    let parts = Parts::new(rt.alloc(), three_monitors(rt.alloc())?, 200)?;
+    let ended = run_parts(&rt, &parts, 8, &SlowGate)?;
+    assert_eq!(rt; ended, MANY);
     Ok(())
 }
 

@@ -23,11 +23,10 @@ pub struct Worker<'a, 'b, L: Run, R, G> {
 }
 
 impl<'a, 'b, L: Run, R: Wait, G: Gate> Worker<'a, 'b, L, R, G> {
-    /// Passes the gate. Where that may hold the visit, another worker is woken first, which costs more than a visit
-    /// does. An open gate holds nobody: there another may take this worker's place now and then, ever less often, since
-    /// what a worker works on is near it.
+    /// Passes the gate. An open gate holds nobody: there another may take this worker's place now and then, ever less
+    /// often, since what a worker works on is near it. Before any other gate all look for jobs, and nobody has a place.
     fn pass(&self, begun: &Begun, commits: u64) {
-        if !self.gate.is_open() || commits.is_power_of_two() {
+        if self.gate.is_open() && commits.is_power_of_two() {
             hold(self.rt, self.shared, self.slot);
         }
         self.gate.pause(begun.server, begun.packet);
