@@ -21,9 +21,10 @@ use Rattle.ftc_check.specs.declared.verdict.Checked.TheVariants.{Yes}
 use Rattle.ftc.specs.declared.status.Status.{Status}
 use Rattle.ftc.specs.declared.status.Status.TheVariants as status
 use Rattle.ftc_words.specs.Command.{Named, Mode, plain, workers, alone}
-use Rattle.ftc.specs.Texts.{ring_of, HasChain, HasCapture, HasSchedule, AreTexts}
+use Rattle.ftc.specs.Texts.{ring_of, HasChain, HasCapture, HasSchedule, AreInputs, AreTexts}
 use Rattle.ftc.specs.Refused.{IsTextRefused, IsWrongChain, IsWrongCapture, IsWrongScript, IsWrongSchedule}
-use Rattle.ftc.specs.Refused.{IsWrongJournal, IsNeverWrong, IsScheduleRefused, IsRunRefused, IsCheckRefused}
+use Rattle.ftc.specs.Refused.{IsWrongJournal, IsNeverWrong, IsInputRefused, IsScheduleRefused, IsRunRefused}
+use Rattle.ftc.specs.Refused.{IsCheckRefused}
 use Rattle.ftc.specs.Done.{Ends}
 use Rattle.ftc.specs.Checking.{IsJudged, AreChecked, IsRightRun, Judges, IsYesOrRefused, IsCheckEnd}
 
@@ -156,17 +157,16 @@ no_capture laws text capture right status.DeskFault wrong = wrong
 no_capture laws text capture right status.NoMemory wrong = wrong
 
 module _ (laws : Laws) (names : Named) (files : Files) (chain : Chain) (capture : Capture) (script : ScriptShape)
-    (out : List ℕ) (journal : List Event) (report : List ℕ)
-    (checked : AreChecked names files chain capture script out journal report) where
-  -- what else the texts may be said to spell is the same
+    (inputs : AreInputs names files chain capture script) where
+  -- what else a chain, a capture and a script that are right may be said to spell is the same
   chain_reads : (text : List ℕ) → files names.chain ≡ Some text → chain_of text ≡ Ok chain
   chain_reads text file =
-      let has = checked.inputs.chain_right in
+      let has = inputs.chain_right in
       subst (λ (t : List ℕ). chain_of t ≡ Ok chain) (some_once has.text text (sym has.file ∙ file)) has.right
 
   capture_reads : (text : List ℕ) → files names.capture ≡ Some text → Spells text capture
   capture_reads text file =
-      let has = checked.inputs.capture_right in
+      let has = inputs.capture_right in
       subst (λ (t : List ℕ). Spells t capture) (some_once has.text text (sym has.file ∙ file)) has.right
 
   chain_is : (other : Chain) → HasChain names.chain files other → other ≡ chain
@@ -178,10 +178,31 @@ module _ (laws : Laws) (names : Named) (files : Files) (chain : Chain) (capture 
   script_reads : (other : Chain) (taken : Capture) (text : List ℕ) → other ≡ chain → taken ≡ capture →
       files names.script ≡ Some text → script_of (ring_of other) (length taken.packets) text ≡ Ok script
   script_reads other taken text is also file =
-      let has = checked.inputs.script_right in
+      let has = inputs.script_right in
       let same = some_once text has.text (sym file ∙ has.file) in
       rw (is, also, same) has.right
 
+  -- none of the three is refused, but for the desk or for memory
+  input_once : (sound : Type 0) (ending : Status) → (ending ≡ status.DeskFault → ⊥) →
+      IsInputRefused sound names files ending → ending ≡ status.NoMemory
+  input_once sound ending no-fault refused =
+      elim refused [
+        | inl first ↦ not_refused sound files names.chain IsWrongChain ending
+            (λ text file. no_chain text chain (chain_reads text file) ending) no-fault first
+        | inr behind ↦ let (other, other_right, refused) = behind in elim refused [
+          | inl first ↦ not_refused sound files names.capture IsWrongCapture ending
+              (λ text file. no_capture laws text capture (capture_reads text file) ending) no-fault first
+          | inr behind ↦ let (taken, taken_right, refused) = behind in not_refused sound files names.script
+              (IsWrongScript (ring_of other) (length taken.packets)) ending
+              (λ text file. no_script (ring_of other) (length taken.packets) text script
+              (script_reads other taken text (chain_is other other_right)
+              (capture_is taken taken_right) file) ending) no-fault refused
+        ]
+      ]
+
+module _ (laws : Laws) (names : Named) (files : Files) (chain : Chain) (capture : Capture) (script : ScriptShape)
+    (out : List ℕ) (journal : List Event) (report : List ℕ)
+    (checked : AreChecked names files chain capture script out journal report) where
   journal_reads : (text : List ℕ) → files names.journal ≡ Some text → journal_of text ≡ Ok journal
   journal_reads text file =
       let has = checked.journal_right in
@@ -192,27 +213,15 @@ module _ (laws : Laws) (names : Named) (files : Files) (chain : Chain) (capture 
       IsCheckRefused sound names files ending → ending ≡ status.NoMemory
   refused_once sound ending no-fault refused =
       elim refused [
-        | inl first ↦ not_refused sound files names.chain IsWrongChain ending
-            (λ text file. no_chain text chain (chain_reads text file) ending) no-fault first
-        | inr behind ↦ let (other, other_right, refused) = behind in elim refused [
-          | inl first ↦ not_refused sound files names.capture IsWrongCapture ending
-              (λ text file. no_capture laws text capture (capture_reads text file) ending) no-fault first
-          | inr behind ↦ let (taken, taken_right, refused) = behind in elim refused [
-            | inl first ↦ not_refused sound files names.script
-                (IsWrongScript (ring_of other) (length taken.packets)) ending
-                (λ text file. no_script (ring_of other) (length taken.packets) text script
-                (script_reads other taken text (chain_is other other_right)
-                (capture_is taken taken_right) file) ending) no-fault first
-            | inr behind ↦ elim behind.2 [
-              | inl first ↦ not_refused sound files names.out IsNeverWrong ending
-                  (λ text file wrong. wrong) no-fault first
-              | inr behind ↦ elim behind.2 [
-                | inl first ↦ not_refused sound files names.journal IsWrongJournal ending
-                    (λ text file. no_journal text journal (journal_reads text file) ending) no-fault first
-                | inr behind ↦ not_refused sound files names.report IsNeverWrong ending
-                    (λ text file wrong. wrong) no-fault behind.2
-              ]
-            ]
+        | inl first ↦ input_once laws names files chain capture script checked.inputs sound ending no-fault first
+        | inr behind ↦ elim behind.4 [
+          | inl first ↦ not_refused sound files names.out IsNeverWrong ending
+              (λ text file wrong. wrong) no-fault first
+          | inr behind ↦ elim behind.2 [
+            | inl first ↦ not_refused sound files names.journal IsWrongJournal ending
+                (λ text file. no_journal text journal (journal_reads text file) ending) no-fault first
+            | inr behind ↦ not_refused sound files names.report IsNeverWrong ending
+                (λ text file wrong. wrong) no-fault behind.2
           ]
         ]
       ]
@@ -248,12 +257,15 @@ module _ (laws : Laws) (names : Named) (files : Files) (chain : Chain) (capture 
       (setting_of chain (bytes_of_packets capture.packets) script) capture out journal report Yes →
       (verdict : Checked) → IsJudged names files verdict → verdict ≡ Yes
   verdict_is fine verdict judged =
-      let of_chain = chain_is judged.chain judged.checked.inputs.chain_right in
-      let of_capture = capture_is judged.capture judged.checked.inputs.capture_right in
+      let of_chain = chain_is laws names files chain capture script checked.inputs judged.chain
+      judged.checked.inputs.chain_right in
+      let of_capture = capture_is laws names files chain capture script checked.inputs judged.capture
+      judged.checked.inputs.capture_right in
       let spelled = judged.checked.inputs.script_right in
       let of_script : judged.script ≡ script =
       ok_once _ judged.script script spelled.right
-      (script_reads judged.chain judged.capture spelled.text of_chain of_capture spelled.file) in
+      (script_reads laws names files chain capture script checked.inputs judged.chain judged.capture spelled.text
+      of_chain of_capture spelled.file) in
       let of_out = some_once judged.out out (sym judged.checked.out_file ∙ checked.out_file) in
       let read = judged.checked.journal_right in
       let of_journal : judged.journal ≡ journal =
@@ -292,30 +304,6 @@ module _ (laws : Laws) (names : Named) (files : Files) (right : IsRightRun names
 module _ (laws : Laws) (names : Named) (mode : Mode) (files : Files) (chain : Chain) (capture : Capture)
     (script : ScriptShape) (schedule : List Event)
     (texts : AreTexts names mode files chain capture script schedule) where
-  text_of_chain : (text : List ℕ) → files names.chain ≡ Some text → chain_of text ≡ Ok chain
-  text_of_chain text file =
-      let has = texts.inputs.chain_right in
-      subst (λ (t : List ℕ). chain_of t ≡ Ok chain) (some_once has.text text (sym has.file ∙ file)) has.right
-
-  text_of_capture : (text : List ℕ) → files names.capture ≡ Some text → Spells text capture
-  text_of_capture text file =
-      let has = texts.inputs.capture_right in
-      subst (λ (t : List ℕ). Spells t capture) (some_once has.text text (sym has.file ∙ file)) has.right
-
-  one_chain : (other : Chain) → HasChain names.chain files other → other ≡ chain
-  one_chain other has = ok_once (chain_of has.text) other chain has.right (text_of_chain has.text has.file)
-
-  the_capture : (other : Capture) → HasCapture names.capture files other → other ≡ capture
-  the_capture other has = laws.one_capture has.text other capture has.right (text_of_capture has.text has.file)
-
-  text_of_script : (other : Chain) (taken : Capture) (text : List ℕ) → other ≡ chain → taken ≡ capture →
-      files names.script ≡ Some text
-      → script_of (ring_of other) (length taken.packets) text ≡ Ok script
-  text_of_script other taken text is also file =
-      let has = texts.inputs.script_right in
-      let same = some_once text has.text (sym file ∙ has.file) in
-      rw (is, also, same) has.right
-
   schedule_once : (sound : Type 0) (way : Mode) → HasSchedule way files schedule → (ending : Status) →
       (ending ≡ status.DeskFault → ⊥)
       → IsScheduleRefused sound way files ending → ending ≡ status.NoMemory
@@ -332,20 +320,8 @@ module _ (laws : Laws) (names : Named) (mode : Mode) (files : Files) (chain : Ch
       IsRunRefused sound names mode files ending → ending ≡ status.NoMemory
   run_refused_once sound ending no-fault refused =
       elim refused [
-        | inl first ↦ not_refused sound files names.chain IsWrongChain ending
-            (λ text file. no_chain text chain (text_of_chain text file) ending) no-fault first
-        | inr behind ↦ let (other, other_right, refused) = behind in elim refused [
-          | inl first ↦ not_refused sound files names.capture IsWrongCapture ending
-              (λ text file. no_capture laws text capture (text_of_capture text file) ending) no-fault first
-          | inr behind ↦ let (taken, taken_right, refused) = behind in elim refused [
-            | inl first ↦ not_refused sound files names.script
-                (IsWrongScript (ring_of other) (length taken.packets)) ending
-                (λ text file. no_script (ring_of other) (length taken.packets) text script
-                (text_of_script other taken text (one_chain other other_right)
-                (the_capture taken taken_right) file) ending) no-fault first
-            | inr behind ↦ schedule_once sound mode texts.schedule_right ending no-fault behind.2
-          ]
-        ]
+        | inl first ↦ input_once laws names files chain capture script texts.inputs sound ending no-fault first
+        | inr behind ↦ schedule_once sound mode texts.schedule_right ending no-fault behind.4
       ]
 
   done_or_memory : (sound : Type 0) (new : Files) (ending : Status) → (ending ≡ status.DeskFault → ⊥) →

@@ -12,7 +12,7 @@ use Rattle.ftc_script.specs.Script.{ScriptShape}
 use Rattle.ftc_journal.specs.declared.event.Event.{Event}
 use Rattle.ftc.specs.Texts.{ring_of, HasChain, HasCapture, HasScript, HasJournal, HasSchedule, AreInputs}
 use Rattle.ftc.specs.Refused.{IsTextRefused, IsWrongScript, IsWrongSchedule, IsWrongJournal, IsNeverWrong}
-use Rattle.ftc.specs.Refused.{IsScheduleRefused, IsRunRefused, IsCheckRefused}
+use Rattle.ftc.specs.Refused.{IsInputRefused, IsScheduleRefused, IsRunRefused, IsCheckRefused}
 use Rattle.ftc.specs.Checking.{Judges}
 use Rattle.ftc.specs.Done.{Ends}
 
@@ -21,14 +21,17 @@ schedule_isnt_done sound plain files refused = refused
 schedule_isnt_done sound (workers count) files refused = refused
 schedule_isnt_done sound (alone name move) files refused = refused.2
 
+input_isnt_done : (sound : Type 0) (names : Named) (files : Files) → IsInputRefused sound names files status.Done → ⊥
+input_isnt_done sound names files refused = elim refused [
+  | inl first ↦ first.2
+  | inr behind ↦ elim behind.2 [ inl first ↦ first.2 | inr behind ↦ behind.2.2 ]
+]
+
 run_isnt_done : (sound : Type 0) (names : Named) (mode : Mode) (files : Files) →
     IsRunRefused sound names mode files status.Done → ⊥
 run_isnt_done sound names mode files refused = elim refused [
-  | inl first ↦ first.2
-  | inr behind ↦ elim behind.2 [
-    | inl first ↦ first.2
-    | inr behind ↦ elim behind.2 [ inl first ↦ first.2 | inr behind ↦ schedule_isnt_done sound mode files behind.2 ]
-  ]
+  | inl first ↦ input_isnt_done sound names files first
+  | inr behind ↦ schedule_isnt_done sound mode files behind.4
 ]
 
 pub ends_refused : (sound : Type 0) (names : Named) (mode : Mode) (taps left : List Face) (old new : Files)
@@ -50,36 +53,27 @@ ends_refused sound names mode taps left old new status.NoMemory refused same = i
 
 check_isnt_done : (sound : Type 0) (names : Named) (files : Files) → IsCheckRefused sound names files status.Done → ⊥
 check_isnt_done sound names files refused = elim refused [
-  | inl first ↦ first.2
-  | inr behind ↦ elim behind.2 [
+  | inl first ↦ input_isnt_done sound names files first
+  | inr behind ↦ elim behind.4 [
     | inl first ↦ first.2
-    | inr behind ↦ elim behind.2 [
-      | inl first ↦ first.2
-      | inr behind ↦
-          elim behind.2 [
-            | inl first ↦ first.2
-            | inr behind ↦
-                elim behind.2 [ inl first ↦ first.2 | inr behind ↦ behind.2.2 ]
-          ]
-    ]
+    | inr behind ↦ elim behind.2 [ inl first ↦ first.2 | inr behind ↦ behind.2.2 ]
   ]
+]
+
+input_isnt_judged : (sound : Type 0) (names : Named) (files : Files) (verdict : Checked) →
+    IsInputRefused sound names files (status.Check verdict) → ⊥
+input_isnt_judged sound names files verdict refused = elim refused [
+  | inl first ↦ first.2
+  | inr behind ↦ elim behind.2 [ inl first ↦ first.2 | inr behind ↦ behind.2.2 ]
 ]
 
 check_isnt_judged : (sound : Type 0) (names : Named) (files : Files) (verdict : Checked) →
     IsCheckRefused sound names files (status.Check verdict) → ⊥
 check_isnt_judged sound names files verdict refused = elim refused [
-  | inl first ↦ first.2
-  | inr behind ↦ elim behind.2 [
+  | inl first ↦ input_isnt_judged sound names files verdict first
+  | inr behind ↦ elim behind.4 [
     | inl first ↦ first.2
-    | inr behind ↦ elim behind.2 [
-      | inl first ↦ first.2
-      | inr behind ↦
-          elim behind.2 [
-            | inl first ↦ first.2
-            | inr behind ↦
-                elim behind.2 [ inl first ↦ first.2 | inr behind ↦ behind.2.2 ]
-          ]
-    ]
+    | inr behind ↦ elim behind.2 [ inl first ↦ first.2 | inr behind ↦ behind.2.2 ]
   ]
 ]
 
@@ -145,20 +139,20 @@ journal_before name old new journal same has =
 
 -- ---- a text behind those that are right
 
-pub script_refused : (sound : Type 0) (names : Named) (mode : Mode) (files : Files) (chain : Chain) (capture : Capture)
+pub script_refused : (sound : Type 0) (names : Named) (files : Files) (chain : Chain) (capture : Capture)
     (ending : Status)
     → HasChain names.chain files chain → HasCapture names.capture files capture
     → IsTextRefused sound files names.script (IsWrongScript (ring_of chain) (length capture.packets)) ending
-    → IsRunRefused sound names mode files ending
-script_refused sound names mode files chain capture ending chain_right capture_right refused =
-    inr (chain, chain_right, inr (capture, capture_right, inl refused))
+    → IsInputRefused sound names files ending
+script_refused sound names files chain capture ending chain_right capture_right refused =
+    inr (chain, chain_right, inr (capture, capture_right, refused))
 
 pub schedule_refused : (sound : Type 0) (names : Named) (mode : Mode) (files : Files) (chain : Chain)
     (capture : Capture) (script : ScriptShape) (ending : Status)
     → AreInputs names files chain capture script → IsScheduleRefused sound mode files ending →
     IsRunRefused sound names mode files ending
 schedule_refused sound names mode files chain capture script ending inputs refused =
-    inr (chain, inputs.chain_right, inr (capture, inputs.capture_right, inr (script, inputs.script_right, refused)))
+    inr (chain, capture, script, inputs, refused)
 
 -- what was said of the schedule as it is now, of the schedule as it was
 pub schedule_refused_before : (sound now-sound : Type 0) (mode : Mode) (old new : Files) (ending : Status) →
@@ -175,29 +169,18 @@ schedule_before plain old new schedule same has = has
 schedule_before (workers count) old new schedule same has = has
 schedule_before (alone name move) old new schedule same has = journal_before name old new schedule same has
 
-pub whole_script_refused : (sound : Type 0) (names : Named) (files : Files) (chain : Chain) (capture : Capture)
-    (ending : Status) → HasChain names.chain files chain → HasCapture names.capture files capture
-    → IsTextRefused sound files names.script (IsWrongScript (ring_of chain) (length capture.packets)) ending →
-    IsCheckRefused sound names files ending
-whole_script_refused sound names files chain capture ending chain_right capture_right refused =
-    inr (chain, chain_right, inr (capture, capture_right, inl refused))
-
 pub out_refused : (sound : Type 0) (names : Named) (files : Files) (chain : Chain) (capture : Capture)
     (script : ScriptShape) (ending : Status) → AreInputs names files chain capture script
     → IsTextRefused sound files names.out IsNeverWrong ending → IsCheckRefused sound names files ending
 out_refused sound names files chain capture script ending inputs refused =
-    inr (chain, inputs.chain_right, inr (capture, inputs.capture_right, inr (script, inputs.script_right, inl refused)))
+    inr (chain, capture, script, inputs, inl refused)
 
 pub journal_refused : (sound : Type 0) (names : Named) (files : Files) (chain : Chain) (capture : Capture)
     (script : ScriptShape) (out : List ℕ) (ending : Status) → AreInputs names files chain capture script
     → files names.out ≡ Some out → IsTextRefused sound files names.journal IsWrongJournal ending →
     IsCheckRefused sound names files ending
 journal_refused sound names files chain capture script out ending inputs out_file refused =
-    inr (
-      chain,
-      inputs.chain_right,
-      inr (capture, inputs.capture_right, inr (script, inputs.script_right, inr (out, out_file, inl refused))),
-    )
+    inr (chain, capture, script, inputs, inr (out, out_file, inl refused))
 
 pub report_refused : (sound : Type 0) (names : Named) (files : Files) (chain : Chain) (capture : Capture)
     (script : ScriptShape) (out : List ℕ) (journal : List Event) (ending : Status) →
@@ -205,12 +188,4 @@ pub report_refused : (sound : Type 0) (names : Named) (files : Files) (chain : C
     → files names.out ≡ Some out → HasJournal names.journal files journal →
     IsTextRefused sound files names.report IsNeverWrong ending → IsCheckRefused sound names files ending
 report_refused sound names files chain capture script out journal ending inputs out_file journal_right refused =
-    inr (
-      chain,
-      inputs.chain_right,
-      inr (
-        capture,
-        inputs.capture_right,
-        inr (script, inputs.script_right, inr (out, out_file, inr (journal, journal_right, refused))),
-      ),
-    )
+    inr (chain, capture, script, inputs, inr (out, out_file, inr (journal, journal_right, refused)))

@@ -19,6 +19,15 @@ IsScriptAnswer status.DeskFault = Unit {0}
 IsScriptAnswer status.NoMemory = Unit {0}
 IsScriptAnswer other = ⊥
 
+-- and what that of all three may
+abbrev pub IsReadingAnswer : Status → Type 0
+IsReadingAnswer (status.Chain line cause) = Unit {0}
+IsReadingAnswer (status.Capture at cause) = Unit {0}
+IsReadingAnswer (status.Script line cause) = Unit {0}
+IsReadingAnswer status.DeskFault = Unit {0}
+IsReadingAnswer status.NoMemory = Unit {0}
+IsReadingAnswer other = ⊥
+
 -- and what that of a journal may
 abbrev pub IsJournalAnswer : Status → Type 0
 IsJournalAnswer (status.Journal line cause) = Unit {0}

@@ -13,7 +13,7 @@ use Rattle.ftc_journal.specs.declared.event.Event.{Event}
 use Rattle.ftc_words.specs.Command.{Named, Mode, alone}
 use Rattle.ftc.specs.declared.status.Status.{Status}
 use Rattle.ftc.specs.declared.status.Status.TheVariants as status
-use Rattle.ftc.specs.Texts.{ring_of, HasChain, HasCapture, HasScript, HasJournal}
+use Rattle.ftc.specs.Texts.{ring_of, HasChain, HasCapture, HasJournal, AreInputs}
 
 -- ---- one text
 
@@ -53,6 +53,15 @@ IsNeverWrong text ending = ⊥
 
 -- ---- the texts of each command in order: a text is refused, or it is right and one behind it is refused
 
+-- chain, capture and script, which runs and checks read first
+abbrev pub IsInputRefused : Type 0 → Named → Files → Status → Type 0
+IsInputRefused sound names files ending =
+    IsTextRefused sound files names.chain IsWrongChain ending
+    ⊎ ((chain : Chain) × HasChain names.chain files chain
+    × (IsTextRefused sound files names.capture IsWrongCapture ending
+    ⊎ ((capture : Capture) × HasCapture names.capture files capture
+    × IsTextRefused sound files names.script (IsWrongScript (ring_of chain) (length capture.packets)) ending)))
+
 -- the schedule, where a run has one
 abbrev pub IsScheduleRefused : Type 0 → Mode → Files → Status → Type 0
 IsScheduleRefused sound (alone name move) files ending = IsTextRefused sound files name IsWrongSchedule ending
@@ -60,23 +69,15 @@ IsScheduleRefused sound other files ending = ⊥
 
 abbrev pub IsRunRefused : Type 0 → Named → Mode → Files → Status → Type 0
 IsRunRefused sound names mode files ending =
-    IsTextRefused sound files names.chain IsWrongChain ending
-    ⊎ ((chain : Chain) × HasChain names.chain files chain
-    × (IsTextRefused sound files names.capture IsWrongCapture ending
-    ⊎ ((capture : Capture) × HasCapture names.capture files capture
-    × (IsTextRefused sound files names.script (IsWrongScript (ring_of chain) (length capture.packets)) ending
-    ⊎ ((read : ScriptShape) × HasScript names.script files chain (length capture.packets) read
-    × IsScheduleRefused sound mode files ending)))))
+    IsInputRefused sound names files ending
+    ⊎ ((chain : Chain) × (capture : Capture) × (script : ScriptShape) × AreInputs names files chain capture script
+    × IsScheduleRefused sound mode files ending)
 
 abbrev pub IsCheckRefused : Type 0 → Named → Files → Status → Type 0
 IsCheckRefused sound names files ending =
-    IsTextRefused sound files names.chain IsWrongChain ending
-    ⊎ ((chain : Chain) × HasChain names.chain files chain
-    × (IsTextRefused sound files names.capture IsWrongCapture ending
-    ⊎ ((capture : Capture) × HasCapture names.capture files capture
-    × (IsTextRefused sound files names.script (IsWrongScript (ring_of chain) (length capture.packets)) ending
-    ⊎ ((read : ScriptShape) × HasScript names.script files chain (length capture.packets) read
+    IsInputRefused sound names files ending
+    ⊎ ((chain : Chain) × (capture : Capture) × (script : ScriptShape) × AreInputs names files chain capture script
     × (IsTextRefused sound files names.out IsNeverWrong ending
     ⊎ ((out : List ℕ) × (files names.out ≡ Some out) × (IsTextRefused sound files names.journal IsWrongJournal ending
     ⊎ ((journal : List Event) × HasJournal names.journal files journal
-    × IsTextRefused sound files names.report IsNeverWrong ending)))))))))
+    × IsTextRefused sound files names.report IsNeverWrong ending)))))

@@ -10,7 +10,7 @@ ghost use Rattle.ftc.specs.Checking.{AreChecked};
 ghost use Rattle.ftc.specs.Refused.{IsTextRefused, IsWrongJournal, IsCheckRefused};
 
 use crate::status::Status;
-use crate::texts::{fetch_capture, fetch_chain, fetch_script};
+use crate::texts::{Inputs, read_inputs};
 use ftc_base::Bytes;
 use ftc_journal::{Journal, read};
 use ftc_mbox::ChainSpec;
@@ -65,10 +65,12 @@ pub fn read_files<D: Desk>(
     ensures files { D.tells desk.old → SameFiles (D.file desk.old) (D.file desk.new) }
     ensures served { HasServed D.tells D.sound D.faults (result ≡ Err Status.DeskFault) desk.old desk.new }
 {
-    let spec = fetch_chain(alloc, names.chain, desk)?;
-    let capture = fetch_capture(alloc, names.capture, desk)?;
-    let packets = capture.packets.len() as u32;
-    let script = fetch_script(alloc, names.script, &spec, packets, desk)?;
+    let inputs = read_inputs(alloc, names, desk)?;
+    let Inputs {
+        spec,
+        capture,
+        script,
+    } = inputs;
     let out = desk.fetch(alloc, names.out)?;
     let journal = fetch_journal(alloc, names.journal, desk)?;
     let report = desk.fetch(alloc, names.report)?;

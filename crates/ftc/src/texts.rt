@@ -3,11 +3,11 @@
 ghost use Rattle.std.specs.Prelude.{◌≡◌, ◌≢◌, ◌≤◌, length, Err, IfOk, IfErr};
 ghost use Rattle.ftc_outside.specs.Desk.{SameFiles, HasServed};
 ghost use Rattle.ftc_script.specs.Script.{IsScript};
-ghost use Rattle.ftc.specs.Answers.{IsInputAnswer, IsScriptAnswer, IsRunAnswer};
+ghost use Rattle.ftc.specs.Answers.{IsInputAnswer, IsScriptAnswer, IsReadingAnswer, IsRunAnswer};
 ghost use Rattle.ftc_words.specs.Shown.{named_of, shown_mode};
-ghost use Rattle.ftc.specs.Texts.{ring_of, HasChain, HasCapture, HasScript, HasSchedule, AreTexts};
+ghost use Rattle.ftc.specs.Texts.{ring_of, HasChain, HasCapture, HasScript, HasSchedule, AreInputs, AreTexts};
 ghost use Rattle.ftc.specs.Refused.{IsTextRefused, IsWrongChain, IsWrongCapture, IsWrongScript, IsScheduleRefused};
-ghost use Rattle.ftc.specs.Refused.{IsRunRefused};
+ghost use Rattle.ftc.specs.Refused.{IsInputRefused, IsRunRefused};
 
 use crate::status::{Status, schedule_status};
 use ftc_conf::read_chain;
@@ -19,6 +19,14 @@ use ftc_protocol::ring_of;
 use ftc_script::{Script, accepted, read_script};
 use ftc_words::{Mode, Names};
 use std::alloc::Global;
+
+/// What a chain, a capture and a script say.
+#[derive(Drop)]
+pub struct Inputs {
+    pub spec: ChainSpec,
+    pub capture: Capture,
+    pub script: Script,
+}
 
 /// What the texts of a run say.
 #[derive(Drop)]
@@ -84,6 +92,35 @@ pub fn fetch_script<D: Desk>(
     Ok(script)
 }
 
+/// Fetches and reads chain, capture and script in this order, each before the next.
+pub fn read_inputs<D: Desk>(
+    alloc: Global,
+    names: Names<'_>,
+    desk: &mut D,
+) -> Result<Inputs, Status>
+    ensures accepted { D.tells desk.old → IfOk result (λ inputs. AreInputs (named_of names.entry) (D.file desk.old)
+        inputs.spec inputs.capture inputs.script) }
+    ensures ring { IfOk result (λ inputs. inputs.script.ring ≡ ring_of inputs.spec) }
+    ensures packets { IfOk result (λ inputs. inputs.script.packets ≡ length inputs.capture.packets) }
+    ensures right { IfOk result (λ inputs. IsScript inputs.script) }
+    ensures refused { D.tells desk.old → IfErr result (IsInputRefused (D.sound desk.old) (named_of names.entry)
+        (D.file desk.old)) }
+    ensures known { IfErr result (λ ending. ending ≢ Status.Usage) }
+    ensures answer { IfErr result IsReadingAnswer }
+    ensures files { D.tells desk.old → SameFiles (D.file desk.old) (D.file desk.new) }
+    ensures served { HasServed D.tells D.sound D.faults (result ≡ Err Status.DeskFault) desk.old desk.new }
+{
+    let spec = fetch_chain(alloc, names.chain, desk)?;
+    let capture = fetch_capture(alloc, names.capture, desk)?;
+    let packets = capture.packets.len() as u32;
+    let script = fetch_script(alloc, names.script, &spec, packets, desk)?;
+    Ok(Inputs {
+        spec,
+        capture,
+        script,
+    })
+}
+
 /// Fetches and reads the schedule, where a run has one. A run without one has the empty schedule.
 fn fetch_schedule<D: Desk>(alloc: Global, mode: Mode<'_>, desk: &mut D) -> Result<Journal, Status>
     ensures accepted { D.tells desk.old → IfOk result (λ schedule. HasSchedule (shown_mode mode.entry)
@@ -123,10 +160,12 @@ pub fn read_texts<D: Desk>(
     ensures files { D.tells desk.old → SameFiles (D.file desk.old) (D.file desk.new) }
     ensures served { HasServed D.tells D.sound D.faults (result ≡ Err Status.DeskFault) desk.old desk.new }
 {
-    let spec = fetch_chain(alloc, names.chain, desk)?;
-    let capture = fetch_capture(alloc, names.capture, desk)?;
-    let packets = capture.packets.len() as u32;
-    let script = fetch_script(alloc, names.script, &spec, packets, desk)?;
+    let inputs = read_inputs(alloc, names, desk)?;
+    let Inputs {
+        spec,
+        capture,
+        script,
+    } = inputs;
     let schedule = fetch_schedule(alloc, mode, desk)?;
     Ok(Texts {
         spec,

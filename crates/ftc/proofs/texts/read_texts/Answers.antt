@@ -1,96 +1,39 @@
-use Rattle.std.proofs.Common.{◌∙◌, rules, length, IfErr}
+use Rattle.std.proofs.Common.{rules, inl, IfErr}
 use Rattle.std.proofs.lemmas.Result.{IfErr-weaker}
 use Rattle.ftc_outside.specs.Desk.{Files, SameFiles}
 use Rattle.ftc_words.specs.Shown.{named_of, shown_mode}
-use Rattle.ftc.specs.Texts.{ring_of, HasScript, AreInputs}
-use Rattle.ftc.specs.Refused.{IsTextRefused, IsWrongScript, IsScheduleRefused}
-use Rattle.ftc.proofs.Refusing.{refused_before, capture_before, script_before, script_refused, schedule_refused}
-use Rattle.ftc.proofs.Refusing.{schedule_refused_before, schedule_before}
+use Rattle.ftc.specs.Refused.{IsInputRefused, IsScheduleRefused}
+use Rattle.ftc.proofs.Refusing.{schedule_refused, schedule_refused_before, schedule_before}
 use Rattle.ftc.proofs.texts.read_texts.Goals as goal
 
-pub returns-in_err-script-clause-refused : goal.returns-in_err-script-clause-refused
-returns-in_err-script-clause-refused g c = λ t.
-    let old : Files = g.D.Desk.file c.args.desk.now in
-    let first : Files = g.D.Desk.file c.fetch_chain.new.desk in
-    let second : Files = g.D.Desk.file c.fetch_capture.new.desk in
-    let t-first = c.fetch_chain.ensures.served.tells_on t in
-    let t-second = c.fetch_capture.ensures.served.tells_on t-first in
-    let to_first : SameFiles old first = c.fetch_chain.ensures.files t in
-    let to_second : SameFiles old second = λ name. c.fetch_capture.ensures.files t-first name ∙ to_first name in
-    let refused : IfErr c.from_residual-in_err-script.result
-    (IsTextRefused (g.D.Desk.sound c.fetch_capture.new.desk) second c.args.names.script.now
-    (IsWrongScript (ring_of c.in_ok-spec.spec) (length c.in_ok-capture.capture.packets))) =
-    search (rules, c.fetch_script.ensures.refused t-second) in
-    IfErr-weaker c.from_residual-in_err-script.result _ _
-    (λ ending is. script_refused (g.D.Desk.sound c.args.desk.now) (named_of c.args.names)
-    (shown_mode c.args.mode) old c.in_ok-spec.spec c.in_ok-capture.capture ending
-    (c.in_ok-spec.ensures.accepted t)
-    (capture_before c.args.names.capture.now old first c.in_ok-capture.capture to_first
-    (c.in_ok-capture.ensures.accepted t-first))
-    (refused_before (g.D.Desk.sound c.args.desk.now)
-    (g.D.Desk.sound c.fetch_capture.new.desk) old second c.args.names.script.now
-    (IsWrongScript (ring_of c.in_ok-spec.spec) (length c.in_ok-capture.capture.packets)) ending
-    (λ s. c.fetch_capture.ensures.served.sound_on (c.fetch_chain.ensures.served.sound_on s)) to_second is)) refused
+pub returns-in_err-inputs-clause-refused : goal.returns-in_err-inputs-clause-refused
+returns-in_err-inputs-clause-refused g c = λ t.
+    let refused : IfErr c.from_residual.result
+    (IsInputRefused (g.D.Desk.sound c.args.desk.now) (named_of c.args.names) (g.D.Desk.file c.args.desk.now)) =
+    search (rules, c.read_inputs.ensures.refused t) in
+    IfErr-weaker c.from_residual.result _ _ (λ ending is. inl is) refused
 
 pub returns-in_err-schedule-clause-refused : goal.returns-in_err-schedule-clause-refused
 returns-in_err-schedule-clause-refused g c = λ t.
     let old : Files = g.D.Desk.file c.args.desk.now in
-    let first : Files = g.D.Desk.file c.fetch_chain.new.desk in
-    let second : Files = g.D.Desk.file c.fetch_capture.new.desk in
-    let third : Files = g.D.Desk.file c.fetch_script.new.desk in
-    let t-first = c.fetch_chain.ensures.served.tells_on t in
-    let t-second = c.fetch_capture.ensures.served.tells_on t-first in
-    let t-third = c.fetch_script.ensures.served.tells_on t-second in
-    let to_first : SameFiles old first = c.fetch_chain.ensures.files t in
-    let to_second : SameFiles old second = λ name. c.fetch_capture.ensures.files t-first name ∙ to_first name in
-    let to_third : SameFiles old third = λ name. c.fetch_script.ensures.files t-second name ∙ to_second name in
-    let has_script : HasScript c.args.names.script.now second c.in_ok-spec.spec
-    (length c.in_ok-capture.capture.packets) c.in_ok-script.script =
-    search (rules, c.in_ok-script.ensures.accepted t-second) in
-    let inputs : AreInputs (named_of c.args.names) old c.in_ok-spec.spec c.in_ok-capture.capture c.in_ok-script.script =
-    record {
-      chain_right = c.in_ok-spec.ensures.accepted t;
-      capture_right = capture_before c.args.names.capture.now old first c.in_ok-capture.capture to_first
-          (c.in_ok-capture.ensures.accepted t-first);
-      script_right = script_before c.args.names.script.now old second c.in_ok-spec.spec
-          (length c.in_ok-capture.capture.packets) c.in_ok-script.script to_second has_script;
-    } in
+    let read : Files = g.D.Desk.file c.read_inputs.new.desk in
+    let to_read : SameFiles old read = c.read_inputs.ensures.files t in
     let refused : IfErr c.from_residual-in_err-schedule.result
-    (IsScheduleRefused (g.D.Desk.sound c.fetch_script.new.desk) (shown_mode c.args.mode) third) =
-    search (rules, c.fetch_schedule.ensures.refused t-third) in
+    (IsScheduleRefused (g.D.Desk.sound c.read_inputs.new.desk) (shown_mode c.args.mode) read) =
+    search (rules, c.fetch_schedule.ensures.refused (c.read_inputs.ensures.served.tells_on t)) in
     IfErr-weaker c.from_residual-in_err-schedule.result _ _
-    (λ ending is. schedule_refused (g.D.Desk.sound c.args.desk.now) (named_of c.args.names)
-    (shown_mode c.args.mode) old c.in_ok-spec.spec c.in_ok-capture.capture c.in_ok-script.script ending inputs
-    (schedule_refused_before (g.D.Desk.sound c.args.desk.now) (g.D.Desk.sound c.fetch_script.new.desk)
-    (shown_mode c.args.mode) old third ending
-    (λ s. c.fetch_script.ensures.served.sound_on
-    (c.fetch_capture.ensures.served.sound_on (c.fetch_chain.ensures.served.sound_on s))) to_third is)) refused
+    (λ ending is. schedule_refused (g.D.Desk.sound c.args.desk.now) (named_of c.args.names) (shown_mode c.args.mode) old
+    c.in_ok-inputs.inputs.spec c.in_ok-inputs.inputs.capture c.in_ok-inputs.inputs.script ending
+    (c.in_ok-inputs.ensures.accepted t)
+    (schedule_refused_before (g.D.Desk.sound c.args.desk.now) (g.D.Desk.sound c.read_inputs.new.desk)
+    (shown_mode c.args.mode) old read ending c.read_inputs.ensures.served.sound_on to_read is)) refused
 
 pub returns-clause-accepted : goal.returns-clause-accepted
 returns-clause-accepted g c = λ t.
     let old : Files = g.D.Desk.file c.args.desk.now in
-    let first : Files = g.D.Desk.file c.fetch_chain.new.desk in
-    let second : Files = g.D.Desk.file c.fetch_capture.new.desk in
-    let third : Files = g.D.Desk.file c.fetch_script.new.desk in
-    let t-first = c.fetch_chain.ensures.served.tells_on t in
-    let t-second = c.fetch_capture.ensures.served.tells_on t-first in
-    let t-third = c.fetch_script.ensures.served.tells_on t-second in
-    let to_first : SameFiles old first = c.fetch_chain.ensures.files t in
-    let to_second : SameFiles old second = λ name. c.fetch_capture.ensures.files t-first name ∙ to_first name in
-    let to_third : SameFiles old third = λ name. c.fetch_script.ensures.files t-second name ∙ to_second name in
-    let has_script : HasScript c.args.names.script.now second c.in_ok-spec.spec
-    (length c.in_ok-capture.capture.packets) c.in_ok-script.script =
-    search (rules, c.in_ok-script.ensures.accepted t-second) in
-    let inputs : AreInputs (named_of c.args.names) old c.in_ok-spec.spec c.in_ok-capture.capture c.in_ok-script.script =
+    let read : Files = g.D.Desk.file c.read_inputs.new.desk in
     record {
-      chain_right = c.in_ok-spec.ensures.accepted t;
-      capture_right = capture_before c.args.names.capture.now old first c.in_ok-capture.capture to_first
-          (c.in_ok-capture.ensures.accepted t-first);
-      script_right = script_before c.args.names.script.now old second c.in_ok-spec.spec
-          (length c.in_ok-capture.capture.packets) c.in_ok-script.script to_second has_script;
-    } in
-    record {
-      inputs = inputs;
-      schedule_right = schedule_before (shown_mode c.args.mode) old third c.in_ok-schedule.schedule.items to_third
-          (c.in_ok-schedule.ensures.accepted t-third);
+      inputs = c.in_ok-inputs.ensures.accepted t;
+      schedule_right = schedule_before (shown_mode c.args.mode) old read c.in_ok-schedule.schedule.items
+          (c.read_inputs.ensures.files t) (c.in_ok-schedule.ensures.accepted (c.read_inputs.ensures.served.tells_on t));
     }
