@@ -10,8 +10,7 @@ use Rattle.ftc_journal.specs.declared.event.Event.TheVariants.{Apply, Carry, Cra
 use Rattle.ftc_journal.specs.declared.event.Event.TheVariants.{Recover, Release, Take, Visit}
 use Rattle.ftc_protocol.proofs.Premises.{AreFit, IsGood, ticked}
 use Rattle.ftc_protocol.specs.Run.{AreLegal, state_after}
-use Rattle.ftc_protocol.proofs.InTransit.{AreNumbered, IsPending, keeps_numbers, keeps_pending, other_message}
-use Rattle.ftc_protocol.proofs.InTransit.{same_message}
+use Rattle.ftc_protocol.proofs.InTransit.{AreNumbered, IsPending, keeps_numbers, other_message, same_message}
 use Rattle.ftc_protocol.proofs.ArrivalOrder.{AreSeen, From, IsSeenAt, IsTimed, crash_seen, keeps_time, left_seen}
 use Rattle.ftc_protocol.proofs.ArrivalOrder.{recover_seen, seen_by, seen_given, seen_grow, take_seen, visit_seen}
 use Rattle.ftc_protocol.specs.State.{ChainState, Message, Withheld, opening}
@@ -21,7 +20,7 @@ use Rattle.ftc_protocol.proofs.Invariant.{Inv, each_message, target}
 use Rattle.ftc_protocol.specs.Known.{IsDue}
 use Rattle.ftc_protocol.specs.Legal.{IsLegal, MayHappen, MayLeave, is_sent}
 use Rattle.ftc_protocol.proofs.MessageOrder.{IsSoonAll, apply_soon, carry_soon, crash_soon, fresh_soon, left_soon}
-use Rattle.ftc_protocol.proofs.MessageOrder.{pull_soon, recover_soon, take_soon, visit_soon}
+use Rattle.ftc_protocol.proofs.MessageOrder.{pull_soon, recover_soon, soon_pends, take_soon, visit_soon}
 use Rattle.ftc_protocol.specs.Setting.{Setting, count, is_member, packet_at, servers}
 use Rattle.ftc_protocol.proofs.RingDistances.{apart_after, apart_cases, last_live, next_live}
 use Rattle.ftc_protocol.proofs.SmallEvents.{fit_next, fit_now}
@@ -121,7 +120,7 @@ module _ (c : Setting) (good : IsGood c) (s : ChainState) (l : IsLive c s) where
     inv = keeps c good s inv e legal;
     timed = keeps_time c good s inv timed e legal;
     numbered = keeps_numbers c s numbered e legal;
-    pending = keeps_pending c good s inv l.pending numbered e legal;
+    pending = soon_pends c (next c s e) seen' soon';
     seen = seen';
     ok = ok';
     soon = soon';

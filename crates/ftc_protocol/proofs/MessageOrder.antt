@@ -16,7 +16,7 @@ use Rattle.ftc_protocol.specs.Visits.{In, Visits, just, no_visits, union}
 use Rattle.ftc_protocol.proofs.Invariant.{Inv, target}
 use Rattle.ftc_protocol.specs.Trace.{IsChanging, IsInTrace, has_each}
 use Rattle.ftc_protocol.proofs.Premises.{IsGood, ticked}
-use Rattle.ftc_protocol.proofs.InTransit.{IsNear, other_message, same_message}
+use Rattle.ftc_protocol.proofs.InTransit.{IsNear, IsPending, other_message, same_message}
 use Rattle.ftc_protocol.proofs.LiveHolders.{IsUp, kept_some, lost_some_message}
 use Rattle.ftc_protocol.specs.Legal.{MayHappen, MayLeave, is_sent}
 use Rattle.ftc_protocol.specs.Setting.{Setting, is_member, is_tail, servers}
@@ -55,6 +55,22 @@ abbrev pub IsSoonAll : Setting → ChainState → (ℕ → Visits) → Type 0
 IsSoonAll c s seen = (y j q : ℕ) → In (s.lists y) j q → apart (servers c) j y < c.failures →
     s.up (next_of (servers c) y) ≡ true → s.gap y ≡ false
     → In (s.lists (next_of (servers c) y)) j q ⊎ IsSoon c s.message s.forwarder seen y j q
+
+-- without what is said of the times of messages
+pub soon_pends : (c : Setting) (s : ChainState) (seen : ℕ → Visits) → IsSoonAll c s seen → IsPending c s
+soon_pends c s seen soon y j q is less live gap = elim (soon y j q is less live gap) [
+  | inl had ↦ inl had
+  | inr way ↦ inr (elim way [
+    | inl by ↦ inl (record {
+      origin = by.origin;
+      by = by.by;
+      there = by.there;
+      log = by.log;
+      near = by.near;
+    })
+    | inr forwarded ↦ inr forwarded
+  ])
+]
 
 newly : (c : Setting) (s : ChainState) (l m j q : ℕ) (es : List Entry) →
     IsInTrace (λ o. is_changing c.partitions o ≡ true) es j q → In (pulled_list c s l m) j q → s.lists m j q ≡ false →
