@@ -4,6 +4,7 @@ use Rattle.std.proofs.Math.Bool.{Bool-set}
 use Rattle.std.proofs.Math.Logic.{∥∥₁_elim, ∥∥₁_map}
 use Rattle.std.proofs.lemmas.Bool.{ltb-true, lt-ltb}
 use Rattle.ftc_journal.specs.declared.event.Event.{Event}
+use Rattle.ftc_journal.specs.declared.event.Event.TheVariants as event
 use Rattle.ftc_protocol.specs.Legal.{IsLegal}
 use Rattle.ftc_protocol.specs.Run.{IsRunState}
 use Rattle.ftc_protocol.specs.Setting.{Setting, servers}
@@ -14,8 +15,9 @@ use Rattle.ftc_network.specs.declared.network.Network.{Network}
 use Rattle.ftc_network.specs.Committing.{IsAtRestAt}
 use Rattle.ftc_network.specs.Events.{IsAllowed, IsAllowedAt}
 use Rattle.ftc_network.specs.Parts.{server_in}
-use Rattle.ftc_network.specs.Slots.{IsAtRest}
+use Rattle.ftc_network.specs.Slots.{IsAtRest, IsLegalIn}
 use Rattle.ftc_network.specs.Stand.{IsSlot, IsUp}
+use Rattle.ftc_network.proofs.Untold.{is_below}
 
 -- of a server that is up
 pub at_up : (event : Event) (number : ℕ) (slot : Option Server) (server : Server) (test value : Bool) →
@@ -35,6 +37,32 @@ below_servers event network number proves allowed = ltb-true number network.ring
     (∥∥₁_elim allowed (Bool-set _ _) (λ given.
     subst (λ (n : ℕ). nat_lt number n ≡ true) (sym (ap (λ (ring : RingShape). ring.servers) given.stands.ring))
     (lt-ltb number (servers given.setting) (proves given.setting given.state given.run given.legal))))
+
+-- the server of an event is one of the network
+pub applies_inside : ((setting : Setting) (state : ChainState) (server origin group packet : ℕ) →
+    IsRunState setting state → IsLegal setting state (event.Apply server origin group packet) →
+    (server < servers setting) × (state.up server ≡ true) × (group < servers setting)) →
+    {network : Network} {server origin group packet : ℕ} →
+    ∥ IsAllowed (event.Apply server origin group packet) network ∥₁ → server < network.ring.servers
+applies_inside places {network = network} {server = server} {origin = origin} {group = group} {packet = packet} =
+    below_servers (event.Apply server origin group packet) network server
+    (λ setting state run legal. (places setting state server origin group packet run legal).0)
+
+module _ (places : (setting : Setting) (state : ChainState) (server packet worker : ℕ) → IsRunState setting state →
+    IsLegal setting state (event.Visit server packet worker) →
+    (server < servers setting) × (state.up server ≡ true)) where
+  pub visits_inside : {network : Network} {server packet worker : ℕ} →
+      ∥ IsAllowed (event.Visit server packet worker) network ∥₁ → server < network.ring.servers
+  visits_inside {network = network} {server = server} {packet = packet} {worker = worker} =
+      below_servers (event.Visit server packet worker) network server
+      (λ setting state run legal. (places setting state server packet worker run legal).0)
+
+  pub begins_inside : {network : Network} {server packet worker : ℕ} →
+      ∥ IsLegalIn (event.Visit server packet worker) network ∥₁ → server < network.ring.servers
+  begins_inside {network = network} {server = server} {packet = packet} {worker = worker} legal =
+      is_below server network.ring.servers legal (λ given.
+      subst (λ (n : ℕ). server < n) (sym (ap (λ (ring : RingShape). ring.servers) given.stands.ring))
+      (places given.setting given.state server packet worker given.run given.legal).0)
 
 -- what is allowed with a network is allowed with its server of a number
 pub slot_allowed : (event : Event) (network : Network) (number : ℕ) (slot : Option Server) →

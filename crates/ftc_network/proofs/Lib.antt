@@ -28,5 +28,6 @@ mod RunningPacket
 mod ScriptLines
 mod SentAlong
 mod SharedGroups
+mod SlotThere
 mod Untold
 mod VisitWork

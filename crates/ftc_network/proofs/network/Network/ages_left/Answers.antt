@@ -1,37 +1,19 @@
-use Rattle.std.proofs.Common.{◌≡◌, ◌∙◌, ◌<◌, Some, None, length, sym, ap, arith}
-use Rattle.ftc_network.specs.Parts.{server_in}
-use Rattle.ftc_network.specs.Slots.{head_of, head_at, ages_left_in}
-use Rattle.ftc_network.proofs.OneServer.{read_server}
+use Rattle.std.proofs.Common.{◌∙◌, Option, sym, ap}
+use Rattle.ftc_server.specs.declared.server.Server.{Server}
+use Rattle.ftc_network.specs.Slots.{head_of, ages_left_in}
+use Rattle.ftc_network.proofs.SlotThere.{is_within, is_at}
 use Rattle.ftc_network.proofs.network.Network.ages_left.Goals as goal
 
 pub index-requires : goal.index-requires
-index-requires c =
-    let old = c.args.self.now in
-    let below = c.requires in
-    omega (arith, below, old.each_server, c.place_of.ensures)
+index-requires c = is_within c.args.self.now c.requires c.place_of.ensures
 
 pub returns-in-Some : goal.returns-in-Some
 returns-in-Some c =
-    let old = c.args.self.now in
-    let below = c.requires in
-    let server = c.args.server in
-    let within : c.place_of.result < length old.servers.items =
-    omega (arith, below, old.each_server, c.place_of.ensures) in
-    let slot : c.index.result.now ≡ server_in old.servers.items server =
-    read_server old.servers.items c.place_of.result server c.index.result.now c.place_of.ensures within
-    c.index.ensures in
-    let head : head_at old server ≡ Some c.in-Some.live.head = ap head_of (sym slot ∙ c.in-Some.is) in
-    c.ages_left.ensures ∙ ap (ages_left_in 18446744073709551615) (sym head)
+    let slot = (is_at c.args.self.now c.requires c.place_of.ensures c.index.ensures).slot_is in
+    c.ages_left.ensures
+    ∙ ap (λ (o : Option Server). ages_left_in 18446744073709551615 (head_of o)) (sym c.in-Some.is ∙ slot)
 
 pub returns-in-None : goal.returns-in-None
 returns-in-None c =
-    let old = c.args.self.now in
-    let below = c.requires in
-    let server = c.args.server in
-    let within : c.place_of.result < length old.servers.items =
-    omega (arith, below, old.each_server, c.place_of.ensures) in
-    let slot : c.index.result.now ≡ server_in old.servers.items server =
-    read_server old.servers.items c.place_of.result server c.index.result.now c.place_of.ensures within
-    c.index.ensures in
-    let head : head_at old server ≡ None = ap head_of (sym slot ∙ c.in-None.is) in
-    ap (ages_left_in 18446744073709551615) (sym head)
+    let slot = (is_at c.args.self.now c.requires c.place_of.ensures c.index.ensures).slot_is in
+    ap (λ (o : Option Server). ages_left_in 18446744073709551615 (head_of o)) (sym c.in-None.is ∙ slot)

@@ -1,75 +1,41 @@
-use Rattle.std.proofs.Common.{◌≡◌, ◌∙◌, ◌<◌, ◌-◌, length, refl, sym, ap, subst, arith}
+use Rattle.std.proofs.Common.{refl}
 use Rattle.ftc_journal.specs.declared.event.Event.{Event}
 use Rattle.ftc_journal.specs.declared.event.Event.TheVariants as event
 use Rattle.ftc_protocol.specs.Next.{next}
-use Rattle.ftc_protocol.specs.Setting.{servers}
-use Rattle.ftc_ring.specs.Ring.{RingShape}
-use Rattle.ftc_network.specs.Parts.{parts_of, buffer_of}
-use Rattle.ftc_network.specs.Stand.{IsSlot}
 use Rattle.ftc_network.proofs.Allowed.{slot_allowed}
-use Rattle.ftc_network.proofs.OneServer.{one_server, read_server, still_server, same_withheld}
 use Rattle.ftc_network.proofs.Results.{on_ok, on_err}
-use Rattle.ftc_network.proofs.Heads.{same_heads}
-use Rattle.ftc_network.specs.Slots.{head_of}
+use Rattle.ftc_network.proofs.SlotThere.{is_first, stands_there, still_there, withheld_there, heads_there}
+use Rattle.ftc_network.proofs.SlotThere.{same_counts, follows_there}
 use Rattle.ftc_network.proofs.network.Network.carry.Goals as goal
 
 pub carry_at-requires : goal.carry_at-requires
 carry_at-requires c =
-    let old = c.args.self.now in
-    let some = c.servers.ensures.bounds.some in
-    let within : 0 < length old.servers.items = omega (arith, some, old.each_server) in
-    slot_allowed (event.Carry c.args.origin) old 0 c.index_mut.result.now (omega (arith, some))
-    (read_server old.servers.items 0 0 c.index_mut.result.now refl within c.index_mut.ensures.value) c.requires
+    let at = is_first c.args.self.now c.servers.ensures.bounds.some c.index_mut.ensures.value in
+    slot_allowed (event.Carry c.args.origin) c.args.self.now 0 c.index_mut.result.now at.inside at.slot_is c.requires
 
 pub returns-clause-ok : goal.returns-clause-ok
 returns-clause-ok c =
     let event : Event = event.Carry c.args.origin in
     let old = c.args.self.now in
-    let some = c.servers.ensures.bounds.some in
-    let within : 0 < length old.servers.items = omega (arith, some, old.each_server) in
-    let slot = read_server old.servers.items 0 0 c.index_mut.result.now refl within c.index_mut.ensures.value in
+    let at = is_first old c.servers.ensures.bounds.some c.index_mut.ensures.value in
     on_ok c.carry_at.result _ _ (λ follows setting state run legal is.
-    let size : old.ring.servers ≡ servers setting = ap (λ (ring : RingShape). ring.servers) is.ring in
-    let below : 0 < servers setting = omega (arith, some, size) in
-    let here = follows setting state run legal (subst (IsSlot setting state 0) (sym slot) (is.servers_are 0 below)) in
-    one_server setting state (next setting state event) (parts_of old) 0 c.carry_at.new.slot old.entered old.done
-    old.propagates within is here
-    (λ server other below differs stays. c.servers_beside.ensures setting state event server other run legal differs
-    stays)
-    (λ link queue below stays. c.links_stand_still.ensures setting state event link queue run legal tt stays)
-    (record {
-      entered_is = is.counts.entered_is;
-      lines = is.counts.lines;
-      propagates_is = is.counts.propagates_is;
-    })
+    follows_there c.servers_beside.ensures c.links_stand_still.ensures at c.carry_at.new.slot setting state event
+    (λ other differs. differs) (λ link. tt) run legal is
+    (follows setting state run legal (stands_there at setting state is)) old.entered old.done old.propagates
+    (same_counts (next setting state event) refl refl refl is.counts) old.visits.items
     (c.made_visits_stay.ensures setting state event old.visits.items run legal refl is.visits)) c.carry_at.ensures.ok
 
 pub returns-clause-err : goal.returns-clause-err
 returns-clause-err c =
-    let old = c.args.self.now in
-    let some = c.servers.ensures.bounds.some in
-    let within : 0 < length old.servers.items = omega (arith, some, old.each_server) in
-    let slot = read_server old.servers.items 0 0 c.index_mut.result.now refl within c.index_mut.ensures.value in
-    on_err c.carry_at.result _ _ (λ still setting state is.
-    let size : old.ring.servers ≡ servers setting = ap (λ (ring : RingShape). ring.servers) is.ring in
-    still_server setting state (parts_of old) 0 0 c.carry_at.new.slot refl within is
-    (still setting state (subst (IsSlot setting state 0) (sym slot) (is.servers_are 0 (omega (arith, some, size))))))
-    c.carry_at.ensures.err
+    let at = is_first c.args.self.now c.servers.ensures.bounds.some c.index_mut.ensures.value in
+    on_err c.carry_at.result _ _ (still_there at c.carry_at.new.slot) c.carry_at.ensures.err
 
 pub returns-clause-withheld : goal.returns-clause-withheld
 returns-clause-withheld c =
-    let old = c.args.self.now in
-    let some = c.servers.ensures.bounds.some in
-    let within : 0 < length old.servers.items = omega (arith, some, old.each_server) in
-    let slot = read_server old.servers.items 0 0 c.index_mut.result.now refl within c.index_mut.ensures.value in
-    on_ok c.carry_at.result _ _ (λ same.
-    same_withheld old.servers.items 0 (old.ring.servers - 1) c.carry_at.new.slot within (same ∙ ap buffer_of slot))
-    c.carry_at.ensures.buffer
+    let at = is_first c.args.self.now c.servers.ensures.bounds.some c.index_mut.ensures.value in
+    on_ok c.carry_at.result _ _ (withheld_there at c.carry_at.new.slot) c.carry_at.ensures.buffer
 
 pub returns-clause-heads : goal.returns-clause-heads
 returns-clause-heads c =
-    let old = c.args.self.now in
-    let some = c.servers.ensures.bounds.some in
-    let within : 0 < length old.servers.items = omega (arith, some, old.each_server) in
-    let slot = read_server old.servers.items 0 0 c.index_mut.result.now refl within c.index_mut.ensures.value in
-    same_heads old.servers.items 0 c.carry_at.new.slot within (c.carry_at.ensures.heads ∙ ap head_of slot)
+    let at = is_first c.args.self.now c.servers.ensures.bounds.some c.index_mut.ensures.value in
+    heads_there at c.carry_at.new.slot c.carry_at.ensures.heads
