@@ -48,6 +48,7 @@ applies_inside places {network = network} {server = server} {origin = origin} {g
     below_servers (event.Apply server origin group packet) network server
     (λ setting state run legal. (places setting state server origin group packet run legal).0)
 
+-- the same of a visit, also where it is not known that few events were before
 module _ (places : (setting : Setting) (state : ChainState) (server packet worker : ℕ) → IsRunState setting state →
     IsLegal setting state (event.Visit server packet worker) →
     (server < servers setting) × (state.up server ≡ true)) where

@@ -1,4 +1,5 @@
--- The slot of a server as it is read at its place among the servers, and the network where it is changed there.
+-- The slot of a server, and the link that leaves one, as they are read at their places, and the network where the slot
+-- is changed at its place.
 use Rattle.std.proofs.Common.{◌≡◌, ◌≢◌, ◌<◌, ◌≤◌, ◌∙◌, ◌-◌, ℕ, List, Option, None, length, slice_set, get_or, refl, sym}
 use Rattle.std.proofs.Common.{ap, subst, arith, get_or-set_same, get_or-set_other}
 use Rattle.std.specs.Vec.{vec_len}
@@ -22,7 +23,7 @@ use Rattle.ftc_network.specs.Slots.{head_of}
 use Rattle.ftc_network.specs.Stand.{IsSlot, IsNetwork, AreCounts, AreParts}
 use Rattle.ftc_network.proofs.Changed.{server_set}
 use Rattle.ftc_network.proofs.Heads.{same_heads}
-use Rattle.ftc_network.proofs.OneServer.{read_server, still_server, same_withheld}
+use Rattle.ftc_network.proofs.OneServer.{read_server, read_link, still_server, same_withheld}
 
 -- the slot of a server of the network, which stands at that place
 pub record IsAt (network : Network) (place server : ℕ) (slot : Option Server) : Type 0 where
@@ -31,11 +32,12 @@ pub record IsAt (network : Network) (place server : ℕ) (slot : Option Server) 
   pub within : place < length network.servers.items
   pub slot_is : slot ≡ server_in network.servers.items server
 
--- the place may be read
+-- there is something at that place
 pub is_within : (network : Network) {place server : ℕ} → server < network.ring.servers → place ≡ server →
     place < vec_len network.servers
 is_within network inside same = omega (arith, inside, network.each_server, same)
 
+-- what is read there is that slot
 pub is_at : (network : Network) {place server : ℕ} {slot : Option Server} → server < network.ring.servers →
     place ≡ server → slot ≡ get_or network.servers.items place slot → IsAt network place server slot
 is_at network {place = place} {server = server} {slot = slot} inside same read =
@@ -107,6 +109,30 @@ heads_there {network = network} {place = place} at new same =
     same_heads network.servers.items place new at.within
     (same ∙ ap head_of (at.slot_is ∙ ap (server_in network.servers.items) (sym at.same)))
 
+-- the same of the link that leaves a server
+pub record IsLinkAt (network : Network) (place link : ℕ) (queue : Queue) : Type 0 where
+  pub inside : link < network.ring.servers
+  pub same : place ≡ link
+  pub within : place < length network.links.items
+  pub queue_is : queue ≡ link_in network.links.items link
+
+pub is_link_at : (network : Network) {place link : ℕ} {queue : Queue} → link < network.ring.servers → place ≡ link →
+    queue ≡ get_or network.links.items place queue → IsLinkAt network place link queue
+is_link_at network {place = place} {link = link} {queue = queue} inside same read =
+    let within : place < length network.links.items = omega (arith, inside, network.each_link, same) in
+    record {
+      inside = inside;
+      same = same;
+      within = within;
+      queue_is = read_link network.links.items place link queue same within read;
+    }
+
+pub link_stands_there : {network : Network} {place link : ℕ} {queue : Queue} → IsLinkAt network place link queue →
+    (setting : Setting) (state : ChainState) → IsNetwork setting state network → IsLink setting state link queue
+link_stands_there {link = link} at setting state is =
+    subst (IsLink setting state link) (sym at.queue_is) (is.links_are link
+    (subst (λ (n : ℕ). link < n) (ap (λ (ring : RingShape). ring.servers) is.ring) at.inside))
+
 -- where a state counts as many as another, the counts that stand for the one stand for the other
 pub same_counts : {setting : Setting} {state : ChainState} {entered done propagates : ℕ} (after : ChainState) →
     after.entered ≡ state.entered → after.lines ≡ state.lines → after.propagates ≡ state.propagates →
@@ -157,8 +183,8 @@ module _ (servers_stay : (setting : Setting) (state : ChainState) (event : Event
       done propagates counts visits made = record {
         ring = is.ring;
         partitions = is.partitions;
-        servers_are = server_set (IsSlot setting (next setting state event)) (servers setting) network.servers.items place
-            new at.within
+        servers_are = server_set (IsSlot setting (next setting state event)) (servers setting) network.servers.items
+            place new at.within
             (subst (λ (n : ℕ). IsSlot setting (next setting state event) n new) (sym at.same) here)
             (λ other below differs. servers_stay setting state event other (server_in network.servers.items other) run
             legal (beside other (λ same. differs (same ∙ sym at.same))) (is.servers_are other below));

@@ -92,4 +92,5 @@ returns-in-Err-clause-stands c not setting state is =
     let old = c.args.self.now in
     let at = is_at old c.requires.inside c.place_of.ensures c.index_mut.ensures.value in
     with_visits (record (parts_of old) { servers = slice_set old.servers.items c.place_of.result c.commit_at.new.slot })
-    c.reserve.ensures.items (still_there at c.commit_at.new.slot (c.in-Err.ensures.stands c.args.server) setting state is)
+    c.reserve.ensures.items
+    (still_there at c.commit_at.new.slot (c.in-Err.ensures.stands c.args.server) setting state is)

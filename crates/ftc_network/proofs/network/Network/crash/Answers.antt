@@ -1,5 +1,4 @@
 use Rattle.std.proofs.Common.{◌≡◌, ◌∙◌, ◌<◌, ◌+◌, ◌-◌, ℕ, Bool, false, None, length, refl, sym, ap, subst, arith}
-use Rattle.std.proofs.Common.{slice_set, get_or-set_same, get_or-set_other}
 use Rattle.ftc_journal.specs.declared.event.Event.{Event}
 use Rattle.ftc_journal.specs.declared.event.Event.TheVariants as event
 use Rattle.ftc_protocol.specs.Next.{next}
@@ -7,10 +6,11 @@ use Rattle.ftc_protocol.specs.Setting.{servers}
 use Rattle.ftc_ring.specs.Ring.{RingShape, next_of, previous_of}
 use Rattle.ftc_serial.proofs.Functions.{with_at_cases}
 use Rattle.ftc_standing.specs.Stand.{IsLink}
-use Rattle.ftc_network.specs.Parts.{parts_of, server_in}
+use Rattle.ftc_network.specs.Parts.{parts_of}
 use Rattle.ftc_network.proofs.Allowed.{below_servers}
-use Rattle.ftc_network.proofs.OneServer.{read_link, server_and_link, gone_withheld}
+use Rattle.ftc_network.proofs.OneServer.{server_and_link, gone_withheld}
 use Rattle.ftc_network.proofs.ScriptLines.{lines_left}
+use Rattle.ftc_network.proofs.SlotThere.{is_within, is_at, is_there, others_there, is_link_at, link_stands_there}
 use Rattle.ftc_network.specs.Slots.{head_of}
 use Rattle.ftc_network.proofs.network.Network.crash.Goals as goal
 
@@ -23,7 +23,7 @@ pub index_mut-requires : goal.index_mut-requires
 index_mut-requires c =
     let below = below_servers (event.Crash c.args.server) c.args.self.now c.args.server (λ setting state run legal.
     (c.where_events_are.ensures.crash setting state c.args.server run legal).0) c.requires.allowed in
-    omega (arith, below, c.args.self.now.each_server, c.place_of.ensures)
+    is_within c.args.self.now below c.place_of.ensures
 
 pub returns-clause-follows : goal.returns-clause-follows
 returns-clause-follows c setting state run legal is =
@@ -34,33 +34,24 @@ returns-clause-follows c setting state run legal is =
     let size : old.ring.servers ≡ servers setting = ap (λ (ring : RingShape). ring.servers) is.ring in
     let before : c.previous-before.result ≡ previous_of (servers setting) server =
     c.previous-before.ensures.same ∙ ap (λ (n : ℕ). previous_of n server) size in
-    let at_link : c.place_of-2.result ≡ c.previous-before.result = c.place_of-2.ensures in
-    let link_below : c.previous-before.result < servers setting =
-    omega (arith, size, c.previous-before.ensures.within) in
     let within : c.place_of.result < length old.servers.items =
     omega (arith, below, size, old.each_server, c.place_of.ensures) in
-    let inside : c.place_of-2.result < length old.links.items =
-    omega (arith, link_below, size, old.each_link, at_link) in
+    let link = is_link_at old c.previous-before.ensures.within c.place_of-2.ensures c.index_mut-2.ensures.value in
     let leads : next_of (servers setting) c.previous-before.result ≡ server =
     ap (next_of (servers setting)) before ∙ c.steps.ensures.next_previous (servers setting) server below in
-    let queue = read_link old.links.items c.place_of-2.result c.previous-before.result c.index_mut-2.result.now at_link
-    inside
-    c.index_mut-2.ensures.value in
     let stopped = c.a_receiver_stops.ensures setting state server c.previous-before.result c.index_mut-2.result.now run
-    legal
-    leads (subst (IsLink setting state c.previous-before.result) (sym queue)
-    (is.links_are c.previous-before.result link_below)) in
+    legal leads (link_stands_there link setting state is) in
     server_and_link setting state (next setting state event) (parts_of old) c.place_of.result None c.place_of-2.result
-    c.clear.new.self old.entered (old.done + 1) old.propagates within inside is
+    c.clear.new.self old.entered (old.done + 1) old.propagates within link.within is
     (with_at_cases (λ (up : Bool). up ≡ false) state.up server false c.place_of.result (λ same. refl)
     (λ differs. absurd (differs c.place_of.ensures)))
-    (subst (λ (n : ℕ). IsLink setting (next setting state event) n c.clear.new.self) (sym at_link)
+    (subst (λ (n : ℕ). IsLink setting (next setting state event) n c.clear.new.self) (sym link.same)
     (subst (IsLink setting (next setting state event) c.previous-before.result) (sym c.clear.ensures) stopped))
     (λ other slot under differs stays. c.servers_beside.ensures setting state event other slot run legal
     (λ same. differs (same ∙ sym c.place_of.ensures)) stays)
-    (λ link queued under differs stays. c.links_stand_still.ensures setting state event link queued run legal
-    (λ same. differs (sym (c.steps.ensures.previous_next (servers setting) link under)
-    ∙ (ap (previous_of (servers setting)) same ∙ (sym before ∙ sym at_link)))) stays)
+    (λ other queued under differs stays. c.links_stand_still.ensures setting state event other queued run legal
+    (λ same. differs (sym (c.steps.ensures.previous_next (servers setting) other under)
+    ∙ (ap (previous_of (servers setting)) same ∙ (sym before ∙ sym link.same)))) stays)
     (record {
       entered_is = is.counts.entered_is;
       lines = lines_left setting.lines state.lines old.done is.counts.lines;
@@ -81,11 +72,9 @@ returns-clause-down c =
     let old = c.args.self.now in
     let below = below_servers (event.Crash c.args.server) old c.args.server (λ setting state run legal.
     (c.where_events_are.ensures.crash setting state c.args.server run legal).0) c.requires.allowed in
-    ap head_of (ap (server_in (slice_set old.servers.items c.place_of.result None)) (sym c.place_of.ensures)
-    ∙ get_or-set_same old.servers.items c.place_of.result None None
-    (omega (arith, below, old.each_server, c.place_of.ensures)))
+    ap head_of (is_there (is_at old below c.place_of.ensures c.index_mut.ensures.value) None)
 
 pub returns-clause-others : goal.returns-clause-others
 returns-clause-others c other differs =
-    ap head_of (get_or-set_other c.args.self.now.servers.items c.place_of.result other None None
-    (λ same. differs (same ∙ c.place_of.ensures)))
+    ap head_of (others_there c.args.self.now.servers.items c.place_of.result c.args.server None c.place_of.ensures other
+    differs)

@@ -10,7 +10,8 @@ use Rattle.ftc_network.proofs.network.Network.enter.Goals as goal
 pub enter_at-requires : goal.enter_at-requires
 enter_at-requires c =
     let at = is_first c.args.self.now c.servers.ensures.bounds.some c.index_mut.ensures.value in
-    slot_allowed (event.Enter c.args.packet) c.args.self.now 0 c.index_mut.result.now at.inside at.slot_is c.requires.allowed
+    slot_allowed (event.Enter c.args.packet) c.args.self.now 0 c.index_mut.result.now at.inside at.slot_is
+    c.requires.allowed
 
 pub returns-clause-ok : goal.returns-clause-ok
 returns-clause-ok c setting state bytes run legal is =
@@ -19,8 +20,8 @@ returns-clause-ok c setting state bytes run legal is =
     let at = is_first old c.servers.ensures.bounds.some c.index_mut.ensures.value in
     follows_there c.servers_beside.ensures c.links_stand_still.ensures at c.enter_at.new.slot setting state event
     (λ other differs. differs) (λ link. tt) run legal is
-    (c.in_ok-enter_at.ensures.ok setting state bytes run legal (stands_there at setting state is)) (old.entered + 1) old.done
-    old.propagates
+    (c.in_ok-enter_at.ensures.ok setting state bytes run legal (stands_there at setting state is)) (old.entered + 1)
+    old.done old.propagates
     (record {
       entered_is = ap (λ (n : ℕ). n + 1) is.counts.entered_is;
       lines = is.counts.lines;

@@ -10,7 +10,8 @@ use Rattle.ftc_network.proofs.network.Network.propagate.Goals as goal
 pub propagate_at-requires : goal.propagate_at-requires
 propagate_at-requires c =
     let at = is_first c.args.self.now c.servers.ensures.bounds.some c.index_mut.ensures.value in
-    slot_allowed (event.Propagate c.args.origin) c.args.self.now 0 c.index_mut.result.now at.inside at.slot_is c.requires.allowed
+    slot_allowed (event.Propagate c.args.origin) c.args.self.now 0 c.index_mut.result.now at.inside at.slot_is
+    c.requires.allowed
 
 pub returns-clause-ok : goal.returns-clause-ok
 returns-clause-ok c setting state run legal is =
