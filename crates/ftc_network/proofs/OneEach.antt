@@ -41,12 +41,6 @@ module _ (setting : Setting) (state : ChainState) (parts : NetworkParts) (are : 
       subst (IsSlot setting state number) (sym is)
       (subst (λ n. IsSlot setting state number (server_in parts.servers n)) (sym same) (are.servers_are number below))
 
-  pub link_there : (number place : ℕ) (queue : Queue) → place ≡ number → number < servers setting →
-      queue ≡ link_in parts.links place → IsLink setting state number queue
-  link_there number place queue same below is =
-      subst (IsLink setting state number) (sym is)
-      (subst (λ n. IsLink setting state number (link_in parts.links n)) (sym same) (are.links_are number below))
-
 -- whether a server is up is whether one is there
 pub up_there : (setting : Setting) (state : ChainState) (number : ℕ) (slot : Option Server) →
     IsSlot setting state number slot → is_some slot ≡ state.up number
