@@ -1,13 +1,12 @@
 -- What is kept after a server applies a log.
-use Rattle.std.proofs.Common.{◌≡◌, ◌≢◌, ℕ, ◌+◌, ◌<◌, ◌==◌, ◌&&◌, ◌↔◌, Bool, true, false, List, [], ◌∷◌, length, Some}
+use Rattle.std.proofs.Common.{◌≡◌, ◌≢◌, ℕ, ◌+◌, ◌<◌, ◌==◌, ◌&&◌, ◌↔◌, Bool, true, false, List, [], length, Some}
 use Rattle.std.proofs.Common.{◌⊎◌, inl, inr, refl, sym, ◌∙◌, ap, subst, slice_set, arith, eq-eqb}
 use Rattle.std.proofs.lemmas.Bool.{true≢false, ne_eqb, and_from, or_cases, or_left, or_right}
 use Rattle.ftc_base.specs.declared.limits.TheConstants.{MOST_SERVERS}
 use Rattle.ftc_journal.specs.declared.event.Event.TheVariants as event
 use Rattle.ftc_ring.specs.Ring.{RingShape}
 use Rattle.ftc_serial.specs.Contents.{content_at}
-use Rattle.ftc_serial.specs.Serial.{Entry, Visited, Given}
-use Rattle.ftc_serial.specs.Take.{Outcome}
+use Rattle.ftc_serial.specs.Serial.{Entry}
 use Rattle.ftc_serial.specs.Words.{with_at}
 use Rattle.ftc_serial.proofs.Functions.{with_at_cases}
 use Rattle.ftc_vector.specs.Vector.{number_at}
@@ -17,14 +16,15 @@ use Rattle.ftc_machine.specs.declared.state.MachineState.{MachineState}
 use Rattle.ftc_protocol.specs.Changes.{is_changing}
 use Rattle.ftc_machine.specs.Represents.{Represents, FollowsRun, footprints_in, frontiers_of}
 use Rattle.ftc_machine.specs.FootprintMarks.{marked_at}
-use Rattle.ftc_machine.specs.Frontier.{Footprints, AreFrontiers, AreFootprints, numbers_of}
+use Rattle.ftc_machine.specs.Frontier.{AreFrontiers, numbers_of}
 use Rattle.ftc_protocol.specs.Setting.{Setting, servers}
 use Rattle.ftc_protocol.specs.State.{ChainState}
-use Rattle.ftc_protocol.specs.Trace.{IsChanging, IsInTrace, IsSomeVisit, content_of}
+use Rattle.ftc_protocol.specs.Trace.{IsChanging, IsSomeVisit, content_of}
 use Rattle.ftc_protocol.specs.Visits.{Visits, just, union}
 use Rattle.ftc_protocol.specs.Orderly.{aim}
 use Rattle.ftc_machine.proofs.LawfulStates.{serial_in}
 use Rattle.ftc_machine.proofs.LegalEvents.{reached_before, visits_within}
+use Rattle.ftc_machine.proofs.RepresentedMessages.{footprint_there}
 use Rattle.ftc_machine.proofs.JoinedVisit.{apply_reach}
 use Rattle.ftc_protocol.proofs.Sets.{in_one}
 use Rattle.ftc_machine.proofs.RaisedRows.{raised_reaches, or_false}
@@ -32,26 +32,6 @@ use Rattle.ftc_machine.proofs.SetFrontiers.{same_reach}
 use Rattle.ftc_machine.proofs.ReplacedPlaces.{row_replaced}
 use Rattle.ftc_protocol.proofs.TraceLemmas.{stands_map}
 use Rattle.ftc_protocol.proofs.ListStores.{stands_below}
-
--- a visit of the trace has a footprint
-pub footprint_there : (P : Outcome → Type 0) (partitions : ℕ) (footprints : Footprints) (trace : List Entry) →
-    AreFootprints partitions footprints trace → (server packet : ℕ) → IsInTrace P trace server packet
-    → (footprint : Footprint) × (footprints server packet ≡ Some footprint)
-footprint_there P partitions footprints [] are server packet there = absurd there
-footprint_there P partitions footprints (Given other bytes ∷ older) are server packet there =
-    elim there [
-      | inl here ↦ absurd here
-      | inr below ↦
-          footprint_there P partitions footprints older are server packet below
-    ]
-footprint_there P partitions footprints (Visited visited passed outcome ∷ older) are server packet there = elim there [
-  | inl here ↦ (
-    are.0.0,
-    subst (λ row. footprints row packet ≡ Some are.0.0) here.0
-        (subst (λ place. footprints visited place ≡ Some are.0.0) here.1 are.0.1),
-  )
-  | inr below ↦ footprint_there P partitions footprints older are.1 server packet below
-]
 
 -- the content is that of the packets
 pub same_content : (trace : List Entry) (server : ℕ) (packets others : ℕ → Bool) →

@@ -1,6 +1,6 @@
 -- What is kept after a recovery.
 use Rattle.std.proofs.Common.{◌≡◌, ◌≢◌, ℕ, ◌+◌, ◌<◌, ◌==◌, ◌&&◌, ◌||◌, if◌then◌else◌, not, Bool, true, false, List, []}
-use Rattle.std.proofs.Common.{length, filter, Option, Some, None, inl, inr, refl, sym, ◌∙◌, ap, subst, slice_set, arith}
+use Rattle.std.proofs.Common.{length, filter, Option, Some, inl, inr, refl, sym, ◌∙◌, ap, subst, slice_set, arith}
 use Rattle.std.specs.Prelude.{fold}
 use Rattle.std.specs.FinMap.{empty}
 use Rattle.std.specs.Option.{option_map_or}
@@ -20,10 +20,8 @@ use Rattle.ftc_protocol.specs.declared.fate.Fate.{Fate}
 use Rattle.ftc_protocol.specs.declared.fate.Fate.TheVariants.{Inside, Lost}
 use Rattle.ftc_machine.specs.declared.state.MachineState.{MachineState}
 use Rattle.ftc_machine.specs.declared.state.message.Message.{Message as MessageOfMachine}
-use Rattle.ftc_machine.specs.declared.state.message.Place.{Place}
-use Rattle.ftc_machine.specs.declared.state.message.Place.TheVariants as place
 use Rattle.ftc_protocol.specs.Changes.{is_changing}
-use Rattle.ftc_machine.specs.Represents.{Represents, IsMessage, IsMessageSlot, IsPlace, FollowsRun, footprints_in}
+use Rattle.ftc_machine.specs.Represents.{Represents, IsMessage, IsMessageSlot, FollowsRun, footprints_in}
 use Rattle.ftc_machine.specs.Represents.{frontiers_of, fate_in, visits_in}
 use Rattle.ftc_protocol.specs.Known.{knows}
 use Rattle.ftc_machine.specs.LostPackets.{drop_kept, loses_kept, fate_lost}
@@ -33,7 +31,7 @@ use Rattle.ftc_protocol.specs.Recovery.{previous_live, following_live, list_got,
 use Rattle.ftc_machine.specs.RecoveryEffect.{got_vector, both_known, is_left, rewritten, is_dropped_kept}
 use Rattle.ftc_protocol.specs.Setting.{Setting, servers}
 use Rattle.ftc_machine.specs.Slots.{slot_at}
-use Rattle.ftc_protocol.specs.State.{ChainState, Message, Where, Held, Queued}
+use Rattle.ftc_protocol.specs.State.{ChainState, Message}
 use Rattle.ftc_machine.specs.LegalityTests.{footprints_of}
 use Rattle.ftc_protocol.specs.Trace.{IsBefore, IsChanging, content_of}
 use Rattle.ftc_protocol.specs.Visits.{Visits, In, union}
@@ -49,6 +47,7 @@ use Rattle.ftc_protocol.proofs.RingDistances.{IsLastLive, IsNextLive, last_live,
 use Rattle.ftc_machine.proofs.RisingNumbers.{rising_more}
 use Rattle.ftc_protocol.proofs.TraceLemmas.{visit_stood}
 use Rattle.ftc_machine.proofs.TraceRemoval.{rising_left, reach_left, footprints_left}
+use Rattle.ftc_machine.proofs.MovedMessages.{slot_moves}
 
 -- at its own place a changed function has what it was given, and elsewhere what it had
 given : {A : Type 0} (f : ℕ → A) (k : ℕ) (v : A) → with_at f k v k ≡ v
@@ -230,30 +229,6 @@ module _ (c : Setting) (s : ChainState) (server : ℕ) (undone : List VisitName)
 
   -- ---- messages
 
-  place_left : (known : Visits) (at : Where) (kept : Place) → ((j p : ℕ) → In known j p → names undone j p ≡ false)
-      → IsPlace c.partitions s.trace (numbers_of (footprints_in k.visits.items)) known at kept →
-      IsPlace c.partitions (left_of (names undone) s.trace)
-      (numbers_of (footprints_in k.visits.items)) known at kept
-  place_left known (Held holder visited by_ring) (place.Held other said by) stay at = at
-  place_left known (Held holder visited by_ring) (place.Queued other reach) stay at = at
-  place_left known (Queued link) (place.Held other said by) stay at = at
-  place_left known (Queued link) (place.Queued other reach) stay at = (at.0, reaches_left known reach.value stay at.1)
-
-  slot_left : (o : Option Message) (slot : Option MessageOfMachine) →
-      ((message : Message) → o ≡ Some message → (j p : ℕ) → In message.known j p → names undone j p ≡ false)
-      → IsMessageSlot c.partitions s.trace (numbers_of (footprints_in k.visits.items)) o slot
-      → IsMessageSlot c.partitions (left_of (names undone) s.trace) (numbers_of (footprints_in k.visits.items)) o slot
-  slot_left None None stay at = at
-  slot_left None (Some kept) stay at = at
-  slot_left (Some message) None stay at = at
-  slot_left (Some message) (Some kept) stay at = record {
-    place = place_left message.known message.place kept.place (stay message refl) at.place;
-    since = at.since;
-    packet = at.packet;
-    logs = at.logs;
-    needs = at.needs;
-  }
-
   judged : (following : ℕ) → following ≡ following_live c s server →
       (origin : ℕ) (message : Message) (kept : MessageOfMachine) → s.message origin ≡ Some message
       → IsMessage c.partitions s.trace (numbers_of (footprints_in k.visits.items)) message kept →
@@ -272,8 +247,11 @@ module _ (c : Setting) (s : ChainState) (server : ℕ) (undone : List VisitName)
       let test = is_dropped c s (following_live c s server) in
       subst (λ (slot : Option MessageOfMachine). IsMessageSlot c.partitions (left_of (names undone) s.trace)
       (numbers_of (footprints_in k.visits.items)) (drop_if test (s.message origin)) slot) (sym (dropped origin))
-      (slot_left (drop_if test (s.message origin)) (drop_kept (is_dropped_kept k following) (slot_at k.messages origin))
-      (λ message there j p member. changing_left j p ((after.fronts.told origin message there).there j p member))
+      (slot_moves c.partitions s.trace (left_of (names undone) s.trace) (numbers_of (footprints_in k.visits.items))
+      (numbers_of (footprints_in k.visits.items)) (drop_if test (s.message origin))
+      (drop_kept (is_dropped_kept k following) (slot_at k.messages origin))
+      (λ message there reach. reaches_left message.known reach
+      (λ j p member. changing_left j p ((after.fronts.told origin message there).there j p member)))
       (drops c.partitions s.trace (numbers_of (footprints_in k.visits.items)) test (is_dropped_kept k following)
       (s.message origin) (slot_at k.messages origin)
       (λ message kept there _ at. judged following following_is origin message kept there at)

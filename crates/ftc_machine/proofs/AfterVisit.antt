@@ -19,11 +19,8 @@ use Rattle.ftc_vector.specs.Vector.{number_at}
 use Rattle.ftc_vector.specs.Commits.{vector_of, group_raised}
 use Rattle.ftc_machine.specs.declared.state.footprint.Footprint.{Footprint}
 use Rattle.ftc_machine.specs.declared.state.MachineState.{MachineState}
-use Rattle.ftc_machine.specs.declared.state.message.Message.{Message as MessageOfMachine}
-use Rattle.ftc_machine.specs.declared.state.message.Place.{Place}
-use Rattle.ftc_machine.specs.declared.state.message.Place.TheVariants as place
 use Rattle.ftc_protocol.specs.Changes.{changes, is_changing, is_some_list}
-use Rattle.ftc_machine.specs.Represents.{Represents, IsPlace, IsMessageSlot, FollowsRun, footprints_in, frontiers_of}
+use Rattle.ftc_machine.specs.Represents.{Represents, IsMessageSlot, FollowsRun, footprints_in, frontiers_of}
 use Rattle.ftc_machine.specs.FootprintMaking.{IsFootprintMade}
 use Rattle.ftc_machine.specs.FootprintMarks.{marked_at}
 use Rattle.ftc_protocol.specs.Next.{outcome_at}
@@ -31,7 +28,7 @@ use Rattle.ftc_machine.specs.Frontier.{Footprints, AreRising, AreFootprints, IsF
 use Rattle.ftc_machine.specs.Frontier.{numbers_of, frontier_at}
 use Rattle.ftc_protocol.specs.Setting.{Setting, servers}
 use Rattle.ftc_machine.specs.Slots.{slot_at}
-use Rattle.ftc_protocol.specs.State.{ChainState, Message, Where, Held, Queued}
+use Rattle.ftc_protocol.specs.State.{ChainState}
 use Rattle.ftc_protocol.specs.Trace.{IsChanging, IsSomeVisit, content_of}
 use Rattle.ftc_protocol.specs.Visits.{Visits, In, just, union}
 use Rattle.ftc_protocol.specs.Orderly.{aim}
@@ -44,6 +41,7 @@ use Rattle.ftc_machine.proofs.RaisedRows.{raised_reaches, or_false}
 use Rattle.ftc_machine.proofs.MergedFrontiers.{AreWithin}
 use Rattle.ftc_machine.proofs.SetFrontiers.{same_reach, head_last}
 use Rattle.ftc_machine.proofs.ReplacedPlaces.{row_replaced}
+use Rattle.ftc_machine.proofs.MovedMessages.{slot_moves}
 use Rattle.ftc_protocol.proofs.TraceLemmas.{stands_map}
 use Rattle.ftc_protocol.proofs.ChangeLaws.{changed_touched}
 
@@ -234,39 +232,13 @@ module _ (c : Setting) (s : ChainState) (server packet worker : ℕ)
         (λ group number member. (lawful.fronts.known other).there group number member) (is.sets.known other within)
 
     -- messages carry what they carried
-    place_grows : (known : Visits) (at : Where) (kept : Place) →
-        ((group number : ℕ) → In known group number → IsChanging c.partitions s.trace group number)
-        → IsPlace c.partitions s.trace (numbers_of (footprints_in k.visits.items)) known at kept
-        → IsPlace c.partitions (Visited server packet (outcome_at c s server packet)
-        ∷ s.trace) (numbers_of (footprints_in after)) known at kept
-    place_grows known (Held holder visited by_ring) (place.Held other said by) listed at = at
-    place_grows known (Held holder visited by_ring) (place.Queued other reach) listed at = at
-    place_grows known (Queued link) (place.Held other said by) listed at = at
-    place_grows known (Queued link) (place.Queued other reach) listed at =
-        (at.0, reaches_grow known reach.value listed at.1)
-
-    slot_grows : (o : Option Message) (slot : Option MessageOfMachine) →
-        ((message : Message) → o ≡ Some message → (group number : ℕ) → In message.known group number →
-        IsChanging c.partitions s.trace group number)
-        → IsMessageSlot c.partitions s.trace (numbers_of (footprints_in k.visits.items)) o slot
-        → IsMessageSlot c.partitions (Visited server packet (outcome_at c s server packet)
-        ∷ s.trace) (numbers_of (footprints_in after)) o slot
-    slot_grows None None told at = at
-    slot_grows None (Some kept) told at = at
-    slot_grows (Some message) None told at = at
-    slot_grows (Some message) (Some kept) told at = record {
-      place = place_grows message.known message.place kept.place (told message refl) at.place;
-      since = at.since;
-      packet = at.packet;
-      logs = at.logs;
-      needs = at.needs;
-    }
-
     pub messages_grow : (origin : ℕ) →
         IsMessageSlot c.partitions (Visited server packet (outcome_at c s server packet)
         ∷ s.trace) (numbers_of (footprints_in after)) (s.message origin) (slot_at k.messages origin)
-    messages_grow origin = slot_grows (s.message origin) (slot_at k.messages origin)
-        (λ message there group number member. (lawful.fronts.told origin message there).there group number member)
+    messages_grow origin = slot_moves c.partitions s.trace (Visited server packet (outcome_at c s server packet)
+        ∷ s.trace) (numbers_of (footprints_in k.visits.items)) (numbers_of (footprints_in after)) (s.message origin)
+        (slot_at k.messages origin) (λ message there reach. reaches_grow message.known reach
+        (λ group number member. (lawful.fronts.told origin message there).there group number member))
         (is.sets.messages origin)
 
     -- the new visit, too, is one of so few that a reach tells

@@ -27,7 +27,7 @@ use Rattle.ftc_machine.proofs.FootprintTests.{had_has}
 use Rattle.ftc_protocol.proofs.HasEach.{each_has}
 use Rattle.ftc_machine.specs.Lawful.{IsLawful}
 use Rattle.ftc_machine.proofs.LawfulStates.{serial_in}
-use Rattle.ftc_machine.proofs.AfterApply.{footprint_there}
+use Rattle.ftc_machine.proofs.RepresentedMessages.{footprint_there}
 use Rattle.ftc_protocol.proofs.TraceLemmas.{stands_map}
 use Rattle.ftc_protocol.proofs.ReadyTest.{each_had}
 use Rattle.ftc_machine.proofs.UndoneTests.{same_tests}

@@ -32,12 +32,14 @@ pub mod MergedFrontiers
 pub mod GroupParts
 pub mod LegalEvents
 pub mod MovedMessages
+pub mod NextParts
 pub mod GroupTails
 pub mod OnwardLogs
 pub mod AfterLeaving
 pub mod RaisedRows
 pub mod AfterApply
 pub mod SameParts
+pub mod VisitRoom
 pub mod AfterVisit
 pub mod VisitOutcomes
 pub mod Results

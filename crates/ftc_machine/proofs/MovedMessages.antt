@@ -22,29 +22,41 @@ use Rattle.ftc_protocol.specs.Visits.{Visits, union}
 use Rattle.ftc_machine.proofs.MergedFrontiers.{AreWithin, merged_reaches}
 use Rattle.ftc_machine.proofs.ReplacedPlaces.{row_replaced}
 
--- a message as it is kept beside one trace, beside another
-module _ (partitions : ℕ) (trace after : List Entry) (numbers others : Numbers)
-    (moves : (visits : Visits) (reach : List (List ℕ)) → AreFrontiers partitions trace numbers visits reach →
-    AreFrontiers partitions after others visits reach) where
-  place_stays : (known : Visits) (at : Where) (kept : Place) → IsPlace partitions trace numbers known at kept →
+-- a message stands where what it carries reaches as far after as before
+module _ (partitions : ℕ) (trace after : List Entry) (numbers others : Numbers) where
+  place_moves : (known : Visits) (at : Where) (kept : Place) →
+      ((reach : List (List ℕ)) → AreFrontiers partitions trace numbers known reach →
+      AreFrontiers partitions after others known reach) → IsPlace partitions trace numbers known at kept →
       IsPlace partitions after others known at kept
-  place_stays known (Held server visited by_ring) (place.Held other said by) is = is
-  place_stays known (Held server visited by_ring) (place.Queued other reach) is = is
-  place_stays known (Queued link) (place.Held other said by) is = is
-  place_stays known (Queued link) (place.Queued other reach) is = (is.0, moves known reach.value is.1)
+  place_moves known (Held server visited by_ring) (place.Held other said by) moves is = is
+  place_moves known (Held server visited by_ring) (place.Queued other reach) moves is = is
+  place_moves known (Queued link) (place.Held other said by) moves is = is
+  place_moves known (Queued link) (place.Queued other reach) moves is = (is.0, moves reach.value is.1)
 
-  pub slot_stays : (o : Option Message) (slot : Option MessageOfMachine) →
-      IsMessageSlot partitions trace numbers o slot → IsMessageSlot partitions after others o slot
-  slot_stays None None is = is
-  slot_stays None (Some kept) is = is
-  slot_stays (Some message) None is = is
-  slot_stays (Some message) (Some kept) is = record {
-    place = place_stays message.known message.place kept.place is.place;
+  pub slot_moves : (o : Option Message) (slot : Option MessageOfMachine) →
+      ((message : Message) → o ≡ Some message → (reach : List (List ℕ)) →
+      AreFrontiers partitions trace numbers message.known reach →
+      AreFrontiers partitions after others message.known reach) → IsMessageSlot partitions trace numbers o slot →
+      IsMessageSlot partitions after others o slot
+  slot_moves None None moves is = is
+  slot_moves None (Some kept) moves is = is
+  slot_moves (Some message) None moves is = is
+  slot_moves (Some message) (Some kept) moves is = record {
+    place = place_moves message.known message.place kept.place (moves message refl) is.place;
     since = is.since;
     packet = is.packet;
     logs = is.logs;
     needs = is.needs;
   }
+
+-- a message as it is kept beside one trace, beside another
+module _ (partitions : ℕ) (trace after : List Entry) (numbers others : Numbers)
+    (moves : (visits : Visits) (reach : List (List ℕ)) → AreFrontiers partitions trace numbers visits reach →
+    AreFrontiers partitions after others visits reach) where
+  pub slot_stays : (o : Option Message) (slot : Option MessageOfMachine) →
+      IsMessageSlot partitions trace numbers o slot → IsMessageSlot partitions after others o slot
+  slot_stays o slot =
+      slot_moves partitions trace after numbers others o slot (λ message _ reach. moves message.known reach)
 
 module _ (partitions : ℕ) (trace : List Entry) (numbers : Numbers) where
   -- the message that is there stands for the one that is kept

@@ -29,7 +29,7 @@ use Rattle.ftc_machine.proofs.VisitChain.{visited_before}
 use Rattle.ftc_machine.specs.Lawful.{IsLawful}
 use Rattle.ftc_machine.proofs.LawfulStates.{serial_in}
 use Rattle.ftc_machine.proofs.FootprintTests.{touched_touching, had_has}
-use Rattle.ftc_machine.proofs.AfterApply.{footprint_there}
+use Rattle.ftc_machine.proofs.RepresentedMessages.{footprint_there}
 use Rattle.ftc_protocol.proofs.UndoneList.{lacked_says, lacked_has, up_to_says, up_to_has}
 
 -- ---- tests

@@ -1,16 +1,15 @@
-use Rattle.std.proofs.Common.{◌≡◌, ◌+◌, ◌<◌, ◌∙◌, ℕ, length, List, [], refl, sym, ap, arith}
+use Rattle.std.proofs.Common.{rules, ◌≡◌, ◌<◌, ◌∙◌, ℕ, length, List, [], refl, sym, ap, arith}
 use Rattle.std.specs.Prelude.{option_map}
 use Rattle.std.proofs.lemmas.List.{get_or_read}
 use Rattle.std.proofs.lemmas.Option.{none-some}
 use Rattle.ftc_ring.specs.Ring.{RingShape}
 use Rattle.ftc_vector.specs.Vector.{number_at}
 use Rattle.ftc_vector.specs.Commits.{vector_of, group_raised}
-use Rattle.ftc_machine.specs.Represents.{footprints_in, frontiers_of}
+use Rattle.ftc_machine.specs.Represents.{frontiers_of}
 use Rattle.ftc_machine.specs.FootprintMarks.{marked_at}
-use Rattle.ftc_machine.specs.Frontier.{numbers_of}
 use Rattle.ftc_protocol.specs.Setting.{servers}
 use Rattle.ftc_machine.proofs.AfterApply.{applied_footprint, lists_join, stores_stay}
-use Rattle.ftc_machine.proofs.RisingNumbers.{rising_more}
+use Rattle.ftc_machine.proofs.NextParts.{goes_on}
 use Rattle.ftc_machine.proofs.state.MachineState.apply_log.Goals as goal
 use Rattle.ftc_machine.proofs.state.MachineState.apply_log.Goals.{in-Some, in_default}
 
@@ -18,7 +17,6 @@ pub returns : goal.returns
 returns c setting s origin may is =
     let k = c.args.self.now in
     let log = c.args.log.now in
-    let numbers = numbers_of (footprints_in k.visits.items) in
     let place : c.from-place.result ≡ c.args.server = c.from-place.ensures ∙ c.number.ensures.same in
     let within : c.args.server < k.ring.servers = c.requires in
     let long : length k.lists.items ≡ k.ring.servers = k.each_list in
@@ -32,33 +30,18 @@ returns c setting s origin may is =
       | in_default w ↦ absurd (none-some
           (applied_footprint setting s c.args.server origin log.server log.packet may k is).0
           (w.in_default.ensures ∙ (applied_footprint setting s c.args.server origin log.server log.packet may k is).1))
-      | in-Some w ↦ record {
-        ring = is.ring;
-        partitions = is.partitions;
-        up = is.up;
-        sets = record {
-          rising = rising_more numbers (s.events + 1) (s.events + 1 + 1) s.trace (omega arith) is.sets.rising;
-          footprints = is.sets.footprints;
-          order = is.sets.order;
-          lists = lists_join setting s c.args.server origin log.server log.packet may k is w.in-Some.footprint.now
-              c.match-footprint.vector c.from-place.result c.raise.new.self _
-              (sym c.footprint.ensures ∙ ap (option_map (λ f. f.now)) w.in-Some.is)
-              (λ partition. ap (λ (vector : List ℕ). number_at vector partition) w.vector-is ∙ (w.mark.ensures partition
-              ∙ ap (λ (vector : List ℕ). marked_at w.in-Some.footprint.now (number_at vector) partition)
-              (c.of.ensures.same ∙ ap (λ (reach : List (List ℕ)). vector_of reach log.server) row)))
-              (ap (λ (reach : List (List ℕ)). length reach) (sym row) ∙ c.of.ensures.size) place (omega arith)
-              (c.raise.ensures ∙ ap (λ
-              (reach : List (List ℕ)). group_raised reach log.server c.match-footprint.vector) again) refl;
-          known = is.sets.known;
-          messages = is.sets.messages;
-          stores = stores_stay setting s c.args.server origin log.server log.packet may k is;
-        };
-        forwarder = is.forwarder;
-        buffer = is.buffer;
-        gaps = is.gaps;
-        lines = is.lines;
-        entered = is.entered;
-        propagates = is.propagates;
-        fates = is.fates;
-      }
+      | in-Some w ↦
+          goes_on is (search rules)
+          (lists_join setting s c.args.server origin log.server log.packet may k is w.in-Some.footprint.now
+          c.match-footprint.vector c.from-place.result c.raise.new.self _
+          (sym c.footprint.ensures ∙ ap (option_map (λ f. f.now)) w.in-Some.is)
+          (λ partition. ap (λ (vector : List ℕ). number_at vector partition) w.vector-is ∙ (w.mark.ensures partition
+          ∙ ap (λ (vector : List ℕ). marked_at w.in-Some.footprint.now (number_at vector) partition)
+          (c.of.ensures.same ∙ ap (λ (reach : List (List ℕ)). vector_of reach log.server) row)))
+          (ap (λ (reach : List (List ℕ)). length reach) (sym row) ∙ c.of.ensures.size) place (omega arith)
+          (c.raise.ensures ∙ ap (λ (reach : List (List ℕ)). group_raised reach log.server c.match-footprint.vector)
+          again) refl)
+          is.sets.known is.sets.messages
+          (stores_stay setting s c.args.server origin log.server log.packet may k is)
+          is.forwarder is.buffer is.gaps is.entered is.propagates is.fates
     ]

@@ -1,4 +1,4 @@
-use Rattle.std.proofs.Common.{◌≡◌, ◌+◌, ◌==◌, ◌&&◌, ◌||◌, ◌∙◌, ℕ, not, List, Option, None, ap, arith, rules}
+use Rattle.std.proofs.Common.{rules, ◌≡◌, ◌==◌, ◌&&◌, ◌||◌, ◌∙◌, ℕ, not, List, Option, None, ap}
 use Rattle.std.proofs.Math.Bool.{or_comm}
 use Rattle.ftc_journal.specs.declared.event.Event.TheVariants as event
 use Rattle.ftc_journal.specs.declared.event.VisitName.{VisitName}
@@ -12,9 +12,9 @@ use Rattle.ftc_protocol.specs.Setting.{is_tail}
 use Rattle.ftc_machine.specs.Slots.{slot_at}
 use Rattle.ftc_ring.specs.Groups.{group_ending_at}
 use Rattle.ftc_protocol.specs.State.{Message}
+use Rattle.ftc_machine.proofs.NextParts.{goes_on}
 use Rattle.ftc_machine.proofs.OnwardLogs.{logs_go_on}
 use Rattle.ftc_machine.proofs.ReplacedPlaces.{cleared}
-use Rattle.ftc_machine.proofs.RisingNumbers.{rising_more}
 use Rattle.ftc_machine.proofs.state.MachineState.carry.Goals as goal
 
 pub returns-clause-ok : goal.returns-clause-ok
@@ -33,30 +33,13 @@ returns-clause-ok c setting s may is =
     || ((c.unwrap-first.result == 0) && names k.forwarder group packet)) c.logs_of.ensures
     ∙ ap (λ first. (names (logs_in (slot_at k.messages c.args.origin)) group packet
     && not (group == group_ending_at k.ring first)) || ((first == 0) && names k.forwarder group packet)) zero in
-    record {
-      ring = is.ring;
-      partitions = is.partitions;
-      up = is.up;
-      sets = record {
-        rising = rising_more numbers (s.events + 1) (s.events + 1 + 1) s.trace (omega arith) is.sets.rising;
-        footprints = is.sets.footprints;
-        order = is.sets.order;
-        lists = is.sets.lists;
-        known = is.sets.known;
-        messages = cleared (λ _ (o : Option Message)
-            (slot : Option MessageOfMachine). IsMessageSlot setting.partitions s.trace numbers o slot)
-            s.message k.messages c.take_out.new.self c.args.origin None c.take_out.ensures.left tt is.sets.messages;
-        stores = is.sets.stores;
-      };
-      forwarder = λ group packet.
-          logs_go_on setting s (event.Carry c.args.origin) may k is 0 c.args.origin may.supposed.ring.some
-          c.in_ok-self.field-0 are group packet
-          ∙ or_comm (logs_of (s.message c.args.origin) group packet
-          && not (is_tail setting group 0)) (s.forwarder group packet);
-      buffer = is.buffer;
-      gaps = is.gaps;
-      lines = is.lines;
-      entered = is.entered;
-      propagates = is.propagates;
-      fates = is.fates;
-    }
+    let messages = cleared (λ _ (o : Option Message)
+    (slot : Option MessageOfMachine). IsMessageSlot setting.partitions s.trace numbers o slot)
+    s.message k.messages c.take_out.new.self c.args.origin None c.take_out.ensures.left tt is.sets.messages in
+    goes_on is (search rules) is.sets.lists is.sets.known messages is.sets.stores
+    (λ group packet.
+    logs_go_on setting s (event.Carry c.args.origin) may k is 0 c.args.origin may.supposed.ring.some
+    c.in_ok-self.field-0 are group packet
+    ∙ or_comm (logs_of (s.message c.args.origin) group packet
+    && not (is_tail setting group 0)) (s.forwarder group packet))
+    is.buffer is.gaps is.entered is.propagates is.fates

@@ -1,93 +1,53 @@
-use Rattle.std.proofs.Common.{rules, ◌≡◌, ◌<◌, ◌≤◌, ◌∙◌, length, List, [], Option, Some, refl, sym, ap, subst, arith}
+use Rattle.std.proofs.Common.{rules, ◌≡◌, ◌<◌, ◌≤◌, ◌∙◌, length, List, [], Option, Some, refl, sym, subst, arith}
 use Rattle.std.proofs.Common.{slice_set, slice_index_or, get_or-set_same}
 use Rattle.std.specs.Prelude.{slice_get}
 use Rattle.std.proofs.lemmas.Option.{same_Some}
 use Rattle.ftc_base.specs.declared.limits.TheConstants.{MOST_WRITES}
 use Rattle.ftc_serial.proofs.Places.{get_set_same}
 use Rattle.ftc_store.specs.Store.{Stored}
-use Rattle.std.proofs.lemmas.List.{get_or_read}
 use Rattle.ftc_machine.specs.declared.state.footprint.Footprint.{Footprint}
-use Rattle.ftc_machine.specs.Slots.{slot_at}
-use Rattle.ftc_machine.proofs.SameParts.{stands_still, footprints_alike, contents_alike, content_read}
+use Rattle.ftc_machine.proofs.VisitRoom.{room_still, visits_roomed, stores_roomed}
 use Rattle.ftc_machine.proofs.state.MachineState.make_visit_room.Goals as goal
 
 pub returns-in_err-make_room-clause-still : goal.returns-in_err-make_room-clause-still
 returns-in_err-make_room-clause-still c =
     let k = c.args.self.now in
-    let rows : length k.visits.items ≡ k.ring.servers = k.each_visits in
-    let within : c.args.server < k.ring.servers = c.requires in
-    let place : c.from-place.result ≡ c.args.server = c.from-place.ensures ∙ c.number.ensures.same in
-    stands_still k _ (record {
-      others = search rules;
-      stores = λ server. refl;
-      visits = footprints_alike k.visits.items _ c.from-place.result c.make_room.new.self refl (omega arith)
-          (λ packet. c.in_err-make_room.ensures.same packet ∙ ap (λ (row : List (Option Footprint)). slot_at row packet)
-          (get_or_read k.visits.items c.from-place.result c.index_mut.result.now
-          (omega arith) c.index_mut.ensures.value []));
-      messages = λ origin. refl;
-      buffer = λ packet. refl;
-      fates = λ packet. refl;
-    })
+    let place = c.from-place.ensures ∙ c.number.ensures.same in
+    room_still k (search rules) refl refl (λ server. refl)
+    (visits_roomed k c.requires place c.index_mut.result.now c.make_room.new.self c.index_mut.ensures.value
+    c.in_err-make_room.ensures.same)
+    (λ packet. refl)
 
 pub returns-in_err-make_room-2-clause-still : goal.returns-in_err-make_room-2-clause-still
 returns-in_err-make_room-2-clause-still c =
     let k = c.args.self.now in
-    let rows : length k.visits.items ≡ k.ring.servers = k.each_visits in
-    let within : c.args.server < k.ring.servers = c.requires in
-    let place : c.from-place.result ≡ c.args.server = c.from-place.ensures ∙ c.number.ensures.same in
-    stands_still k _ (record {
-      others = search rules;
-      stores = λ server. refl;
-      visits = footprints_alike k.visits.items _ c.from-place.result c.make_room.new.self refl (omega arith)
-          (λ packet. c.in_ok-make_room.ensures.same packet ∙ ap (λ (row : List (Option Footprint)). slot_at row packet)
-          (get_or_read k.visits.items c.from-place.result c.index_mut.result.now
-          (omega arith) c.index_mut.ensures.value []));
-      messages = λ origin. refl;
-      buffer = λ packet. refl;
-      fates = c.in_err-make_room-2.ensures.same;
-    })
+    let place = c.from-place.ensures ∙ c.number.ensures.same in
+    room_still k (search rules) refl refl (λ server. refl)
+    (visits_roomed k c.requires place c.index_mut.result.now c.make_room.new.self c.index_mut.ensures.value
+    c.in_ok-make_room.ensures.same)
+    c.in_err-make_room-2.ensures.same
 
 pub returns-in_err-reserve-clause-still : goal.returns-in_err-reserve-clause-still
 returns-in_err-reserve-clause-still c =
     let k = c.args.self.now in
-    let rows : length k.visits.items ≡ k.ring.servers = k.each_visits in
-    let places : length k.stores.items ≡ k.ring.servers = k.each_store in
-    let within : c.args.server < k.ring.servers = c.requires in
-    let place : c.from-place.result ≡ c.args.server = c.from-place.ensures ∙ c.number.ensures.same in
-    stands_still k _ (record {
-      others = search rules;
-      stores = contents_alike k.stores.items _ c.from-place.result c.reserve.new.self refl (omega arith)
-          (c.in_err-reserve.ensures.content ∙ content_read k.stores.items c.from-place.result c.index_mut-2.result.now
-          (omega arith) c.index_mut-2.ensures.value);
-      visits = footprints_alike k.visits.items _ c.from-place.result c.make_room.new.self refl (omega arith)
-          (λ packet. c.in_ok-make_room.ensures.same packet ∙ ap (λ (row : List (Option Footprint)). slot_at row packet)
-          (get_or_read k.visits.items c.from-place.result c.index_mut.result.now
-          (omega arith) c.index_mut.ensures.value []));
-      messages = λ origin. refl;
-      buffer = λ packet. refl;
-      fates = c.in_ok-make_room-2.ensures.same;
-    })
+    let place = c.from-place.ensures ∙ c.number.ensures.same in
+    room_still k (search rules) refl refl
+    (stores_roomed k c.requires place c.index_mut-2.result.now c.reserve.new.self c.index_mut-2.ensures.value
+    c.in_err-reserve.ensures.content)
+    (visits_roomed k c.requires place c.index_mut.result.now c.make_room.new.self c.index_mut.ensures.value
+    c.in_ok-make_room.ensures.same)
+    c.in_ok-make_room-2.ensures.same
 
 pub returns-clause-still : goal.returns-clause-still
 returns-clause-still c =
     let k = c.args.self.now in
-    let rows : length k.visits.items ≡ k.ring.servers = k.each_visits in
-    let places : length k.stores.items ≡ k.ring.servers = k.each_store in
-    let within : c.args.server < k.ring.servers = c.requires in
-    let place : c.from-place.result ≡ c.args.server = c.from-place.ensures ∙ c.number.ensures.same in
-    stands_still k _ (record {
-      others = search rules;
-      stores = contents_alike k.stores.items _ c.from-place.result c.reserve.new.self refl (omega arith)
-          (c.in_ok-reserve.ensures.content ∙ content_read k.stores.items c.from-place.result c.index_mut-2.result.now
-          (omega arith) c.index_mut-2.ensures.value);
-      visits = footprints_alike k.visits.items _ c.from-place.result c.make_room.new.self refl (omega arith)
-          (λ packet. c.in_ok-make_room.ensures.same packet ∙ ap (λ (row : List (Option Footprint)). slot_at row packet)
-          (get_or_read k.visits.items c.from-place.result c.index_mut.result.now
-          (omega arith) c.index_mut.ensures.value []));
-      messages = λ origin. refl;
-      buffer = λ packet. refl;
-      fates = c.in_ok-make_room-2.ensures.same;
-    })
+    let place = c.from-place.ensures ∙ c.number.ensures.same in
+    room_still k (search rules) refl refl
+    (stores_roomed k c.requires place c.index_mut-2.result.now c.reserve.new.self c.index_mut-2.ensures.value
+    c.in_ok-reserve.ensures.content)
+    (visits_roomed k c.requires place c.index_mut.result.now c.make_room.new.self c.index_mut.ensures.value
+    c.in_ok-make_room.ensures.same)
+    c.in_ok-make_room-2.ensures.same
 
 pub returns-clause-room : goal.returns-clause-room
 returns-clause-room c =

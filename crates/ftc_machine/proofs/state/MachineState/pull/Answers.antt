@@ -1,23 +1,21 @@
-use Rattle.std.proofs.Common.{◌≡◌, ◌+◌, ◌<◌, ◌==◌, ◌&&◌, ◌||◌, ◌↔◌, ◌∙◌, ℕ, not, nat_lt, true, List, [], length, refl}
+use Rattle.std.proofs.Common.{rules, ◌≡◌, ◌<◌, ◌==◌, ◌&&◌, ◌||◌, ◌↔◌, ◌∙◌, ℕ, not, nat_lt, true, List, [], length, refl}
 use Rattle.std.proofs.Common.{ap, subst, arith}
 use Rattle.std.proofs.lemmas.List.{get_or_read}
 use Rattle.ftc_base.specs.Sets.{has}
 use Rattle.ftc_ring.specs.Ring.{RingShape, next_of}
 use Rattle.ftc_vector.specs.Commits.{all_merged}
-use Rattle.ftc_machine.specs.Represents.{footprints_in, frontiers_of}
+use Rattle.ftc_machine.specs.Represents.{frontiers_of}
 use Rattle.ftc_machine.specs.Gain.{HasGain}
-use Rattle.ftc_machine.specs.Frontier.{numbers_of}
 use Rattle.ftc_protocol.specs.Setting.{servers}
 use Rattle.ftc_ring.specs.Groups.{group_ending_at, is_later_member}
 use Rattle.ftc_machine.specs.Tails.{part_of}
 use Rattle.ftc_machine.proofs.AfterPull.{link_below, next_below, lists_pulled, stores_pulled, news_is, gaps_pulled}
-use Rattle.ftc_machine.proofs.RisingNumbers.{rising_more}
+use Rattle.ftc_machine.proofs.NextParts.{goes_on}
 use Rattle.ftc_machine.proofs.state.MachineState.pull.Goals as goal
 
 pub returns-clause-ok : goal.returns-clause-ok
 returns-clause-ok c setting s may is =
     let k = c.args.self.now in
-    let numbers = numbers_of (footprints_in k.visits.items) in
     let link = c.args.link in
     let receiver = next_of (servers setting) link in
     let rows = k.lists.items in
@@ -64,25 +62,9 @@ returns-clause-ok c setting s may is =
     && has c.with_if.result other) c.number-3.ensures.same
     ∙ ap (λ b. not (other == link)
     && b) (c.with_if.ensures other ∙ ap (λ server. (other == server && news) || has k.gaps other) next) in
-    record {
-      ring = is.ring;
-      partitions = is.partitions;
-      up = is.up;
-      sets = record {
-        rising = rising_more numbers (s.events + 1) (s.events + 1 + 1) s.trace (omega arith) is.sets.rising;
-        footprints = is.sets.footprints;
-        order = is.sets.order;
-        lists = lists_pulled setting s link may k is groups are c.from-to.result c.merge.new.self _ to merged refl;
-        known = is.sets.known;
-        messages = is.sets.messages;
-        stores = stores_pulled setting s link may k is;
-      };
-      forwarder = is.forwarder;
-      buffer = is.buffer;
-      gaps = gaps_pulled setting s link may k is c.without-self.result news
-          (news_is setting s link may k is groups are news are_news) gaps;
-      lines = is.lines;
-      entered = is.entered;
-      propagates = is.propagates;
-      fates = is.fates;
-    }
+    goes_on is (search rules)
+    (lists_pulled setting s link may k is groups are c.from-to.result c.merge.new.self _ to merged refl)
+    is.sets.known is.sets.messages (stores_pulled setting s link may k is) is.forwarder is.buffer
+    (gaps_pulled setting s link may k is c.without-self.result news
+    (news_is setting s link may k is groups are news are_news) gaps)
+    is.entered is.propagates is.fates

@@ -1,8 +1,6 @@
-use Rattle.std.proofs.Common.{◌≡◌, ◌+◌, ◌∷◌, Option, Some, None, refl, arith}
-use Rattle.std.specs.Option.{option_map_or}
+use Rattle.std.proofs.Common.{◌+◌, ◌∷◌, Option, Some, None, refl, arith}
 use Rattle.ftc_serial.specs.Serial.{Given}
-use Rattle.ftc_protocol.specs.declared.fate.Fate.{Fate}
-use Rattle.ftc_protocol.specs.declared.fate.Fate.TheVariants.{Inside, Released}
+use Rattle.ftc_protocol.specs.declared.fate.Fate.TheVariants.{Released}
 use Rattle.ftc_machine.specs.declared.state.message.Withheld.{Withheld as WithheldOfMachine}
 use Rattle.ftc_machine.specs.Represents.{IsWithheldSlot, footprints_in, frontiers_of}
 use Rattle.ftc_protocol.specs.Next.{bytes_withheld}
@@ -11,6 +9,7 @@ use Rattle.ftc_machine.specs.Slots.{slot_at}
 use Rattle.ftc_protocol.specs.State.{Withheld}
 use Rattle.ftc_machine.proofs.MovedMessages.{slot_stays}
 use Rattle.ftc_machine.proofs.MergedFrontiers.{given_reaches}
+use Rattle.ftc_machine.proofs.NextParts.{fate_put}
 use Rattle.ftc_machine.proofs.ReplacedPlaces.{replaced}
 use Rattle.ftc_machine.proofs.RisingNumbers.{rising_more}
 use Rattle.ftc_machine.proofs.state.MachineState.release.Goals as goal
@@ -45,8 +44,6 @@ returns-clause-ok c setting s may is =
       lines = is.lines;
       entered = is.entered;
       propagates = is.propagates;
-      fates = replaced (λ _ (fate : Fate) (slot : Option Fate). option_map_or (λ (found : Fate). found) slot Inside
-          ≡ fate) s.fate k.fates c.make_room-2.new.self c.put.new.self packet Released (Some Released)
-          c.put.ensures c.in_ok-make_room-2.ensures.room
-          (λ other _. c.in_ok-make_room-2.ensures.same other) refl is.fates;
+      fates = fate_put is c.make_room-2.new.self c.put.new.self packet Released (Some Released)
+          c.put.ensures c.in_ok-make_room-2.ensures.room c.in_ok-make_room-2.ensures.same refl;
     }

@@ -1,23 +1,20 @@
-use Rattle.std.proofs.Common.{◌≡◌, ◌+◌, ◌<◌, ◌==◌, ◌&&◌, ◌||◌, ◌∙◌, ℕ, not, List, [], Some, if◌then◌else◌, sym, ap}
-use Rattle.std.proofs.Common.{arith}
+use Rattle.std.proofs.Common.{◌≡◌, ◌<◌, ◌==◌, ◌&&◌, ◌||◌, ◌∙◌, ℕ, not, List, [], Some, if◌then◌else◌, sym, ap}
+use Rattle.std.proofs.Common.{rules, arith}
 use Rattle.ftc_journal.specs.declared.event.VisitName.{VisitName}
 use Rattle.ftc_ring.specs.Ring.{RingShape}
 use Rattle.ftc_serial.specs.Trace.{names}
 use Rattle.ftc_machine.specs.Simulation.{sending}
-use Rattle.ftc_machine.specs.Represents.{footprints_in}
-use Rattle.ftc_machine.specs.Frontier.{numbers_of}
 use Rattle.ftc_protocol.specs.Setting.{servers}
 use Rattle.ftc_protocol.specs.State.{Message}
 use Rattle.ftc_ring.specs.Groups.{group_ending_at}
 use Rattle.ftc_machine.proofs.AfterLeaving.{after_sending, leaves, last_is, queued_is, gap_is, messages_kept, sent_kept}
 use Rattle.ftc_machine.proofs.AfterLeaving.{forwarder_kept, buffer_kept, gaps_kept, fates_kept}
-use Rattle.ftc_machine.proofs.RisingNumbers.{rising_more}
+use Rattle.ftc_machine.proofs.NextParts.{goes_on}
 use Rattle.ftc_machine.proofs.state.MachineState.send.Goals as goal
 
 pub returns-clause-ok : goal.returns-clause-ok
 returns-clause-ok c setting s now may is =
     let k = c.args.self.now in
-    let numbers = numbers_of (footprints_in k.visits.items) in
     let server = c.args.server in
     let origin = c.args.origin in
     let lost = c.args.lost in
@@ -37,36 +34,23 @@ returns-clause-ok c setting s now may is =
     number
     ∙ ap (λ (logs : List VisitName). (names logs group number && not (group == group_ending_at k.ring server))
     || ((server == 0) && names k.forwarder group number)) c.logs_of.ensures in
-    after_sending setting s server origin lost _ (record {
-      ring = is.ring;
-      partitions = is.partitions;
-      up = is.up;
-      sets = record {
-        rising = rising_more numbers (s.events + 1) (s.events + 1 + 1) s.trace (omega arith) is.sets.rising;
-        footprints = is.sets.footprints;
-        order = is.sets.order;
-        lists = is.sets.lists;
-        known = is.sets.known;
-        messages = messages_kept setting s k is server lost below origin c.args.now now message kept there slot
-            c.take_out.new.self c.set_if-3.new.self way.queued c.behind-message.result queued
-            (sent_kept setting s k is server lost below origin c.args.now now message kept there slot
-            (sending lost server origin) may c.behind-message.result way.last c.in_ok-known.known
-            last c.behind-message.ensures.place
-            (c.in_ok-known.ensures.ok ∙ c.knows.ensures) c.behind-message.ensures.since
-            c.behind-message.ensures.packet c.behind-message.ensures.needs logs)
-            c.take_out.ensures.left c.set_if-3.ensures c.in-Some.ensures.room;
-        stores = is.sets.stores;
-      };
-      forwarder = forwarder_kept setting s k is server lost below c.clear_if.new.list
-          (c.clear_if.ensures ∙ ap (λ number. if number == 0 then [] else k.forwarder) c.number.ensures.same);
-      buffer = buffer_kept setting s k is server lost below origin c.args.now now message kept there slot
-          c.make_room.new.self c.set_if.new.self way.last c.withheld-entry.result last
-          c.withheld-entry.ensures c.set_if.ensures c.in_ok-make_room.ensures.room c.in_ok-make_room.ensures.same;
-      gaps = gaps_kept setting s k is server lost below c.with_if-self.result way.gap gap c.with_if-self.ensures;
-      lines = is.lines;
-      entered = is.entered;
-      propagates = is.propagates;
-      fates = fates_kept setting s k is server lost below origin c.args.now now message kept there slot
-          c.make_room-2.new.self c.set_if-2.new.self way.last way.gap c.loses_packet.result last gap
-          c.loses_packet.ensures c.set_if-2.ensures c.in_ok-make_room-2.ensures.room c.in_ok-make_room-2.ensures.same;
-    })
+    let messages = messages_kept setting s k is server lost below origin c.args.now now message kept there slot
+    c.take_out.new.self c.set_if-3.new.self way.queued c.behind-message.result queued
+    (sent_kept setting s k is server lost below origin c.args.now now message kept there slot
+    (sending lost server origin) may c.behind-message.result way.last c.in_ok-known.known
+    last c.behind-message.ensures.place
+    (c.in_ok-known.ensures.ok ∙ c.knows.ensures) c.behind-message.ensures.since
+    c.behind-message.ensures.packet c.behind-message.ensures.needs logs)
+    c.take_out.ensures.left c.set_if-3.ensures c.in-Some.ensures.room in
+    let buffer = buffer_kept setting s k is server lost below origin c.args.now now message kept there slot
+    c.make_room.new.self c.set_if.new.self way.last c.withheld-entry.result last
+    c.withheld-entry.ensures c.set_if.ensures c.in_ok-make_room.ensures.room c.in_ok-make_room.ensures.same in
+    let fates = fates_kept setting s k is server lost below origin c.args.now now message kept there slot
+    c.make_room-2.new.self c.set_if-2.new.self way.last way.gap c.loses_packet.result last gap
+    c.loses_packet.ensures c.set_if-2.ensures c.in_ok-make_room-2.ensures.room c.in_ok-make_room-2.ensures.same in
+    after_sending setting s server origin lost _
+    (goes_on is (search rules) is.sets.lists is.sets.known messages is.sets.stores
+    (forwarder_kept setting s k is server lost below c.clear_if.new.list
+    (c.clear_if.ensures ∙ ap (λ number. if number == 0 then [] else k.forwarder) c.number.ensures.same))
+    buffer (gaps_kept setting s k is server lost below c.with_if-self.result way.gap gap c.with_if-self.ensures)
+    is.entered is.propagates fates)

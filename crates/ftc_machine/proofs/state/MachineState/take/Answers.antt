@@ -1,18 +1,17 @@
-use Rattle.std.proofs.Common.{◌≡◌, ◌+◌, ◌<◌, ◌==◌, ◌∙◌, ℕ, List, [], Option, Some, refl, sym, ap, subst, arith}
+use Rattle.std.proofs.Common.{rules, ◌≡◌, ◌+◌, ◌<◌, ◌==◌, ◌∙◌, ℕ, List, [], Option, Some, refl, sym, ap, subst, arith}
 use Rattle.std.proofs.lemmas.List.{get_or_read}
 use Rattle.ftc_journal.specs.declared.event.Event.TheVariants as event
 use Rattle.ftc_ring.specs.Ring.{RingShape, next_of}
 use Rattle.ftc_vector.specs.Commits.{all_merged}
-use Rattle.ftc_machine.specs.declared.state.message.Message.{Message as MessageOfMachine}
-use Rattle.ftc_machine.specs.Represents.{IsMessageSlot, footprints_in, frontiers_of}
+use Rattle.ftc_machine.specs.Represents.{footprints_in, frontiers_of}
 use Rattle.ftc_protocol.specs.Next.{taken_message, known_by}
 use Rattle.ftc_machine.specs.Frontier.{numbers_of, AreFrontiers}
 use Rattle.ftc_protocol.specs.Setting.{servers}
 use Rattle.ftc_protocol.specs.State.{Message}
 use Rattle.ftc_machine.proofs.LegalEvents.{visits_within}
 use Rattle.ftc_machine.proofs.MovedMessages.{carried, kept_message, taken_kept, known_merges}
-use Rattle.ftc_machine.proofs.ReplacedPlaces.{replaced, others_left}
-use Rattle.ftc_machine.proofs.RisingNumbers.{rising_more}
+use Rattle.ftc_machine.proofs.NextParts.{goes_on, message_put}
+use Rattle.ftc_machine.proofs.ReplacedPlaces.{others_left}
 use Rattle.ftc_machine.proofs.state.MachineState.take.Goals as goal
 
 pub returns-clause-ok : goal.returns-clause-ok
@@ -45,37 +44,16 @@ returns-clause-ok c setting s now may is =
     let by_ring : (c.number.result + 1 == c.servers.result) ≡ (c.args.link + 1 == n) =
     ap (λ link. link + 1 == c.servers.result) number ∙ ap (λ servers. c.args.link
     + 1 == servers) (c.servers.ensures.same ∙ servers_are) in
-    record {
-      ring = is.ring;
-      partitions = is.partitions;
-      up = is.up;
-      sets = record {
-        rising = rising_more numbers (s.events + 1) (s.events + 1 + 1) s.trace (omega arith) is.sets.rising;
-        footprints = is.sets.footprints;
-        order = is.sets.order;
-        lists = is.sets.lists;
-        known = known_merges setting s k is (visits_within setting s (event.Take c.args.link c.args.origin) may k is)
-            (next_of n c.args.link) c.from.result
-            (known_by (s.message c.args.origin)) c.in-Queued.known.value c.merge.new.self _ known below place merged
-            refl;
-        messages = replaced (λ _ (o : Option Message)
-            (slot : Option MessageOfMachine). IsMessageSlot setting.partitions s.trace numbers o slot)
-            s.message k.messages c.take_out.new.self c.put.new.self c.args.origin
-            (taken_message setting s c.args.link (s.message c.args.origin)) _
-            c.put.ensures c.in-Some.ensures.room
-            (others_left k.messages c.take_out.new.self c.args.origin c.take_out.ensures.left)
-            (taken_kept setting s k is c.args.origin c.args.link message c.in-Some.message _ there slot (
-              receiver,
-              refl,
-              by_ring,
-            ) now refl refl refl) is.sets.messages;
-        stores = is.sets.stores;
-      };
-      forwarder = is.forwarder;
-      buffer = is.buffer;
-      gaps = is.gaps;
-      lines = is.lines;
-      entered = is.entered;
-      propagates = is.propagates;
-      fates = is.fates;
-    }
+    let messages = message_put is c.take_out.new.self c.put.new.self c.args.origin
+    (taken_message setting s c.args.link (s.message c.args.origin)) _ c.put.ensures c.in-Some.ensures.room
+    (others_left k.messages c.take_out.new.self c.args.origin c.take_out.ensures.left)
+    (taken_kept setting s k is c.args.origin c.args.link message c.in-Some.message _ there slot (
+      receiver,
+      refl,
+      by_ring,
+    ) now refl refl refl) in
+    goes_on is (search rules) is.sets.lists
+    (known_merges setting s k is (visits_within setting s (event.Take c.args.link c.args.origin) may k is)
+    (next_of n c.args.link) c.from.result (known_by (s.message c.args.origin)) c.in-Queued.known.value
+    c.merge.new.self _ known below place merged refl)
+    messages is.sets.stores is.forwarder is.buffer is.gaps is.entered is.propagates is.fates
