@@ -297,11 +297,6 @@ module _ (c : Setting) (is : IsSetting c) (s : ChainState) (n : IsCounted c s) w
       (there_with Message (s.message p) Rest
       (λ m there. both _ _ (unvisited_at m.place k) (both _ _ (packet_in (List ℕ) m.packet) (ready_at k m))))
 
-  Leaves : ℕ → ℕ → Message → Type 0
-  Leaves k p m = (s.message p ≡ Some m)
-      × (((visited : Bool) × (m.place ≡ Held k visited false) × ((visited ≡ true) ⊎ (m.packet ≡ None)))
-      × IsReady c s k m)
-
   pass_may : (k p : ℕ) (P : Type 0) → Decided P → Decided ((m : Message) × MayLeave c s k p m × P)
   pass_may k p P decided =
       let Rest : Message → Type 0 =

@@ -18,8 +18,8 @@ use Rattle.ftc_protocol.specs.Quiet.{IsQuiet}
 use Rattle.ftc_protocol.specs.Run.{AreLegal, IsRun, IsFinished, state_after}
 use Rattle.ftc_protocol.specs.Jobs.{event_of, slot_of, IsLegalJob, IsFirstJob, IsInTurn}
 use Rattle.ftc_protocol.specs.Drive.{IsNoneDue, AreReleases, AreFinish, IsFinish, IsPlay, IsDrive}
-use Rattle.ftc_protocol.proofs.UniqueDrive.{play_on, play_is_one, IsDoing, does, any_slot, one_releases, finish_legal}
-use Rattle.ftc_protocol.proofs.UniqueDrive.{finish_ends, turn, finish_is_one, drive_is_one}
+use Rattle.ftc_protocol.proofs.UniqueDrive.{play_on, play_is_one, does, any_slot, one_releases, finish_legal}
+use Rattle.ftc_protocol.proofs.UniqueDrive.{finish_ends, turn, finish_is_one}
 use Rattle.ftc_protocol.proofs.DecidedJobs.{release_or_none}
 use Rattle.ftc_protocol.proofs.ArrivalTimes.{opens_dated, dated_on_all}
 use Rattle.ftc_protocol.proofs.FirstJobExists.{play_of, legal_on, counted_at, first_or_finished, none_finished}
@@ -68,9 +68,6 @@ pub none_is_finished : (c : Setting) → IsSetting c → (journal : List Event) 
     IsFinished c (state_after c (opening c) journal)
 none_is_finished c is journal run none no_job =
     none_finished c is (state_after c (opening c) journal) (counted_at c is journal run) none no_job
-
-pub first_unfinished : (c : Setting) (s : ChainState) (j : Job) → IsFirstJob c s j → IsFinished c s → ⊥
-first_unfinished c s j first finished = finished (event_of c s FINISHING_SLOT j) first.legal
 
 pub messages_apart : (c : Setting) (journal : List Event) (p q : ℕ) (m n : Message) →
     (state_after c (opening c) journal).message p ≡ Some m

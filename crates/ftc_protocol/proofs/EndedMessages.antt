@@ -12,10 +12,6 @@ abbrev pub ended : ℕ → (ℕ → Option Message) → ℕ
 ended zero message = 0
 ended (suc n) message = ended n message + (if is_some (message n) then 0 else 1)
 
--- where no message is there that wasn't
-abbrev pub Fewer : ℕ → (ℕ → Option Message) → (ℕ → Option Message) → Type 0
-Fewer n old new = (p : ℕ) → p < n → is_some (old p) ≡ false → is_some (new p) ≡ false
-
 one_more : (a b : Bool) → (a ≡ false → b ≡ false) → one_if a ≤ one_if b
 one_more true b less = omega arith
 one_more false b less = subst (λ x. 1 ≤ one_if x) (sym (less refl)) (omega arith)

@@ -9,7 +9,6 @@ use Rattle.ftc_script.specs.declared.line.ScriptLine.TheVariants as script_line
 use Rattle.ftc_journal.specs.declared.event.Event.TheVariants.{Apply, Carry, Crash, Enter, Lose, Pass, Propagate, Pull}
 use Rattle.ftc_journal.specs.declared.event.Event.TheVariants.{Recover, Release, Take, Visit}
 use Rattle.ftc_protocol.proofs.Premises.{AreFit, IsGood, ticked}
-use Rattle.ftc_protocol.specs.Run.{AreLegal, state_after}
 use Rattle.ftc_protocol.proofs.InTransit.{AreNumbered, IsPending, keeps_numbers, other_message, same_message}
 use Rattle.ftc_protocol.proofs.ArrivalOrder.{AreSeen, From, IsSeenAt, IsTimed, crash_seen, keeps_time, left_seen}
 use Rattle.ftc_protocol.proofs.ArrivalOrder.{recover_seen, seen_by, seen_given, seen_grow, take_seen, visit_seen}
@@ -184,11 +183,6 @@ module _ (c : Setting) (good : IsGood c) (s : ChainState) (l : IsLive c s) where
       let i' : In (by (Some m) (seen x)) j q = subst (λ v. In (by v (seen x)) j q) e i in
       (and_parts (seen x j q) (not (names undone j q)) (ap (λ b. if b then s.lists t j q
       else (seen x j q && not (names undone j q))) (sym (ne_eqb (target (servers c) m.place) t away)) ∙ i')).0))
-
-pub live_runs : (c : Setting) → IsGood c → (es : List Event) (s : ChainState) → IsLive c s → AreLegal c s es →
-    IsLive c (state_after c s es)
-live_runs c good [] s h legal = h
-live_runs c good (e ∷ es) s h legal = live_runs c good es (next c s e) (keeps_live c good s h e legal.0.0) legal.1
 
 pub live_opens : (c : Setting) → IsGood c → AreFit c (opening c).up c.lines → IsLive c (opening c)
 live_opens c good fit = record {

@@ -26,8 +26,7 @@ use Rattle.ftc_protocol.specs.Drive.{IsDrive}
 use Rattle.ftc_protocol.proofs.JobOrder.{below_both, ordered}
 use Rattle.ftc_protocol.proofs.BoundedSearch.{among, among_each}
 use Rattle.ftc_protocol.proofs.DecidedJobs.{numbered, visited_packet, is_legal, release_or_none}
-use Rattle.ftc_protocol.proofs.UniqueDrive.{IsDoing, does, any_slot, no_release, next_legal, finish_legal, job_none_due}
-use Rattle.ftc_protocol.proofs.UniqueDrive.{job_back}
+use Rattle.ftc_protocol.proofs.UniqueDrive.{does, any_slot, next_legal}
 use Rattle.ftc_protocol.proofs.SmallEvents.{fit_next}
 use Rattle.ftc_protocol.proofs.ListStores.{stands_below}
 use Rattle.ftc_protocol.proofs.LiveHolders.{IsUp}
@@ -186,9 +185,6 @@ module _ (c : Setting) (is : IsSetting c) (s : ChainState) (n : IsCounted c s) w
   ]
 
   -- ---- legal jobs have small numbers
-
-  most_numbers : ℕ
-  most_numbers = servers c + most_messages c + 1
 
   held_below : (p k : ℕ) (m : Message) (v r : Bool) → s.message p ≡ Some m → m.place ≡ Held k v r → k < servers c
   held_below p k m v r there at =

@@ -69,9 +69,6 @@ module _ (c : Setting) (trace : List Entry) (up : ℕ → Bool) (has : ℕ →
       in_stable (has k) j p (λ not_in. not_in
       (h.other (λ is. not_in (lists.closed k j p q (h.changing is) before)) p before))
 
-  pub has_in : (k j p : ℕ) → IsChanging c.partitions trace j p → Has c.partitions trace (has k) j p → In (has k) j p
-  has_in k j p is h = h.changing is
-
 pub pull_has : (c : Setting) (s : ChainState) (trace : List Entry) (l m j p : ℕ) →
     (is_member c j l && is_member c j m && not (j == m) ≡ true → Has c.partitions trace (s.lists l) j p) →
     (is_member c j l && is_member c j m && not (j == m) ≡ false → Has c.partitions trace (s.lists m) j p)

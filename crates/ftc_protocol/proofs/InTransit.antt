@@ -1,5 +1,5 @@
 -- What is not yet everywhere is on its way, and messages keep their numbers.
-use Rattle.std.proofs.Common.{◌≡◌, ◌≢◌, ℕ, ◌+◌, ◌<◌, ◌≤◌, if◌then◌else◌, Bool, true, false}
+use Rattle.std.proofs.Common.{◌≡◌, ◌≢◌, ℕ, ◌+◌, ◌<◌, ◌≤◌, if◌then◌else◌, true, false}
 use Rattle.std.proofs.Common.{◌⊎◌, inl, inr, refl, sym, ap, subst, ◌∙◌, arith, Option, Some, None}
 use Rattle.std.proofs.lemmas.Option.{none-some}
 use Rattle.ftc_journal.specs.declared.event.Event.TheVariants.{Apply, Carry, Crash, Enter, Lose, Pass, Propagate, Pull}
@@ -10,7 +10,7 @@ use Rattle.ftc_protocol.specs.Visits.{In, Visits}
 use Rattle.ftc_protocol.specs.Legal.{MayHappen}
 use Rattle.ftc_protocol.specs.Setting.{Setting, count, packet_at, servers}
 use Rattle.ftc_ring.specs.Ring.{apart, next_of}
-use Rattle.ftc_protocol.specs.Next.{drop_if, fresh_message, is_at, next, sent_message}
+use Rattle.ftc_protocol.specs.Next.{drop_if, fresh_message, is_at, next}
 use Rattle.ftc_protocol.specs.Recovery.{following_live, is_dropped}
 use Rattle.ftc_serial.specs.Words.{with_at}
 use Rattle.ftc_serial.proofs.Functions.{with_at_cases}
@@ -63,10 +63,6 @@ module _ (c : Setting) (s : ChainState) (numbered : AreNumbered c s) where
       (n : Message) × (o ≡ Some n)
   was_there None o' none_then m e = absurd (none-some m (sym (none_then refl) ∙ e))
   was_there (Some n) o' none_then m e = (n, refl)
-
-  left_none : (k : ℕ) (b : Bool) (o : Option Message) → o ≡ None → (if b then sent_message c s k o else None) ≡ None
-  left_none k true o e = ap (sent_message c s k) e
-  left_none k false o e = refl
 
   pub keeps_numbers : (e : Event) → MayHappen c s e → AreNumbered c (next c s e)
   keeps_numbers (Enter p) legal =

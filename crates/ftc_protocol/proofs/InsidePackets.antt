@@ -21,7 +21,7 @@ use Rattle.ftc_serial.proofs.Functions.{with_at_cases}
 use Rattle.ftc_protocol.specs.declared.fate.Fate.{Fate}
 use Rattle.ftc_protocol.specs.declared.fate.Fate.TheVariants.{Released, Filtered, Lost, Inside}
 use Rattle.ftc_protocol.specs.Setting.{Setting, servers, count, packet_at}
-use Rattle.ftc_protocol.specs.State.{ChainState, Message, Where, Held, Queued, Withheld, opening}
+use Rattle.ftc_protocol.specs.State.{ChainState, Message, Held, Queued, Withheld, opening}
 use Rattle.ftc_protocol.specs.Legal.{MayHappen, MayLeave, is_sent}
 use Rattle.ftc_protocol.specs.Recovery.{is_dropped, following_live}
 use Rattle.ftc_protocol.specs.Next.{next, sent_on, is_away, has_packet, loses_packet, is_at, is_undone_drop, drop_if}
@@ -104,9 +104,6 @@ fate_lost trace entered p e fate carried held carried' held' pl inside no_carrie
 }
 
 module _ (c : Setting) (good : IsGood c) (s : ChainState) (h : Inv c s) (t : IsTimed c s) (f : AreFated c s) where
-  Fated : ChainState → ℕ → Type 0
-  Fated s' p = IsFate s'.trace s'.entered p (s'.fate p) (has_packet (s'.message p)) (is_some (s'.withheld p))
-
   -- a packet that has not entered is nowhere
   nowhere : (p : ℕ) → s.entered ≤ p → (m : Message) → s.message p ≡ Some m → m.packet ≡ None
   nowhere p le m there = elim (m.packet) as (λ v. m.packet ≡ v → v ≡ None) [

@@ -145,9 +145,6 @@ empty_steady c trace up has p m no_logs no_known way = record {
 }
 
 module _ (c : Setting) (good : IsGood c) (s : ChainState) (h : Inv c s) where
-  place_of : ℕ → Place
-  place_of p = (serial_of c s.trace).place p
-
   enter_steady : (p : ℕ) → p ≡ s.entered → p < (count c) → (b : Bool) → (m : Message) →
       (if b then Some (fresh_message s.events (Some (packet_at c p))) else s.message p) ≡ Some m →
       IsSteady c s.trace s.up s.lists p m

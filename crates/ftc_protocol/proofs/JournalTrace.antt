@@ -155,9 +155,6 @@ inside_before c s (Release q) legal p less is =
 
 module _ (c : Setting) (good : IsGood c) (s : ChainState) (h : Inv c s) (k : ℕ) (undone : List VisitName)
     (after : Inv c (next c s (Recover k undone))) where
-  trace' : List Entry
-  trace' = left_of (names undone) s.trace
-
   -- a packet whose place is the same has the same visits
   waits_same : (x : ℕ) (bytes : List ℕ) (p j : ℕ) → (serial_of c s.trace).place p ≡ Waits x bytes →
       (serial_of c (left_of (names undone) s.trace)).place p ≡ Waits x bytes → IsSomeVisit s.trace j p →

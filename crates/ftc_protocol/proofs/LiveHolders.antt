@@ -1,12 +1,11 @@
 -- Every message is held by a live server, or queued to one.
-use Rattle.std.proofs.Common.{◌≡◌, ℕ, ◌<◌, ◌&&◌, Bool, true, false, not, List, [], ◌∷◌, refl, sym, ap, subst, ◌∙◌}
+use Rattle.std.proofs.Common.{◌≡◌, ℕ, ◌<◌, ◌&&◌, Bool, true, false, not, [], ◌∷◌, refl, sym, ap, subst, ◌∙◌}
 use Rattle.std.proofs.Common.{eq-eqb, Option, Some, None, if◌then◌else◌}
 use Rattle.std.proofs.lemmas.Bool.{true≢false, and_parts, or_parts, not-true}
 use Rattle.std.proofs.lemmas.Option.{none-some, same_Some}
 use Rattle.ftc_journal.specs.declared.event.Event.TheVariants.{Apply, Carry, Crash, Enter, Lose, Pass, Propagate, Pull}
 use Rattle.ftc_journal.specs.declared.event.Event.TheVariants.{Recover, Release, Take, Visit}
-use Rattle.ftc_protocol.specs.Run.{AreLegal, state_after}
-use Rattle.ftc_protocol.specs.State.{ChainState, Held, Message, Queued, Where, opening}
+use Rattle.ftc_protocol.specs.State.{ChainState, Held, Message, Queued, Where}
 use Rattle.ftc_journal.specs.declared.event.Event.{Event}
 use Rattle.ftc_protocol.specs.Legal.{MayHappen, is_sent}
 use Rattle.ftc_protocol.specs.Setting.{Setting, packet_at, servers}
@@ -126,15 +125,6 @@ module _ (c : Setting) where
   stays_awake some s (Propagate p) legal h =
       changed s p _ (λ m e. subst (λ (x : Message). IsUp (servers c) s.up x.place) (same_Some _ _ e) (legal.1 0 some)) h
   stays_awake some s (Release p) legal h = h
-
-pub awake_runs : (c : Setting) → 0 < (servers c) → (es : List Event) (s : ChainState) → AreLegal c s es → IsAwake c s →
-    IsAwake c (state_after c s es)
-awake_runs c some [] s legal h = h
-awake_runs c some (e ∷ es) s legal h = awake_runs c some es (next c s e) legal.1 (stays_awake c some s e legal.0.0 h)
-
-pub always_awake : (c : Setting) → 0 < (servers c) → (es : List Event) → AreLegal c (opening c) es →
-    IsAwake c (state_after c (opening c) es)
-always_awake c some es legal = awake_runs c some es (opening c) legal (λ p m e. absurd (none-some m e))
 
 pub lost_some_message : (c : Setting) (k : ℕ) (o : Option Message) (m : Message) →
     drop_if (λ (x : Message). is_at c k x.place) o ≡ Some m → o ≡ Some m

@@ -22,7 +22,7 @@ use Rattle.ftc_protocol.specs.Changes.{is_touching}
 use Rattle.ftc_protocol.proofs.Premises.{IsGood, ticked}
 use Rattle.ftc_protocol.proofs.Invariant.{Inv, each_message, target}
 use Rattle.ftc_protocol.proofs.RingDistances.{apart_cases}
-use Rattle.ftc_protocol.proofs.LiveHolders.{kept_some, kept_drop}
+use Rattle.ftc_protocol.proofs.LiveHolders.{kept_drop}
 use Rattle.ftc_protocol.proofs.TraceLemmas.{visit_stood}
 use Rattle.ftc_protocol.proofs.Sets.{in_one}
 use Rattle.ftc_protocol.proofs.ArrivalOrder.{IsTimed}
@@ -40,13 +40,6 @@ pub record AreShaped (c : Setting) (s : ChainState) : Type 0 where
   pub visited : (k p : ℕ) → IsSomeVisit s.trace k p → p < s.entered
   pub messages : (p : ℕ) (m : Message) → s.message p ≡ Some m → IsShaped (servers c) p m.place m.logs
   pub forward : (j q : ℕ) → In s.forwarder j q → 1 < j
-
--- fewer logs
-shaped_less : (n p : ℕ) (w : Where) (logs fewer : Visits) → ((j q : ℕ) → In fewer j q → In logs j q) →
-    IsShaped n p w logs → IsShaped n p w fewer
-shaped_less n p (Held k visited true) logs fewer less is = λ j q i. is j q (less j q i)
-shaped_less n p (Held k visited false) logs fewer less is = λ j q i. is j q (less j q i)
-shaped_less n p (Queued l) logs fewer less is = λ j q i. is j q (less j q i)
 
 -- what takes a ring link is at server 0
 taken_shape : (n l p : ℕ) (logs : Visits) (ring : Bool) → (l + 1 == n) ≡ ring → IsShaped n p (Queued l) logs →

@@ -21,15 +21,14 @@ use Rattle.ftc_protocol.specs.Changes.{is_changing}
 use Rattle.ftc_protocol.specs.Trace.{IsChanging}
 use Rattle.ftc_protocol.specs.State.{ChainState, Message, Where, Held, Queued, Withheld, opening}
 use Rattle.ftc_protocol.specs.Legal.{MayHappen, MayLeave, IsLegal, is_sent}
-use Rattle.ftc_protocol.specs.Next.{next, sent_on, is_away, fresh_message, taken_message, visited_message, sent_message}
-use Rattle.ftc_protocol.specs.Next.{pulled_list, is_news, outcome_at, lines_behind}
+use Rattle.ftc_protocol.specs.Next.{next, sent_on, is_away, taken_message, visited_message, sent_message}
+use Rattle.ftc_protocol.specs.Next.{pulled_list, is_news, outcome_at}
 use Rattle.ftc_protocol.specs.Run.{IsRun, state_after}
 use Rattle.ftc_protocol.specs.Measure.{sum_below, one_for, way_from, way_of, lacks, lacking, most_messages, measure}
 use Rattle.ftc_protocol.specs.Measure.{IsBelow}
 use Rattle.ftc_protocol.proofs.Premises.{IsGood, ticked}
 use Rattle.ftc_protocol.proofs.AcceptedSettings.{is_good}
 use Rattle.ftc_protocol.proofs.InTransit.{same_message}
-use Rattle.ftc_protocol.proofs.FinishedState.{IsLive}
 use Rattle.ftc_protocol.proofs.FewPropagates.{IsCounted, keeps_counts, opens_counted, counted_on, most}
 use Rattle.ftc_protocol.proofs.RunLists.{first_legal, rest_legal, state_on}
 
@@ -54,9 +53,6 @@ sum_falls (suc n) f g less k below falls = elim (cases_eq k n) [
 
 -- one message is nearer its end
 module _ (c : Setting) (s : ChainState) where
-  ways : (ℕ → Option Message) → ℕ
-  ways message = sum_below (most_messages c) (λ origin. way_of (servers c) (message origin))
-
   way_falls : (p : ℕ) (o : Option Message) → p < most_messages c →
       way_of (servers c) o < way_of (servers c) (s.message p)
       → sum_below (most_messages c) (λ origin. way_of (servers c) (with_at s.message p o origin)) < sum_below

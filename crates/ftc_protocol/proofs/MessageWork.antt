@@ -30,9 +30,6 @@ lowest (suc n) P each = elim (lowest n P each) [
 ]
 
 module _ (c : Setting) (is : IsSetting c) (s : ChainState) (n : IsCounted c s) (k p : ℕ) where
-  abbrev most : ℕ
-  most = servers c + most_messages c + 1
-
   abbrev HasApply : ℕ → Type 0
   HasApply x = (g : ℕ) × (g < servers c + most_messages c + 1) × IsLegalJob c s (job.Apply k p g x)
 

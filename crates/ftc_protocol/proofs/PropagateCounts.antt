@@ -57,11 +57,6 @@ module _ (c : Setting) (good : IsGood c) (s : ChainState) (h : Inv c s) (t : IsT
     idle = λ is. idle (paid.idle is);
   }
 
-  none_at : (p : ℕ) (o : Option Message) → is_some o ≡ is_some (s.message p) → (q : ℕ) → is_some (s.message q) ≡ false →
-      is_some (with_at s.message p o q) ≡ false
-  none_at p o same q was = with_at_cases (λ v. is_some v ≡ false) s.message p o q
-      (λ e. same ∙ (ap (λ x. is_some (s.message x)) (sym e) ∙ was)) (λ ne. was)
-
   gone_at : (p : ℕ) (o : Option Message) → is_some (s.message p) ≡ true → (q : ℕ) → is_some (s.message q) ≡ false →
       is_some (with_at s.message p o q) ≡ false
   gone_at p o there q was = with_at_cases (λ v. is_some v ≡ false) s.message p o q

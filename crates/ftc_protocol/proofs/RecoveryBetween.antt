@@ -1,22 +1,16 @@
 -- A recovery of server m between the nearest live servers r and t.
-use Rattle.std.proofs.Common.{◌≡◌, ℕ, ◌+◌, ◌-◌, ◌<◌, ◌≤◌, if◌then◌else◌, Bool, true, false, ◌⊎◌, inl, inr, refl, sym}
+use Rattle.std.proofs.Common.{◌≡◌, ℕ, ◌+◌, ◌-◌, ◌<◌, ◌≤◌, if◌then◌else◌, true, false, ◌⊎◌, inl, inr, sym}
 use Rattle.std.proofs.Common.{subst, ◌∙◌, arith, le-leb}
-use Rattle.std.proofs.lemmas.Bool.{true≢false, cases_eq, cases_lt, and_from, cases_order, lt-leb}
-use Rattle.ftc_protocol.proofs.CarriedLogs.{AreCarried, has_left, has_more}
+use Rattle.std.proofs.lemmas.Bool.{true≢false, cases_lt, and_from, cases_order, lt-leb}
+use Rattle.ftc_protocol.proofs.CarriedLogs.{AreCarried}
 use Rattle.ftc_protocol.specs.State.{ChainState}
 use Rattle.ftc_protocol.specs.Trace.{Has, IsTouching}
 use Rattle.ftc_protocol.specs.Visits.{In, Visits}
 use Rattle.ftc_protocol.proofs.Premises.{IsAdmissible}
 use Rattle.ftc_protocol.proofs.RingDistances.{IsLastLive, IsNextLive, apart_cases}
-use Rattle.ftc_protocol.proofs.UndoneVisits.{IsUndone}
 use Rattle.ftc_protocol.specs.Setting.{Setting, servers}
 use Rattle.ftc_ring.specs.Ring.{apart}
-use Rattle.ftc_protocol.specs.Changes.{is_touching}
-use Rattle.ftc_serial.specs.Removal.{left_of}
 use Rattle.ftc_protocol.specs.Recovery.{list_got}
-use Rattle.ftc_protocol.proofs.TraceLemmas.{visit_left, visit_stood}
-use Rattle.ftc_serial.specs.Words.{with_at}
-use Rattle.ftc_serial.proofs.Functions.{with_at_cases}
 
 -- strictly between the two
 abbrev pub IsBetween : ℕ → ℕ → ℕ → ℕ → Type 0
@@ -101,68 +95,3 @@ module _ (c : Setting) (s : ChainState) (m r t : ℕ) (inside : m < (servers c))
       and_from _ _ (le-leb _ _ member)
       (subst (λ b. (s.lists (if b then r else t) j p)
       ≡ true) (sym (lt-leb (apart (servers c) r m) (apart (servers c) j m) head)) h)
-
-  pub recovers : IsAdmissible c s.up → (gone : Visits) → ((j p : ℕ) → In gone j p → IsUndone c s r t j p)
-      → (logs : Visits) (x : ℕ) → x < (servers c) → s.up x ≡ true →
-      (x ≡ t → (j q : ℕ) → In logs j q → Has c.partitions s.trace (s.lists t) j q)
-      → AreCarried c s.trace s.up s.lists logs x →
-      AreCarried c (left_of gone s.trace) (with_at s.up m true) (with_at s.lists m (list_got c s m r t)) logs x
-  recovers admissible gone undone logs x xl live ready h =
-      let n = (servers c) in
-      let had = carried_had admissible logs x xl live ready h in
-      let stood : (i q : ℕ) → IsTouching (left_of gone s.trace) i q → IsTouching s.trace i q =
-      λ i q t'. (visit_stood gone (λ o. is_touching o ≡ true) s.trace i q t').0 in
-      record {
-        member = λ j q is. let w = h.member j q is in (
-          w.0,
-          w.1,
-          visit_left gone (λ o. is_touching o ≡ true) s.trace j q w.2 (elim (gone j q) as (λ b. gone j q ≡ b →
-              b ≡ false) [
-                | true ↦ λ g. let u = undone j q g in absurd (u.2.3 (had u.0 j q is u.1 u.2.0 (u.2.1, u.2.2)))
-                | false ↦ λ g. refl
-              ] refl),
-        );
-        wake = λ i j q is le t' y lt. with_at_cases (λ (b : Bool). b ≡ true → apart n i y ≤ c.failures →
-            apart n i y < (j - i) + apart n j x →
-            Has c.partitions (left_of gone s.trace) (with_at s.lists m (list_got c s m r t) y) i q) s.up m true y
-            (λ e u member behind.
-            let touching = stood i q t' in let jl : j < n = (h.member j q is).0 in let il : i < n = omega arith in
-            let im_member : apart n i m ≤ c.failures = subst (λ v. apart n i v ≤ c.failures) e member in
-            let im_behind : apart n i m < (j - i) + apart n j x =
-            subst (λ v. apart n i v < (j - i) + apart n j x) e behind in
-            let im = apart_cases n i m il inside in let ir = apart_cases n i r il before.below in let rm =
-            apart_cases n r m before.below inside in let ri = apart_cases n r i before.below il in
-            let mt = apart_cases n m t inside after.below in let rt = apart_cases n r t before.below after.below in
-            let got : Has c.partitions s.trace (list_got c s m r t) i q = elim (cases_lt (apart n i m) (apart n r m)) [
-              | inr head ↦ has_more c.partitions s.trace (s.lists r) (list_got c s m r t) i q
-                  (λ p. fetched_r i p im_member head)
-                  (h.wake i j q is le touching r before.below before.live (omega arith) (omega arith))
-              | inl head ↦ has_more c.partitions s.trace (s.lists t) (list_got c s m r t) i q
-                  (λ p. fetched_t i p im_member head)
-                  (had i j q is le touching (omega arith, between_by i il head))
-            ] in
-            has_left c.partitions s.trace gone _ i q
-            (with_at_cases (λ (v : Visits). Has c.partitions s.trace v i q) s.lists m (list_got c s m r t) y
-            (λ _. got) (λ ne. absurd (ne e))))
-            (λ ne live_y member behind. has_left c.partitions s.trace gone _ i q
-            (with_at_cases (λ (v : Visits). Has c.partitions s.trace v i q) s.lists m (list_got c s m r t) y
-            (λ e. absurd (ne e)) (λ _. h.wake i j q is le (stood i q t') y lt live_y member behind)));
-        together = λ i j q is le t' near. h.together i j q is le (stood i q t') near;
-      }
-    where
-      between_by : (i : ℕ) → i < (servers c) → apart (servers c) i m < apart (servers c) r m →
-          (r ≡ t) ⊎ (apart (servers c) r i < apart (servers c) r t)
-      between_by i il head =
-          let n = (servers c) in
-          let im = apart_cases n i m il inside in let rm = apart_cases n r m before.below inside in let ri =
-          apart_cases n r i before.below il in
-          let mt = apart_cases n m t inside after.below in let rt = apart_cases n r t before.below after.below in
-          elim (cases_eq r t) [
-            | inl same ↦ inl same
-            | inr other ↦ elim (cases_lt (apart n r i) (apart n r t)) [
-              | inl less ↦ inr less
-              | inr more ↦
-                  let tm = apart_cases n t m after.below inside in
-                  absurd (true≢false (sym after.live ∙ before.between t after.below (omega arith) (omega arith)))
-            ]
-          ]

@@ -293,9 +293,6 @@ none2 : (p : ℕ) (w : Withheld) → IsDue monitor_and_pass s2 p w → ⊥
 unfolding asked asked_from ask flow_found flow_in is_flow word_at transport_start changes
 none2 = never s2 (λ p. refl)
 
-none3 : (p : ℕ) (w : Withheld) → IsDue monitor_and_pass s3 p w → ⊥
-none3 = never s3 w3
-
 pub a_run : IsRun monitor_and_pass saving
 unfolding asked asked_from ask flow_found flow_in is_flow word_at transport_start changes
 a_run = (

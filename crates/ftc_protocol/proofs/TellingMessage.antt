@@ -65,9 +65,6 @@ tail_there n f j small below = elim (cases_lt (j + f) n) [
 ]
 
 module _ (c : Setting) (good : IsGood c) (is : IsSetting c) (s : ChainState) (h : Inv c s) (still : IsStill c s) where
-  Bare : ℕ → Message → Type 0
-  Bare p m = (m.packet ≡ None) × ((j q : ℕ) → In m.logs j q → ⊥) × (count c ≤ p)
-
   -- where the only message is changed
   bare_at : (p : ℕ) (o : Option Message) →
       ((m : Message) → o ≡ Some m → (m.packet ≡ None) × ((j q : ℕ) → In m.logs j q → ⊥) × (count c ≤ p))

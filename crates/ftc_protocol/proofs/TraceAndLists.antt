@@ -41,9 +41,6 @@ use Rattle.ftc_protocol.proofs.TraceRemoval.{taken_out}
 use Rattle.ftc_serial.proofs.Functions.{with_at_cases}
 use Rattle.ftc_protocol.proofs.MemberNesting as nesting
 
-abbrev pub IsReleased : List Entry → ℕ → Type 0
-IsReleased trace q = (bytes : (List ℕ)) × AnyOf (λ e. e ≡ Given q bytes) trace
-
 pub record World (c : Setting) (trace : List Entry) (up : ℕ → Bool) (has : ℕ → Visits) : Type 0 where
   pub inside : (k : ℕ) → up k ≡ true → k < (servers c)
   pub lists : AreLists c trace up has

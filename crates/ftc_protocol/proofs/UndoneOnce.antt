@@ -157,9 +157,6 @@ module _ (c : Setting) (s : ChainState) (run : IsRunState c s) (k : ℕ) (undone
   new : IsReached c (next c s (Recover k undone))
   new = keeps_reached c (is_good c run.right) s now (Recover k undone) legal
 
-  left : List Entry
-  left = left_of (names undone) s.trace
-
   gone : (i : ℕ) → In (names undone) i p → IsSomeVisit (left_of (names undone) s.trace) i p → ⊥
   gone i out there = true≢false (sym out ∙ (visit_stood (names undone) (λ o. Unit {0}) s.trace i p there).1)
 

@@ -218,10 +218,6 @@ module _ (c : Setting) (good : IsGood c) (s : ChainState) (h : Inv c s) (k p : �
   not_p q w is e = let no_packet : m.packet ≡ None = h.single p w m (subst (λ v. s.withheld v ≡ Some w) e is) there in
       none-some bytes (sym no_packet ∙ packet)
 
-  visited_packet : (o : Option Message) → s.message p ≡ o → (m' : Message) →
-      visited_message c k p (outcome_at c s k p) o ≡ Some m' → p < s.entered
-  visited_packet o is m' e = h.entered p m bytes there packet
-
   pub visits : (w : ℕ) → Inv c (next c s (Visit k p w))
   unfolding the_trace the_lists
   visits w = record {
