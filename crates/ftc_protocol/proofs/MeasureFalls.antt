@@ -1,7 +1,7 @@
 -- Every event lowers the measure.
 use Rattle.std.proofs.Common.{◌≡◌, ◌≢◌, ℕ, zero, suc, ◌+◌, ◌-◌, ◌*◌, ◌<◌, ◌≤◌, ◌==◌, ◌&&◌, ◌||◌, if◌then◌else◌, Bool}
 use Rattle.std.proofs.Common.{true, false, not, List, [], ◌∷◌, ◌++◌, refl, sym, ap, subst, ◌∙◌, arith, inl, inr}
-use Rattle.std.proofs.Common.{eqb-true, eq-eqb, Option, Some, None, is_some, le-leb}
+use Rattle.std.proofs.Common.{length, eqb-true, eq-eqb, Option, Some, None, is_some, le-leb}
 use Rattle.std.specs.List.{list_any}
 use Rattle.std.proofs.lemmas.Bool.{true≢false, cases_eq, cases_lt, cases_Bool, eqb-false, and_from, and_parts, or_left}
 use Rattle.std.proofs.lemmas.Bool.{or_right, or_cases, not-true, false_from_ne_true}
@@ -18,7 +18,7 @@ use Rattle.ftc_serial.proofs.Functions.{with_at_cases}
 use Rattle.ftc_protocol.specs.Setting.{Setting, servers, count, is_tail, is_member, IsSetting}
 use Rattle.ftc_protocol.specs.Visits.{Visits, In, union, just}
 use Rattle.ftc_protocol.specs.Changes.{is_changing}
-use Rattle.ftc_protocol.specs.Trace.{IsChanging}
+use Rattle.ftc_protocol.specs.Trace.{IsChanging, IsVisit}
 use Rattle.ftc_protocol.specs.State.{ChainState, Message, Where, Held, Queued, Withheld, opening}
 use Rattle.ftc_protocol.specs.Legal.{MayHappen, MayLeave, IsLegal, is_sent}
 use Rattle.ftc_protocol.specs.Next.{next, sent_on, is_away, taken_message, visited_message, sent_message}
@@ -52,20 +52,19 @@ sum_falls (suc n) f g less k below falls = elim (cases_eq k n) [
 ]
 
 -- one message is nearer its end
-module _ (c : Setting) (s : ChainState) where
-  way_falls : (p : ℕ) (o : Option Message) → p < most_messages c →
-      way_of (servers c) o < way_of (servers c) (s.message p)
-      → sum_below (most_messages c) (λ origin. way_of (servers c) (with_at s.message p o origin)) < sum_below
-      (most_messages c) (λ origin. way_of (servers c) (s.message origin))
-  way_falls p o below falls =
-      sum_falls (most_messages c) (λ origin. way_of (servers c) (with_at s.message p o origin))
-      (λ origin. way_of (servers c) (s.message origin))
-      (λ k kl. with_at_cases (λ v. way_of (servers c) v ≤ way_of (servers c) (s.message k)) s.message p o k
-      (λ e. let at : way_of (servers c) (s.message k)
-      ≡ way_of (servers c) (s.message p) = ap (λ x. way_of (servers c) (s.message x)) e in
-      omega arith) (λ ne. omega arith))
-      p below
-      (subst (λ v. way_of (servers c) v < way_of (servers c) (s.message p)) (sym (same_message s.message p o)) falls)
+module _ (c : Setting) where
+  abbrev way : Option Message → ℕ
+  way o = way_of (servers c) o
+
+  way_falls : (message : ℕ → Option Message) (p : ℕ) (o : Option Message) → p < most_messages c → way o < way (message p)
+      → sum_below (most_messages c) (λ origin. way (with_at message p o origin)) < sum_below
+      (most_messages c) (λ origin. way (message origin))
+  way_falls message p o below falls =
+      sum_falls (most_messages c) (λ origin. way (with_at message p o origin)) (λ origin. way (message origin))
+      (λ k kl. with_at_cases (λ v. way v ≤ way (message k)) message p o k
+      (λ e. let at : way (message k) ≡ way (message p) = ap (λ x. way (message x)) e in omega arith)
+      (λ ne. omega arith)) p below
+      (subst (λ v. way v < way (message p)) (sym (same_message message p o)) falls)
 
 -- what a group lacks
 module _ (c : Setting) where
@@ -73,72 +72,58 @@ module _ (c : Setting) where
   lacks_less a true more = subst (λ x. 1 ≤ one_for x) (sym (more refl)) (omega arith)
   lacks_less a false more = omega arith
 
-  lacking_less : (s s' : ChainState) →
-      ((group packet server : ℕ) (o : Outcome) → lacks c s' (Visited group packet o) server ≡ true →
-      lacks c s (Visited group packet o) server ≡ true)
-      → (trace : List Entry) → lacking c s' trace ≤ lacking c s trace
+  -- how many servers lack an entry, and which of them
+  abbrev lack : ChainState → Entry → ℕ → ℕ
+  lack s e server = one_for (lacks c s e server)
+
+  abbrev NoneLacksMore : ChainState → ChainState → Type 0
+  NoneLacksMore s s' = (group packet server : ℕ) (o : Outcome) → lacks c s' (Visited group packet o) server ≡ true →
+      lacks c s (Visited group packet o) server ≡ true
+
+  lack_less : (s s' : ChainState) → NoneLacksMore s s' → (e : Entry) (k : ℕ) → lack s' e k ≤ lack s e k
+  lack_less s s' more (Given p bytes) k = omega arith
+  lack_less s s' more (Visited j p o) k =
+      lacks_less (lacks c s (Visited j p o) k) (lacks c s' (Visited j p o) k) (more j p k o)
+
+  lacking_less : (s s' : ChainState) → NoneLacksMore s s' → (trace : List Entry) → lacking c s' trace ≤ lacking c s trace
   lacking_less s s' more [] = omega arith
-  lacking_less s s' more (Given p bytes ∷ older) =
+  lacking_less s s' more (e ∷ older) =
       let rest = lacking_less s s' more older in
-      let here = sum_less (servers c) (λ server. one_for (lacks c s' (Given p bytes) server))
-      (λ server. one_for (lacks c s (Given p bytes) server)) (λ k kl. omega arith) in
-      omega arith
-  lacking_less s s' more (Visited j p o ∷ older) =
-      let rest = lacking_less s s' more older in
-      let here = sum_less (servers c) (λ server. one_for (lacks c s' (Visited j p o) server))
-      (λ server. one_for (lacks c s (Visited j p o) server))
-      (λ k kl. lacks_less (lacks c s (Visited j p o) k) (lacks c s' (Visited j p o) k) (more j p k o)) in
+      let here = sum_less (servers c) (lack s' e) (lack s e) (λ k kl. lack_less s s' more e k) in
       omega arith
 
   -- and strictly so where some live member gets what it lacked
-  lacking_falls : (s s' : ChainState) →
-      ((group packet server : ℕ) (o : Outcome) → lacks c s' (Visited group packet o) server ≡ true →
-      lacks c s (Visited group packet o) server ≡ true)
-      → (group packet server : ℕ) → server < servers c
+  lacking_falls : (s s' : ChainState) → NoneLacksMore s s' → (group packet server : ℕ) → server < servers c
       → ((o : Outcome) → is_changing c.partitions o ≡ true → (lacks c s (Visited group packet o) server ≡ true)
       × (lacks c s' (Visited group packet o) server ≡ false))
       → (trace : List Entry) → IsChanging c.partitions trace group packet → lacking c s' trace < lacking c s trace
   lacking_falls s s' more group packet server below got [] there = absurd there
-  lacking_falls s s' more group packet server below got (Given p bytes ∷ older) there = elim there [
-    | inl here ↦ absurd here
+  lacking_falls s s' more group packet server below got (e ∷ older) there = elim there [
+    | inl here ↦
+        let rest = lacking_less s s' more older in
+        let first = sum_falls (servers c) (lack s' e) (lack s e) (λ k kl. lack_less s s' more e k) server below
+        (falls e here) in
+        omega arith
     | inr below_it ↦
         let rest = lacking_falls s s' more group packet server below got older below_it in
-        let here = sum_less (servers c) (λ server. one_for (lacks c s' (Given p bytes) server))
-        (λ server. one_for (lacks c s (Given p bytes) server)) (λ k kl. omega arith) in
+        let first = sum_less (servers c) (lack s' e) (lack s e) (λ k kl. lack_less s s' more e k) in
         omega arith
   ]
-  lacking_falls s s' more group packet server below got (Visited j p o ∷ older) there =
-      let less = sum_less (servers c) (λ k. one_for (lacks c s' (Visited j p o) k))
-      (λ k. one_for (lacks c s (Visited j p o) k))
-      (λ k kl. lacks_less (lacks c s (Visited j p o) k) (lacks c s' (Visited j p o) k) (more j p k o)) in
-      elim there [
-        | inl here ↦
-            let same = got o here.2 in
-            let was : lacks c s (Visited j p o) server ≡ true =
-            subst (λ x. lacks c s (Visited x p o) server
-            ≡ true) (sym here.0) (subst (λ x. lacks c s (Visited group x o) server ≡ true) (sym here.1) same.0) in
-            let now : lacks c s' (Visited j p o) server ≡ false =
-            subst (λ x. lacks c s' (Visited x p o) server ≡ false) (sym here.0)
-            (subst (λ x. lacks c s' (Visited group x o) server ≡ false) (sym here.1) same.1) in
-            let falls : one_for (lacks c s' (Visited j p o) server) < one_for (lacks c s (Visited j p o) server) =
-            subst (λ b. one_for b < one_for (lacks c s (Visited j p o) server)) (sym now)
-            (subst (λ b. 0 < one_for b) (sym was) (omega arith)) in
-            let here_falls = sum_falls (servers c) (λ k. one_for (lacks c s' (Visited j p o) k))
-            (λ k. one_for (lacks c s (Visited j p o) k))
-            (λ k kl. lacks_less (lacks c s (Visited j p o) k) (lacks c s' (Visited j p o) k)
-            (more j p k o)) server below falls in
-            let rest = lacking_less s s' more older in
-            omega arith
-        | inr below_it ↦
-            let rest = lacking_falls s s' more group packet server below got older below_it in
-            omega arith
-      ]
+    where
+      falls : (e : Entry) → IsVisit (λ o. is_changing c.partitions o ≡ true) group packet e →
+          lack s' e server < lack s e server
+      falls (Given p bytes) here = absurd here
+      falls (Visited j p o) here =
+          subst (λ x. lack s' (Visited x p o) server < lack s (Visited x p o) server) (sym here.0)
+          (subst (λ x. lack s' (Visited group x o) server < lack s (Visited group x o) server) (sym here.1)
+          (let same = got o here.2 in
+          subst (λ b. one_for b < lack s (Visited group packet o) server) (sym same.1)
+          (subst (λ b. 0 < one_for b) (sym same.0) (omega arith))))
 
   -- where a server's list grows
   lists_less : (s : ChainState) (k : ℕ) (list : Visits) → ((j q : ℕ) → In (s.lists k) j q → In list j q)
-      → (gap : ℕ → Bool) → (group packet server : ℕ) (o : Outcome)
-      → lacks c (record s { lists = with_at s.lists k list; gap = gap; events = s.events + 1 })
-      (Visited group packet o) server ≡ true → lacks c s (Visited group packet o) server ≡ true
+      → (gap : ℕ → Bool) →
+      NoneLacksMore s (record s { lists = with_at s.lists k list; gap = gap; events = s.events + 1 })
   lists_less s k list grows gap group packet server o =
       with_at_cases (λ (v : Visits). (s.up server && is_member c group server && is_changing c.partitions o
       && not (v group packet)) ≡ true → lacks c s (Visited group packet o) server ≡ true) s.lists k list server
@@ -197,84 +182,82 @@ module _ (c : Setting) (is : IsSetting c) (s : ChainState) (n : IsCounted c s) w
       reached.live.inv.world.inside k
       (subst (Rattle.ftc_protocol.proofs.LiveHolders.IsUp (servers c) s.up) place (reached.live.inv.awake p m there))
 
-  -- where the lists grow in one place, and the messages are as they were
   visit_falls : (k p w : ℕ) → MayHappen c s (Visit k p w) →
-      way_of (servers c) (visited_message c k p (outcome_at c s k p) (s.message p)) < way_of (servers c) (s.message p)
-  visit_falls k p w legal =
-      let m = legal.0 in let there = legal.3 in
-      let new : way_of (servers c) (visited_message c k p (outcome_at c s k p) (s.message p))
-      ≡ way_from (servers c) (Rattle.ftc_protocol.specs.Next.visited_at (Held k false legal.2)) =
-      ap (λ o. way_of (servers c) (visited_message c k p (outcome_at c s k p) o)) there ∙ ap
-      (λ w. way_from (servers c) (Rattle.ftc_protocol.specs.Next.visited_at w)) legal.4 in
-      let old = way_at p m (Held k false legal.2) there legal.4 in
-      by_ring legal.2 legal.4 new old
+      way c (visited_message c k p (outcome_at c s k p) (s.message p)) < way c (s.message p)
+  visit_falls k p w legal = by_ring legal.2 legal.4
     where
       by_ring : (r : Bool) → legal.0.place ≡ Held k false r →
-          way_of (servers c) (visited_message c k p (outcome_at c s k p) (s.message p))
-          ≡ way_from (servers c) (Held k true r)
-          → way_of (servers c) (s.message p) ≡ way_from (servers c) (Held k false r) →
-          way_of (servers c) (visited_message c k p (outcome_at c s k p) (s.message p)) < way_of (servers c)
-          (s.message p)
-      by_ring true place new old =
+          way c (visited_message c k p (outcome_at c s k p) (s.message p)) < way c (s.message p)
+      by_ring true place =
           absurd (none-some legal.1
           (sym (reached.fated.bare p legal.0 legal.3
           (subst (λ w. Rattle.ftc_protocol.proofs.InsidePackets.IsPast (servers c) w) (sym place) refl)) ∙ legal.5))
-      by_ring false place new old = omega arith
-
-  take_falls : (l p : ℕ) → MayHappen c s (Take l p) →
-      way_of (servers c) (taken_message c s l (s.message p)) < way_of (servers c) (s.message p)
-  take_falls l p legal =
-      let m = legal.0 in
-      let inside : l < servers c =
-      subst (λ w. Rattle.ftc_protocol.proofs.ArrivalOrder.IsRinged (servers c) w m.logs) legal.2
-      (reached.live.timed.ringed p m legal.1) in
-      let new : way_of (servers c) (taken_message c s l (s.message p))
-      ≡ way_from (servers c) (Held (next_of (servers c) l) false (l + 1 == servers c)) =
-      ap (λ o. way_of (servers c) (taken_message c s l o)) legal.1 in
-      at inside (l + 1 == servers c) refl new (way_at p m (Queued l) legal.1 legal.2)
-    where
-      at : l < servers c → (b : Bool) → (l + 1 == servers c) ≡ b →
-          way_of (servers c) (taken_message c s l (s.message p))
-          ≡ way_from (servers c) (Held (next_of (servers c) l) false b)
-          → way_of (servers c) (s.message p) ≡ way_from (servers c) (Queued l) →
-          way_of (servers c) (taken_message c s l (s.message p)) < way_of (servers c) (s.message p)
-      at inside true last new old = omega arith
-      at inside false isnt new old =
-          let next_is : next_of (servers c) l ≡ l + 1 = ap (λ b. if b then 0 else l + 1) isnt in
-          let more : l + 1 < servers c = let ne : l + 1 ≢ servers c = eqb-false (l + 1) (servers c) isnt in
-          omega arith in
-          let new' : way_of (servers c) (taken_message c s l (s.message p)) ≡ 3 * (servers c - (l + 1)) + 1 =
-          new ∙ ap (λ x. 3 * (servers c - x) + 1) next_is in
+      by_ring false place =
+          let new : way c (visited_message c k p (outcome_at c s k p) (s.message p))
+          ≡ way_from (servers c) (Held k true false) =
+          ap (λ o. way c (visited_message c k p (outcome_at c s k p) o)) legal.3
+          ∙ ap (λ w. way_from (servers c) (Rattle.ftc_protocol.specs.Next.visited_at w)) place in
+          let old = way_at p legal.0 (Held k false false) legal.3 place in
           omega arith
 
-  left_falls : (k p : ℕ) (lost : Bool) (m : Message) → MayLeave c s k p m → (b : Bool) →
-      way_of (servers c) (if b then sent_message c s k (s.message p) else None) < way_of (servers c) (s.message p)
-  left_falls k p lost m leaves b =
-      let kl : k < servers c = holder k p m leaves.visited false leaves.there leaves.held in
-      let old = way_at p m (Held k leaves.visited false) leaves.there leaves.held in
-      sent kl old b
+  take_falls : (l p : ℕ) → MayHappen c s (Take l p) → way c (taken_message c s l (s.message p)) < way c (s.message p)
+  take_falls l p legal =
+      let inside : l < servers c =
+      subst (λ w. Rattle.ftc_protocol.proofs.ArrivalOrder.IsRinged (servers c) w legal.0.logs) legal.2
+      (reached.live.timed.ringed p legal.0 legal.1) in
+      let new : way c (taken_message c s l (s.message p))
+      ≡ way_from (servers c) (Held (next_of (servers c) l) false (l + 1 == servers c)) =
+      ap (λ o. way c (taken_message c s l o)) legal.1 in
+      let old = way_at p legal.0 (Queued l) legal.1 legal.2 in
+      let taken : way_from (servers c) (Held (next_of (servers c) l) false (l + 1 == servers c)) < 3 * (servers c - 1
+      - l) + 2 = at inside (l + 1 == servers c) refl in
+      omega arith
     where
-      sent : k < servers c → way_of (servers c) (s.message p) ≡ way_from (servers c) (Held k leaves.visited false) →
-          (b : Bool) → way_of (servers c) (if b then sent_message c s k (s.message p)
-          else None) < way_of (servers c) (s.message p)
-      sent kl old true = let new : way_of (servers c) (sent_message c s k (s.message p)) ≡ 3 * (servers c - 1 - k) + 2 =
-          ap (λ o. way_of (servers c) (sent_message c s k o)) leaves.there in omega arith
-      sent kl old false = omega arith
+      at : l < servers c → (b : Bool) → (l + 1 == servers c) ≡ b →
+          way_from (servers c) (Held (next_of (servers c) l) false b) < 3 * (servers c - 1 - l) + 2
+      at inside true last = omega arith
+      at inside false isnt =
+          let more : l + 1 < servers c = let ne : l + 1 ≢ servers c = eqb-false (l + 1) (servers c) isnt in
+          omega arith in
+          subst (λ b. way_from (servers c) (Held (if b then 0 else l + 1) false false) < 3 * (servers c - 1 - l) + 2)
+          (sym isnt) (omega arith)
+
+  left_falls : (k p : ℕ) (m : Message) → MayLeave c s k p m → (b : Bool) →
+      way c (if b then sent_message c s k (s.message p) else None) < way c (s.message p)
+  left_falls k p m leaves b =
+      let kl = holder k p m leaves.visited false leaves.there leaves.held in
+      let old = way_at p m (Held k leaves.visited false) leaves.there leaves.held in
+      elim b as (λ b. way c (if b then sent_message c s k (s.message p) else None) < way c (s.message p)) [
+        | true ↦
+            let new : way c (sent_message c s k (s.message p)) ≡ 3 * (servers c - 1 - k) + 2 =
+            ap (λ o. way c (sent_message c s k o)) leaves.there in
+            omega arith
+        | false ↦ omega arith
+      ]
+
+  -- a message is nearer its end, and what counts for more is as it was
+  nearer : (s' : ChainState) (p : ℕ) (m : Message) (o : Option Message) → s.message p ≡ Some m →
+      s'.message ≡ with_at s.message p o → s'.lines ≡ s.lines → s'.entered ≡ s.entered → s'.propagates ≡ s.propagates →
+      way c o < way c (s.message p) → IsBelow (measure c s') (measure c s)
+  nearer s' p m o there messages lines entered propagates falls =
+      inr (
+        ap length lines,
+        inr (
+          ap (λ x. count c - x) entered,
+          inr (
+            ap (λ x. count c + length c.lines + 1 - x) propagates,
+            inl (subst (λ (f : ℕ → Option Message). sum_below (most_messages c) (λ origin. way c (f origin))
+                < sum_below (most_messages c) (λ origin. way c (s.message origin))) (sym messages)
+                (way_falls c s.message p o (numbered p m there) falls)),
+          ),
+        ),
+      )
 
   leaving_falls : (k p : ℕ) (lost : Bool) (m : Message) → MayLeave c s k p m →
       IsBelow (measure c (ticked (sent_on c s k p lost))) (measure c s)
   leaving_falls k p lost m leaves =
-      inr (
-        refl,
-        inr (
-          refl,
-          inr (
-            refl,
-            inl (way_falls c s p _ (numbered p m leaves.there) (left_falls k p lost m leaves (is_sent c k
-                && not (is_away c s k lost)))),
-          ),
-        ),
-      )
+      nearer (ticked (sent_on c s k p lost)) p m _ leaves.there refl refl refl refl
+      (left_falls k p m leaves (is_sent c k && not (is_away c s k lost)))
 
   apply_falls : (k p j q : ℕ) → MayHappen c s (Apply k p j q) →
       lacking c (next c s (Apply k p j q)) s.trace < lacking c s s.trace
@@ -321,34 +304,14 @@ module _ (c : Setting) (is : IsSetting c) (s : ChainState) (n : IsCounted c s) w
       let older = same_lacking (next c s (Release p)) refl refl s.trace in
       let first = none_lack (servers c) in
       ap (λ x. x + lacking c (next c s (Release p)) s.trace) first ∙ omega (arith, older) in
-      inr (
-        refl,
-        inr (
-          refl,
-          inr (
-            refl,
-            inr (
-              refl,
-              inr (
-                same,
-                inr (
-                  refl,
-                  inl
-                      (sum_falls (count c) (λ q. one_for (is_some (with_at s.withheld p None q)))
-                      (λ q. one_for (is_some (s.withheld q)))
-                      (λ k kl. with_at_cases (λ (v : Option Withheld). one_for (is_some v) ≤ one_for
-                      (is_some (s.withheld k))) s.withheld p None k (λ e. omega arith) (λ ne. omega arith))
-                      p (omega arith)
-                      (let new : one_for (is_some (with_at s.withheld p None p))
-                      ≡ 0 = ap (λ (v : Option Withheld). one_for (is_some v)) (same_message s.withheld p None) in
-                      let old : one_for (is_some (s.withheld p)) ≡ 1 =
-                      ap (λ (v : Option Withheld). one_for (is_some v)) there in omega arith)),
-                ),
-              ),
-            ),
-          ),
-        ),
-      )
+      let old : one_for (is_some (s.withheld p)) ≡ 1 = ap (λ (v : Option Withheld). one_for (is_some v)) there in
+      let new : one_for (is_some (with_at s.withheld p None p)) ≡ 0 =
+      ap (λ (v : Option Withheld). one_for (is_some v)) (same_message s.withheld p None) in
+      let fewer = sum_falls (count c) (λ q. one_for (is_some (with_at s.withheld p None q)))
+      (λ q. one_for (is_some (s.withheld q)))
+      (λ k kl. with_at_cases (λ (v : Option Withheld). one_for (is_some v) ≤ one_for (is_some (s.withheld k)))
+      s.withheld p None k (λ e. omega arith) (λ ne. omega arith)) p (omega arith) (omega arith) in
+      inr (refl, inr (refl, inr (refl, inr (refl, inr (same, inr (refl, inl fewer))))))
 
   -- ---- pull
 
@@ -393,40 +356,17 @@ module _ (c : Setting) (is : IsSetting c) (s : ChainState) (n : IsCounted c s) w
             let new = some_news k b s.trace news in
             let from = news_from k b new.0 new.1 new.2 new.3 in
             let changing = (reached.live.inv.world.lists.listed k new.0 new.1 from.1).1 in
-            inr (
-              refl,
-              inr (
-                refl,
-                inr (
-                  refl,
-                  inr (
-                    refl,
-                    inl (lacking_falls c s s' more new.0 new.1 b bl
-                        (list_got_one c s b list s'.gap new.0 new.1 legal.1 from.0 new.3 new.2) s.trace changing),
-                  ),
-                ),
-              ),
-            )
+            let fewer = lacking_falls c s s' more new.0 new.1 b bl
+            (list_got_one c s b list s'.gap new.0 new.1 legal.1 from.0 new.3 new.2) s.trace changing in
+            inr (refl, inr (refl, inr (refl, inr (refl, inl fewer))))
         | inr none_new ↦
             let less = lacking_less c s s' more s.trace in
             let gaps = sum_falls (servers c) (λ link. one_for (s'.gap link)) (λ link. one_for (s.gap link))
             (λ link ll. fewer_gaps k link none_new) k kl (no_gap k legal.2) in
-            inr (
-              refl,
-              inr (
-                refl,
-                inr (
-                  refl,
-                  inr (
-                    refl,
-                    elim (cases_lt (lacking c s' s.trace) (lacking c s s.trace)) [
-                      | inl falls ↦ inl falls
-                      | inr same ↦ inr (omega arith, inl gaps)
-                    ],
-                  ),
-                ),
-              ),
-            )
+            elim (cases_lt (lacking c s' s.trace) (lacking c s s.trace)) [
+              | inl falls ↦ inr (refl, inr (refl, inr (refl, inr (refl, inl falls))))
+              | inr same ↦ inr (refl, inr (refl, inr (refl, inr (refl, inr (omega arith, inl gaps)))))
+            ]
       ]
     where
       no_gap : (k : ℕ) → s.gap k ≡ true → one_for ((next c s (Pull k)).gap k) < one_for (s.gap k)
@@ -462,35 +402,15 @@ module _ (c : Setting) (is : IsSetting c) (s : ChainState) (n : IsCounted c s) w
   pub falls : (e : Event) → IsLegal c s e → IsBelow (measure c (next c s e)) (measure c s)
   falls (Enter p) legal = let same : p ≡ s.entered = legal.0.0 in let less : p < count c =
       legal.0.1 in inr (refl, inl (omega arith))
-  falls (Take l p) legal = inr (
-    refl,
-    inr (refl, inr (refl, inl (way_falls c s p _ (numbered p legal.0.0 legal.0.1) (take_falls l p legal.0)))),
-  )
+  falls (Take l p) legal =
+      nearer (next c s (Take l p)) p legal.0.0 _ legal.0.1 refl refl refl refl (take_falls l p legal.0)
   falls (Apply k p j q) legal = inr (refl, inr (refl, inr (refl, inr (refl, inl (apply_falls k p j q legal.0)))))
   falls (Visit k p w) legal =
-      inr (
-        refl,
-        inr (
-          refl,
-          inr (
-            refl,
-            inl (way_falls c s p _ (numbered p legal.0.0 legal.0.3) (visit_falls k p w legal.0)),
-          ),
-        ),
-      )
+      nearer (next c s (Visit k p w)) p legal.0.0 _ legal.0.3 refl refl refl refl (visit_falls k p w legal.0)
   falls (Pass k p) legal = leaving_falls k p false legal.0.0 legal.0.1
   falls (Lose k p) legal = leaving_falls k p true legal.0.0 legal.0.1
-  falls (Carry p) legal = inr (
-    refl,
-    inr (
-      refl,
-      inr (
-        refl,
-        inl (way_falls c s p None (numbered p legal.0.0 legal.0.1)
-            (let old = way_at p legal.0.0 (Held 0 legal.0.2 true) legal.0.1 legal.0.3 in omega arith)),
-      ),
-    ),
-  )
+  falls (Carry p) legal = nearer (next c s (Carry p)) p legal.0.0 None legal.0.1 refl refl refl refl
+      (let old = way_at p legal.0.0 (Held 0 legal.0.2 true) legal.0.1 legal.0.3 in omega arith)
   falls (Crash k) legal = inl
       (let fewer = Rattle.ftc_protocol.proofs.FewPropagates.fewer_lines s.lines
       (script_line.Crash s.entered k) legal.0 in omega arith)
