@@ -10,7 +10,7 @@ use Rattle.ftc_journal.specs.declared.event.Event.TheVariants.{Recover, Release,
 use Rattle.ftc_serial.specs.Words.{with_at}
 use Rattle.ftc_serial.proofs.Functions.{with_at_cases}
 use Rattle.ftc_protocol.specs.Setting.{Setting, servers, count, packet_at, is_tail}
-use Rattle.ftc_protocol.specs.Visits.{In}
+use Rattle.ftc_protocol.specs.Visits.{In, Visits}
 use Rattle.ftc_protocol.specs.State.{ChainState, Message, Held, Queued}
 use Rattle.ftc_protocol.specs.Trace.{Has, has_each}
 use Rattle.ftc_protocol.specs.Legal.{MayHappen, MayLeave}
@@ -62,17 +62,56 @@ module _ (c : Setting) (good : IsGood c) (s : ChainState) (h : Inv c s) (t : IsT
   gone_at p o there q was = with_at_cases (λ v. is_some v ≡ false) s.message p o q
       (λ e. absurd (true≢false (sym there ∙ (ap (λ x. is_some (s.message x)) (sym e) ∙ was)))) (λ ne. was)
 
-  -- a message at server 0 stays where another is changed
-  met_other : (s' : ChainState) (p : ℕ) (o : Option Message) → s'.message ≡ with_at s.message p o → (m : IsMet c s) →
-      m.origin ≢ p → IsMet c s'
-  met_other s' p o is m other = record {
+  -- what the forwarder is met by, where its message stays
+  met_stays : (s' : ChainState) (m : IsMet c s) → s'.message m.origin ≡ Some m.message → IsMet c s'
+  met_stays s' m there = record {
     origin = m.origin;
     message = m.message;
     visited = m.visited;
     behind = m.behind;
+    there = there;
     held = m.held;
-    there = ap (λ (x : ℕ → Option Message). x m.origin) is ∙ (other_message s.message p o m.origin other ∙ m.there);
   }
+
+  -- as where another message is changed
+  met_other : (s' : ChainState) (p : ℕ) (o : Option Message) → s'.message ≡ with_at s.message p o → (m : IsMet c s) →
+      m.origin ≢ p → IsMet c s'
+  met_other s' p o is m other = met_stays s' m
+      (ap (λ (x : ℕ → Option Message). x m.origin) is ∙ (other_message s.message p o m.origin other ∙ m.there))
+
+  -- the forwarder is as it was
+  idle_stays : (s' : ChainState) → s'.forwarder ≡ s.forwarder → (IsMet c s → IsMet c s') → IsIdle c s → IsIdle c s'
+  idle_stays s' same met idle = elim idle [
+    | inl empty ↦ inl (λ j q. ap (λ (f : Visits). f j q) same ∙ empty j q)
+    | inr m ↦ inr (met m)
+  ]
+
+  -- or what it has leaves server 0
+  idle_leaves : (s' : ChainState) (k : ℕ) → s'.forwarder ≡ (λ j q. not (k == 0) && s.forwarder j q) →
+      (k ≢ 0 → IsMet c s → IsMet c s') → IsIdle c s → IsIdle c s'
+  idle_leaves s' k is met idle = elim (cases_eq k 0) [
+    | inl first ↦ inl (λ j q. ap (λ (f : Visits). f j q) is ∙ ap (λ b. not b && s.forwarder j q) (eq-eqb k 0 first))
+    | inr later ↦ elim idle [
+      | inl empty ↦
+          inl (λ j q. ap (λ (f : Visits). f j q) is ∙ both (not (k == 0)) (s.forwarder j q) (empty j q))
+      | inr m ↦ inr (met later m)
+    ]
+  ]
+    where
+      both : (x y : Bool) → y ≡ false → (x && y) ≡ false
+      both true y is = is
+      both false y is = refl
+
+  -- the messages and the forwarder are as they were
+  unmoved : (s' : ChainState) → s'.entered ≡ s.entered → s'.message ≡ s.message → s'.forwarder ≡ s.forwarder →
+      ArePaid c s' begun
+  unmoved s' same messages forwarder =
+      still_paid s' same (λ p less was. ap (λ (x : ℕ → Option Message). is_some (x p)) messages ∙ was)
+      (idle_stays s' forwarder (λ m. met_stays s' m (ap (λ (x : ℕ → Option Message). x m.origin) messages ∙ m.there)))
+
+  dropped : (test : Message → Bool) (o : Option Message) → is_some o ≡ false → is_some (drop_if test o) ≡ false
+  dropped test None is = refl
+  dropped test (Some m) is = absurd (true≢false is)
 
   there_is : (p : ℕ) (m : Message) → s.message p ≡ Some m → is_some (s.message p) ≡ true
   there_is p m there = ap is_some there
@@ -86,20 +125,11 @@ module _ (c : Setting) (good : IsGood c) (s : ChainState) (h : Inv c s) (t : IsT
   left_paid : (k p : ℕ) (lost : Bool) (m : Message) → MayLeave c s k p m →
       ArePaid c (ticked (sent_on c s k p lost)) begun
   left_paid k p lost m leaves =
-      still_paid (ticked (sent_on c s k p lost)) refl (λ q less. gone_at p _ (there_is p m leaves.there) q)
-      (λ idle. elim (cases_eq k 0) [
-        | inl first ↦ inl (λ j q. ap (λ b. not b && s.forwarder j q) (eq-eqb k 0 first))
-        | inr later ↦ elim idle [
-          | inl empty ↦ inl (λ j q. both (not (k == 0)) (s.forwarder j q) (empty j q))
-          | inr met ↦ inr (met_other (ticked (sent_on c s k p lost)) p _ refl met
-              (not_place met p m leaves.there (λ v is. later (same_holder k v leaves.visited (sym leaves.held ∙ is)))))
-        ]
-      ])
+      let s' = ticked (sent_on c s k p lost) in
+      still_paid s' refl (λ q less. gone_at p _ (there_is p m leaves.there) q)
+      (idle_leaves s' k refl (λ later met. met_other s' p _ refl met
+      (not_place met p m leaves.there (λ v is. later (same_holder k v leaves.visited (sym leaves.held ∙ is))))))
     where
-      both : (x y : Bool) → y ≡ false → (x && y) ≡ false
-      both true y is = is
-      both false y is = refl
-
       same_holder : (k : ℕ) (v w : Bool) → Held k w false ≡ Held 0 v false → k ≡ 0
       same_holder k v w is = cc
 
@@ -114,41 +144,24 @@ module _ (c : Setting) (good : IsGood c) (s : ChainState) (h : Inv c s) (t : IsT
             (λ q less was. ap is_some (other_message s.message p o q (λ e. omega arith)) ∙ was) in
             let next_one = ended_next s.entered (with_at s.message p o) in
             let old = paid.paid in omega arith;
-        idle = λ is. elim (paid.idle is) [
-          | inl empty ↦ inl empty
-          | inr met ↦ inr (met_other (next c s (Enter p)) p o refl met (λ e. let far = met.behind in omega arith))
-        ];
+        idle = λ is. idle_stays (next c s (Enter p)) refl
+            (λ met. met_other (next c s (Enter p)) p o refl met (λ e. let far = met.behind in omega arith)) (paid.idle is);
       }
   pays (Take l p) legal other =
-      still_paid (next c s (Take l p)) refl (λ q less. gone_at p _ (there_is p legal.0 legal.1) q) (λ idle. elim idle [
-        | inl empty ↦ inl empty
-        | inr met ↦ inr (met_other (next c s (Take l p)) p _ refl met
-            (not_place met p legal.0 legal.1 (λ v is. queued (sym legal.2 ∙ is))))
-      ])
+      let s' = next c s (Take l p) in
+      still_paid s' refl (λ q less. gone_at p _ (there_is p legal.0 legal.1) q) (idle_stays s' refl (λ met.
+      met_other s' p _ refl met (not_place met p legal.0 legal.1 (λ v is. queued (sym legal.2 ∙ is)))))
     where
       queued : {v : Bool} → Queued l ≡ Held 0 v false → ⊥
       queued {v} is = cc
-  pays (Apply k p j q) legal other =
-      still_paid (next c s (Apply k p j q)) refl (λ x less was. was) (λ idle. elim idle [
-        | inl empty ↦
-            inl empty
-        | inr m ↦ inr (record {
-          origin = m.origin;
-          message = m.message;
-          visited = m.visited;
-          behind = m.behind;
-          there = m.there;
-          held = m.held;
-        })
-      ])
+  pays (Apply k p j q) legal other = unmoved (next c s (Apply k p j q)) refl refl refl
   pays (Visit k p w) legal other =
       let m = legal.0 in
       let entered : p < s.entered = h.entered p m legal.1 legal.3 legal.5 in
       let most = t.bounded in
-      still_paid (next c s (Visit k p w)) refl (λ q less. gone_at p _ (there_is p m legal.3) q) (λ idle. elim idle [
-        | inl empty ↦ inl empty
-        | inr met ↦ inr (met_other (next c s (Visit k p w)) p _ refl met (λ e. let far = met.behind in omega arith))
-      ])
+      let s' = next c s (Visit k p w) in
+      still_paid s' refl (λ q less. gone_at p _ (there_is p m legal.3) q)
+      (idle_stays s' refl (λ met. met_other s' p _ refl met (λ e. let far = met.behind in omega arith)))
   pays (Pass k p) legal other = left_paid k p false legal.0 legal.1
   pays (Lose k p) legal other = left_paid k p true legal.0 legal.1
   pays (Carry p) legal other =
@@ -194,53 +207,18 @@ module _ (c : Setting) (good : IsGood c) (s : ChainState) (h : Inv c s) (t : IsT
       by_ring : (w v : Bool) → Held 0 w true ≡ Held 0 v false → ⊥
       by_ring w v is = cc
   pays (Crash k) legal other =
-      still_paid (next c s (Crash k)) refl
-      (λ q less was. dropped (λ (m : Message). is_at c k m.place) (s.message q) was) (λ idle. elim (cases_eq k 0) [
-        | inl first ↦ inl (λ j q. ap (λ b. not b && s.forwarder j q) (eq-eqb k 0 first))
-        | inr later ↦ elim idle [
-          | inl empty ↦ inl (λ j q. both (not (k == 0)) (s.forwarder j q) (empty j q))
-          | inr met ↦ inr (record {
-            origin = met.origin;
-            message = met.message;
-            visited = met.visited;
-            behind = met.behind;
-            held = met.held;
-            there = ap (drop_if (λ (m : Message). is_at c k m.place)) met.there
-                ∙ ap (λ b. if b then None
-                else Some met.message) (ap (is_at c k) met.held ∙ ne_eqb 0 k (λ e. later (sym e)));
-          })
-        ]
-      ])
-    where
-      both : (x y : Bool) → y ≡ false → (x && y) ≡ false
-      both true y is = is
-      both false y is = refl
-
-      dropped : (test : Message → Bool) (o : Option Message) → is_some o ≡ false → is_some (drop_if test o) ≡ false
-      dropped test None is = refl
-      dropped test (Some m) is = absurd (true≢false is)
+      let s' = next c s (Crash k) in
+      still_paid s' refl (λ q less was. dropped (λ (m : Message). is_at c k m.place) (s.message q) was)
+      (idle_leaves s' k refl (λ later met. met_stays s' met
+      (ap (drop_if (λ (m : Message). is_at c k m.place)) met.there ∙ ap (λ b. if b then None else Some met.message)
+      (ap (is_at c k) met.held ∙ ne_eqb 0 k (λ e. later (sym e))))))
   pays (Recover k undone) legal other =
-      still_paid (next c s (Recover k undone)) refl
-      (λ q less was. dropped (is_dropped c s (following_live c s k)) (s.message q) was) (λ idle. elim idle [
-        | inl empty ↦ inl empty
-        | inr met ↦ inr (record {
-          origin = met.origin;
-          message = met.message;
-          visited = met.visited;
-          behind = met.behind;
-          held = met.held;
-          there = ap (drop_if (is_dropped c s (following_live c s k))) met.there
-              ∙ ap (λ b. if b then None
-              else Some met.message) (ap
-              (λ w. is_dropped_at c s (following_live c s k) met.message.logs w) met.held ∙ ready met
-              (following_live c s k));
-        })
-      ])
+      let s' = next c s (Recover k undone) in let t = following_live c s k in
+      still_paid s' refl (λ q less was. dropped (is_dropped c s t) (s.message q) was)
+      (idle_stays s' refl (λ met. met_stays s' met
+      (ap (drop_if (is_dropped c s t)) met.there ∙ ap (λ b. if b then None else Some met.message)
+      (ap (λ w. is_dropped_at c s t met.message.logs w) met.held ∙ ready met t))))
     where
-      dropped : (test : Message → Bool) (o : Option Message) → is_some o ≡ false → is_some (drop_if test o) ≡ false
-      dropped test None is = refl
-      dropped test (Some m) is = absurd (true≢false is)
-
       -- what waits at server 0 is ready there: it has logs of group 0 alone
       ready : (met : IsMet c s) (live : ℕ) →
           ((0 == live) && not (has_each c.partitions s.trace (s.lists live) met.message.logs)) ≡ false
@@ -259,33 +237,9 @@ module _ (c : Setting) (good : IsGood c) (s : ChainState) (h : Inv c s) (t : IsT
             subst (λ l. ((0 == l) && not (has_each c.partitions s.trace (s.lists l) met.message.logs))
             ≡ false) here (ap not has)
       ]
-  pays (Pull k) legal other =
-      still_paid (next c s (Pull k)) refl (λ x less was. was) (λ idle. elim idle [
-        | inl empty ↦ inl empty
-        | inr m ↦
-            inr (record {
-              origin = m.origin;
-              message = m.message;
-              visited = m.visited;
-              behind = m.behind;
-              there = m.there;
-              held = m.held;
-            })
-      ])
+  pays (Pull k) legal other = unmoved (next c s (Pull k)) refl refl refl
   pays (Propagate p) legal other = absurd (other (ap Propagate legal.4))
-  pays (Release p) legal other =
-      still_paid (next c s (Release p)) refl (λ x less was. was) (λ idle. elim idle [
-        | inl empty ↦ inl empty
-        | inr m ↦
-            inr (record {
-              origin = m.origin;
-              message = m.message;
-              visited = m.visited;
-              behind = m.behind;
-              there = m.there;
-              held = m.held;
-            })
-      ])
+  pays (Release p) legal other = unmoved (next c s (Release p)) refl refl refl
 
   -- where it is paid for, one more is begun
   pub one_begun : (p : ℕ) → MayHappen c s (Propagate p) → paid.busy ≡ true →
