@@ -37,19 +37,6 @@ no_release c s slot (job.Recover k) = refl
 no_release c s slot (job.Pull l) = refl
 no_release c s slot (job.Propagate p) = refl
 
-pub job_back : (c : Setting) (s : ChainState) (slot : ℕ) (j : Job) → job_of (event_of c s slot j) ≡ Some j
-job_back c s slot (job.Enter p) = refl
-job_back c s slot (job.Take l p) = refl
-job_back c s slot (job.Apply k p i q) = refl
-job_back c s slot (job.Visit k p) = refl
-job_back c s slot (job.Pass k p) = refl
-job_back c s slot (job.Lose k p) = refl
-job_back c s slot (job.Carry p) = refl
-job_back c s slot (job.Crash k) = refl
-job_back c s slot (job.Recover k) = refl
-job_back c s slot (job.Pull l) = refl
-job_back c s slot (job.Propagate p) = refl
-
 -- a job may be done in whatever slot
 pub any_slot : (c : Setting) (s : ChainState) (one other : ℕ) (j : Job) → IsLegal c s (event_of c s one j) →
     IsLegal c s (event_of c s other j)
