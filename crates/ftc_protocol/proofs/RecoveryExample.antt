@@ -3,19 +3,17 @@ use Rattle.std.proofs.Common.{◌≡◌, ℕ, ◌<◌, ◌≤◌, ◌&&◌, ◌|
 use Rattle.std.proofs.Common.{subst, ◌∙◌, arith, Some, None, ltb-true, eqb-true}
 use Rattle.std.proofs.lemmas.Bool.{true≢false, cases_eq, and_parts, or_cases, false_from_ne_true}
 use Rattle.std.proofs.lemmas.Option.{none-some, same_Some}
-use Rattle.ftc_ring.specs.Live.{HasLive, IsLive}
-use Rattle.ftc_script.specs.Steps.{all_live, live_after_all}
-use Rattle.ftc_script.specs.Steps as steps
 use Rattle.ftc_serial.specs.Words.{with_at}
 use Rattle.ftc_serial.proofs.Functions.{with_at_cases}
 use Rattle.ftc_serial.specs.Take.{asked, asked_from}
 use Rattle.ftc_journal.specs.declared.event.Event.TheVariants.{Apply, Carry, Crash, Enter, Pass, Pull, Recover, Release}
 use Rattle.ftc_journal.specs.declared.event.Event.TheVariants.{Take, Visit}
 use Rattle.ftc_mbox.specs.Ask.{ask}
+use Rattle.ftc_mbox.specs.declared.rule.Rule.TheVariants as rule
 use Rattle.ftc_packet.specs.Flow.{flow_found, flow_in, is_flow}
 use Rattle.ftc_packet.specs.Layout.{word_at, transport_start}
 use Rattle.ftc_protocol.specs.declared.fate.Fate.TheVariants as became
-use Rattle.ftc_protocol.specs.Setting.{shape, is_tail, IsSetting}
+use Rattle.ftc_protocol.specs.Setting.{is_tail, IsSetting}
 use Rattle.ftc_protocol.specs.Visits.{In, no_visits, union, just}
 use Rattle.ftc_protocol.specs.Changes.{changes}
 use Rattle.ftc_protocol.specs.State.{ChainState, Message, Withheld, Where, Queued, opening}
@@ -27,9 +25,8 @@ use Rattle.ftc_protocol.specs.Next.{next, drop_if, is_at, logs_of}
 use Rattle.ftc_protocol.specs.Run.{IsRun, IsFinished, state_after}
 use Rattle.ftc_protocol.specs.Example.{monitor_and_pass, saving, datagram}
 use Rattle.ftc_protocol.proofs.Sets.{in_one}
-use Rattle.ftc_protocol.proofs.Example.{only_two}
 use Rattle.ftc_protocol.proofs.NothingLegal.{nothing_left}
-use Rattle.ftc_protocol.proofs.Example.{only_two}
+use Rattle.ftc_protocol.proofs.Example.{only_two, and_then, crashing_setting}
 
 abbrev s0 : ChainState
 s0 = opening monitor_and_pass
@@ -97,51 +94,39 @@ never : (s : ChainState) → ((p : ℕ) → s.withheld p ≡ None) → (p : ℕ)
 never s none p w due = none-some w (sym (none p) ∙ due.0)
 
 m1 : (p : ℕ) → (p ≡ 0 → ⊥) → s1.message p ≡ None
-unfolding asked asked_from ask flow_found flow_in is_flow word_at transport_start changes
 m1 p ne = elsewhere s0.message _ p ne
 
 m2 : (p : ℕ) → (p ≡ 0 → ⊥) → s2.message p ≡ None
-unfolding asked asked_from ask flow_found flow_in is_flow word_at transport_start changes
 m2 p ne = elsewhere s1.message _ p ne ∙ m1 p ne
 
 m3 : (p : ℕ) → (p ≡ 0 → ⊥) → s3.message p ≡ None
-unfolding asked asked_from ask flow_found flow_in is_flow word_at transport_start changes
 m3 p ne = elsewhere s2.message _ p ne ∙ m2 p ne
 
 m4 : (p : ℕ) → (p ≡ 0 → ⊥) → s4.message p ≡ None
-unfolding asked asked_from ask flow_found flow_in is_flow word_at transport_start changes
 m4 p ne = elsewhere s3.message _ p ne ∙ m3 p ne
 
 m6 : (p : ℕ) → (p ≡ 0 → ⊥) → s6.message p ≡ None
-unfolding asked asked_from ask flow_found flow_in is_flow word_at transport_start changes
 m6 p ne = ap (drop_if (λ (x : Message). is_at monitor_and_pass 0 x.place)) (m4 p ne)
 
 m7 : (p : ℕ) → (p ≡ 0 → ⊥) → s7.message p ≡ None
-unfolding asked asked_from ask flow_found flow_in is_flow word_at transport_start changes
 m7 p ne = ap (drop_if (is_dropped monitor_and_pass s6 (following_live monitor_and_pass s6 0))) (m6 p ne)
 
 m10 : (p : ℕ) → (p ≡ 0 → ⊥) → s10.message p ≡ None
-unfolding asked asked_from ask flow_found flow_in is_flow word_at transport_start changes
 m10 p ne = elsewhere s9.message _ p ne ∙ m7 p ne
 
 m11 : (p : ℕ) → (p ≡ 0 → ⊥) → s11.message p ≡ None
-unfolding asked asked_from ask flow_found flow_in is_flow word_at transport_start changes
 m11 p ne = elsewhere s10.message _ p ne ∙ m10 p ne
 
 m13 : (p : ℕ) → (p ≡ 0 → ⊥) → s13.message p ≡ None
-unfolding asked asked_from ask flow_found flow_in is_flow word_at transport_start changes
 m13 p ne = elsewhere s12.message _ p ne ∙ m11 p ne
 
 m14 : (p : ℕ) → s14.message p ≡ None
-unfolding asked asked_from ask flow_found flow_in is_flow word_at transport_start changes
 m14 p = with_at_cases (λ x. x ≡ None) s13.message 0 None p (λ same. refl) (λ other. m13 p other)
 
 w3 : (p : ℕ) → s3.withheld p ≡ None
-unfolding asked asked_from ask flow_found flow_in is_flow word_at transport_start changes
 w3 p = same_both s2.withheld _ None p refl (λ q. refl)
 
 w12 : (p : ℕ) → s12.withheld p ≡ None
-unfolding asked asked_from ask flow_found flow_in is_flow word_at transport_start changes
 w12 p = with_at_cases (λ x. x ≡ None) s11.withheld 0 None p (λ same. refl)
     (λ other. elsewhere s10.withheld _ p other ∙ w3 p)
 
@@ -208,7 +193,6 @@ legal3 = (
 )
 
 legal4 : MayHappen monitor_and_pass s3 (Take 0 0)
-unfolding asked asked_from ask flow_found flow_in is_flow word_at transport_start changes
 legal4 = (_, refl, refl, λ other queued is. least s3 _ refl m3 other queued is (Queued 0))
 
 legal5 : MayHappen monitor_and_pass s4 (Apply 1 0 0 0)
@@ -289,52 +273,25 @@ legal14 : MayHappen monitor_and_pass s13 (Carry 0)
 unfolding asked asked_from ask flow_found flow_in is_flow word_at transport_start changes
 legal14 = (_, refl, false, refl, λ g p is. absurd (no_log g p is))
 
-none2 : (p : ℕ) (w : Withheld) → IsDue monitor_and_pass s2 p w → ⊥
-unfolding asked asked_from ask flow_found flow_in is_flow word_at transport_start changes
-none2 = never s2 (λ p. refl)
-
 pub a_run : IsRun monitor_and_pass saving
-unfolding asked asked_from ask flow_found flow_in is_flow word_at transport_start changes
-a_run = (
-  ((refl, omega arith, ((λ e. omega arith), ((λ e. omega arith), tt))), λ _ p w due. none-some w due.0),
-  (
-    ((_, datagram, false, refl, refl, refl, λ j q is. absurd (true≢false (sym is))), λ _ p w due. none-some w due.0),
-    (
-      (legal3, λ _. none2),
-      (
-        (legal4, λ _. never s3 w3),
-        (
-          (legal5, λ _. never s4 w3),
-          (
-            (refl, λ _. never s5 w3),
-            (
-              (legal7, λ _. never s6 w3),
-              (
-                ((refl, refl, refl), λ _. never s7 w3),
-                (
-                  ((refl, refl, refl), λ _. never s8 w3),
-                  (
-                    (legal10, λ _. never s9 w3),
-                    (
-                      (legal11, λ _. never s10 w3),
-                      (
-                        (legal12, λ e. absurd (true≢false e)),
-                        (
-                          (legal13, λ _. never s12 w12),
-                          ((legal14, λ _. never s13 w12), tt),
-                        ),
-                      ),
-                    ),
-                  ),
-                ),
-              ),
-            ),
-          ),
-        ),
-      ),
-    ),
-  ),
-)
+a_run =
+    and_then ((refl, omega arith, ((λ e. omega arith), ((λ e. omega arith), tt))), λ _ p w due. none-some w due.0)
+    (and_then (
+      (_, datagram, false, refl, refl, refl, λ j q is. absurd (true≢false (sym is))),
+      λ _ p w due. none-some w due.0,
+    )
+    (and_then (legal3, λ _. never s2 (λ p. refl))
+    (and_then (legal4, λ _. never s3 w3)
+    (and_then (legal5, λ _. never s4 w3)
+    (and_then (refl, λ _. never s5 w3)
+    (and_then (legal7, λ _. never s6 w3)
+    (and_then ((refl, refl, refl), λ _. never s7 w3)
+    (and_then ((refl, refl, refl), λ _. never s8 w3)
+    (and_then (legal10, λ _. never s9 w3)
+    (and_then (legal11, λ _. never s10 w3)
+    (and_then (legal12, λ e. absurd (true≢false e))
+    (and_then (legal13, λ _. never s12 w12)
+    (and_then (legal14, λ _. never s13 w12) tt)))))))))))))
 
 -- ---- the end
 
@@ -344,39 +301,16 @@ no_logs g p = false_from_ne_true (s14.forwarder g p) (λ is. no_log g p
     (and_parts (logs_of (s13.message 0) g p) (not (is_tail monitor_and_pass g 0)) is).0)
 
 both_up : (k : ℕ) → s14.up k ≡ true → k < 2
-unfolding asked asked_from ask flow_found flow_in is_flow word_at transport_start changes
 both_up k is = with_at_cases (λ b. b ≡ true → k < 2) s6.up 0 true k (λ same _. omega arith)
     (λ other up. with_at_cases (λ b. b ≡ true → k < 2) s5.up 0 false k (λ same _. absurd (other same))
     (λ _ on. ltb-true k 2 on) up) is
 
 pub is_finished : IsFinished monitor_and_pass (state_after monitor_and_pass (opening monitor_and_pass) saving)
-unfolding asked asked_from ask flow_found flow_in is_flow word_at transport_start changes
 is_finished = nothing_left monitor_and_pass s14 refl refl m14 no_logs
     (only_two (λ link. s14.gap link ≡ false) refl refl) w12 both_up
 
 pub released : (state_after monitor_and_pass (opening monitor_and_pass) saving).fate 0 ≡ became.Released
-unfolding asked asked_from ask flow_found flow_in is_flow word_at transport_start changes
 released = refl
 
 pub a_setting : IsSetting monitor_and_pass
-a_setting = record {
-  ring = record { some = omega arith; servers = omega arith; failures = omega arith };
-  some_partition = omega arith;
-  few_partitions = omega arith;
-  lines = (
-    (
-      record { within = omega arith; ordered = omega arith; entered = omega arith },
-      record {
-        up = refl;
-        admissible = record {
-          each = only_two (HasLive (shape monitor_and_pass) (steps.with_at all_live 0 false))
-              (record { server = 1; within = omega arith; member = omega arith; up = refl })
-              (record { server = 1; within = omega arith; member = omega arith; up = refl });
-        };
-      },
-    ),
-    ((record { within = omega arith; ordered = omega arith; entered = omega arith }, refl), tt),
-  );
-  ends = only_two (IsLive (live_after_all all_live monitor_and_pass.lines)) refl refl;
-  loses = λ link origin lost. absurd (true≢false (sym lost));
-}
+a_setting = crashing_setting rule.Pass
