@@ -1,7 +1,7 @@
 -- When messages came where they are.
 use Rattle.std.proofs.Common.{◌≡◌, ◌≢◌, ℕ, ◌+◌, ◌<◌, ◌≤◌, ◌==◌, ◌&&◌, ◌||◌, if◌then◌else◌, nat_lt, Bool, true, false}
 use Rattle.std.proofs.Common.{not, List, ◌∷◌, ◌⊎◌, inl, inr, refl, sym, ap, subst, ◌∙◌, arith, ◌↔◌, eqb-true, Option}
-use Rattle.std.proofs.Common.{Some, None, is_some, eq-eqb}
+use Rattle.std.proofs.Common.{Some, None, eq-eqb}
 use Rattle.std.proofs.lemmas.Bool.{true≢false, eqb-false, cases_eq, cases_lt, and_parts, and_from, or_cases, not-true}
 use Rattle.std.proofs.lemmas.Option.{none-some, same_Some}
 use Rattle.std.proofs.lemmas.Bool.{not_from_false}
@@ -34,7 +34,7 @@ use Rattle.ftc_protocol.proofs.Sets.{in_both, in_one, kept}
 use Rattle.ftc_protocol.specs.Changes.{is_changing, is_touching}
 use Rattle.ftc_serial.specs.Removal.{left_of}
 use Rattle.ftc_protocol.proofs.TraceAndLists.{nobody_has}
-use Rattle.ftc_protocol.proofs.InTransit.{other_message, same_message}
+use Rattle.ftc_protocol.proofs.InTransit.{other_message, same_message, after_visit}
 use Rattle.ftc_protocol.proofs.RecoveryEvent.{ready_at, up_target}
 use Rattle.ftc_protocol.proofs.VisitEvent.{visits}
 use Rattle.ftc_serial.specs.Words.{with_at}
@@ -116,14 +116,7 @@ module _ (c : Setting) (good : IsGood c) (s : ChainState) (h : Inv c s) (t : IsT
       let same : n ≡ m0 = same_Some n m0 (sym e0) in
       let held0 : m0.place ≡ Held k v by_ring = subst (λ (x : Message). x.place ≡ Held k v by_ring) same held in
       let logs' : Visits = union m0.logs (just k p (is_touching o && nat_lt 0 c.failures)) in
-      let new : Message = record {
-        place = visited_at m0.place;
-        since = m0.since;
-        packet = o.packet;
-        logs = logs';
-        needs = λ j. is_some o.packet && (m0.needs j || ((j == k) && is_touching o));
-        known = m0.known;
-      } in
+      let new = after_visit c k p o m0 in
       let old : IsRinged (servers c) (Held k v by_ring) m0.logs =
       subst (λ w. IsRinged (servers c) w m0.logs) held0 (t.ringed p m0 is) in
       let fresh : IsRinged (servers c) (Held k true by_ring) logs' = ring by_ring old in
@@ -399,25 +392,10 @@ module _ (c : Setting) (good : IsGood c) (s : ChainState) (h : Inv c s) (t : IsT
       let Good : ℕ → Message → Type 0 = λ q n. (y : ℕ) → From (servers c) n.place y →
       IsSeenAt c (Visited k p o ∷ s.trace) s.up has' y (target (servers c) n.place) n.logs (seen q) in
       let log : Bool = is_touching o && nat_lt 0 c.failures in
-      let new : Message = record {
-        place = Held k true by_ring;
-        since = m.since;
-        packet = o.packet;
-        logs = union m.logs (just k p log);
-        needs =
-            λ i. is_some o.packet && (m.needs i || ((i == k) && is_touching o));
-        known = m.known;
-      } in
+      let after = after_visit c k p o m in
+      let new : Message = record after { place = Held k true by_ring } in
       let is_new : visited_message c k p o (Some m) ≡ Some new =
-      ap (λ v. Some (record {
-        place = visited_at v;
-        since = m.since;
-        packet = o.packet;
-        logs = union m.logs (just k p log);
-        needs =
-            λ i. is_some o.packet && (m.needs i || ((i == k) && is_touching o));
-        known = m.known;
-      })) legal.4 in
+      ap (λ v. Some (record after { place = visited_at v })) legal.4 in
       let new_good : Good p new = λ y from.
       let old = seen_grown k p o fresh has' more y (target (servers c) m.place) m.logs (seen p) (stood_logs p m legal.3)
       (ok p m legal.3 y (subst (λ v. From (servers c) v y) (sym legal.4) from)) in

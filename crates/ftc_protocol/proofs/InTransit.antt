@@ -1,19 +1,44 @@
 -- What is not yet everywhere is on its way, and messages keep their numbers.
-use Rattle.std.proofs.Common.{◌≡◌, ◌≢◌, ℕ, ◌+◌, ◌<◌, ◌≤◌, if◌then◌else◌, true, false}
+use Rattle.std.proofs.Common.{◌≡◌, ◌≢◌, ℕ, ◌+◌, ◌<◌, ◌≤◌, ◌==◌, ◌&&◌, ◌||◌, not, nat_lt, is_some, if◌then◌else◌}
+use Rattle.std.proofs.Common.{true, false}
 use Rattle.std.proofs.Common.{◌⊎◌, inl, inr, refl, sym, ap, subst, ◌∙◌, arith, Option, Some, None}
 use Rattle.std.proofs.lemmas.Option.{none-some}
 use Rattle.ftc_journal.specs.declared.event.Event.TheVariants.{Apply, Carry, Crash, Enter, Lose, Pass, Propagate, Pull}
 use Rattle.ftc_journal.specs.declared.event.Event.TheVariants.{Recover, Release, Take, Visit}
 use Rattle.ftc_protocol.specs.State.{ChainState, Held, Message, Queued, Where}
 use Rattle.ftc_journal.specs.declared.event.Event.{Event}
-use Rattle.ftc_protocol.specs.Visits.{In, Visits}
+use Rattle.ftc_protocol.specs.Visits.{In, Visits, union, just}
+use Rattle.ftc_protocol.specs.Changes.{is_touching}
+use Rattle.ftc_protocol.specs.Known.{knows}
+use Rattle.ftc_serial.specs.Take.{Outcome}
 use Rattle.ftc_protocol.specs.Legal.{MayHappen}
 use Rattle.ftc_protocol.specs.Setting.{Setting, count, packet_at, servers}
 use Rattle.ftc_ring.specs.Ring.{apart, next_of}
-use Rattle.ftc_protocol.specs.Next.{drop_if, fresh_message, is_at, next}
+use Rattle.ftc_protocol.specs.Next.{drop_if, fresh_message, is_at, logs_sent, next, visited_at}
 use Rattle.ftc_protocol.specs.Recovery.{following_live, is_dropped}
 use Rattle.ftc_serial.specs.Words.{with_at}
 use Rattle.ftc_serial.proofs.Functions.{with_at_cases}
+
+-- what a message becomes by a visit at server k, and where server k sends it on
+abbrev pub after_visit : Setting → ℕ → ℕ → Outcome → Message → Message
+after_visit c k p o m = record {
+  place = visited_at m.place;
+  since = m.since;
+  packet = o.packet;
+  logs = union m.logs (just k p (is_touching o && nat_lt 0 c.failures));
+  needs = λ group. is_some o.packet && (m.needs group || ((group == k) && is_touching o));
+  known = m.known;
+}
+
+abbrev pub after_sending : Setting → ChainState → ℕ → Message → Message
+after_sending c s k m = record {
+  place = Queued k;
+  since = s.events;
+  packet = if k + 1 == servers c then None else m.packet;
+  logs = logs_sent c s k m;
+  needs = λ group. not (k + 1 == servers c) && m.needs group;
+  known = knows c s k;
+}
 
 -- a log at server y or the next, or on the link between them
 abbrev pub IsNear : ℕ → ℕ → Where → Type 0

@@ -5,8 +5,9 @@ use Rattle.std.proofs.Common.{None, eq-eqb, ltb-true}
 use Rattle.std.proofs.lemmas.Bool.{eqb-false, cases_lt, and_parts, and_from, or_left, or_cases, not-true, ne_eqb}
 use Rattle.std.proofs.lemmas.Option.{none-some, same_Some}
 use Rattle.std.proofs.lemmas.Bool.{not_from_false}
+use Rattle.ftc_protocol.proofs.InTransit.{after_sending}
 use Rattle.ftc_protocol.proofs.CarriedLogs.{AreCarried, passes}
-use Rattle.ftc_protocol.specs.State.{ChainState, Held, Message, Queued, Withheld}
+use Rattle.ftc_protocol.specs.State.{ChainState, Held, Message, Withheld}
 use Rattle.ftc_journal.specs.declared.event.Event.{Event}
 use Rattle.ftc_protocol.specs.Trace.{Has, IsTouching}
 use Rattle.ftc_protocol.proofs.Invariant.{HasOwn, Inv, IsSteady, IsWithheld, each_message, expected, knows_safe, target}
@@ -23,7 +24,6 @@ use Rattle.ftc_protocol.proofs.RingDistances.{apart_cases}
 use Rattle.ftc_protocol.proofs.HavingVisits.{head_has}
 use Rattle.ftc_protocol.proofs.SmallEvents.{held_target}
 use Rattle.ftc_protocol.specs.Next.{is_away, logs_sent, next, sent_message, sent_on, withheld_of, withheld_packet}
-use Rattle.ftc_protocol.specs.Known.{knows}
 use Rattle.ftc_serial.specs.Words.{with_at}
 use Rattle.ftc_serial.proofs.Functions.{with_at_cases}
 
@@ -79,16 +79,7 @@ module _ (c : Setting) (good : IsGood c) (s : ChainState) (h : Inv c s) (k p : â
       )
 
   sent : Message
-  sent = record {
-    place = Queued k;
-    since = s.events;
-    packet = if k + 1 == (servers c) then None
-        else m.packet;
-    logs = logs_sent c s k m;
-    needs = Î» j. not (k + 1 == (servers c)) && m.needs j;
-    known =
-        knows c s k;
-  }
+  sent = after_sending c s k m
 
   sent_steady : IsSteady c s.trace s.up s.lists p sent
   unfolding sent

@@ -7,12 +7,11 @@ use Rattle.ftc_ring.specs.Ring.{next_of}
 use Rattle.ftc_serial.proofs.Functions.{with_at_cases}
 use Rattle.ftc_protocol.specs.Setting.{Setting, servers}
 use Rattle.ftc_protocol.specs.State.{ChainState, Message, Held, Queued}
-use Rattle.ftc_protocol.specs.Known.{knows}
 use Rattle.ftc_protocol.specs.Legal.{MayHappen, IsLegal, is_sent}
-use Rattle.ftc_protocol.specs.Next.{next, is_away, logs_sent, sent_message, withheld_of}
+use Rattle.ftc_protocol.specs.Next.{next, is_away, sent_message, withheld_of}
 use Rattle.ftc_protocol.specs.Quiet.{IsQuiet}
 use Rattle.ftc_protocol.proofs.Premises.{IsGood}
-use Rattle.ftc_protocol.proofs.InTransit.{same_message, other_message}
+use Rattle.ftc_protocol.proofs.InTransit.{same_message, other_message, after_sending}
 use Rattle.ftc_protocol.proofs.Complete.{keeps_reached}
 use Rattle.ftc_protocol.proofs.FaultFree.{keeps_calm, next_below}
 use Rattle.ftc_protocol.proofs.Lone.{IsPlain, IsAt, behind, none_due, ready_here, server_below}
@@ -62,14 +61,7 @@ module _ (c : Setting) (good : IsGood c) (quiet : IsQuiet c) (alone : c.failures
         (calm.up (next_of (servers c) k) (next_below (servers c) k (server_below c good alone s p k visited at))))
 
     sent : Message
-    sent = record {
-      place = Queued k;
-      since = s.events;
-      packet = if k + 1 == servers c then None else at.message.packet;
-      logs = logs_sent c s k at.message;
-      needs = λ group. not (k + 1 == servers c) && at.message.needs group;
-      known = knows c s k;
-    }
+    sent = after_sending c s k at.message
 
     at_most : (b : Bool) (i : ℕ) → i < behind (Held k b false) → i < k + 1
     at_most true i less = less

@@ -1,11 +1,11 @@
 -- The lone packet visits a middlebox.
-use Rattle.std.proofs.Common.{◌≡◌, ℕ, ◌<◌, ◌==◌, ◌&&◌, ◌||◌, nat_lt, true, false, List, inl, inr, sym, ap, subst, ◌∙◌}
+use Rattle.std.proofs.Common.{◌≡◌, ℕ, ◌<◌, ◌==◌, ◌&&◌, ◌||◌, true, false, List, inl, inr, sym, ap, subst, ◌∙◌}
 use Rattle.std.proofs.Common.{arith, eq-eqb, eqb-true, Some, is_some}
 use Rattle.std.proofs.lemmas.Bool.{cases_eq, and_parts, and_from, or_cases, or_left, or_right}
 use Rattle.ftc_journal.specs.declared.event.Event.TheVariants.{Visit}
 use Rattle.ftc_ring.specs.Ring.{apart}
 use Rattle.ftc_protocol.specs.Setting.{Setting, servers, is_tail}
-use Rattle.ftc_protocol.specs.Visits.{In, union, just}
+use Rattle.ftc_protocol.specs.Visits.{In}
 use Rattle.ftc_protocol.specs.Changes.{is_touching, is_changing}
 use Rattle.ftc_protocol.specs.Trace.{Has}
 use Rattle.ftc_protocol.specs.State.{ChainState, Message, Held}
@@ -16,7 +16,7 @@ use Rattle.ftc_protocol.specs.Quiet.{IsQuiet}
 use Rattle.ftc_protocol.proofs.Premises.{IsGood}
 use Rattle.ftc_protocol.proofs.Places.{place_after, serial_of}
 use Rattle.ftc_protocol.proofs.RingDistances.{apart_cases}
-use Rattle.ftc_protocol.proofs.InTransit.{same_message, other_message}
+use Rattle.ftc_protocol.proofs.InTransit.{same_message, other_message, after_visit}
 use Rattle.ftc_protocol.proofs.Sets.{kept}
 use Rattle.ftc_protocol.proofs.CarriedLogs.{has_more, has_grown}
 use Rattle.ftc_protocol.proofs.HavingVisits.{head_has}
@@ -42,15 +42,7 @@ module _ (c : Setting) (good : IsGood c) (quiet : IsQuiet c) (alone : c.failures
   reached_then = keeps_reached c good s reached (Visit k p worker) may_visit
 
   visited : Message
-  visited = record {
-    place = visited_at at.message.place;
-    since = at.message.since;
-    packet = (outcome_at c s k p).packet;
-    logs = union at.message.logs (just k p (is_touching (outcome_at c s k p) && nat_lt 0 c.failures));
-    needs = λ group. is_some (outcome_at c s k p).packet
-        && (at.message.needs group || ((group == k) && is_touching (outcome_at c s k p)));
-    known = at.message.known;
-  }
+  visited = after_visit c k p (outcome_at c s k p) at.message
 
   -- the server's own visits it knows at once, and what it knew it knows still
   own_known : (q : ℕ) → In ((next c s (Visit k p worker)).lists k) k q →

@@ -1,7 +1,7 @@
 -- Who waits for whom: the earlier messages first.
 use Rattle.std.proofs.Common.{◌≡◌, ◌≢◌, ℕ, ◌+◌, ◌<◌, ◌≤◌, ◌==◌, ◌&&◌, ◌||◌, if◌then◌else◌, nat_lt, Bool, true, false}
 use Rattle.std.proofs.Common.{not, List, [], ◌∷◌, ◌⊎◌, inl, inr, refl, sym, ap, subst, ◌∙◌, arith, Option, Some, None}
-use Rattle.std.proofs.Common.{is_some, eq-eqb, lt-ltb}
+use Rattle.std.proofs.Common.{eq-eqb, lt-ltb}
 use Rattle.std.proofs.lemmas.Bool.{true≢false, eqb-false, cases_eq, cases_Bool, and_from, or_left, or_right, or_parts}
 use Rattle.std.proofs.lemmas.Bool.{ne_eqb}
 use Rattle.std.proofs.lemmas.Option.{none-some, same_Some}
@@ -16,7 +16,7 @@ use Rattle.ftc_protocol.specs.Visits.{In, Visits, just, no_visits, union}
 use Rattle.ftc_protocol.proofs.Invariant.{Inv, target}
 use Rattle.ftc_protocol.specs.Trace.{IsChanging, IsInTrace, has_each}
 use Rattle.ftc_protocol.proofs.Premises.{IsGood, ticked}
-use Rattle.ftc_protocol.proofs.InTransit.{IsNear, IsPending, other_message, same_message}
+use Rattle.ftc_protocol.proofs.InTransit.{IsNear, IsPending, other_message, same_message, after_visit, after_sending}
 use Rattle.ftc_protocol.proofs.LiveHolders.{IsUp, kept_some, lost_some_message}
 use Rattle.ftc_protocol.specs.Legal.{MayHappen, MayLeave, is_sent}
 use Rattle.ftc_protocol.specs.Setting.{Setting, is_member, is_tail, servers}
@@ -31,7 +31,6 @@ use Rattle.ftc_protocol.specs.Next.{visited_message}
 use Rattle.ftc_protocol.proofs.Sets.{gained, kept}
 use Rattle.ftc_protocol.specs.Recovery.{gaps_at, is_dropped, is_dropped_at, list_got}
 use Rattle.ftc_protocol.specs.Changes.{is_changing, is_touching}
-use Rattle.ftc_protocol.specs.Known.{knows}
 use Rattle.ftc_protocol.proofs.ListStores.{stands_below, touching_changing}
 use Rattle.ftc_protocol.proofs.EarlierVisits.{visited_earlier}
 use Rattle.ftc_protocol.proofs.VisitEvent.{visits}
@@ -227,26 +226,10 @@ module _ (c : Setting) (good : IsGood c) (s : ChainState) (h : Inv c s) (t : IsT
       In (with_at s.lists k (union (s.lists k) (just k p (is_changing c.partitions o))) x) j q =
       λ x i. kept s.lists k k p (is_changing c.partitions o) x j q i in
       let log : Bool = is_touching o && nat_lt 0 c.failures in
-      let new : Message = record {
-        place = Held k true by_ring;
-        since = m.since;
-        packet = o.packet;
-        logs = union m.logs (just k p log);
-        needs =
-            λ i. is_some o.packet && (m.needs i || ((i == k) && is_touching o));
-        known = m.known;
-      } in
+      let after = after_visit c k p o m in
+      let new : Message = record after { place = Held k true by_ring } in
       let is_new : visited_message c k p o (s.message p) ≡ Some new =
-      ap (visited_message c k p o) legal.3 ∙ ap
-      (λ v. Some (record {
-        place = visited_at v;
-        since = m.since;
-        packet = o.packet;
-        logs = union m.logs (just k p log);
-        needs =
-            λ i. is_some o.packet && (m.needs i || ((i == k) && is_touching o));
-        known = m.known;
-      })) legal.4 in
+      ap (visited_message c k p o) legal.3 ∙ ap (λ v. Some (record after { place = visited_at v })) legal.4 in
       let there : with_at s.message p (visited_message c k p o (s.message p)) p ≡ Some new =
       same_message s.message p _ ∙ is_new in
       let late : (b : ℕ) → b < s.events →
@@ -377,15 +360,7 @@ module _ (c : Setting) (good : IsGood c) (s : ChainState) (h : Inv c s) (t : IsT
       IsSoon c (sent_on c s k p lost).message (sent_on c s k p lost).forwarder (with_at seen p (s.lists k)) y j q =
       λ x e at log.
       let goes : b ≡ true = and_from (is_sent c k) (not (is_away c s k lost)) sends (not_from_false _ (gap_k at)) in
-      let new : Message = record {
-        place = Queued k;
-        since = s.events;
-        packet = if k + 1 == n then None
-            else x.packet;
-        logs = logs_sent c s k x;
-        needs = λ i. not (k + 1 == n) && x.needs i;
-        known = knows c s k;
-      } in
+      let new = after_sending c s k x in
       inl (record {
         origin = p;
         by = new;

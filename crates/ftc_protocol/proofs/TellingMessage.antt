@@ -18,12 +18,12 @@ use Rattle.ftc_protocol.specs.State.{ChainState, Message, Where, Held, Queued, W
 use Rattle.ftc_protocol.specs.Trace.{IsChanging}
 use Rattle.ftc_protocol.specs.Known.{knows, IsDue}
 use Rattle.ftc_protocol.specs.Legal.{MayHappen, MayLeave, IsStalled, is_sent, is_release}
-use Rattle.ftc_protocol.specs.Next.{next, sent_on, is_away, taken_message, sent_message, logs_sent, logs_of, known_by}
+use Rattle.ftc_protocol.specs.Next.{next, sent_on, is_away, taken_message, sent_message, logs_of, known_by}
 use Rattle.ftc_protocol.specs.Next.{withheld_of, withheld_packet}
 use Rattle.ftc_protocol.proofs.Premises.{IsGood, ticked}
 use Rattle.ftc_protocol.proofs.Invariant.{Inv, each_message}
 use Rattle.ftc_protocol.proofs.RingDistances.{apart_cases}
-use Rattle.ftc_protocol.proofs.InTransit.{same_message}
+use Rattle.ftc_protocol.proofs.InTransit.{same_message, after_sending}
 use Rattle.ftc_protocol.proofs.TraceLemmas.{before_first}
 use Rattle.ftc_protocol.proofs.ListStores.{stands_below}
 
@@ -257,15 +257,7 @@ module _ (c : Setting) (good : IsGood c) (is : IsSetting c) (s : ChainState) (h 
           omega arith in
           record {
             origin = p;
-            message = record {
-              place = Queued k;
-              since = s.events;
-              packet = if k + 1 == servers c then None
-                  else m.packet;
-              logs = logs_sent c s k m;
-              needs = λ group. not (k + 1 == servers c) && m.needs group;
-              known = knows c s k;
-            };
+            message = after_sending c s k m;
             there = same_message s.message p o ∙ (o_is ∙ ap (λ b. if b then sent_message c s k (Some m)
                 else None) sends);
             tells = (more, tells);

@@ -3,6 +3,7 @@ use Rattle.std.proofs.Common.{◌≡◌, ℕ, ◌-◌, ◌<◌, ◌≤◌, ◌==
 use Rattle.std.proofs.Common.{refl, sym, ap, subst, ◌∙◌, arith, Option, Some, None, is_some, eq-eqb, lt-ltb}
 use Rattle.std.proofs.lemmas.Bool.{and_parts, and_from, or_left, or_right}
 use Rattle.std.proofs.lemmas.Option.{none-some, same_Some}
+use Rattle.ftc_protocol.proofs.InTransit.{after_visit}
 use Rattle.ftc_protocol.proofs.CarriedLogs.{AreCarried, grows}
 use Rattle.ftc_protocol.specs.State.{ChainState, Held, Message, Withheld}
 use Rattle.ftc_serial.specs.Serial.{Entry, Visited}
@@ -169,26 +170,10 @@ module _ (c : Setting) (good : IsGood c) (s : ChainState) (h : Inv c s) (k p : �
       let kl = h.world.inside k live in
       let kk = apart_cases n k k kl kl in
       let same : m ≡ m0 = cc in
-      let logs' : Visits = union m.logs (just k p log) in
-      let new : Message = record {
-        place = Held k true by_ring;
-        since = m.since;
-        packet = (outcome_at c s k p).packet;
-        logs = logs';
-        needs = λ j. is_some (outcome_at c s k p).packet
-            && (m.needs j || ((j == k) && is_touching (outcome_at c s k p)));
-        known = m.known;
-      } in
+      let after = after_visit c k p (outcome_at c s k p) m in
+      let new : Message = record after { place = Held k true by_ring } in
       let is_new : visited_message c k p (outcome_at c s k p) (Some m) ≡ Some new =
-      ap (λ w. Some (record {
-        place = visited_at w;
-        since = m.since;
-        packet = (outcome_at c s k p).packet;
-        logs = logs';
-        needs = λ j. is_some (outcome_at c s k p).packet
-            && (m.needs j || ((j == k) && is_touching (outcome_at c s k p)));
-        known = m.known;
-      })) held in
+      ap (λ w. Some (record after { place = visited_at w })) held in
       let equal : new ≡ m' = same_Some new m'
       (sym is_new ∙ (ap (λ x. visited_message c k p (outcome_at c s k p) (Some x)) same ∙ e)) in
       subst (λ v. IsSteady c the_trace s.up the_lists p v) equal (record {
