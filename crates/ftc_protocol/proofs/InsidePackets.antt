@@ -2,7 +2,7 @@
 use Rattle.std.proofs.Common.{◌≡◌, ℕ, ◌+◌, ◌<◌, ◌≤◌, ◌==◌, ◌&&◌, ◌||◌, ◌⊎◌, if◌then◌else◌, nat_lt, Bool, true, false}
 use Rattle.std.proofs.Common.{not, List, [], ◌∷◌, refl, sym, ap, subst, ◌∙◌, arith, inl, inr, eqb-true, eq-eqb, Option}
 use Rattle.std.proofs.Common.{Some, None, is_some}
-use Rattle.std.proofs.lemmas.Bool.{true≢false, cases_Bool, eqb-false, and_parts, or_left}
+use Rattle.std.proofs.lemmas.Bool.{true≢false, cases_Bool, cases_lt, eqb-false, and_parts, or_left, false_from_ne_true}
 use Rattle.std.proofs.lemmas.Option.{none-some, same_Some}
 use Rattle.ftc_ring.specs.Ring.{next_of}
 use Rattle.ftc_journal.specs.declared.event.VisitName.{VisitName}
@@ -88,22 +88,58 @@ fate_kept trace entered entered' p fate carried carried' held less more same f =
   given = f.given;
 }
 
--- a packet that was inside, entered, and is lost
-fate_lost : (trace : List Entry) (entered p e : ℕ) (fate : Fate) (carried held carried' held' : Bool) → p < entered →
-    fate ≡ Inside → carried' ≡ false → held' ≡ false
-    → IsFate trace entered p fate carried held → IsFate trace entered p (Lost e) carried' held'
-fate_lost trace entered p e fate carried held carried' held' pl inside no_carried no_held f = record {
+-- the packet was neither dropped nor released
+abbrev IsOpen : List Entry → ℕ → Type 0
+IsOpen trace p = ((k : ℕ) → IsDropped trace k p → ⊥) × (IsGiven trace p → ⊥)
+
+inside_open : (trace : List Entry) (entered p : ℕ) (fate : Fate) (carried held : Bool) → fate ≡ Inside →
+    IsFate trace entered p fate carried held → IsOpen trace p
+inside_open trace entered p fate carried held inside f =
+    ((λ k is. let e1 = f.dropped k is in absurd (cc)), (λ is. let e1 = f.given is in absurd (cc)))
+
+-- it has entered, and is inside or lost
+fate_inside : (trace : List Entry) (entered p : ℕ) (fate : Fate) (carried held : Bool) → p < entered → fate ≡ Inside →
+    (carried ≡ true) ⊎ (held ≡ true) → IsOpen trace p → IsFate trace entered p fate carried held
+fate_inside trace entered p fate carried held pl inside there none = record {
+  inside = λ l is. there;
+  carried_inside = λ x. inside;
+  held_inside = λ x. inside;
+  waiting = λ le. absurd (omega arith);
+  filtered = λ k is. absurd (cc);
+  dropped = λ k is. absurd (none.0 k is);
+  released = λ is. absurd (cc);
+  given = λ is. absurd (none.1 is);
+}
+
+fate_gone : (trace : List Entry) (entered p e : ℕ) (carried held : Bool) → p < entered → carried ≡ false →
+    held ≡ false → IsOpen trace p → IsFate trace entered p (Lost e) carried held
+fate_gone trace entered p e carried held pl no_carried no_held none = record {
   inside = λ _ is. absurd (cc);
   carried_inside = λ x. absurd (true≢false (sym x ∙ no_carried));
   held_inside = λ x. absurd (true≢false (sym x ∙ no_held));
   waiting = λ le. absurd (omega arith);
   filtered = λ k is. absurd (cc);
-  dropped = λ k is. let e1 = f.dropped k is in absurd (cc);
+  dropped = λ k is. absurd (none.0 k is);
   released = λ is. absurd (cc);
-  given = λ is. let e1 = f.given is in absurd (cc);
+  given = λ is. absurd (none.1 is);
 }
 
 module _ (c : Setting) (good : IsGood c) (s : ChainState) (h : Inv c s) (t : IsTimed c s) (f : AreFated c s) where
+  -- a packet that a message carries isn't withheld
+  not_held : (p : ℕ) (m : Message) (bytes : List ℕ) → s.message p ≡ Some m → m.packet ≡ Some bytes →
+      is_some (s.withheld p) ≡ false
+  not_held p m bytes there packet = elim (cases_Bool (is_some (s.withheld p))) [
+    | inr isnt ↦ isnt
+    | inl held ↦
+        let v = withheld_there (s.withheld p) held in
+        absurd (none-some bytes (sym (h.single p v.0 m v.1 there) ∙ packet))
+  ]
+
+  -- a packet that is inside
+  open_here : (p : ℕ) → s.fate p ≡ Inside → IsOpen s.trace p
+  open_here p inside =
+      inside_open s.trace s.entered p (s.fate p) (has_packet (s.message p)) (is_some (s.withheld p)) inside (f.fates p)
+
   -- a packet that has not entered is nowhere
   nowhere : (p : ℕ) → s.entered ≤ p → (m : Message) → s.message p ≡ Some m → m.packet ≡ None
   nowhere p le m there = elim (m.packet) as (λ v. m.packet ≡ v → v ≡ None) [
@@ -246,26 +282,11 @@ module _ (c : Setting) (good : IsGood c) (s : ChainState) (h : Inv c s) (t : IsT
           else Lost s.events) (has_packet (if b then Some (fresh_message s.events (Some (packet_at c p)))
           else s.message p)) (is_some (s.withheld q))) [
             | true ↦ subst (λ x. IsFate s.trace (s.entered + 1) q (s.fate x) true (is_some (s.withheld q))) same
-                (record {
-                  inside = λ l is. inl refl;
-                  carried_inside = λ x. was;
-                  held_inside = λ x. was;
-                  waiting = λ le. absurd (omega arith);
-                  filtered = old.filtered;
-                  dropped = old.dropped;
-                  released = old.released;
-                  given = old.given;
-                })
-            | false ↦ record {
-              inside = λ l is. absurd (cc);
-              carried_inside = λ x. absurd (true≢false (sym x ∙ not_carried p far));
-              held_inside = λ x. absurd (true≢false (sym x ∙ held));
-              waiting = λ le. absurd (omega arith);
-              filtered = λ k is. absurd (cc);
-              dropped = λ k is. let e1 = old.dropped k is in absurd (cc);
-              released = λ is. absurd (cc);
-              given = λ is. let e1 = old.given is in absurd (cc);
-            }
+                (fate_inside s.trace (s.entered + 1) q (s.fate q) true (is_some (s.withheld q)) (omega arith) was
+                (inl refl) (open_here q was))
+            | false ↦
+                fate_gone s.trace (s.entered + 1) q s.events (has_packet (s.message p)) (is_some (s.withheld q))
+                (omega arith) (not_carried p far) held (open_here q was)
           ]
 
   release_fated : (p : ℕ) → MayHappen c s (Release p) → AreFated c (next c s (Release p))
@@ -358,14 +379,6 @@ module _ (c : Setting) (good : IsGood c) (s : ChainState) (h : Inv c s) (t : IsT
         buffered = f.buffered;
       }
     where
-      not_held : (p : ℕ) (m : Message) (bytes : List ℕ) → s.message p ≡ Some m → m.packet ≡ Some bytes →
-          is_some (s.withheld p) ≡ false
-      not_held p m bytes there packet = elim (cases_Bool (is_some (s.withheld p))) [
-        | inr isnt ↦ isnt
-        | inl held ↦ let v = withheld_there (s.withheld p) held in
-            absurd (none-some bytes (sym (h.single p v.0 m v.1 there) ∙ packet))
-      ]
-
       visited : (q k p : ℕ) (o : Outcome) → q ≡ p → p < s.entered → s.fate p ≡ Inside → is_some (s.withheld q) ≡ false →
           has_packet (visited_message c k p o (s.message p)) ≡ is_some o.packet
           → IsFate (Visited k p o ∷ s.trace) s.entered q (fate_by k (s.fate p) o.packet)
@@ -393,24 +406,14 @@ module _ (c : Setting) (good : IsGood c) (s : ChainState) (h : Inv c s) (t : IsT
                     absurd (cc)
               ];
             }
-            | Some bytes ↦ λ e packet. record {
-              inside = λ l is. inl packet;
-              carried_inside = λ x. was;
-              held_inside = λ x. was;
-              waiting = λ le. absurd (omega arith);
-              filtered = λ j is. absurd (cc);
-              dropped = λ j is. elim is [
-                | inl here ↦ absurd (none-some bytes (sym here.2 ∙ e))
-                | inr more ↦
-                    let e1 = old.dropped j more in absurd (cc)
-              ];
-              released = λ is. absurd (cc);
-              given = λ is. elim is [
-                | inl none_here ↦ absurd none_here
-                | inr more ↦ let e1 = old.given more in
-                    absurd (cc)
-              ];
-            }
+            | Some bytes ↦ λ e packet. fate_inside (Visited k p o ∷ s.trace) s.entered q (s.fate p) carried'
+                (is_some (s.withheld q)) (omega arith) was (inl packet) (
+                  (λ j is. elim is [
+                    | inl here ↦ none-some bytes (sym here.2 ∙ e)
+                    | inr more ↦ (open_here q inside).0 j more
+                  ]),
+                  (λ is. elim is [ inl none_here ↦ none_here | inr more ↦ (open_here q inside).1 more ]),
+                )
           ] refl packet
 
   -- ---- pass and lose
@@ -549,19 +552,16 @@ module _ (c : Setting) (good : IsGood c) (s : ChainState) (h : Inv c s) (t : IsT
           still_in : (bytes : List ℕ) → m.packet ≡ Some bytes → (carried' held' : Bool) →
               (carried' ≡ true) ⊎ (held' ≡ true) → IsFate s.trace s.entered p (s.fate p) carried' held'
           still_in bytes packet carried' held' one_is =
-              let old = f.fates p in
-              let was : s.fate p ≡ Inside = old.carried_inside (carries (s.message p) m bytes there packet) in
-              let entered : p < s.entered = h.entered p m bytes there packet in
-              record {
-                inside = λ l is. one_is;
-                carried_inside = λ x. was;
-                held_inside = λ x. was;
-                waiting = λ le. absurd (omega arith);
-                filtered = old.filtered;
-                dropped = old.dropped;
-                released = old.released;
-                given = old.given;
-              }
+              let was : s.fate p ≡ Inside = (f.fates p).carried_inside (carries (s.message p) m bytes there packet) in
+              fate_inside s.trace s.entered p (s.fate p) carried' held' (h.entered p m bytes there packet) was one_is
+              (open_here p was)
+
+          lost_now : (bytes : List ℕ) → m.packet ≡ Some bytes →
+              IsFate s.trace s.entered p (Lost s.events) false (is_some (s.withheld p))
+          lost_now bytes packet =
+              fate_gone s.trace s.entered p s.events false (is_some (s.withheld p)) (h.entered p m bytes there packet)
+              refl (ap is_some no_held)
+              (open_here p ((f.fates p).carried_inside (carries (s.message p) m bytes there packet)))
 
           with_bytes : (bytes : List ℕ) → m.packet ≡ Some bytes → (last away sent : Bool) →
               (k + 1 == servers c) ≡ last → is_sent c k ≡ sent
@@ -571,18 +571,8 @@ module _ (c : Setting) (good : IsGood c) (s : ChainState) (h : Inv c s) (t : IsT
               else s.withheld p))
           with_bytes bytes packet true true sent last_is sent_is = still_in bytes packet _ true (inr refl)
           with_bytes bytes packet true false sent last_is sent_is = still_in bytes packet _ true (inr refl)
-          with_bytes bytes packet false true true last_is sent_is =
-              let old = f.fates p in
-              let was : s.fate p ≡ Inside = old.carried_inside (carries (s.message p) m bytes there packet) in
-              fate_lost s.trace s.entered p s.events (s.fate p) (has_packet (s.message p))
-              (is_some (s.withheld p)) false (is_some (s.withheld p)) (h.entered p m bytes there packet) was refl
-              (ap is_some no_held) old
-          with_bytes bytes packet false true false last_is sent_is =
-              let old = f.fates p in
-              let was : s.fate p ≡ Inside = old.carried_inside (carries (s.message p) m bytes there packet) in
-              fate_lost s.trace s.entered p s.events (s.fate p) (has_packet (s.message p))
-              (is_some (s.withheld p)) false (is_some (s.withheld p)) (h.entered p m bytes there packet) was refl
-              (ap is_some no_held) old
+          with_bytes bytes packet false true true last_is sent_is = lost_now bytes packet
+          with_bytes bytes packet false true false last_is sent_is = lost_now bytes packet
           with_bytes bytes packet false false true last_is sent_is =
               still_in bytes packet _ (is_some (s.withheld p))
               (inl (ap (λ b. is_some (if b then None else m.packet)) last_is ∙ ap is_some packet))
@@ -637,16 +627,10 @@ module _ (c : Setting) (good : IsGood c) (s : ChainState) (h : Inv c s) (t : IsT
           else s.withheld q))
       crashed q true last is =
           let parts = test_true (λ m. is_at c k m.place) (s.message q) is in
-          let old = f.fates q in
           let there = packet_there (s.message q) parts.0 in
-          let no_held : is_some (s.withheld q) ≡ false = elim (cases_Bool (is_some (s.withheld q))) [
-            | inr isnt ↦ isnt
-            | inl held ↦ let v = withheld_there (s.withheld q) held in
-                absurd (none-some there.1 (sym (h.single q v.0 there.0 v.1 there.2) ∙ there.3))
-          ] in
-          fate_lost s.trace s.entered q s.events (s.fate q) (has_packet (s.message q)) (is_some (s.withheld q)) _ _
-          (h.entered q there.0 there.1 there.2 there.3) (old.carried_inside parts.0) parts.1
-          (holds_none last (s.withheld q) no_held) old
+          let no_held = not_held q there.0 there.1 there.2 there.3 in
+          fate_gone s.trace s.entered q s.events _ _ (h.entered q there.0 there.1 there.2 there.3) parts.1
+          (holds_none last (s.withheld q) no_held) (open_here q ((f.fates q).carried_inside parts.0))
       crashed q false false is =
           fate_kept s.trace s.entered s.entered q (s.fate q) (has_packet (s.message q)) _ (is_some (s.withheld q))
           (λ l. l) (λ l. l) (test_false (λ m. is_at c k m.place) (s.message q) is) (f.fates q)
@@ -660,16 +644,14 @@ module _ (c : Setting) (good : IsGood c) (s : ChainState) (h : Inv c s) (t : IsT
                 (is_some (s.withheld q)) (λ l. l) (λ l. l) (test_false (λ m. is_at c k m.place) (s.message q) is)
                 (f.fates q))
             | Some w ↦ λ e.
-                let old = f.fates q in
                 let none_carried : has_packet (s.message q) ≡ false = elim (cases_Bool (has_packet (s.message q))) [
                   | inr isnt ↦ isnt
                   | inl has ↦ let there = packet_there (s.message q) has in
                       absurd (none-some there.1 (sym (h.single q w there.0 e there.2) ∙ there.3))
                 ] in
-                fate_lost s.trace s.entered q s.events (s.fate q) (has_packet (s.message q))
-                (is_some (s.withheld q)) _ false (f.buffered q w e)
-                (old.held_inside (some_withheld (s.withheld q) w e))
-                (test_false (λ m. is_at c k m.place) (s.message q) is ∙ none_carried) refl old
+                fate_gone s.trace s.entered q s.events _ false (f.buffered q w e)
+                (test_false (λ m. is_at c k m.place) (s.message q) is ∙ none_carried) refl
+                (open_here q ((f.fates q).held_inside (some_withheld (s.withheld q) w e)))
           ] refl
 
   recover_fated : (k : ℕ) (undone : List VisitName) → AreFated c (next c s (Recover k undone))
@@ -704,20 +686,6 @@ module _ (c : Setting) (good : IsGood c) (s : ChainState) (h : Inv c s) (t : IsT
           IsDropped s.trace j q × (names undone j q ≡ false)
       dropped_stood q j is = visit_stood (names undone) (λ o. o.packet ≡ None) s.trace j q is
 
-      -- in what is left of the trace
-      lost_left : (q e : ℕ) (carried held : Bool) → IsFate s.trace s.entered q (Lost e) carried held →
-          IsFate (left_of (names undone) s.trace) s.entered q (Lost e) carried held
-      lost_left q e carried held old = record {
-        inside = old.inside;
-        carried_inside = old.carried_inside;
-        held_inside = old.held_inside;
-        waiting = old.waiting;
-        filtered = λ j is. absurd (cc);
-        dropped = λ j is. old.dropped j (dropped_stood q j is).0;
-        released = λ is. absurd (cc);
-        given = λ is. old.given (given_stood q is);
-      }
-
       -- a packet whose drop is undone
       undropped : (q : ℕ) → (fate : Fate) → s.fate q ≡ fate → is_undone_drop undone q fate ≡ true →
           loses_packet (is_dropped c s (following_live c s k)) (s.message q) ≡ false
@@ -730,20 +698,17 @@ module _ (c : Setting) (good : IsGood c) (s : ChainState) (h : Inv c s) (t : IsT
           let old = f.fates q in
           let not_inside : s.fate q ≡ Inside → ⊥ = λ e. cc in
           let same = test_false (is_dropped c s (following_live c s k)) (s.message q) kept in
-          record {
-            inside = λ l e. absurd (cc);
-            carried_inside = λ x. absurd (not_inside (old.carried_inside (sym same ∙ x)));
-            held_inside = λ x. absurd (not_inside (old.held_inside x));
-            waiting = λ le. absurd (not_inside (old.waiting le));
-            filtered = λ i e. absurd (cc);
-            dropped = λ i left.
+          fate_gone (left_of (names undone) s.trace) s.entered q s.events _ _
+          (elim (cases_lt q s.entered) [ inl less ↦ less | inr le ↦ absurd (not_inside (old.waiting (omega arith))) ])
+          (same ∙ false_from_ne_true _ (λ x. not_inside (old.carried_inside x)))
+          (false_from_ne_true _ (λ x. not_inside (old.held_inside x))) (
+            (λ i left.
                 let stood = dropped_stood q i left in
                 let e1 : s.fate q ≡ Filtered i = old.dropped i stood.0 in
                 let e2 : j ≡ i = cc in
-                absurd (true≢false (sym undoes ∙ (ap (λ x. names undone x q) e2 ∙ stood.1)));
-            released = λ e. absurd (cc);
-            given = λ left. let e1 = old.given (given_stood q left) in absurd (cc);
-          }
+                true≢false (sym undoes ∙ (ap (λ x. names undone x q) e2 ∙ stood.1))),
+            (λ left. let e1 = old.given (given_stood q left) in absurd (cc)),
+          )
 
       recovered : (q : ℕ) (loses undoes : Bool) → loses_packet (is_dropped c s (following_live c s k)) (s.message q)
           ≡ loses → is_undone_drop undone q (s.fate q) ≡ undoes
@@ -752,16 +717,12 @@ module _ (c : Setting) (good : IsGood c) (s : ChainState) (h : Inv c s) (t : IsT
           (is_some (s.withheld q))
       recovered q true undoes is drop =
           let parts = test_true (is_dropped c s (following_live c s k)) (s.message q) is in
-          let old = f.fates q in
           let there = packet_there (s.message q) parts.0 in
-          let no_held : is_some (s.withheld q) ≡ false = elim (cases_Bool (is_some (s.withheld q))) [
-            | inr isnt ↦ isnt
-            | inl held ↦ let v = withheld_there (s.withheld q) held in
-                absurd (none-some there.1 (sym (h.single q v.0 there.0 v.1 there.2) ∙ there.3))
-          ] in
-          lost_left q s.events _ _
-          (fate_lost s.trace s.entered q s.events (s.fate q) (has_packet (s.message q)) (is_some (s.withheld q)) _ _
-          (h.entered q there.0 there.1 there.2 there.3) (old.carried_inside parts.0) parts.1 no_held old)
+          let no_held = not_held q there.0 there.1 there.2 there.3 in
+          let none = open_here q ((f.fates q).carried_inside parts.0) in
+          fate_gone (left_of (names undone) s.trace) s.entered q s.events _ _
+          (h.entered q there.0 there.1 there.2 there.3) parts.1 no_held
+          ((λ j is. none.0 j (dropped_stood q j is).0), (λ is. none.1 (given_stood q is)))
       recovered q false true is drop = undropped q (s.fate q) refl drop is
       recovered q false false is drop =
           let old = f.fates q in
