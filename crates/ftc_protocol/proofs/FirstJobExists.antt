@@ -23,7 +23,7 @@ use Rattle.ftc_protocol.specs.Measure.{most_messages, work_left}
 use Rattle.ftc_protocol.specs.Jobs.{event_of, slot_of, place_of, IsLegalJob, IsEarlier, IsFirstJob, IsWithin}
 use Rattle.ftc_protocol.specs.Drive.{IsNoneDue, AreReleases, IsNextEvent, AreFinish, IsFinish, IsPassedOver, IsPlay}
 use Rattle.ftc_protocol.specs.Drive.{IsDrive}
-use Rattle.ftc_protocol.proofs.JobOrder.{below_both, ordered}
+use Rattle.ftc_protocol.proofs.JobOrder.{below_both, not_below_itself, ordered}
 use Rattle.ftc_protocol.proofs.BoundedSearch.{among, among_each}
 use Rattle.ftc_protocol.proofs.DecidedJobs.{numbered, visited_packet, is_legal, release_or_none}
 use Rattle.ftc_protocol.proofs.UniqueDrive.{does, any_slot, next_legal}
@@ -109,77 +109,54 @@ AreIllegal c s jobs = (other : Job) → AnyOf (λ x. x ≡ other) jobs → IsLeg
 module _ (c : Setting) (is : IsSetting c) (s : ChainState) (n : IsCounted c s) where
   open n use {reached}
 
+  -- the first of these is the first with one more before them, where that isn't earlier
+  least_still : (x : Job) (jobs : List Job) (l : (j : Job) × IsLeast c s jobs j) →
+      (IsLegalJob c s x → IsEarlier s x l.0 → ⊥) → (j : Job) × IsLeast c s (x ∷ jobs) j
+  least_still x jobs l later = (
+    l.0,
+    (
+      l.1.0,
+      λ other there legal before. elim there [
+        | inl e ↦ later (subst (IsLegalJob c s) (sym e) legal) (subst (λ v. IsEarlier s v l.0) (sym e) before)
+        | inr more ↦ l.1.1 other more legal before
+      ],
+    ),
+  )
+
+  least_now : (x : Job) (jobs : List Job) → IsLegalJob c s x →
+      ((other : Job) → AnyOf (λ y. y ≡ other) jobs → IsLegalJob c s other → IsEarlier s other x → ⊥) →
+      (j : Job) × IsLeast c s (x ∷ jobs) j
+  least_now x jobs can later = (
+    x,
+    (
+      can,
+      λ other there legal before. elim there [
+        | inl e ↦ not_below_itself (place_of s x) (subst (λ v. IsEarlier s v x) (sym e) before)
+        | inr more ↦ later other more legal before
+      ],
+    ),
+  )
+
   least_of : (jobs : List Job) → ((j : Job) × IsLeast c s jobs j) ⊎ AreIllegal c s jobs
   least_of [] = inr (λ other there. absurd there)
   least_of (x ∷ jobs) = elim (is_legal c is s n x) [
     | inr isnt ↦ elim (least_of jobs) [
+      | inl l ↦ inl (least_still x jobs l (λ legal before. isnt legal))
       | inr none ↦ inr (λ other there legal. elim there [
-        | inl e ↦
-            isnt (subst (IsLegalJob c s) (sym e) legal)
+        | inl e ↦ isnt (subst (IsLegalJob c s) (sym e) legal)
         | inr more ↦ none other more legal
       ])
-      | inl l ↦ inl (
-        l.0,
-        (
-          l.1.0,
-          λ other there legal before. elim there [
-            | inl e ↦ isnt (subst (IsLegalJob c s) (sym e) legal)
-            | inr more ↦
-                l.1.1 other more legal before
-          ],
-        ),
-      )
     ]
     | inl can ↦ elim (least_of jobs) [
-      | inr none ↦ inl (
-        x,
-        (
-          can,
-          λ other there legal before. elim there [
-            | inl e ↦ Rattle.ftc_protocol.proofs.JobOrder.not_below_itself (place_of s x)
-                (subst (λ v. IsEarlier s v x) (sym e) before)
-            | inr more ↦ none other more legal
-          ],
-        ),
-      )
+      | inr none ↦ inl (least_now x jobs can (λ other more legal before. none other more legal))
       | inl l ↦ elim (ordered s x l.0) [
-        | inl first ↦ inl (
-          x,
-          (
-            can,
-            λ other there legal before. elim there [
-              | inl e ↦ Rattle.ftc_protocol.proofs.JobOrder.not_below_itself (place_of s x)
-                  (subst (λ v. IsEarlier s v x) (sym e) before)
-              | inr more ↦ l.1.1 other more legal
-                  (below_both (place_of s other) (place_of s x) (place_of s l.0) before first)
-            ],
-          ),
-        )
-        | inr rest ↦ elim rest [
-          | inl same ↦ inl (
-            l.0,
-            (
-              l.1.0,
-              λ other there legal before. elim there [
-                | inl e ↦ Rattle.ftc_protocol.proofs.JobOrder.not_below_itself (place_of s l.0)
-                    (subst (λ v. IsEarlier s v l.0) (sym e ∙ same) before)
-                | inr more ↦ l.1.1 other more legal before
-              ],
-            ),
-          )
-          | inr later ↦ inl (
-            l.0,
-            (
-              l.1.0,
-              λ other there legal before. elim there [
-                | inl e ↦ Rattle.ftc_protocol.proofs.JobOrder.not_below_itself (place_of s l.0)
-                    (below_both (place_of s l.0) (place_of s x) (place_of s l.0) later
-                    (subst (λ v. IsEarlier s v l.0) (sym e) before))
-                | inr more ↦ l.1.1 other more legal before
-              ],
-            ),
-          )
-        ]
+        | inl first ↦ inl (least_now x jobs can (λ other more legal before.
+            l.1.1 other more legal (below_both (place_of s other) (place_of s x) (place_of s l.0) before first)))
+        | inr rest ↦ inl (least_still x jobs l (λ legal before. elim rest [
+          | inl same ↦ not_below_itself (place_of s l.0) (subst (λ v. IsEarlier s v l.0) same before)
+          | inr later ↦ not_below_itself (place_of s l.0)
+              (below_both (place_of s l.0) (place_of s x) (place_of s l.0) later before)
+        ]))
       ]
     ]
   ]
