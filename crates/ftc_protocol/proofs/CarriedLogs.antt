@@ -119,17 +119,8 @@ module _ (c : Setting) (small : c.failures < (servers c)) where
       In logs j q × (j < n) × (apart n j k < f) × IsTouching trace j q × (apart n j m ≡ apart n j k + 1) =
       λ j q is. let a = and_parts _ _ is in let w = h.member j q a.0 in
       let no_tail : apart n j k ≢ f = eqb-false _ _ (not-true _ a.1) in
-      let less : apart n j k < f = omega (arith, w.1) in (
-        a.0,
-        w.0,
-        less,
-        w.2,
-        elim (apart_after n k below) [
-          | inr just ↦ absurd (omega arith)
-          | inl step ↦ let jk = apart_cases n j k w.0 below in let jm = apart_cases n j m w.0 step.1 in let s =
-              step.0 in omega arith
-        ],
-      ) in
+      let less : apart n j k < f = omega (arith, w.1) in
+      (a.0, w.0, less, w.2, passes_far trace up has logs k below h j q is) in
       record {
         member = λ j q is. let w = parts j q is in (w.1, omega (arith, w.2, w.4), w.3);
         wake = λ i j q is le t y lt live member less.

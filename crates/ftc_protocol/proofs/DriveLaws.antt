@@ -22,9 +22,9 @@ use Rattle.ftc_protocol.proofs.UniqueDrive.{play_on, play_is_one, does, any_slot
 use Rattle.ftc_protocol.proofs.UniqueDrive.{finish_ends, turn, finish_is_one}
 use Rattle.ftc_protocol.proofs.DecidedJobs.{release_or_none}
 use Rattle.ftc_protocol.proofs.ArrivalTimes.{opens_dated, dated_on_all}
-use Rattle.ftc_protocol.proofs.FirstJobExists.{play_of, legal_on, counted_at, first_or_finished, none_finished}
+use Rattle.ftc_protocol.proofs.FirstJobExists.{play_of, counted_at, first_or_finished, none_finished}
 use Rattle.ftc_protocol.proofs.FirstJobExists.{releases_legal, played_legal}
-use Rattle.ftc_protocol.proofs.RunLists.{state_on}
+use Rattle.ftc_protocol.proofs.RunLists.{state_on, joined_legal}
 use Rattle.ftc_protocol.proofs.FirstJobInTurn.{turn_is_first, first_is_turn}
 use Rattle.ftc_protocol.proofs.PlainRun.{plain_drives}
 
@@ -88,12 +88,12 @@ releases_one c journal one other =
 pub releases_run : (c : Setting) (journal es : List Event) → IsRun c journal →
     AreReleases c (state_after c (opening c) journal) es → IsRun c (journal ++ es)
 releases_run c journal es run a =
-    legal_on c journal es (opening c) run (releases_legal c es (state_after c (opening c) journal) a)
+    joined_legal c journal es (opening c) run (releases_legal c es (state_after c (opening c) journal) a)
 
 pub finish_run : (c : Setting) (journal whole : List Event) → IsRun c journal → IsFinish c journal whole → IsRun c whole
 finish_run c journal whole run f =
     subst (λ x. IsRun c x) (sym f.parts)
-    (legal_on c journal f.rest (opening c) run (finish_legal c (state_after c (opening c) journal) f.rest f.finish))
+    (joined_legal c journal f.rest (opening c) run (finish_legal c (state_after c (opening c) journal) f.rest f.finish))
 
 pub finish_finished : (c : Setting) (journal whole : List Event) → IsFinish c journal whole →
     IsFinished c (state_after c (opening c) whole)

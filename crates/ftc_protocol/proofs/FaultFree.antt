@@ -1,8 +1,8 @@
 -- Where no server crashes and no link loses anything, all servers stay up, there is never a gap, and nothing is lost.
-use Rattle.std.proofs.Common.{◌≡◌, ℕ, ◌<◌, ◌&&◌, ◌||◌, ◌⊎◌, Bool, true, false, not, List, [], ◌∷◌, inl, inr, refl, sym}
+use Rattle.std.proofs.Common.{◌≡◌, ℕ, ◌<◌, ◌&&◌, ◌||◌, ◌⊎◌, true, false, not, List, [], ◌∷◌, inl, inr, refl, sym}
 use Rattle.std.proofs.Common.{ap, subst, ◌∙◌, arith, lt-ltb}
 use Rattle.std.specs.List.{AllByRecursion}
-use Rattle.std.proofs.lemmas.Bool.{true≢false}
+use Rattle.std.proofs.lemmas.Bool.{true≢false, and_right, or_from}
 use Rattle.ftc_ring.specs.Ring.{next_of}
 use Rattle.ftc_journal.specs.declared.event.Event.{Event}
 use Rattle.ftc_journal.specs.declared.event.Event.TheVariants.{Apply, Carry, Crash, Enter, Lose, Pass, Propagate, Pull}
@@ -98,13 +98,10 @@ module _ (c : Setting) (good : IsGood c) (quiet : IsQuiet c) (s : ChainState) (r
     up = calm.up;
     kept = none_lost (Pass k p) legal;
     gap = λ l. with_at_cases (λ v. v ≡ false) s.gap k _ l
-        (λ same. both (s.gap k) (is_sent c k) (is_away c s k false) (calm.gap k) (stays k (here k p legal.0 legal.1)))
+        (λ same. or_from (s.gap k) (is_sent c k && is_away c s k false) (calm.gap k)
+        (and_right (is_sent c k) (is_away c s k false) (stays k (here k p legal.0 legal.1))))
         (λ other. calm.gap l);
   }
-    where
-      both : (g b a : Bool) → g ≡ false → a ≡ false → (g || (b && a)) ≡ false
-      both g true a no_gap stays = subst (λ x. (x || a) ≡ false) (sym no_gap) stays
-      both g false a no_gap stays = subst (λ x. (x || false) ≡ false) (sym no_gap) refl
   keeps_calm (Lose k p) legal = absurd (true≢false (sym legal.3 ∙ quiet.loses k p))
   keeps_calm (Carry p) legal = record { lines = calm.lines; up = calm.up; gap = calm.gap; kept = calm.kept }
   keeps_calm (Crash k) legal = absurd (no_line _ legal)

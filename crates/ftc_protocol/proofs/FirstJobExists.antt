@@ -31,7 +31,7 @@ use Rattle.ftc_protocol.proofs.SmallEvents.{fit_next}
 use Rattle.ftc_protocol.proofs.ListStores.{stands_below}
 use Rattle.ftc_protocol.proofs.LiveHolders.{IsUp}
 use Rattle.ftc_protocol.proofs.FewPropagates.{IsCounted, most, keeps_counts, opens_counted, counted_on}
-use Rattle.ftc_protocol.proofs.RunLists.{state_on}
+use Rattle.ftc_protocol.proofs.RunLists.{joined_legal, state_on}
 use Rattle.ftc_protocol.proofs.MeasureNumber.{work_falls}
 
 -- ---- all jobs with numbers below a bound
@@ -263,11 +263,6 @@ module _ (c : Setting) (is : IsSetting c) (s : ChainState) (n : IsCounted c s) w
 
 -- ---- all of it ends
 
-pub legal_on : (c : Setting) (journal more : List Event) (s : ChainState) → AreLegal c s journal →
-    AreLegal c (state_after c s journal) more → AreLegal c s (journal ++ more)
-legal_on c [] more s legal rest = rest
-legal_on c (e ∷ journal) more s legal rest = (legal.0, legal_on c journal more (next c s e) legal.1 rest)
-
 pub releases_legal : (c : Setting) (es : List Event) (s : ChainState) → AreReleases c s es → AreLegal c s es
 releases_legal c [] s a = tt
 releases_legal c (e ∷ es) s a = (a.1, releases_legal c es (next c s e) a.2)
@@ -288,7 +283,7 @@ played_legal c (e ∷ schedule) s es a = elim a [
       let rest = played_legal c schedule (state_after c (next c s made) x.1) x.2 x.7 in
       let legal : AreLegal c s (made ∷ (x.1 ++ x.2)) = (
         any_slot c s FINISHING_SLOT (slot_of e) x.0 x.4,
-        legal_on c x.1 x.2 (next c s made) (releases_legal c x.1 (next c s made) x.5) rest,
+        joined_legal c x.1 x.2 (next c s made) (releases_legal c x.1 (next c s made) x.5) rest,
       ) in
       subst (AreLegal c s) (sym x.6) legal
 ]
@@ -299,7 +294,7 @@ module _ (c : Setting) (is : IsSetting c) where
 
   run_on : (journal : List Event) (e : Event) → IsRun c journal → IsLegal c (state_after c (opening c) journal) e →
       IsRun c (journal ++ e ∷ [])
-  run_on journal e run legal = legal_on c journal (e ∷ []) (opening c) run (legal, tt)
+  run_on journal e run legal = joined_legal c journal (e ∷ []) (opening c) run (legal, tt)
 
   after_on : (journal : List Event) (e : Event) →
       state_after c (opening c) (journal ++ e ∷ []) ≡ next c (state_after c (opening c) journal) e
@@ -376,7 +371,7 @@ module _ (c : Setting) (is : IsSetting c) where
         let rs = releases_of (journal ++ made ∷ []) run' in
         let at : state_after c (opening c) (journal ++ made ∷ []) ≡ next c s made = after_on journal made in
         let released : AreReleases c (next c s made) rs.0 = subst (λ t. AreReleases c t rs.0) at rs.1 in
-        let run'' = legal_on c (journal
+        let run'' = joined_legal c (journal
         ++ made ∷ []) rs.0 (opening c) run'
         (releases_legal c rs.0 (state_after c (opening c) (journal ++ made ∷ [])) rs.1) in
         let rest = play_of schedule ((journal ++ made ∷ []) ++ rs.0) run'' in

@@ -1,4 +1,7 @@
 -- The machine's trace is the trace of its journal.
+use Rattle.std.proofs.Common.{append_assoc, append-nil}
+use Rattle.std.proofs.lemmas.Grind.{flat_map-append}
+use Rattle.std.proofs.lemmas.List.Elements.{filter-append}
 use Rattle.std.proofs.Common.{◌≡◌, ℕ, ◌+◌, ◌<◌, ◌==◌, ◌||◌, if◌then◌else◌, Bool, true, false, not, cond, List, [], ◌∷◌}
 use Rattle.std.proofs.Common.{◌++◌, filter, refl, sym, ap, subst, ◌∙◌, arith, inl, inr, Option, Some, None}
 use Rattle.std.specs.List.{flat_map}
@@ -40,28 +43,6 @@ use Rattle.ftc_protocol.proofs.FewPropagates.{IsCounted, keeps_counts, opens_cou
 
 -- ---- lists of steps
 
-pub filter_joined : {A : Type 0} (test : A → Bool) (xs ys : List A) →
-    filter test (xs ++ ys) ≡ filter test xs ++ filter test ys
-filter_joined test [] ys = refl
-filter_joined test (x ∷ xs) ys =
-    elim (test x) as (λ b. cond b (x ∷ filter test (xs ++ ys)) (filter test (xs ++ ys))
-    ≡ cond b (x ∷ filter test xs) (filter test xs) ++ filter test ys) [
-      | true ↦ ap (λ l. x ∷ l) (filter_joined test xs ys)
-      | false ↦ filter_joined test xs ys
-    ]
-
-joined : {A : Type 0} (xs ys zs : List A) → (xs ++ ys) ++ zs ≡ xs ++ (ys ++ zs)
-joined [] ys zs = refl
-joined (x ∷ xs) ys zs = ap (λ l. x ∷ l) (joined xs ys zs)
-
-ends : {A : Type 0} (xs : List A) → xs ++ [] ≡ xs
-ends [] = refl
-ends (x ∷ xs) = ap (λ l. x ∷ l) (ends xs)
-
-mapped : {A B : Type 0} (f : A → List B) (xs ys : List A) → flat_map f (xs ++ ys) ≡ flat_map f xs ++ flat_map f ys
-mapped f [] ys = refl
-mapped f (x ∷ xs) ys = ap (λ l. f x ++ l) (mapped f xs ys) ∙ sym (joined (f x) (flat_map f xs) (flat_map f ys))
-
 -- the step stays where these visits are undone
 stays : List VisitName → Step → Bool
 stays undone (step.Visit server packet) = not (names undone server packet)
@@ -74,15 +55,15 @@ unfolding stays
 steps_left undone [] = refl
 steps_left undone (Given p bytes ∷ older) =
     ap (λ l. l ++ step.Release p ∷ []) (steps_left undone older) ∙ sym
-    (filter_joined (stays undone) (steps_in older) (step.Release p ∷ []))
+    (filter-append (stays undone) (steps_in older) (step.Release p ∷ []))
 steps_left undone (Visited k p o ∷ older) =
     elim (names undone k p) as
     (λ b. steps_in (cond (not b) (Visited k p o ∷ left_of (names undone) older) (left_of (names undone) older))
     ≡ filter (stays undone) (steps_in older) ++ cond (not b) (step.Visit k p ∷ []) []) [
-      | true ↦ steps_left undone older ∙ sym (ends (filter (stays undone) (steps_in older)))
+      | true ↦ steps_left undone older ∙ sym (append-nil (filter (stays undone) (steps_in older)))
       | false ↦ ap (λ l. l ++ step.Visit k p ∷ []) (steps_left undone older)
     ]
-    ∙ sym (filter_joined (stays undone) (steps_in older) (step.Visit k p ∷ []))
+    ∙ sym (filter-append (stays undone) (steps_in older) (step.Visit k p ∷ []))
 
 -- undoing more leaves the steps that stay
 more_undone : (some more : List VisitName) (event : Event) →
@@ -114,7 +95,7 @@ undone_more some more [] = refl
 undone_more some more (event ∷ events) =
     ap (λ l. l ++ flat_map (steps_of (some ++ more)) events) (more_undone some more event)
     ∙ (ap (λ l. filter (stays more) (steps_of some event) ++ l) (undone_more some more events)
-    ∙ sym (filter_joined (stays more) (steps_of some event) (flat_map (steps_of some) events)))
+    ∙ sym (filter-append (stays more) (steps_of some event) (flat_map (steps_of some) events)))
 
 -- ---- a packet that is not inside any more
 
@@ -232,11 +213,11 @@ module _ (c : Setting) (is : IsSetting c) (s : ChainState) (n : IsCounted c s) (
       × AreGone (next c s e) (flat_map undone_by (before ++ e ∷ []))
   plain e legal none_undone step_is =
       let undone : flat_map undone_by (before ++ e ∷ []) ≡ flat_map undone_by before =
-      mapped undone_by before (e
-      ∷ []) ∙ (ap (λ l. flat_map undone_by before ++ (l ++ [])) none_undone ∙ ends (flat_map undone_by before)) in (
+      flat_map-append undone_by before (e
+      ∷ []) ∙ (ap (λ l. flat_map undone_by before ++ (l ++ [])) none_undone ∙ append-nil (flat_map undone_by before)) in (
         step_is ∙ (ap (λ l. l ++ steps_of (flat_map undone_by before) e) same
-            ∙ (sym (mapped (steps_of (flat_map undone_by before)) before (e ∷ []) ∙ ap (λ l. trace_of before
-            ++ l) (ends (steps_of (flat_map undone_by before) e)))
+            ∙ (sym (flat_map-append (steps_of (flat_map undone_by before)) before (e ∷ []) ∙ ap (λ l. trace_of before
+            ++ l) (append-nil (steps_of (flat_map undone_by before) e)))
             ∙ ap (λ u. flat_map (steps_of u) (before ++ e ∷ [])) (sym undone))),
         subst (AreGone (next c s e)) (sym undone) (still_gone e legal.0),
       )
@@ -259,11 +240,11 @@ module _ (c : Setting) (is : IsSetting c) (s : ChainState) (n : IsCounted c s) (
   recovered k undone legal =
       let some = flat_map undone_by before in
       let all : flat_map undone_by (before ++ Recover k undone ∷ []) ≡ some ++ undone =
-      mapped undone_by before (Recover k undone ∷ []) ∙ ap (λ l. some ++ l) (ends undone) in
+      flat_map-append undone_by before (Recover k undone ∷ []) ∙ ap (λ l. some ++ l) (append-nil undone) in
       let counted = keeps_counts c is s n (Recover k undone) legal in (
         steps_left undone s.trace ∙ (ap (filter (stays undone)) same ∙ (sym (undone_more some undone before)
-            ∙ (sym (ends (flat_map (steps_of (some ++ undone)) before)) ∙
-            (sym (mapped (steps_of (some ++ undone)) before (Recover k undone ∷ []))
+            ∙ (sym (append-nil (flat_map (steps_of (some ++ undone)) before)) ∙
+            (sym (flat_map-append (steps_of (some ++ undone)) before (Recover k undone ∷ []))
             ∙ ap (λ u. flat_map (steps_of u) (before ++ Recover k undone ∷ [])) (sym all))))),
         subst (AreGone (next c s (Recover k undone))) (sym all)
             (λ j p i. elim (or_cases (names some j p) (names undone j p) (sym (any_name j p some undone) ∙ i)) [
@@ -284,29 +265,29 @@ module _ (c : Setting) (is : IsSetting c) (s : ChainState) (n : IsCounted c s) (
 
   pub traces : (e : Event) → IsLegal c s e → (steps_in (next c s e).trace ≡ trace_of (before ++ e ∷ []))
       × AreGone (next c s e) (flat_map undone_by (before ++ e ∷ []))
-  traces (Enter p) legal = plain (Enter p) legal refl (sym (ends (steps_in s.trace)))
-  traces (Take k p) legal = plain (Take k p) legal refl (sym (ends (steps_in s.trace)))
-  traces (Apply k p j q) legal = plain (Apply k p j q) legal refl (sym (ends (steps_in s.trace)))
+  traces (Enter p) legal = plain (Enter p) legal refl (sym (append-nil (steps_in s.trace)))
+  traces (Take k p) legal = plain (Take k p) legal refl (sym (append-nil (steps_in s.trace)))
+  traces (Apply k p j q) legal = plain (Apply k p j q) legal refl (sym (append-nil (steps_in s.trace)))
   traces (Visit k p w) legal =
       plain (Visit k p w) legal refl (ap (λ l. steps_in s.trace ++ l) (sym (visited_step k p w legal)))
-  traces (Pass k p) legal = plain (Pass k p) legal refl (sym (ends (steps_in s.trace)))
-  traces (Lose k p) legal = plain (Lose k p) legal refl (sym (ends (steps_in s.trace)))
-  traces (Carry p) legal = plain (Carry p) legal refl (sym (ends (steps_in s.trace)))
-  traces (Crash k) legal = plain (Crash k) legal refl (sym (ends (steps_in s.trace)))
+  traces (Pass k p) legal = plain (Pass k p) legal refl (sym (append-nil (steps_in s.trace)))
+  traces (Lose k p) legal = plain (Lose k p) legal refl (sym (append-nil (steps_in s.trace)))
+  traces (Carry p) legal = plain (Carry p) legal refl (sym (append-nil (steps_in s.trace)))
+  traces (Crash k) legal = plain (Crash k) legal refl (sym (append-nil (steps_in s.trace)))
   traces (Recover k undone) legal = recovered k undone legal
-  traces (Pull k) legal = plain (Pull k) legal refl (sym (ends (steps_in s.trace)))
-  traces (Propagate p) legal = plain (Propagate p) legal refl (sym (ends (steps_in s.trace)))
+  traces (Pull k) legal = plain (Pull k) legal refl (sym (append-nil (steps_in s.trace)))
+  traces (Propagate p) legal = plain (Propagate p) legal refl (sym (append-nil (steps_in s.trace)))
   traces (Release p) legal = plain (Release p) legal refl refl
 
 traces_on : (c : Setting) → IsSetting c → (after before : List Event) (s : ChainState) → IsCounted c s →
     steps_in s.trace ≡ trace_of before → AreGone s (flat_map undone_by before) → AreLegal c s after
     → steps_in (state_after c s after).trace ≡ trace_of (before ++ after)
-traces_on c is [] before s n same gone legal = same ∙ ap trace_of (sym (ends before))
+traces_on c is [] before s n same gone legal = same ∙ ap trace_of (sym (append-nil before))
 traces_on c is (e ∷ after) before s n same gone legal =
     let now = traces c is s n before same gone e legal.0 in
     traces_on c is after (before
     ++ e ∷ []) (next c s e) (keeps_counts c is s n e legal.0) now.0 now.1 legal.1 ∙ ap trace_of
-    (joined before (e ∷ []) after)
+    (append_assoc before (e ∷ []) after)
 
 pub trace_is : (c : Setting) → IsSetting c → (journal : List Event) → IsRun c journal →
     steps_in (state_after c (opening c) journal).trace ≡ trace_of journal

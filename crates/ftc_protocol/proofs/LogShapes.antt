@@ -133,6 +133,10 @@ module _ (c : Setting) (good : IsGood c) (s : ChainState) (h : Inv c s) (t : IsT
           (λ j q is. sent_shape k p m leaves kl j q is)
       by_sent false n e = absurd (none-some n e)
 
+  below : (k p : ℕ) (m : Message) → MayLeave c s k p m → k < servers c
+  below k p m leaves = h.world.inside k
+      (subst (Rattle.ftc_protocol.proofs.LiveHolders.IsUp (servers c) s.up) leaves.held (h.awake p m leaves.there))
+
   pub keeps_shapes : (e : Event) → MayHappen c s e → AreShaped c (next c s e)
   keeps_shapes (Enter p) legal =
       record {
@@ -180,15 +184,7 @@ module _ (c : Setting) (good : IsGood c) (s : ChainState) (h : Inv c s) (t : IsT
         | inr new ↦ let own = in_one k p _ j q new in inl own.1
       ]
   keeps_shapes (Pass k p) legal = left_shape k p false legal.0 legal.1 (below k p legal.0 legal.1)
-    where
-      below : (k p : ℕ) (m : Message) → MayLeave c s k p m → k < servers c
-      below k p m leaves = h.world.inside k
-          (subst (Rattle.ftc_protocol.proofs.LiveHolders.IsUp (servers c) s.up) leaves.held (h.awake p m leaves.there))
   keeps_shapes (Lose k p) legal = left_shape k p true legal.0 legal.1 (below k p legal.0 legal.1)
-    where
-      below : (k p : ℕ) (m : Message) → MayLeave c s k p m → k < servers c
-      below k p m leaves = h.world.inside k
-          (subst (Rattle.ftc_protocol.proofs.LiveHolders.IsUp (servers c) s.up) leaves.held (h.awake p m leaves.there))
   keeps_shapes (Carry p) legal = record {
     visited = a.visited;
     messages = with_message p None (λ m e. absurd (none-some m e));

@@ -1,6 +1,7 @@
 -- The lone message passes a server.
 use Rattle.std.proofs.Common.{◌≡◌, ◌≢◌, ◌⊎◌, ℕ, suc, ◌+◌, ◌<◌, ◌==◌, ◌&&◌, nat_lt, if◌then◌else◌, not, Bool, true}
 use Rattle.std.proofs.Common.{false, inl, refl, sym, ap, ◌∙◌, arith, None}
+use Rattle.std.proofs.lemmas.Bool.{and_right}
 use Rattle.std.proofs.lemmas.Bool.{and_parts, and_from, or_left, ne_eqb}
 use Rattle.ftc_journal.specs.declared.event.Event.TheVariants.{Pass}
 use Rattle.ftc_ring.specs.Ring.{next_of}
@@ -42,12 +43,8 @@ module _ (c : Setting) (good : IsGood c) (quiet : IsQuiet c) (alone : c.failures
     reached = keeps_reached c good s reached (Pass k p) may_pass;
     calm = keeps_calm c good quiet s reached calm (Pass k p) may_pass;
     entered = at.plain.entered;
-    forwarder = λ group packet. emptied (not (k == 0)) (s.forwarder group packet) (at.plain.forwarder group packet);
+    forwarder = λ group packet. and_right (not (k == 0)) (s.forwarder group packet) (at.plain.forwarder group packet);
   }
-    where
-      emptied : (b f : Bool) → f ≡ false → (b && f) ≡ false
-      emptied true f is = is
-      emptied false f is = refl
 
   -- where a next server is, the message is on its way there
   module _ (more : k + 1 ≢ servers c) where

@@ -3,6 +3,7 @@ use Rattle.std.proofs.Common.{◌≡◌, ◌≢◌, ℕ, zero, suc, ◌+◌, ◌
 use Rattle.std.proofs.Common.{true, false, not, List, [], ◌∷◌, ◌++◌, refl, sym, ap, subst, ◌∙◌, arith, inl, inr}
 use Rattle.std.proofs.Common.{length, eqb-true, eq-eqb, Option, Some, None, is_some, le-leb}
 use Rattle.std.specs.List.{list_any}
+use Rattle.std.proofs.lemmas.Bool.{and_right}
 use Rattle.std.proofs.lemmas.Bool.{true≢false, cases_eq, cases_lt, cases_Bool, eqb-false, and_from, and_parts, or_left}
 use Rattle.std.proofs.lemmas.Bool.{or_right, or_cases, not-true, false_from_ne_true}
 use Rattle.std.proofs.lemmas.Option.{none-some}
@@ -29,6 +30,7 @@ use Rattle.ftc_protocol.specs.Measure.{IsBelow}
 use Rattle.ftc_protocol.proofs.Premises.{IsGood, ticked}
 use Rattle.ftc_protocol.proofs.AcceptedSettings.{is_good}
 use Rattle.ftc_protocol.proofs.InTransit.{same_message}
+use Rattle.ftc_protocol.proofs.DecidedJobs.{numbered}
 use Rattle.ftc_protocol.proofs.FewPropagates.{IsCounted, keeps_counts, opens_counted, counted_on, most}
 use Rattle.ftc_protocol.proofs.RunLists.{first_legal, rest_legal, state_on}
 
@@ -152,26 +154,15 @@ module _ (c : Setting) where
             (ap not lacked),
         ap (λ (v : Visits). s.up k && is_member c group k && is_changing c.partitions o
             && not (v group packet)) (same_message s.lists k list)
-            ∙ (ap (λ b. s.up k && is_member c group k && is_changing c.partitions o && not b) got ∙ none (s.up k
-            && is_member c group k && is_changing c.partitions o)),
+            ∙ (ap (λ b. s.up k && is_member c group k && is_changing c.partitions o && not b) got ∙ and_right (s.up k
+            && is_member c group k && is_changing c.partitions o) false refl),
       )
-    where
-      none : (b : Bool) → (b && false) ≡ false
-      none true = refl
-      none false = refl
 
 module _ (c : Setting) (is : IsSetting c) (s : ChainState) (n : IsCounted c s) where
   open n use {reached}
 
   good : IsGood c
   good = is_good c is
-
-  -- the numbers of messages are bounded
-  numbered : (p : ℕ) (m : Message) → s.message p ≡ Some m → p < most_messages c
-  numbered p m there =
-      let bound = most c is s n in
-      let entered = reached.live.timed.bounded in
-      elim (reached.live.numbered p m there) [ inl less ↦ omega arith | inr more ↦ let l1 = more.1 in omega arith ]
 
   way_at : (p : ℕ) (m : Message) (w : Where) → s.message p ≡ Some m → m.place ≡ w →
       way_of (servers c) (s.message p) ≡ way_from (servers c) w
@@ -248,7 +239,7 @@ module _ (c : Setting) (is : IsSetting c) (s : ChainState) (n : IsCounted c s) w
             ap (λ x. count c + length c.lines + 1 - x) propagates,
             inl (subst (λ (f : ℕ → Option Message). sum_below (most_messages c) (λ origin. way c (f origin))
                 < sum_below (most_messages c) (λ origin. way c (s.message origin))) (sym messages)
-                (way_falls c s.message p o (numbered p m there) falls)),
+                (way_falls c s.message p o (numbered c is s n p m there) falls)),
           ),
         ),
       )

@@ -1,4 +1,5 @@
 -- The seven numbers as one.
+use Rattle.std.proofs.Common.{append_assoc, append-nil}
 use Rattle.std.proofs.Common.{◌≡◌, ◌≢◌, ℕ, zero, suc, ◌+◌, ◌-◌, ◌*◌, ◌<◌, ◌≤◌, ◌==◌, ◌&&◌, Bool, true, false, not, List}
 use Rattle.std.proofs.Common.{[], ◌∷◌, ◌++◌, length, refl, sym, ap, subst, ◌∙◌, arith, inl, inr, Option, Some, None}
 use Rattle.std.proofs.Common.{is_some, ◌⊎◌, eqb-true, if◌then◌else◌}
@@ -233,23 +234,15 @@ work_falls c is before e run =
     (at_most c is (before ++ e ∷ []) run) (at_most c is before (first_legal c before (e ∷ []) (opening c) run))
     (falls_on c is before e run)
 
-joined : (xs ys zs : List Event) → (xs ++ ys) ++ zs ≡ xs ++ (ys ++ zs)
-joined [] ys zs = refl
-joined (x ∷ xs) ys zs = ap (λ (l : List Event). x ∷ l) (joined xs ys zs)
-
-ends : (xs : List Event) → xs ++ [] ≡ xs
-ends [] = refl
-ends (x ∷ xs) = ap (λ (l : List Event). x ∷ l) (ends xs)
-
 work_on : (c : Setting) → IsSetting c → (after before : List Event) → IsRun c (before ++ after)
     → length after + work_left c (state_after c (opening c) (before ++ after)) ≤ work_left c
     (state_after c (opening c) before)
 work_on c is [] before run =
     let same : work_left c (state_after c (opening c) (before ++ [])) ≡ work_left c (state_after c (opening c) before) =
-    ap (λ (l : List Event). work_left c (state_after c (opening c) l)) (ends before) in
+    ap (λ (l : List Event). work_left c (state_after c (opening c) l)) (append-nil before) in
     omega arith
 work_on c is (e ∷ after) before run =
-    let moved = joined before (e ∷ []) after in
+    let moved = append_assoc before (e ∷ []) after in
     let run_on = subst (λ (l : List Event). IsRun c l) (sym moved) run in
     let rest = work_on c is after (before ++ e ∷ []) run_on in
     let same : work_left c (state_after c (opening c) ((before ++ e ∷ []) ++ after))

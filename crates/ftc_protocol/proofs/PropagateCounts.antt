@@ -2,6 +2,7 @@
 -- a recovery, but for one.
 use Rattle.std.proofs.Common.{◌≡◌, ◌≢◌, ℕ, ◌+◌, ◌<◌, ◌≤◌, ◌==◌, ◌&&◌, ◌||◌, ◌⊎◌, if◌then◌else◌, Bool, true, false, not}
 use Rattle.std.proofs.Common.{refl, sym, ap, subst, ◌∙◌, arith, inl, inr, eq-eqb, Option, Some, None, is_some}
+use Rattle.std.proofs.lemmas.Bool.{and_right, and_left, or_from}
 use Rattle.std.proofs.lemmas.Bool.{true≢false, cases_eq, cases_lt, ne_eqb, false_from_ne_true}
 use Rattle.std.proofs.lemmas.Option.{same_Some}
 use Rattle.ftc_journal.specs.declared.event.Event.{Event}
@@ -93,14 +94,10 @@ module _ (c : Setting) (good : IsGood c) (s : ChainState) (h : Inv c s) (t : IsT
     | inl first ↦ inl (λ j q. ap (λ (f : Visits). f j q) is ∙ ap (λ b. not b && s.forwarder j q) (eq-eqb k 0 first))
     | inr later ↦ elim idle [
       | inl empty ↦
-          inl (λ j q. ap (λ (f : Visits). f j q) is ∙ both (not (k == 0)) (s.forwarder j q) (empty j q))
+          inl (λ j q. ap (λ (f : Visits). f j q) is ∙ and_right (not (k == 0)) (s.forwarder j q) (empty j q))
       | inr m ↦ inr (met later m)
     ]
   ]
-    where
-      both : (x y : Bool) → y ≡ false → (x && y) ≡ false
-      both true y is = is
-      both false y is = refl
 
   -- the messages and the forwarder are as they were
   unmoved : (s' : ChainState) → s'.entered ≡ s.entered → s'.message ≡ s.message → s'.forwarder ≡ s.forwarder →
@@ -193,17 +190,13 @@ module _ (c : Setting) (good : IsGood c) (s : ChainState) (h : Inv c s) (t : IsT
             omega arith) in
             still_paid (next c s (Carry p)) refl (λ q less. gone_at p None (there_is p m legal.1) q)
             (λ idle. elim idle [
-              | inl empty ↦ inl (λ j q. neither (s.forwarder j q) (logs_of (s.message p) j q) (not (is_tail c j 0))
-                  (empty j q) (no_log j q))
+              | inl empty ↦ inl (λ j q. or_from (s.forwarder j q) (logs_of (s.message p) j q && not (is_tail c j 0)) (empty j q)
+                  (and_left (logs_of (s.message p) j q) (not (is_tail c j 0)) (no_log j q)))
               | inr met ↦ inr (met_other (next c s (Carry p)) p None refl met
                   (not_place met p m legal.1 (λ v is. by_ring legal.2 v (sym legal.3 ∙ is))))
             ])
       ]
     where
-      neither : (x y z : Bool) → x ≡ false → y ≡ false → (x || (y && z)) ≡ false
-      neither x y z no_x no_y = subst (λ b. (b || (y && z))
-          ≡ false) (sym no_x) (subst (λ b. (b && z) ≡ false) (sym no_y) refl)
-
       by_ring : (w v : Bool) → Held 0 w true ≡ Held 0 v false → ⊥
       by_ring w v is = cc
   pays (Crash k) legal other =

@@ -2,6 +2,7 @@
 use Rattle.std.proofs.Common.{◌≡◌, ◌≢◌, ℕ, ◌+◌, ◌-◌, ◌<◌, ◌≤◌, ◌==◌, ◌&&◌, ◌||◌, if◌then◌else◌, nat_lt, Bool, true}
 use Rattle.std.proofs.Common.{false, not, List, refl, sym, ap, subst, ◌∙◌, arith, inl, inr, eqb-true, eq-eqb, Option}
 use Rattle.std.proofs.Common.{Some, None}
+use Rattle.std.proofs.lemmas.Bool.{and_right, and_left, or_from}
 use Rattle.std.proofs.lemmas.Bool.{true≢false, cases_eq, cases_lt, eqb-false, and_from, and_parts, or_left, or_right}
 use Rattle.std.proofs.lemmas.Bool.{or_cases, false_from_ne_true}
 use Rattle.std.proofs.lemmas.Option.{none-some, same_Some}
@@ -193,9 +194,10 @@ module _ (c : Setting) (good : IsGood c) (is : IsSetting c) (s : ChainState) (h 
         entered = still.entered;
         full = still.full;
         gaps = λ link below. with_at_cases (λ v. v ≡ false) s.gap k _ link
-            (λ e. no_gap (s.gap k) (is_sent c k) (is_away c s k false) (still.gaps k kl) stays)
+            (λ e. or_from (s.gap k) (is_sent c k && is_away c s k false) (still.gaps k kl)
+            (and_right (is_sent c k) (is_away c s k false) stays))
             (λ other. still.gaps link below);
-        forwarder = λ j q. both (not (k == 0)) (s.forwarder j q) (still.forwarder j q);
+        forwarder = λ j q. and_right (not (k == 0)) (s.forwarder j q) (still.forwarder j q);
         bare = bare_at p o (λ n e. bare_sent k p m leaves (is_sent c k) n (sym o_is ∙ e));
         single = single_at p m there o;
         told = λ packet w held. with_at_cases (λ (v : Option Withheld). v ≡ Some w →
@@ -208,14 +210,6 @@ module _ (c : Setting) (good : IsGood c) (is : IsSetting c) (s : ChainState) (h 
       simple : {A : Type 0} (b : Bool) (x : Option A) → (if b && true then x else None) ≡ (if b then x else None)
       simple true x = refl
       simple false x = refl
-
-      both : (x y : Bool) → y ≡ false → (x && y) ≡ false
-      both true y e = e
-      both false y e = refl
-
-      no_gap : (g b a : Bool) → g ≡ false → a ≡ false → (g || (b && a)) ≡ false
-      no_gap g true a none_there stays = subst (λ x. (x || a) ≡ false) (sym none_there) stays
-      no_gap g false a none_there stays = subst (λ x. (x || false) ≡ false) (sym none_there) refl
 
       bare_sent : (k p : ℕ) (m : Message) → MayLeave c s k p m → (b : Bool) (n : Message) →
           (if b then sent_message c s k (Some m) else None) ≡ Some n →
@@ -286,18 +280,14 @@ module _ (c : Setting) (good : IsGood c) (is : IsSetting c) (s : ChainState) (h 
         entered = still.entered;
         gaps = still.gaps;
         full = still.full;
-        forwarder = λ j q. neither (s.forwarder j q) (logs_of (s.message p) j q) (not (is_tail c j 0))
-            (still.forwarder j q)
+        forwarder = λ j q. or_from (s.forwarder j q) (logs_of (s.message p) j q && not (is_tail c j 0))
+            (still.forwarder j q) (and_left (logs_of (s.message p) j q) (not (is_tail c j 0))
             (false_from_ne_true (logs_of (s.message p) j q)
-            (λ log. (still.bare p m there).1 j q (ap (λ o. logs_of o j q) (sym there) ∙ log)));
+            (λ log. (still.bare p m there).1 j q (ap (λ o. logs_of o j q) (sym there) ∙ log))));
         bare = bare_at p None (λ n e. absurd (none-some n e));
         single = single_at p m there None;
         told = λ packet w held. absurd (subst (λ x. Tells c s x m.known) legal.3 (teller p m there packet w held));
       }
-    where
-      neither : (x y z : Bool) → x ≡ false → y ≡ false → (x || (y && z)) ≡ false
-      neither x y z no_x no_y = subst (λ b. (b || (y && z))
-          ≡ false) (sym no_x) (subst (λ b. (b && z) ≡ false) (sym no_y) refl)
 
   release_still : (p : ℕ) → MayHappen c s (Release p) → IsStill c (next c s (Release p))
   release_still p legal = record {

@@ -26,7 +26,7 @@ use Rattle.ftc_protocol.proofs.RingDistances.{apart_cases}
 use Rattle.ftc_protocol.proofs.TraceLemmas.{any_map, stands_map}
 use Rattle.ftc_protocol.proofs.EarlierVisits.{visited_earlier}
 use Rattle.ftc_protocol.proofs.Sets.{in_one}
-use Rattle.ftc_protocol.proofs.ReadyTest.{had_by}
+use Rattle.ftc_protocol.proofs.ReadyTest.{had_by, meets_says}
 use Rattle.ftc_protocol.proofs.ListStores.{stands_below}
 
 -- a visit stands once in a serial run
@@ -176,10 +176,6 @@ all_true test [] each = refl
 all_true test (x ∷ xs) each =
     and_from (test x) (list_all test xs) (each x (inl refl)) (all_true test xs (λ y a. each y (inr a)))
 
-met_says : (partitions : ℕ) (earlier later : Outcome) → meets partitions earlier later ≡ true →
-    Meets partitions earlier later
-met_says partitions earlier later is = Rattle.ftc_protocol.proofs.ReadyTest.meets_says partitions earlier later is
-
 pub had_here : (partitions : ℕ) (set : Visits) (older : List Entry) (j p : ℕ) (o : Outcome) →
     Has partitions (Visited j p o ∷ older) set j p → (IsSomeVisit older j p → ⊥) →
     is_had partitions set older j p o ≡ true
@@ -213,7 +209,7 @@ had_here partitions set older j p o has alone =
                       (λ y is. subst (IsVisit (λ u. Meets partitions u o) j q) (sym is) (
                         kj,
                         refl,
-                        met_says partitions v o both.1,
+                        meets_says partitions v o both.1,
                       )) older a,
                 ),
               ))

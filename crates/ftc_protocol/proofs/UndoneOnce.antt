@@ -3,6 +3,7 @@ use Rattle.std.proofs.Common.{◌≡◌, ◌≢◌, ℕ, ◌<◌, ◌≤◌, Boo
 use Rattle.std.proofs.Common.{sym, ap, subst, ◌∙◌, arith, inl, inr}
 use Rattle.std.specs.List.{AllByRecursion}
 use Rattle.std.proofs.lemmas.Bool.{true≢false, false_from_ne_true}
+use Rattle.std.proofs.lemmas.List.Elements.{filter-append}
 use Rattle.ftc_journal.specs.declared.event.Event.TheVariants.{Recover}
 use Rattle.ftc_journal.specs.declared.event.VisitName.{VisitName}
 use Rattle.ftc_serial.specs.Words.{EachLater}
@@ -25,7 +26,7 @@ use Rattle.ftc_protocol.proofs.TraceLemmas.{stands_map, visit_stood}
 use Rattle.ftc_protocol.proofs.ListStores.{stands_below}
 use Rattle.ftc_protocol.proofs.UndoneList.{in_order_says, in_order_has}
 use Rattle.ftc_protocol.proofs.Soundness.{given_all}
-use Rattle.ftc_protocol.proofs.JournalTrace.{filter_joined, undone_outside}
+use Rattle.ftc_protocol.proofs.JournalTrace.{undone_outside}
 use Rattle.ftc_protocol.proofs.OrderlyStates.{undoes}
 use Rattle.ftc_protocol.proofs.Fronts.{are_apart}
 use Rattle.ftc_protocol.proofs.Complete.{IsReached, keeps_reached}
@@ -73,7 +74,7 @@ by_filter visits (Visited k p o ∷ older) =
       | true ↦ λ e. ap (λ l. l ++ record { server = k; packet = p } ∷ []) (by_filter visits older)
       | false ↦ λ e. by_filter visits older ∙ sym (none (filter (test visits) (visits_in older)))
     ] refl
-    ∙ sym (filter_joined (test visits) (visits_in older) (record { server = k; packet = p } ∷ []))
+    ∙ sym (filter-append (test visits) (visits_in older) (record { server = k; packet = p } ∷ []))
   where
     none : (l : List VisitName) → l ++ [] ≡ l
     none [] = refl

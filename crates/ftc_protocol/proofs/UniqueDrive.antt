@@ -238,68 +238,6 @@ drive_is_one c schedule whole other a b =
     let same : a.played ≡ b.played = play_is_one c schedule a.played b.played a.play b.play in
     finish_is_one c b.played whole other (subst (λ x. IsFinish c x whole) same a.finish) b.finish
 
--- a schedule with one event more
-pub play_more : (c : Setting) (schedule : List Event) (s : ChainState) (played : List Event) (e : Event) (j : Job)
-    (rs : List Event) → IsPlay c s schedule played
-    → job_of e ≡ Some j → IsLegalJob c (state_after c s played) j
-    → AreReleases c (next c (state_after c s played) (event_of c (state_after c s played) (slot_of e) j)) rs
-    → IsPlay c s (schedule ++ e ∷ []) (played ++ event_of c (state_after c s played) (slot_of e) j ∷ rs)
-play_more c [] s played e j rs none of legal released =
-    subst (λ (x : List Event). IsPlay c s (e ∷ []) (x ++ event_of c (state_after c s x) (slot_of e) j ∷ rs)) (sym none)
-    (inl (
-      j,
-      rs,
-      [],
-      of,
-      subst (λ (x : List Event). IsLegalJob c (state_after c s x) j) none legal,
-      subst (λ (x : List Event). AreReleases c
-          (next c (state_after c s x) (event_of c (state_after c s x) (slot_of e) j)) rs) none released,
-      ap (λ (x : List Event). event_of c s (slot_of e) j ∷ x) (sym (append-nil rs)),
-      refl,
-    ))
-play_more c (f ∷ schedule) s played e j rs play of legal released = elim play [
-  | inr over ↦ inr (over.0, play_more c schedule s played e j rs over.1 of legal released)
-  | inl x ↦
-      let made : Event = event_of c s (slot_of f) x.0 in
-      let t : ChainState = state_after c (next c s made) x.1 in
-      let at : state_after c s played ≡ state_after c t x.2 =
-      ap (state_after c s) x.6 ∙ state_on c x.1 x.2 (next c s made) in
-      let legal' : IsLegalJob c (state_after c t x.2) j = subst (λ v. IsLegalJob c v j) at legal in
-      let released' : AreReleases c (next c (state_after c t x.2) (event_of c (state_after c t x.2) (slot_of e) j)) rs =
-      subst (λ v. AreReleases c (next c v (event_of c v (slot_of e) j)) rs) at released in
-      let rest = play_more c schedule t x.2 e j rs x.7 of legal' released' in
-      let whole : (played ++ event_of c (state_after c s played) (slot_of e) j ∷ rs)
-      ≡ (made ∷ (x.1 ++ (x.2 ++ event_of c (state_after c t x.2) (slot_of e) j ∷ rs))) =
-      ap (λ v. played ++ event_of c v (slot_of e) j ∷ rs) at
-      ∙ (ap (λ (v : List Event). v ++ event_of c (state_after c t x.2) (slot_of e) j ∷ rs) x.6
-      ∙ ap (λ (v : List Event). made
-      ∷ v) (append_assoc x.1 x.2 (event_of c (state_after c t x.2) (slot_of e) j ∷ rs))) in
-      inl (x.0, x.1, x.2 ++ event_of c (state_after c t x.2) (slot_of e) j ∷ rs, x.3, x.4, x.5, whole, rest)
-]
-
-pub play_over : (c : Setting) (schedule : List Event) (s : ChainState) (played : List Event) (e : Event) →
-    IsPlay c s schedule played → IsPassedOver c (state_after c s played) e → IsPlay c s (schedule ++ e ∷ []) played
-play_over c [] s played e none over =
-    inr (subst (λ (x : List Event). IsPassedOver c (state_after c s x) e) none over, none)
-play_over c (f ∷ schedule) s played e play over = elim play [
-  | inr passed ↦ inr (passed.0, play_over c schedule s played e passed.1 over)
-  | inl x ↦
-      let made : Event = event_of c s (slot_of f) x.0 in
-      let t : ChainState = state_after c (next c s made) x.1 in
-      let at : state_after c s played ≡ state_after c t x.2 =
-      ap (state_after c s) x.6 ∙ state_on c x.1 x.2 (next c s made) in
-      inl (
-        x.0,
-        x.1,
-        x.2,
-        x.3,
-        x.4,
-        x.5,
-        x.6,
-        play_over c schedule t x.2 e x.7 (subst (λ v. IsPassedOver c v e) at over),
-      )
-]
-
 -- a schedule in two parts
 pub play_on : (c : Setting) (schedule more : List Event) (s : ChainState) (played then_played : List Event) →
     IsPlay c s schedule played → IsPlay c (state_after c s played) more then_played
@@ -320,3 +258,20 @@ play_on c (f ∷ schedule) more s played then_played before play = elim before [
       ∷ v) (append_assoc x.1 x.2 then_played) in
       inl (x.0, x.1, x.2 ++ then_played, x.3, x.4, x.5, whole, rest)
 ]
+
+-- a schedule with one event more
+pub play_more : (c : Setting) (schedule : List Event) (s : ChainState) (played : List Event) (e : Event) (j : Job)
+    (rs : List Event) → IsPlay c s schedule played
+    → job_of e ≡ Some j → IsLegalJob c (state_after c s played) j
+    → AreReleases c (next c (state_after c s played) (event_of c (state_after c s played) (slot_of e) j)) rs
+    → IsPlay c s (schedule ++ e ∷ []) (played ++ event_of c (state_after c s played) (slot_of e) j ∷ rs)
+play_more c schedule s played e j rs play of legal released =
+    let made : Event = event_of c (state_after c s played) (slot_of e) j in
+    play_on c schedule (e ∷ []) s played (made ∷ rs) play
+    (inl (j, rs, [], of, legal, released, ap (λ (x : List Event). made ∷ x) (sym (append-nil rs)), refl))
+
+pub play_over : (c : Setting) (schedule : List Event) (s : ChainState) (played : List Event) (e : Event) →
+    IsPlay c s schedule played → IsPassedOver c (state_after c s played) e → IsPlay c s (schedule ++ e ∷ []) played
+play_over c schedule s played e play over =
+    subst (IsPlay c s (schedule ++ e ∷ [])) (append-nil played)
+    (play_on c schedule (e ∷ []) s played [] play (inr (over, refl)))
