@@ -1,5 +1,5 @@
 -- Every message is held by a live server, or queued to one.
-use Rattle.std.proofs.Common.{◌≡◌, ℕ, ◌<◌, ◌&&◌, Bool, true, false, not, [], ◌∷◌, refl, sym, ap, subst, ◌∙◌}
+use Rattle.std.proofs.Common.{◌≡◌, ℕ, ◌<◌, ◌&&◌, Bool, true, false, not, refl, sym, ap, subst, ◌∙◌}
 use Rattle.std.proofs.Common.{eq-eqb, Option, Some, None, if◌then◌else◌}
 use Rattle.std.proofs.lemmas.Bool.{true≢false, and_parts, or_parts, not-true}
 use Rattle.std.proofs.lemmas.Option.{none-some, same_Some}
