@@ -1,7 +1,7 @@
 -- An accepted chain and script give what the proofs suppose of a setting.
 use Rattle.std.proofs.Common.{◌≡◌, ℕ, ◌<◌, ◌≤◌, ◌^◌, ◌==◌, if◌then◌else◌, Some, Bool, true, false, List, [], ◌∷◌, refl}
 use Rattle.std.proofs.Common.{sym, subst, ◌∙◌, arith, length, eqb-true, lt-ltb}
-use Rattle.std.specs.List.{AllByRecursion}
+use Rattle.std.specs.List.{AllByRecursion, find}
 use Rattle.ftc_base.specs.declared.limits.TheConstants.{MOST_RECORDS}
 use Rattle.ftc_protocol.specs.Measure.{most_messages}
 use Rattle.ftc_mbox.specs.Chain.{Chain, IsChain}
@@ -10,7 +10,6 @@ use Rattle.ftc_ring.specs.Live as ring
 use Rattle.ftc_script.specs.declared.line.ScriptLine.{ScriptLine}
 use Rattle.ftc_script.specs.declared.line.ScriptLine.TheVariants.{Crash, Recover}
 use Rattle.std.proofs.lemmas.Bool.{true≢false, and_parts}
-use Rattle.std.specs.List.{find}
 use Rattle.std.specs.Option.{is_some, option_map}
 use Rattle.ftc_script.specs.declared.line.LoseLine.{LoseLine}
 use Rattle.ftc_script.specs.Script.{ScriptShape, IsScript, IsLose, loses_of, is_of}

@@ -1,5 +1,5 @@
 -- The test finds each wanted visit had, where each is.
-use Rattle.std.proofs.Common.{◌≡◌, ℕ, ◌||◌, true, not, List, [], ◌∷◌, inl, inr, refl, sym, ap, subst}
+use Rattle.std.proofs.Common.{◌≡◌, ℕ, ◌||◌, true, not, List, [], ◌∷◌, inl, inr, refl, sym, ap, subst, lt_irrefl}
 use Rattle.std.proofs.lemmas.Bool.{cases_Bool, and_from, or_left, or_right}
 use Rattle.ftc_serial.specs.Serial.{Entry, Visited, Given}
 use Rattle.ftc_serial.specs.Take.{Outcome}
@@ -10,7 +10,6 @@ use Rattle.ftc_protocol.proofs.Places.{IsSerial}
 use Rattle.ftc_protocol.proofs.TraceLemmas.{before_last}
 use Rattle.ftc_protocol.proofs.EarlierVisits.{visited_earlier}
 use Rattle.ftc_protocol.proofs.UndoneList.{had_here}
-use Rattle.std.proofs.Common.{lt_irrefl}
 
 module _ (c : Setting) (set wanted : Visits) where
   once : (older : List Entry) (k q : ℕ) (o : Outcome) → IsSerial c (Visited k q o ∷ older) → IsSomeVisit older k q → ⊥

@@ -9,9 +9,8 @@ use Rattle.ftc_journal.specs.declared.event.VisitName.{VisitName}
 use Rattle.ftc_journal.specs.declared.event.Event.{Event}
 use Rattle.ftc_journal.specs.declared.event.Event.TheVariants.{Apply, Carry, Crash, Enter, Lose, Pass, Propagate, Pull}
 use Rattle.ftc_journal.specs.declared.event.Event.TheVariants.{Recover, Release, Take, Visit}
-use Rattle.ftc_serial.specs.Words.{with_at}
+use Rattle.ftc_serial.specs.Words.{with_at, AnyOf}
 use Rattle.ftc_serial.specs.Serial.{Entry, Given, Visited}
-use Rattle.ftc_serial.specs.Words.{AnyOf}
 use Rattle.ftc_serial.specs.Trace.{names}
 use Rattle.ftc_serial.specs.Removal.{is_taken, left_of}
 use Rattle.ftc_protocol.proofs.TraceLemmas.{left_stood, stands_left, visit_left, visit_stood}

@@ -1,8 +1,7 @@
 -- The lone message passes a server.
 use Rattle.std.proofs.Common.{◌≡◌, ◌≢◌, ◌⊎◌, ℕ, suc, ◌+◌, ◌<◌, ◌==◌, ◌&&◌, nat_lt, if◌then◌else◌, not, Bool, true}
 use Rattle.std.proofs.Common.{false, inl, refl, sym, ap, ◌∙◌, arith, None}
-use Rattle.std.proofs.lemmas.Bool.{and_right}
-use Rattle.std.proofs.lemmas.Bool.{and_parts, and_from, or_left, ne_eqb}
+use Rattle.std.proofs.lemmas.Bool.{and_right, and_parts, and_from, or_left, ne_eqb}
 use Rattle.ftc_journal.specs.declared.event.Event.TheVariants.{Pass}
 use Rattle.ftc_ring.specs.Ring.{next_of}
 use Rattle.ftc_serial.proofs.Functions.{with_at_cases}

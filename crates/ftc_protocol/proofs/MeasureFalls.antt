@@ -3,9 +3,8 @@ use Rattle.std.proofs.Common.{◌≡◌, ◌≢◌, ℕ, zero, suc, ◌+◌, ◌
 use Rattle.std.proofs.Common.{true, false, not, List, [], ◌∷◌, ◌++◌, refl, sym, ap, subst, ◌∙◌, arith, inl, inr}
 use Rattle.std.proofs.Common.{length, eqb-true, eq-eqb, Option, Some, None, is_some, le-leb}
 use Rattle.std.specs.List.{list_any}
-use Rattle.std.proofs.lemmas.Bool.{and_right}
+use Rattle.std.proofs.lemmas.Bool.{and_right, or_right, or_cases, not-true, false_from_ne_true}
 use Rattle.std.proofs.lemmas.Bool.{true≢false, cases_eq, cases_lt, cases_Bool, eqb-false, and_from, and_parts, or_left}
-use Rattle.std.proofs.lemmas.Bool.{or_right, or_cases, not-true, false_from_ne_true}
 use Rattle.std.proofs.lemmas.Option.{none-some}
 use Rattle.ftc_ring.specs.Ring.{apart, next_of}
 use Rattle.ftc_journal.specs.declared.event.Event.{Event}

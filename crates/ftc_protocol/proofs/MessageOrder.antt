@@ -1,13 +1,11 @@
 -- Who waits for whom: the earlier messages first.
 use Rattle.std.proofs.Common.{◌≡◌, ◌≢◌, ℕ, ◌+◌, ◌<◌, ◌≤◌, ◌==◌, ◌&&◌, ◌||◌, if◌then◌else◌, nat_lt, Bool, true, false}
 use Rattle.std.proofs.Common.{not, List, [], ◌∷◌, ◌⊎◌, inl, inr, refl, sym, ap, subst, ◌∙◌, arith, Option, Some, None}
-use Rattle.std.proofs.Common.{eq-eqb, lt-ltb}
+use Rattle.std.proofs.Common.{eq-eqb, lt-ltb, lt_irrefl}
 use Rattle.std.proofs.lemmas.Bool.{true≢false, eqb-false, cases_eq, cases_Bool, and_from, or_left, or_right, or_parts}
-use Rattle.std.proofs.lemmas.Bool.{ne_eqb}
+use Rattle.std.proofs.lemmas.Bool.{ne_eqb, not_from_false, le-leb, false_from_ne_true}
 use Rattle.std.proofs.lemmas.Option.{none-some, same_Some}
 use Rattle.std.specs.List.{list_any}
-use Rattle.std.proofs.lemmas.Bool.{not_from_false, le-leb, false_from_ne_true}
-use Rattle.std.proofs.Common.{lt_irrefl}
 use Rattle.ftc_journal.specs.declared.event.Event.TheVariants.{Apply, Carry, Pull, Take, Visit}
 use Rattle.ftc_protocol.proofs.ArrivalOrder.{AreSeen, From, IsHeldAt, IsTimed}
 use Rattle.ftc_protocol.specs.State.{ChainState, Held, Message, Queued, Where}

@@ -14,9 +14,9 @@ use Rattle.ftc_protocol.specs.declared.fate.Fate.{Fate}
 use Rattle.ftc_protocol.specs.declared.fate.Fate.TheVariants.{Inside, Lost, Filtered, Released}
 use Rattle.ftc_protocol.specs.Setting.{Setting, servers, shape, IsSetting}
 use Rattle.ftc_protocol.specs.State.{ChainState, Message, Where, Held, Queued, opening}
-use Rattle.ftc_protocol.specs.Next.{next, has_packet, loses_packet, is_undone_drop, is_away, is_at}
+use Rattle.ftc_protocol.specs.Next.{next, has_packet, loses_packet, is_undone_drop, is_away, is_at, lines_behind}
 use Rattle.ftc_protocol.specs.Run.{IsRun, AreLegal, state_after}
-use Rattle.ftc_protocol.specs.Legal.{MayHappen}
+use Rattle.ftc_protocol.specs.Legal.{MayHappen, IsNextLine}
 use Rattle.ftc_protocol.specs.Orderly.{aim, IsOrderly, lines_done}
 use Rattle.ftc_script.specs.declared.line.ScriptLine.{ScriptLine}
 use Rattle.ftc_script.specs.declared.line.ScriptLine.TheVariants as line
@@ -26,25 +26,20 @@ use Rattle.ftc_serial.specs.declared.position.Position.TheVariants as position
 use Rattle.ftc_serial.specs.Serial.{State, serial_run, serial_opening}
 use Rattle.ftc_serial.specs.Trace.{trace_of, names}
 use Rattle.ftc_protocol.specs.Visits.{In, Visits}
-use Rattle.ftc_protocol.specs.Legal.{IsNextLine}
-use Rattle.ftc_protocol.specs.Next.{lines_behind}
 use Rattle.ftc_protocol.specs.Recovery.{previous_live, following_live, is_dropped}
 use Rattle.ftc_protocol.specs.Moment.{released_in}
 use Rattle.ftc_protocol.proofs.Induction.{always}
-use Rattle.ftc_protocol.proofs.AcceptedSettings.{opens_fit}
-use Rattle.ftc_protocol.proofs.Places.{IsSerial, serial_of}
+use Rattle.ftc_protocol.proofs.AcceptedSettings.{opens_fit, is_good}
+use Rattle.ftc_protocol.proofs.Places.{IsSerial, serial_of, history_of}
 use Rattle.ftc_protocol.proofs.Soundness.{serial_runs, records_are}
 use Rattle.ftc_protocol.proofs.JournalTrace.{trace_is}
 use Rattle.ftc_protocol.proofs.PlacedFates.{filtered_dropped, released_given}
 use Rattle.ftc_protocol.proofs.SettledPlaces.{given_released, dropped_filtered}
-use Rattle.ftc_protocol.proofs.SmallEvents.{fit_next}
+use Rattle.ftc_protocol.proofs.SmallEvents.{fit_next, fit_now}
 use Rattle.ftc_protocol.proofs.RingDistances.{last_live, next_live}
 use Rattle.ftc_protocol.proofs.UndoneList.{undone_listed}
 use Rattle.ftc_protocol.proofs.UndoneVisits.{IsUndone}
 use Rattle.ftc_protocol.proofs.Premises.{IsGood, IsAdmissible}
-use Rattle.ftc_protocol.proofs.AcceptedSettings.{is_good}
-use Rattle.ftc_protocol.proofs.SmallEvents.{fit_now}
-use Rattle.ftc_protocol.proofs.Places.{history_of}
 use Rattle.ftc_protocol.proofs.LiveHolders.{IsUp}
 use Rattle.ftc_protocol.proofs.ArrivalOrder.{IsRinged}
 use Rattle.ftc_protocol.proofs.Invariant.{Inv, target}

@@ -1,8 +1,7 @@
 -- Where nothing may happen, nothing is under way.
 use Rattle.std.proofs.Common.{◌≡◌, ◌≢◌, ℕ, suc, ◌+◌, ◌<◌, ◌≤◌, Bool, true, false, List, [], ◌∷◌, ◌⊎◌, inl, inr, refl}
-use Rattle.std.proofs.Common.{sym, ap, subst, ◌∙◌, arith, Option, Some, None}
+use Rattle.std.proofs.Common.{sym, ap, subst, ◌∙◌, arith, Option, Some, None, lt_irrefl, zero}
 use Rattle.std.proofs.lemmas.Bool.{true≢false, cases_eq, cases_lt, cases_Bool}
-use Rattle.std.proofs.Common.{lt_irrefl, zero}
 use Rattle.std.specs.List.{AllByRecursion}
 use Rattle.ftc_journal.specs.declared.event.Event.TheVariants.{Apply, Carry, Enter, Lose, Pass, Propagate, Pull, Take}
 use Rattle.ftc_journal.specs.declared.event.Event.TheVariants.{Visit}

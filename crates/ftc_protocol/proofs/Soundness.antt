@@ -9,8 +9,7 @@ use Rattle.ftc_journal.specs.declared.event.Event.{Event}
 use Rattle.ftc_mbox.specs.declared.rule.Rule.{Rule}
 use Rattle.ftc_serial.specs.declared.step.Step.{Step}
 use Rattle.ftc_serial.specs.Words.{AnyOf}
-use Rattle.ftc_serial.specs.Serial.{State, Entry, Visited, Given, after, serial_step, serial_run}
-use Rattle.ftc_serial.specs.Serial.{serial_opening}
+use Rattle.ftc_serial.specs.Serial.{State, Entry, Visited, Given, after, serial_step, serial_run, serial_opening}
 use Rattle.ftc_serial.specs.Entries.{step_of}
 use Rattle.ftc_serial.proofs.Functions.{with_at_cases}
 use Rattle.ftc_protocol.specs.Setting.{Setting, servers, shape}

@@ -2,9 +2,8 @@
 use Rattle.std.proofs.Common.{◌≡◌, ◌≢◌, ℕ, ◌+◌, ◌-◌, ◌<◌, ◌≤◌, ◌==◌, ◌&&◌, if◌then◌else◌, nat_lt, Bool, true}
 use Rattle.std.proofs.Common.{false, not, List, refl, sym, ap, subst, ◌∙◌, arith, inl, inr, eqb-true, eq-eqb, Option}
 use Rattle.std.proofs.Common.{Some, None}
-use Rattle.std.proofs.lemmas.Bool.{and_right, and_left, or_from}
+use Rattle.std.proofs.lemmas.Bool.{and_right, and_left, or_from, or_cases, false_from_ne_true}
 use Rattle.std.proofs.lemmas.Bool.{true≢false, cases_eq, cases_lt, eqb-false, and_from, and_parts, or_left, or_right}
-use Rattle.std.proofs.lemmas.Bool.{or_cases, false_from_ne_true}
 use Rattle.std.proofs.lemmas.Option.{none-some, same_Some}
 use Rattle.ftc_ring.specs.Ring.{apart, next_of}
 use Rattle.ftc_journal.specs.declared.event.Event.{Event}

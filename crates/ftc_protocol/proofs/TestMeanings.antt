@@ -23,7 +23,7 @@ use Rattle.ftc_script.specs.declared.line.ScriptLine.TheVariants as line
 use Rattle.ftc_protocol.proofs.AcceptedSettings.{is_good, opens_fit}
 use Rattle.ftc_protocol.proofs.Induction.{always}
 use Rattle.ftc_protocol.proofs.SmallEvents.{fit_next, fit_now}
-use Rattle.ftc_protocol.proofs.RingDistances.{IsLastLive, IsNextLive, last_live, next_live}
+use Rattle.ftc_protocol.proofs.RingDistances.{IsLastLive, IsNextLive, last_live, next_live, apart_cases}
 use Rattle.ftc_protocol.proofs.Premises.{IsGood}
 use Rattle.ftc_protocol.proofs.Invariant.{Inv}
 use Rattle.ftc_protocol.proofs.StatesOfRuns.{reached_of}
@@ -35,7 +35,6 @@ use Rattle.ftc_protocol.proofs.HavingVisits.{has_stable}
 use Rattle.ftc_protocol.proofs.Soundness.{fallen_exact}
 use Rattle.ftc_protocol.proofs.LossEvents.{lost_by}
 use Rattle.ftc_protocol.proofs.OrderlyStates.{undoes}
-use Rattle.ftc_protocol.proofs.RingDistances.{apart_cases}
 
 record Found (c : Setting) (s : ChainState) (es : List Event) (number : ℕ) : Type 0 where
   before : List Event

@@ -2,8 +2,7 @@
 use Rattle.std.proofs.Common.{◌≡◌, ◌≢◌, ℕ, ◌+◌, ◌-◌, ◌<◌, ◌≤◌, ◌==◌, if◌then◌else◌, ◌&&◌, nat_le, Bool, true, false}
 use Rattle.std.proofs.Common.{not, List, [], ◌∷◌, ◌⊎◌, inl, inr, refl, sym, subst, ◌∙◌, arith, ◌↔◌, eqb-true, Option}
 use Rattle.std.proofs.Common.{Some, None}
-use Rattle.std.proofs.lemmas.Bool.{true≢false, eqb-false}
-use Rattle.std.proofs.lemmas.Bool.{and_parts, and_from, not-true}
+use Rattle.std.proofs.lemmas.Bool.{true≢false, eqb-false, and_parts, and_from, not-true}
 use Rattle.std.specs.Prelude.{slice_get}
 use Rattle.ftc_serial.specs.Words.{AnyOf, with_at}
 use Rattle.ftc_protocol.proofs.ServerLists.{AreLists, applies, copies, gives, goes_down, visits}

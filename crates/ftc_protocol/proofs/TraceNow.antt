@@ -1,9 +1,8 @@
 -- The trace now: the visits that don't stand can be taken out.
 use Rattle.std.proofs.Common.{◌≡◌, ℕ, ◌+◌, ◌-◌, ◌<◌, ◌≤◌, true, false, List, [], ◌∷◌, inl, inr, refl, sym, subst, ◌∙◌}
 use Rattle.std.proofs.Common.{arith}
-use Rattle.std.proofs.lemmas.Bool.{true≢false, cases_eq, cases_lt}
-use Rattle.std.proofs.lemmas.Bool.{leb-true, false_from_ne_true}
-use Rattle.ftc_ring.specs.Ring.{IsRing}
+use Rattle.std.proofs.lemmas.Bool.{true≢false, cases_eq, cases_lt, leb-true, false_from_ne_true}
+use Rattle.ftc_ring.specs.Ring.{IsRing, apart}
 use Rattle.ftc_protocol.specs.Moment.{first_live}
 use Rattle.ftc_protocol.proofs.FirstLive.{IsFirst, first_there}
 use Rattle.ftc_protocol.proofs.StandingVisits.{IsStanding, IsFallen}
@@ -24,7 +23,6 @@ use Rattle.ftc_serial.specs.Removal.{Takes, left_of}
 use Rattle.ftc_protocol.proofs.UndoneRemoval.{all_of, among, before_touching}
 use Rattle.ftc_protocol.proofs.TraceLemmas.{store_left, any_map, before_first, visit_stood}
 use Rattle.ftc_protocol.proofs.EarlierVisits.{visited_earlier}
-use Rattle.ftc_ring.specs.Ring.{apart}
 use Rattle.ftc_protocol.proofs.RingDistances.{apart_cases}
 use Rattle.ftc_protocol.proofs.SmallEvents.{fit_now}
 use Rattle.ftc_protocol.proofs.HavingVisits.{has_before, has_stable, in_has}

@@ -1,8 +1,6 @@
-use Rattle.std.proofs.Common.{refl}
+use Rattle.std.proofs.Common.{refl, []}
 use Rattle.ftc_protocol.specs.State.{opening}
-use Rattle.std.proofs.Common.{[]}
-use Rattle.ftc_protocol.proofs.RunLists.{first_legal, rest_legal, joined_legal, state_on}
-use Rattle.ftc_protocol.proofs.RunLists.{run_next}
+use Rattle.ftc_protocol.proofs.RunLists.{first_legal, rest_legal, joined_legal, state_on, run_next}
 use Rattle.ftc_protocol.proofs.journals.runs.Goals as goal
 
 pub returns-clause-front : goal.returns-clause-front

@@ -1,5 +1,4 @@
-use Rattle.ftc_protocol.proofs.ChangeLaws.{all_changed, changed_written}
-use Rattle.ftc_protocol.proofs.ChangeLaws.{changed_touched}
+use Rattle.ftc_protocol.proofs.ChangeLaws.{all_changed, changed_written, changed_touched}
 use Rattle.ftc_protocol.proofs.outcomes.law_of_changes.Goals as goal
 
 pub returns-clause-written : goal.returns-clause-written
