@@ -560,18 +560,10 @@ module _ (c : Setting) (s : ChainState) where
     first.legal,
     λ other another less legal. first.least (job.Take other another) legal (inr (refl, inl less)),
   )
-  first_is_turn (job.Crash k) first = let j = job.Crash k in (
-    pull_none j first (omega arith),
-    work_none j first (omega arith),
-    take_none j first (omega arith),
-    first.legal,
-  )
-  first_is_turn (job.Recover k) first = let j = job.Recover k in (
-    pull_none j first (omega arith),
-    work_none j first (omega arith),
-    take_none j first (omega arith),
-    first.legal,
-  )
+  first_is_turn (job.Crash k) first = let j = job.Crash k in
+      (pull_none j first (omega arith), work_none j first (omega arith), take_none j first (omega arith), first.legal)
+  first_is_turn (job.Recover k) first = let j = job.Recover k in
+      (pull_none j first (omega arith), work_none j first (omega arith), take_none j first (omega arith), first.legal)
   first_is_turn (job.Enter p) first = let j = job.Enter p in (
     pull_none j first (omega arith),
     work_none j first (omega arith),
