@@ -24,6 +24,7 @@ use Rattle.ftc_protocol.specs.Legal.{MayHappen, MayLeave, IsNextLine, IsStalled,
 use Rattle.ftc_protocol.specs.Measure.{most_messages}
 use Rattle.ftc_protocol.specs.Jobs.{event_of, IsLegalJob}
 use Rattle.ftc_protocol.specs.Drive.{IsNoneDue}
+use Rattle.ftc_protocol.proofs.FinishedState.{no_due}
 use Rattle.ftc_protocol.proofs.ReadyTest.{each_had, meets_true, meets_says}
 use Rattle.ftc_protocol.proofs.HasEach.{each_has}
 use Rattle.ftc_protocol.proofs.Sets.{in_one, one_in}
@@ -198,24 +199,10 @@ module _ (c : Setting) (is : IsSetting c) (s : ChainState) (n : IsCounted c s) w
       (λ w there. both (IsDue c s p w) ((other : ℕ) (v : Withheld) → IsDue c s other v →
       w.since ≤ v.since) (is_due p w there) (none_before w)))
 
-  -- where no release is legal none is due
-  no_due : ((p : ℕ) → MayHappen c s (event.Release p) → ⊥) → (b p : ℕ) (w : Withheld) → IsDue c s p w → w.since < b → ⊥
-  no_due none zero p w due below = absurd (omega arith)
-  no_due none (suc b) p w due below =
-      none p (
-        w,
-        due,
-        λ q v other. elim (cases_lt v.since w.since) [
-          | inl sooner ↦
-              absurd (no_due none b q v other (omega arith))
-          | inr more ↦ more
-        ],
-      )
-
   pub release_or_none : ((p : ℕ) × MayHappen c s (event.Release p)) ⊎ IsNoneDue c s
   release_or_none = elim (some_below (count c) (λ p. MayHappen c s (event.Release p)) releasable) [
     | inl x ↦ inl (x.0, x.2)
-    | inr none ↦ inr (λ p w due. no_due (λ q legal. none (q, buffered_below q legal.0 legal.1.0, legal))
+    | inr none ↦ inr (λ p w due. no_due c s (λ q legal. none (q, buffered_below q legal.0 legal.1.0, legal))
         (suc w.since) p w due (omega arith))
   ]
 

@@ -197,26 +197,27 @@ live_opens c good fit = record {
   soon = λ y j q is. absurd (true≢false (sym is));
 }
 
--- a finished state has nothing due, and nothing may happen
-module _ (c : Setting) (s : ChainState) (finished : (e : Event) → IsLegal c s e → ⊥) where
-  no_due : (b p : ℕ) (w : Withheld) → IsDue c s p w → w.since < b → ⊥
-  no_due zero p w due less = absurd (omega arith)
-  no_due (suc b) p w due less =
-      finished (Release p) (
-        (
-          w,
-          due,
-          λ q v other. elim (cases_lt v.since w.since) [
-            | inl sooner ↦ absurd (no_due b q v other (omega arith))
-            | inr more ↦
-                more
-          ],
-        ),
-        λ e. absurd (true≢false e),
-      )
+-- where no release may happen none is due
+pub no_due : (c : Setting) (s : ChainState) → ((p : ℕ) → MayHappen c s (Release p) → ⊥) → (b p : ℕ) (w : Withheld) →
+    IsDue c s p w → w.since < b → ⊥
+no_due c s none zero p w due less = absurd (omega arith)
+no_due c s none (suc b) p w due less =
+    none p (
+      w,
+      due,
+      λ q v other. elim (cases_lt v.since w.since) [
+        | inl sooner ↦ absurd (no_due c s none b q v other (omega arith))
+        | inr more ↦ more
+      ],
+    )
 
-  pub stuck : (e : Event) → MayHappen c s e → ⊥
-  stuck e legal = finished e (legal, λ _ p w due. no_due (suc w.since) p w due (omega arith))
+-- a finished state has nothing due, and nothing may happen
+pub stuck : (c : Setting) (s : ChainState) → ((e : Event) → IsLegal c s e → ⊥) → (e : Event) → MayHappen c s e → ⊥
+stuck c s finished e legal = finished e (
+  legal,
+  λ _ p w due. no_due c s (λ q may. finished (Release q) (may, λ x. absurd (true≢false x))) (suc w.since) p w due
+      (omega arith),
+)
 
 -- with all servers up and no line left it has no message and no gap
 module _ (c : Setting) (good : IsGood c) (s : ChainState) (l : IsLive c s) (all_up : (k : ℕ) → k < (servers c) →
