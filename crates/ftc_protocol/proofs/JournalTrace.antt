@@ -213,8 +213,8 @@ module _ (c : Setting) (is : IsSetting c) (s : ChainState) (n : IsCounted c s) (
       × AreGone (next c s e) (flat_map undone_by (before ++ e ∷ []))
   plain e legal none_undone step_is =
       let undone : flat_map undone_by (before ++ e ∷ []) ≡ flat_map undone_by before =
-      flat_map-append undone_by before (e
-      ∷ []) ∙ (ap (λ l. flat_map undone_by before ++ (l ++ [])) none_undone ∙ append-nil (flat_map undone_by before)) in (
+      flat_map-append undone_by before (e ∷ [])
+      ∙ (ap (λ l. flat_map undone_by before ++ (l ++ [])) none_undone ∙ append-nil (flat_map undone_by before)) in (
         step_is ∙ (ap (λ l. l ++ steps_of (flat_map undone_by before) e) same
             ∙ (sym (flat_map-append (steps_of (flat_map undone_by before)) before (e ∷ []) ∙ ap (λ l. trace_of before
             ++ l) (append-nil (steps_of (flat_map undone_by before) e)))

@@ -57,8 +57,8 @@ module _ (c : Setting) where
   abbrev way : Option Message → ℕ
   way o = way_of (servers c) o
 
-  way_falls : (message : ℕ → Option Message) (p : ℕ) (o : Option Message) → p < most_messages c → way o < way (message p)
-      → sum_below (most_messages c) (λ origin. way (with_at message p o origin)) < sum_below
+  way_falls : (message : ℕ → Option Message) (p : ℕ) (o : Option Message) → p < most_messages c →
+      way o < way (message p) → sum_below (most_messages c) (λ origin. way (with_at message p o origin)) < sum_below
       (most_messages c) (λ origin. way (message origin))
   way_falls message p o below falls =
       sum_falls (most_messages c) (λ origin. way (with_at message p o origin)) (λ origin. way (message origin))
@@ -86,7 +86,8 @@ module _ (c : Setting) where
   lack_less s s' more (Visited j p o) k =
       lacks_less (lacks c s (Visited j p o) k) (lacks c s' (Visited j p o) k) (more j p k o)
 
-  lacking_less : (s s' : ChainState) → NoneLacksMore s s' → (trace : List Entry) → lacking c s' trace ≤ lacking c s trace
+  lacking_less : (s s' : ChainState) → NoneLacksMore s s' → (trace : List Entry) →
+      lacking c s' trace ≤ lacking c s trace
   lacking_less s s' more [] = omega arith
   lacking_less s s' more (e ∷ older) =
       let rest = lacking_less s s' more older in

@@ -142,7 +142,8 @@ module _ (c : Setting) (good : IsGood c) (s : ChainState) (h : Inv c s) (t : IsT
             let next_one = ended_next s.entered (with_at s.message p o) in
             let old = paid.paid in omega arith;
         idle = λ is. idle_stays (next c s (Enter p)) refl
-            (λ met. met_other (next c s (Enter p)) p o refl met (λ e. let far = met.behind in omega arith)) (paid.idle is);
+            (λ met. met_other (next c s (Enter p)) p o refl met (λ e. let far = met.behind in omega arith))
+            (paid.idle is);
       }
   pays (Take l p) legal other =
       let s' = next c s (Take l p) in
@@ -190,8 +191,8 @@ module _ (c : Setting) (good : IsGood c) (s : ChainState) (h : Inv c s) (t : IsT
             omega arith) in
             still_paid (next c s (Carry p)) refl (λ q less. gone_at p None (there_is p m legal.1) q)
             (λ idle. elim idle [
-              | inl empty ↦ inl (λ j q. or_from (s.forwarder j q) (logs_of (s.message p) j q && not (is_tail c j 0)) (empty j q)
-                  (and_left (logs_of (s.message p) j q) (not (is_tail c j 0)) (no_log j q)))
+              | inl empty ↦ inl (λ j q. or_from (s.forwarder j q) (logs_of (s.message p) j q && not (is_tail c j 0))
+                  (empty j q) (and_left (logs_of (s.message p) j q) (not (is_tail c j 0)) (no_log j q)))
               | inr met ↦ inr (met_other (next c s (Carry p)) p None refl met
                   (not_place met p m legal.1 (λ v is. by_ring legal.2 v (sym legal.3 ∙ is))))
             ])
