@@ -1,8 +1,8 @@
 -- The groups' tails: which group a server ends, and how far reaches what it knows.
-use Rattle.std.proofs.Common.{◌≡◌, ℕ, ◌+◌, ◌-◌, ◌<◌, ◌≤◌, ◌==◌, ◌&&◌, ◌⊎◌, Bool, true, false, nat_le, if◌then◌else◌}
-use Rattle.std.proofs.Common.{inl, inr, refl, sym, ap, subst, arith, eqb-true, eq-eqb, leb-true, leb-false}
+use Rattle.std.proofs.Common.{◌≡◌, ℕ, ◌+◌, ◌<◌, ◌==◌, ◌&&◌, Bool, true, false}
+use Rattle.std.proofs.Common.{refl, sym, ap, subst}
 use Rattle.ftc_journal.specs.declared.event.Event.{Event}
-use Rattle.ftc_ring.specs.Ring.{RingShape, apart}
+use Rattle.ftc_ring.specs.Ring.{RingShape}
 use Rattle.ftc_machine.specs.declared.state.MachineState.{MachineState}
 use Rattle.ftc_machine.specs.Represents.{Represents, FollowsRun, footprints_in, frontiers_of}
 use Rattle.ftc_protocol.specs.Known.{knows}
@@ -17,7 +17,6 @@ use Rattle.ftc_machine.specs.Lawful.{IsLawful}
 use Rattle.ftc_machine.proofs.LegalEvents.{reached_before, reached_below, reached_within}
 use Rattle.ftc_machine.proofs.GroupParts.{part_reaches}
 use Rattle.ftc_machine.proofs.MergedFrontiers.{merged_reaches, reach_moves}
-use Rattle.ftc_protocol.proofs.RingDistances.{apart_cases}
 
 -- tests that imply one another are equal
 pub same_test : (one other : Bool) → (one ≡ true → other ≡ true) → (other ≡ true → one ≡ true) → one ≡ other

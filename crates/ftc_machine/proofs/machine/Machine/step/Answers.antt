@@ -1,9 +1,8 @@
-use Rattle.std.proofs.Common.{◌≡◌, ◌++◌, ◌∷◌, [], ℕ, List, length, refl, sym, ap, subst, ◌∙◌}
+use Rattle.std.proofs.Common.{◌≡◌, ◌++◌, ◌∷◌, [], List, length, refl, sym, ap, subst, ◌∙◌}
 use Rattle.ftc_serial.specs.Packets.{bytes_of_packets}
 use Rattle.ftc_journal.specs.declared.event.Event.{Event}
 use Rattle.ftc_protocol.specs.Setting.{Setting, setting_of}
 use Rattle.ftc_protocol.specs.Legal.{IsLegal}
-use Rattle.ftc_machine.specs.Represents.{AreInputs}
 use Rattle.ftc_machine.specs.RunSoFar.{RunSoFar, IsRunSoFar, setting_in, machine_state}
 use Rattle.ftc_machine.proofs.RunInputs.{inputs_of}
 use Rattle.ftc_machine.proofs.RunsOnward.{still, servers_of, illegal, legal, goes_on}

@@ -1,4 +1,4 @@
-use Rattle.std.proofs.Common.{◌≡◌, ◌<◌, ◌==◌, ◌∙◌, ℕ, List, [], ap, arith}
+use Rattle.std.proofs.Common.{◌≡◌, ◌<◌, ◌==◌, ◌∙◌, [], ap, arith}
 use Rattle.std.proofs.lemmas.List.{get_or_read}
 use Rattle.ftc_vector.specs.Commits.{all_merged, group_raised}
 use Rattle.ftc_machine.specs.Represents.{frontiers_of}
