@@ -93,11 +93,7 @@ pub fn fetch_script<D: Desk>(
 }
 
 /// Fetches and reads chain, capture and script in this order, each before the next.
-pub fn read_inputs<D: Desk>(
-    alloc: Global,
-    names: Names<'_>,
-    desk: &mut D,
-) -> Result<Inputs, Status>
+pub fn read_inputs<D: Desk>(alloc: Global, names: Names<'_>, desk: &mut D) -> Result<Inputs, Status>
     ensures accepted { D.tells desk.old → IfOk result (λ inputs. AreInputs (named_of names.entry) (D.file desk.old)
         inputs.spec inputs.capture inputs.script) }
     ensures ring { IfOk result (λ inputs. inputs.script.ring ≡ ring_of inputs.spec) }

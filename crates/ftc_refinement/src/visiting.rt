@@ -17,8 +17,8 @@ ghost use Rattle.ftc_server.specs.Steps.{HasVisited};
 ghost use Rattle.ftc_refinement.specs.Contents.{IsServerAt};
 
 use ftc_protocol::order_of_a_state;
-use ftc_serial::{what_is_taken_in_turn, what_it_reads};
 use ftc_ring::ends;
+use ftc_serial::{what_is_taken_in_turn, what_it_reads};
 use ftc_standing::a_visit_is_made;
 
 /// What a slot runs is committed: its answers came in turn and are what the head's store has, so that its visit is the
