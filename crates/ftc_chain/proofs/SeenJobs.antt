@@ -1,6 +1,7 @@
--- The jobs of a chain that no slot runs.
-use Rattle.std.proofs.Common.{◌≡◌, ◌∙◌, ℕ, Bool, List, Option, ap, sym}
+-- The jobs of a chain that no slot runs, and those that are wanted.
+use Rattle.std.proofs.Common.{◌≡◌, ◌∙◌, ℕ, Bool, true, false, not, List, Option, ap, refl, sym}
 use Rattle.ftc_jobs.specs.All.{AreJobs, IsUntaken, is_running_by}
+use Rattle.ftc_jobs.specs.Beside.{is_wanted, IsWanted, IsNoneWanted}
 use Rattle.ftc_journal.specs.declared.job.Job.{Job}
 use Rattle.ftc_journal.specs.declared.job.Job.TheVariants as job
 use Rattle.ftc_protocol.specs.Setting.{Setting}
@@ -27,21 +28,52 @@ untaken_as runs other same (job.Recover server) is = is
 untaken_as runs other same (job.Pull link) is = is
 untaken_as runs other same (job.Propagate origin) is = is
 
--- the jobs that no slot of the network runs are those that no slot runs as a contract sees them
-pub seen_jobs : (given : Given) (course : Course) (setting : Setting) (state : ChainState) (jobs : List Job) →
-    AreJobs (is_running_by course.network) setting state jobs →
-    AreJobs (is_running_at (run_of given course)) setting state jobs
-seen_jobs given course setting state jobs are =
-    let seen = is_running_at (run_of given course) in
-    let runs = is_running_by course.network in
-    let same = λ (server packet : ℕ). ap (λ (head : Option HeadState). is_running_in head packet)
-    (head_as course.network.servers.items server) in
-    let back = λ (server packet : ℕ). ap (λ (head : Option HeadState). is_running_in head packet)
-    (sym (head_as course.network.servers.items server)) in
-    record {
+wanted_as : (visits : Bool) (runs other : ℕ → ℕ → Bool) →
+    ((server packet : ℕ) → other server packet ≡ runs server packet) → (done : Job) →
+    is_wanted visits other done ≡ is_wanted visits runs done
+wanted_as false runs other same done = refl
+wanted_as true runs other same (job.Visit server packet) = ap not (same server packet)
+wanted_as true runs other same (job.Enter packet) = refl
+wanted_as true runs other same (job.Take link origin) = refl
+wanted_as true runs other same (job.Apply server origin group packet) = refl
+wanted_as true runs other same (job.Pass server origin) = refl
+wanted_as true runs other same (job.Lose server origin) = refl
+wanted_as true runs other same (job.Carry origin) = refl
+wanted_as true runs other same (job.Crash server) = refl
+wanted_as true runs other same (job.Recover server) = refl
+wanted_as true runs other same (job.Pull link) = refl
+wanted_as true runs other same (job.Propagate origin) = refl
+
+module _ (given : Given) (course : Course) where
+  abbrev runs : ℕ → ℕ → Bool
+  runs = is_running_by course.network
+
+  abbrev seen : ℕ → ℕ → Bool
+  seen = is_running_at (run_of given course)
+
+  -- what slots run, as a contract sees it
+  runs_as : (server packet : ℕ) → seen server packet ≡ runs server packet
+  runs_as server packet = ap (λ (head : Option HeadState). is_running_in head packet)
+      (head_as course.network.servers.items server)
+
+  module _ (setting : Setting) (state : ChainState) where
+    -- the jobs that no slot of the network runs are those that no slot runs as a contract sees them
+    pub seen_jobs : (jobs : List Job) → AreJobs runs setting state jobs → AreJobs seen setting state jobs
+    seen_jobs jobs are = record {
       each = λ done. (
-        (λ any. let both = (are.each done).0 any in (both.0, untaken_as runs seen same done both.1)),
-        (λ both. (are.each done).1 (both.0, untaken_as seen runs back done both.1)),
+        (λ any. let both = (are.each done).0 any in (both.0, untaken_as runs seen runs_as done both.1)),
+        (λ both. (are.each done).1
+            (both.0, untaken_as seen runs (λ server packet. sym (runs_as server packet)) done both.1)),
       );
       once = are.once;
     }
+
+    -- and so it is with those that are wanted
+    pub seen_wanted : (visits : Bool) (done : Job) → IsWanted visits runs setting state done →
+        IsWanted visits seen setting state done
+    seen_wanted visits done is =
+        record { legal = is.legal; wanted = wanted_as visits runs seen runs_as done ∙ is.wanted }
+
+    pub seen_unwanted : (visits : Bool) → IsNoneWanted visits runs setting state →
+        IsNoneWanted visits seen setting state
+    seen_unwanted visits none done legal = wanted_as visits runs seen runs_as done ∙ none done legal

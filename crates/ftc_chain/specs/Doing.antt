@@ -9,6 +9,7 @@ use Rattle.ftc_protocol.specs.Run.{IsRunState}
 use Rattle.ftc_protocol.specs.Setting.{Setting, setting_of}
 use Rattle.ftc_protocol.specs.State.{ChainState}
 use Rattle.ftc_serial.specs.Packets.{bytes_of_packets}
+pub use Rattle.ftc_jobs.specs.Beside.{is_visit}
 use Rattle.ftc_network.specs.declared.network.Network.{Network}
 use Rattle.ftc_network.specs.Slots.{head_at, AreSameHeads, AreOtherHeads, IsIdleHead}
 use Rattle.ftc_network.specs.Stand.{IsNetwork}
@@ -22,10 +23,6 @@ pub record IsGiven (given : Given) : Type 0 where
   pub ring : given.script.now.ring
       ≡ record { servers = length given.spec.now.rules; failures = given.spec.now.failures }
   pub packets : given.script.now.packets ≡ length given.packets.now
-
-abbrev pub is_visit : Job → Bool
-is_visit (job.Visit server packet) = true
-is_visit other = false
 
 -- its event is the job with nothing added: a visit takes a slot besides, a recovery a list
 abbrev pub is_plain : Job → Bool

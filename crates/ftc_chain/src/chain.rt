@@ -13,7 +13,7 @@ use crate::messages::messages_in;
 use crate::outlet::Outlet;
 use crate::releasing::release_due;
 use ftc_base::{NoMemory, PacketNo, Released, ServerId, WorkerId};
-use ftc_jobs::{Jobs, all_jobs, first_job, is_legal};
+use ftc_jobs::{Jobs, all_jobs, first_job, free_visit, is_legal, other_job};
 use ftc_journal::{Event, Job, Journal};
 use ftc_mbox::ChainSpec;
 use ftc_message::Seen;
@@ -72,6 +72,7 @@ impl<'a> Chain<'a> {
     ghost use Rattle.ftc_chain.specs.Slots.{HeadsAfter};
     ghost use Rattle.ftc_network.specs.Slots.{IsIdleHead};
     ghost use Rattle.ftc_jobs.specs.All.{AreJobs};
+    ghost use Rattle.ftc_jobs.specs.Beside.{IsWanted, IsNoneWanted};
     ghost use Rattle.ftc_protocol.specs.Jobs.{IsLegalJob, IsFirstJob};
     ghost use Rattle.ftc_protocol.specs.Moment.{IsSound};
     ghost use Rattle.ftc_protocol.specs.Run.{IsRun, IsFinished};
@@ -147,6 +148,34 @@ impl<'a> Chain<'a> {
         let _ = self.given.script.ring();
         let packets = self.given.packets.len() as u32;
         first_job(&self.course.network, self.given.script, packets)
+    }
+
+    /// A visit that is legal and that no slot runs. None where each legal visit is run by some slot.
+    pub fn free_visit(&self) -> Option<Job>
+        ensures some { IfSome result (λ job.
+            ∥ IsWanted true (is_running_at self.now) (setting_in self.now) (chain_state self.now) job ∥₁) }
+        ensures none { IsNone result →
+            IsNoneWanted true (is_running_at self.now) (setting_in self.now) (chain_state self.now) }
+    {
+        accepted();
+        few_propagates();
+        let _ = self.given.script.ring();
+        let _ = self.given.packets.len();
+        free_visit(&self.course.network, self.given.script)
+    }
+
+    /// A legal job that is no visit. None where only visits are legal.
+    pub fn other_job(&self) -> Option<Job>
+        ensures some { IfSome result (λ job.
+            ∥ IsWanted false (is_running_at self.now) (setting_in self.now) (chain_state self.now) job ∥₁) }
+        ensures none { IsNone result →
+            IsNoneWanted false (is_running_at self.now) (setting_in self.now) (chain_state self.now) }
+    {
+        accepted();
+        few_propagates();
+        let _ = self.given.script.ring();
+        let packets = self.given.packets.len() as u32;
+        other_job(&self.course.network, self.given.script, packets)
     }
 
     /// Whether no event is legal any more.

@@ -3,7 +3,7 @@
 ghost use Rattle.std.specs.Prelude.{◌≡◌, IfOk};
 
 use crate::Chain;
-use ftc_base::{Bytes, Items};
+use ftc_base::{Bytes, Items, ServerId};
 use ftc_journal::Job;
 use ftc_mbox::{ChainSpec, Rule};
 use ftc_pcap::{Packet, Packets};
@@ -58,6 +58,8 @@ fn at_first_a_packet_enters(rt: HostRuntime) -> Result<(), Fail> {
     let chain = Chain::new(alloc, &spec, &packets, &script)?;
     let enter = Job::Enter { packet: 0 };
     assert_eq!(rt; chain.next(), Some(enter));
+    assert_eq!(rt; chain.other_job(), Some(enter));
+    assert_eq!(rt; chain.free_visit(), None);
     assert!(rt; chain.legal(&enter));
     assert!(rt; !chain.legal(&Job::Enter { packet: 1 }));
     assert!(rt; !chain.legal(&Job::Propagate { origin: 1 }));
@@ -66,6 +68,24 @@ fn at_first_a_packet_enters(rt: HostRuntime) -> Result<(), Fail> {
     assert_eq!(rt; chain.packets().len(), 1);
     assert_eq!(rt; chain.spec().failures(), 0);
     assert_eq!(rt; chain.script().steps(), 0);
+    Ok(())
+}
+
+#[test]
+fn a_packet_that_entered_is_to_be_visited(rt: HostRuntime) -> Result<(), Fail> {
+    let alloc = rt.alloc();
+    let spec = two_passes(alloc)?;
+    let packets = one_packet(alloc)?;
+    let ring = ring_of(&spec);
+    let script = empty_script(alloc, &ring, packets.len() as u32)?;
+    let mut chain = Chain::new(alloc, &spec, &packets, &script)?;
+    let enter = Job::Enter { packet: 0 };
+    if chain.legal(&enter) {
+        chain.step(&enter)?;
+    }
+    let server = ServerId::new(0).unwrap();
+    assert_eq!(rt; chain.free_visit(), Some(Job::Visit { server, packet: 0 }));
+    assert_eq!(rt; chain.other_job(), None);
     Ok(())
 }
 

@@ -6,8 +6,10 @@ mod FirstWork
 mod JobKinds
 mod LinesInOrder
 mod NextLine
+mod RunVisit
 mod Sizes
 mod Standing
 mod TwoParts
+mod Wanted
 mod WorkAt
 mod WorkInTurn

@@ -5,3 +5,4 @@ pub mod Quiet
 pub mod Applies
 pub mod Works
 pub mod All
+pub mod Beside

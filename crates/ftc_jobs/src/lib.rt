@@ -3,6 +3,7 @@
 
 mod all;
 mod applies;
+mod beside;
 mod first;
 mod legal;
 mod lines;
@@ -13,6 +14,7 @@ mod tasks;
 mod works;
 
 pub use all::{Jobs, all_jobs};
+pub use beside::{free_visit, other_job};
 pub use first::first_job;
 pub use legal::is_legal;
 pub use links::oldest_at;

@@ -10,6 +10,7 @@ ghost use Rattle.ftc_script.specs.declared.line.ScriptLine.{ScriptLine as ALine}
 ghost use Rattle.ftc_script.specs.Steps.{at_of};
 ghost use Rattle.ftc_jobs.specs.Rest.{IsAtRest};
 ghost use Rattle.ftc_jobs.specs.Lines.{job_of_line};
+ghost use Rattle.ftc_jobs.specs.Beside.{IsOtherJob};
 
 use ftc_base::PacketNo;
 use ftc_journal::Job;
@@ -48,6 +49,8 @@ pub fn first_line(network: &Network, script: &Script) -> Option<Job>
     ensures some { IfSome result (λ job. (setting : Setting) (state : ChainState) (packets : ℕ) →
         IsAtRest setting state script.now packets network.now → IsNoPull setting state → AreIdle setting state →
         IsNoTake setting state → IsInTurn setting state job) }
+    ensures other { IfSome result (λ job. (setting : Setting) (state : ChainState) (packets : ℕ) →
+        IsAtRest setting state script.now packets network.now → IsOtherJob setting state job) }
     ensures none { IsNone result → (setting : Setting) (state : ChainState) (packets : ℕ) →
         IsAtRest setting state script.now packets network.now → IsNoLine setting state }
 {
@@ -76,6 +79,8 @@ pub fn first_enter(network: &Network, script: &Script, packets: u32) -> Option<J
     ensures some { IfSome result (λ job. (setting : Setting) (state : ChainState) →
         IsAtRest setting state script.now packets network.now → IsNoPull setting state → AreIdle setting state →
         IsNoTake setting state → IsNoLine setting state → IsInTurn setting state job) }
+    ensures other { IfSome result (λ job. (setting : Setting) (state : ChainState) →
+        IsAtRest setting state script.now packets network.now → IsOtherJob setting state job) }
     ensures none { IsNone result → (setting : Setting) (state : ChainState) →
         IsAtRest setting state script.now packets network.now → IsNoEnter setting state }
 {

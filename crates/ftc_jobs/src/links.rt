@@ -7,6 +7,7 @@ ghost use Rattle.ftc_protocol.specs.State.{ChainState};
 ghost use Rattle.ftc_protocol.specs.Jobs.{IsLegalJob, IsInTurn, IsNoPull, IsNoTake, AreIdle};
 ghost use Rattle.ftc_network.specs.Stand.{IsNetwork};
 ghost use Rattle.ftc_jobs.specs.Rest.{IsResting};
+ghost use Rattle.ftc_jobs.specs.Beside.{IsOtherJob};
 
 use crate::places::{link_at, server_at};
 use ftc_base::{PacketNo, ServerId};
@@ -40,6 +41,8 @@ pub fn first_pull(network: &Network) -> Option<Job>
     ensures some { IfSome result (λ job. (setting : Setting) (state : ChainState) →
         IsResting setting state network.now →
         IsInTurn setting state job) }
+    ensures other { IfSome result (λ job. (setting : Setting) (state : ChainState) →
+        IsResting setting state network.now → IsOtherJob setting state job) }
     ensures none { IsNone result → (setting : Setting) (state : ChainState) → IsResting setting state network.now →
         IsNoPull setting state }
 {
@@ -68,6 +71,8 @@ pub fn first_take(network: &Network) -> Option<Job>
     ensures some { IfSome result (λ job. (setting : Setting) (state : ChainState) →
         IsResting setting state network.now →
         IsNoPull setting state → AreIdle setting state → IsInTurn setting state job) }
+    ensures other { IfSome result (λ job. (setting : Setting) (state : ChainState) →
+        IsResting setting state network.now → IsOtherJob setting state job) }
     ensures none { IsNone result → (setting : Setting) (state : ChainState) → IsResting setting state network.now →
         IsNoTake setting state }
 {

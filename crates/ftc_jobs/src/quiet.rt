@@ -10,6 +10,7 @@ ghost use Rattle.ftc_network.specs.Parts.{server_in};
 ghost use Rattle.ftc_jobs.specs.Rest.{IsAtRest};
 ghost use Rattle.ftc_jobs.specs.Quiet.{all_by_ring, came_by_ring, has_forwarded, holds_nothing, is_clear, none_held};
 ghost use Rattle.ftc_jobs.specs.Quiet.{all_clear, all_up, is_wanted, may_begin};
+ghost use Rattle.ftc_jobs.specs.Beside.{IsOtherJob};
 
 use ftc_base::PacketNo;
 use ftc_journal::Job;
@@ -125,6 +126,8 @@ pub fn first_propagate(network: &Network, packets: u32) -> Option<Job>
     ensures some { IfSome result (λ job. (setting : Setting) (state : ChainState) (script : ScriptShape) →
         IsAtRest setting state script packets network.now → IsNoPull setting state → AreIdle setting state →
         IsNoTake setting state → IsNoLine setting state → IsNoEnter setting state → IsInTurn setting state job) }
+    ensures other { IfSome result (λ job. (setting : Setting) (state : ChainState) (script : ScriptShape) →
+        IsAtRest setting state script packets network.now → IsOtherJob setting state job) }
     ensures none { IsNone result → (setting : Setting) (state : ChainState) (script : ScriptShape) →
         IsAtRest setting state script packets network.now → (origin : ℕ) →
         IsLegalJob setting state (job.Propagate origin) → ⊥ }

@@ -1,7 +1,7 @@
 ghost use Rattle.std.specs.Prelude.{◌≡◌, ◌<◌, ℕ, None, [], IfOk};
 ghost use Rattle.ftc_txn.specs.Slots.{slot_at};
 
-use crate::{all_jobs, first_job, is_legal};
+use crate::{all_jobs, first_job, free_visit, is_legal, other_job};
 use ftc_base::{Bytes, NoMemory, PacketNo, ServerId, WorkerId};
 use ftc_journal::Job;
 use ftc_link::Link;
@@ -102,6 +102,8 @@ fn a_packet_enters_and_then_nothing_is_left(rt: HostRuntime) -> Result<(), Fail>
     };
     let enter = Job::Enter { packet: 0 };
     assert_eq!(rt; first_job(&network, &script, 1), Some(enter));
+    assert_eq!(rt; other_job(&network, &script, 1), Some(enter));
+    assert_eq!(rt; free_visit(&network, &script), None);
     assert!(rt; is_legal(&network, &script, 1, &enter));
     assert!(rt; !is_legal(&network, &script, 1, &Job::Enter { packet: 1 }));
     network.entered = 1;
@@ -119,10 +121,13 @@ fn a_held_packet_is_visited_before_others_enter(rt: HostRuntime) -> Result<(), F
     };
     let server = ServerId::new(0).unwrap();
     let visit = Job::Visit { server, packet: 0 };
+    let enter = Job::Enter { packet: 1 };
     assert_eq!(rt; first_job(&network, &script, 2), Some(visit));
+    assert_eq!(rt; free_visit(&network, &script), Some(visit));
+    assert_eq!(rt; other_job(&network, &script, 2), Some(enter));
     assert!(rt; is_legal(&network, &script, 2, &visit));
     assert!(rt; !is_legal(&network, &script, 2, &Job::Lose { server, origin: 0 }));
-    assert!(rt; is_legal(&network, &script, 2, &Job::Enter { packet: 1 }));
+    assert!(rt; is_legal(&network, &script, 2, &enter));
     Ok(())
 }
 
@@ -160,6 +165,8 @@ fn a_visit_that_a_slot_runs_is_left_out(rt: HostRuntime) -> Result<(), Fail> {
     running.entered = 1;
     let jobs = all_jobs(rt.alloc(), &running, &script, 1)?;
     assert!(rt; jobs.as_slice().is_empty());
+    assert_eq!(rt; free_visit(&running, &script), None);
+    assert_eq!(rt; other_job(&running, &script, 1), None);
     assert!(rt; is_legal(&running, &script, 1, &visit));
     Ok(())
 }

@@ -49,7 +49,7 @@ fn leave_job(network: &Network, script: &Script, server: ServerId, origin: Packe
 }
 
 /// The job of a held message's work.
-fn job_of_work(
+pub fn job_of_work(
     network: &Network,
     script: &Script,
     server: ServerId,
@@ -79,7 +79,7 @@ fn job_of_work(
 }
 
 /// The logs of each held message rise: the type of a server says so.
-fn are_rising(_server: &Server)
+pub fn are_rising(_server: &Server)
     ensures { AllByRecursion IsRising _server.now.held.items }
 {}
 

@@ -1,4 +1,4 @@
-use Rattle.std.proofs.Common.{◌∙◌, ◌<◌, ℕ, inl, inr, sym, subst, arith}
+use Rattle.std.proofs.Common.{◌∙◌, ◌<◌, ℕ, inl, inr, refl, sym, subst, arith}
 use Rattle.std.proofs.lemmas.Bool.{cases_eq, cases_lt}
 use Rattle.ftc_journal.specs.declared.job.Job.TheVariants as job
 use Rattle.ftc_protocol.specs.Setting.{servers}
@@ -31,3 +31,7 @@ returns-clause-none c none setting state rest link origin legal =
       | inl below ↦ c.loop-number.invariant setting state rest link origin (omega arith) legal
       | inr outside ↦ c.what_a_link_offers.ensures.outside setting state link origin rest.run outside legal
     ]
+
+pub returns-in-Some-clause-other : goal.returns-in-Some-clause-other
+returns-in-Some-clause-other c setting state rest =
+    record { legal = (c.oldest_at.ensures setting state c.in-Some.origin rest).0 c.in-Some.is; other = refl }

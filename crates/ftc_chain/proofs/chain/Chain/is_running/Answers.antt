@@ -1,9 +1,8 @@
-use Rattle.std.proofs.Common.{◌≡◌, ◌∙◌, Option, sym, ap}
+use Rattle.std.proofs.Common.{◌∙◌, Option, sym, ap}
 use Rattle.std.proofs.Math.Logic.{∥∥₁_elim}
 use Rattle.std.specs.Coded.{Coded-set, coded_bool}
 use Rattle.ftc_txn.specs.Head.{HeadState}
 use Rattle.ftc_network.specs.Slots.{is_running_in}
-use Rattle.ftc_chain.specs.ChainRun.{ChainRun}
 use Rattle.ftc_chain.specs.Doing.{setting_by}
 use Rattle.ftc_chain.proofs.HeadsSeen.{head_seen}
 use Rattle.ftc_chain.proofs.chain.Chain.is_running.Goals as goal
