@@ -1,12 +1,12 @@
 -- Jobs that a worker may do.
-use Rattle.std.proofs.Common.{◌≡◌, ◌<◌, ◌∷◌, [], inl, inr, ℕ, zero, suc, false, List, get_or, length, refl, sym, arith}
+use Rattle.std.proofs.Common.{◌≡◌, ℕ, Bool, true, false, not, refl}
 use Rattle.std.proofs.Math.Logic.{∥∥₁_map, ∥∥₁_elim}
 use Rattle.std.specs.Coded.{Coded-set, coded_bool}
 use Rattle.ftc_journal.specs.declared.job.Job.{Job}
 use Rattle.ftc_journal.specs.declared.job.Job.TheVariants as job
-use Rattle.ftc_jobs.specs.All.{AreJobs, IsUntaken}
+use Rattle.ftc_jobs.specs.All.{IsUntaken}
+use Rattle.ftc_jobs.specs.Beside.{is_visit, is_wanted, IsWanted}
 use Rattle.ftc_protocol.specs.Jobs.{IsFirstJob}
-use Rattle.ftc_serial.specs.Words.{AnyOf}
 use Rattle.ftc_chain.specs.ChainRun.{ChainRun, setting_in, chain_state}
 use Rattle.ftc_chain.specs.Slots.{is_running_at}
 use Rattle.ftc_workers.specs.Choices.{is_run, MayBegin}
@@ -34,34 +34,39 @@ may_first run done free first = record {
   untaken = untaken_step run done free;
 }
 
--- a job of the list of those that nobody does
-untaken_listed : (run : ChainRun) (jobs : List Job) (done : Job) →
-    ∥ AreJobs (is_running_at run) (setting_in run) (chain_state run) jobs ∥₁ →
-    AnyOf (λ (other : Job). other ≡ done) jobs → IsUntaken (is_running_at run) done
-untaken_listed run jobs (job.Visit server packet) are any =
-    ∥∥₁_elim are (Coded-set coded_bool _ _) (λ is. ((is.each (job.Visit server packet)).0 any).1)
-untaken_listed run jobs (job.Enter packet) are any = tt
-untaken_listed run jobs (job.Take link origin) are any = tt
-untaken_listed run jobs (job.Apply server origin group packet) are any = tt
-untaken_listed run jobs (job.Pass server origin) are any = tt
-untaken_listed run jobs (job.Lose server origin) are any = tt
-untaken_listed run jobs (job.Carry origin) are any = tt
-untaken_listed run jobs (job.Crash server) are any = tt
-untaken_listed run jobs (job.Recover server) are any = tt
-untaken_listed run jobs (job.Pull link) are any = tt
-untaken_listed run jobs (job.Propagate origin) are any = tt
+not_so : (b : Bool) → not b ≡ true → b ≡ false
+not_so true is = absurd cc
+not_so false is = refl
 
-pub may_listed : (run : ChainRun) (jobs : List Job) (done : Job) →
-    ∥ AreJobs (is_running_at run) (setting_in run) (chain_state run) jobs ∥₁ →
-    AnyOf (λ (other : Job). other ≡ done) jobs → MayBegin run done
-may_listed run jobs done are any = record {
-  legal = ∥∥₁_map are (λ is. ((is.each done).0 any).0);
-  untaken = untaken_listed run jobs done are any;
+-- a wanted job is nobody's
+untaken_wanted : (run : ChainRun) (visits : Bool) (done : Job) → is_wanted visits (is_running_at run) done ≡ true →
+    IsUntaken (is_running_at run) done
+untaken_wanted run true (job.Visit server packet) wanted = not_so (is_running_at run server packet) wanted
+untaken_wanted run false (job.Visit server packet) wanted = absurd cc
+untaken_wanted run visits (job.Enter packet) wanted = tt
+untaken_wanted run visits (job.Take link origin) wanted = tt
+untaken_wanted run visits (job.Apply server origin group packet) wanted = tt
+untaken_wanted run visits (job.Pass server origin) wanted = tt
+untaken_wanted run visits (job.Lose server origin) wanted = tt
+untaken_wanted run visits (job.Carry origin) wanted = tt
+untaken_wanted run visits (job.Crash server) wanted = tt
+untaken_wanted run visits (job.Recover server) wanted = tt
+untaken_wanted run visits (job.Pull link) wanted = tt
+untaken_wanted run visits (job.Propagate origin) wanted = tt
+
+is_so : (run : ChainRun) (visits : Bool) (done : Job) →
+    ∥ IsWanted visits (is_running_at run) (setting_in run) (chain_state run) done ∥₁ →
+    is_wanted visits (is_running_at run) done ≡ true
+is_so run visits done is = ∥∥₁_elim is (Coded-set coded_bool _ _) (λ it. it.wanted)
+
+pub may_wanted : (run : ChainRun) (visits : Bool) (done : Job) →
+    ∥ IsWanted visits (is_running_at run) (setting_in run) (chain_state run) done ∥₁ → MayBegin run done
+may_wanted run visits done is = record {
+  legal = ∥∥₁_map is (λ it. it.legal);
+  untaken = untaken_wanted run visits done (is_so run visits done is);
 }
 
--- the item at a place of the list is in it
-pub any_at : (jobs : List Job) (place : ℕ) (done : Job) → place < length jobs → done ≡ get_or jobs place done →
-    AnyOf (λ (other : Job). other ≡ done) jobs
-any_at [] place done below is = absurd (omega (arith, below))
-any_at (one ∷ jobs) zero done below is = inl (sym is)
-any_at (one ∷ jobs) (suc place) done below is = inr (any_at jobs place done (omega (arith, below)) is)
+-- what is wanted where visits aren't is no visit
+pub other_wanted : (run : ChainRun) (done : Job) →
+    ∥ IsWanted false (is_running_at run) (setting_in run) (chain_state run) done ∥₁ → is_visit done ≡ false
+other_wanted run done is = not_so (is_visit done) (is_so run false done is)

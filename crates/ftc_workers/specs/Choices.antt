@@ -1,6 +1,7 @@
 -- Which jobs a worker may do.
-use Rattle.std.specs.Prelude.{ℕ, Bool, false, ⊤}
+use Rattle.std.specs.Prelude.{ℕ, ◌≡◌, Bool, false, ⊤}
 use Rattle.ftc_jobs.specs.All.{IsUntaken}
+use Rattle.ftc_jobs.specs.Beside.{is_visit}
 use Rattle.ftc_journal.specs.declared.job.Job.{Job}
 use Rattle.ftc_journal.specs.declared.job.Job.TheVariants as job
 use Rattle.ftc_protocol.specs.Jobs.{IsLegalJob}
@@ -23,3 +24,8 @@ pub record MayBegin (run : ChainRun) (job : Job) : Type 0 where
 abbrev pub IsChoice : ChainRun → Choice → Type 0
 IsChoice run (choice.Do job) = MayBegin run job
 IsChoice run other = ⊤
+
+-- a job that was chosen is no visit
+abbrev pub IsOther : Choice → Type 0
+IsOther (choice.Do job) = is_visit job ≡ false
+IsOther other = ⊤

@@ -4,7 +4,8 @@ ghost use Rattle.std.specs.Prelude.{◌≡◌, ◌≤◌, ◌<◌, OnOk, OnErr};
 ghost use Rattle.ftc_base.specs.declared.limits.TheConstants.{MOST_THREADS};
 ghost use Rattle.ftc_stream.specs.Ending.{Ended};
 
-use crate::shared::{Shared, end, stop, wait_to_write, write};
+use crate::office::close;
+use crate::shared::{Shared, end, free, wait_to_write, write};
 use crate::spreading::spread;
 use crate::tally::{Run, Tally};
 use ftc_outside::Gate;
@@ -47,7 +48,8 @@ fn write_beside<L: Run, R: Wait, S: Sink>(
 {
     let result = write_while(rt, shared, sink);
     if result.is_err() {
-        stop(rt, shared);
+        close(rt, &shared.office);
+        free(shared);
     }
     result
 }

@@ -1,16 +1,13 @@
 //! Which job a worker does next.
 
-ghost use Rattle.std.specs.Prelude.{◌≡◌, IfSome};
-ghost use Rattle.ftc_serial.specs.Words.{AnyOf};
-ghost use Rattle.ftc_journal.specs.declared.job.Job.{Job as AJob};
+ghost use Rattle.std.specs.Prelude.{◌≡◌};
 ghost use Rattle.ftc_chain.specs.Slots.{is_running_at};
-ghost use Rattle.ftc_workers.specs.Choices.{is_run, IsChoice};
+ghost use Rattle.ftc_workers.specs.Choices.{is_run, IsChoice, IsOther};
 
-use ftc_base::NoMemory;
-use ftc_chain::{Chain, Jobs};
+use ftc_chain::Chain;
 use ftc_journal::Job;
 
-/// While fewer messages are held or queued, a worker lets packets in beside other work.
+/// While fewer messages are held or queued, a packet is let in beside other work.
 const MOST_UNDER_WAY: u64 = 256;
 
 /// What a worker does next.
@@ -18,12 +15,10 @@ const MOST_UNDER_WAY: u64 = 256;
 pub enum Choice {
     /// This job.
     Do(Job),
-    /// It waits: what could be done is visits that other workers run.
+    /// Nothing now: what could be done is visits, or nothing until other workers have done theirs.
     Wait,
     /// Nothing more: the run is finished.
     Finished,
-    /// Nothing more: there was no memory.
-    NoMemory,
 }
 
 /// Whether a job is an enter.
@@ -34,56 +29,49 @@ fn is_enter(job: &Job) -> bool {
     }
 }
 
-/// Whether a job is no enter.
-fn is_work(job: &Job) -> bool {
-    !is_enter(job)
+/// A visit that no slot runs.
+pub fn choose_visit(chain: &Chain<'_>) -> Choice
+    ensures { IsChoice chain.now result }
+{
+    match chain.free_visit() {
+        Some(job) => Choice::Do(job),
+        None => Choice::Wait,
+    }
 }
 
-/// The first job of the list that is no enter.
-fn first_work(jobs: &Jobs) -> Option<Job>
-    ensures { IfSome result (λ job. AnyOf (λ (other : AJob). other ≡ job) jobs.now) }
+/// Whether a packet is let in: few messages are under way, and no visit waits for a worker, as may be known before.
+fn lets_in(chain: &Chain<'_>, none_waits: bool) -> bool {
+    chain.messages() < MOST_UNDER_WAY && (none_waits || chain.free_visit().is_none())
+}
+
+/// A job that is no visit.
+pub fn choose_other(chain: &Chain<'_>, none_waits: bool) -> Choice
+    ensures may { IsChoice chain.now result }
+    ensures other { IsOther result }
 {
-    for job in jobs.as_slice() {
-        if is_work(job) {
-            return Some(*job);
+    match chain.other_job() {
+        Some(job) => {
+            if is_enter(&job) && !lets_in(chain, none_waits) {
+                return Choice::Wait;
+            }
+            Choice::Do(job)
+        }
+        None => {
+            if chain.finished() {
+                return Choice::Finished;
+            }
+            Choice::Wait
         }
     }
-    None
 }
 
-/// The enter of the list.
-fn first_enter(jobs: &Jobs) -> Option<Job>
-    ensures { IfSome result (λ job. AnyOf (λ (other : AJob). other ≡ job) jobs.now) }
-{
-    for job in jobs.as_slice() {
-        if is_enter(job) {
-            return Some(*job);
-        }
-    }
-    None
-}
-
-/// The first job of the list that is no enter. Where there is none, the enter, if packets are let in.
-fn pick(jobs: &Jobs, lets_in: bool) -> Option<Job>
-    ensures { IfSome result (λ job. AnyOf (λ (other : AJob). other ≡ job) jobs.now) }
-{
-    match first_work(jobs) {
-        Some(job) => Some(job),
-        None => if lets_in { first_enter(jobs) } else { None },
-    }
-}
-
-/// A job that isn't a visit which some slot runs. The first job is one.
+/// A visit that no slot runs, or else another job.
 fn choose_beside(chain: &Chain<'_>) -> Choice
     ensures { IsChoice chain.now result }
 {
-    let Ok(jobs) = chain.jobs() else {
-        return Choice::NoMemory;
-    };
-    let lets_in = chain.messages() < MOST_UNDER_WAY;
-    match pick(&jobs, lets_in) {
-        Some(job) => Choice::Do(job),
-        None => Choice::Wait,
+    match choose_visit(chain) {
+        Choice::Do(job) => Choice::Do(job),
+        _ => choose_other(chain, true),
     }
 }
 
@@ -97,8 +85,7 @@ fn is_run(chain: &Chain<'_>, job: &Job) -> bool
     }
 }
 
-/// The first job, where no slot runs it: it needs neither memory nor a list, and where it is an enter, there is no work
-/// beside it. Where a slot runs the visit that it is, a job is taken from the list of those that no slot runs.
+/// The first job, where no slot runs it: it is found soonest. Where a slot runs the visit that it is, a job beside it.
 pub fn choose(chain: &Chain<'_>) -> Choice
     ensures { IsChoice chain.now result }
 {

@@ -9,7 +9,6 @@ ghost use Rattle.ftc_workers.specs.Visits.{visits};
 
 use crate::beside::{Back, run_beside, write_after};
 use crate::latch::Latch;
-use crate::leading::Lead;
 use crate::shared::Shared;
 use crate::tally::{Run, Tally};
 use ftc_chain::Chain;
@@ -55,8 +54,7 @@ fn drive_named<'a, L: Run + Send + Sync, R: Threads + Wait + Sync, G: Gate, S: S
 {
     let (book, share) = blank.open::<L>();
     let all = Tally { share, count: 0 };
-    let lead = Lead::new(!gate.is_open());
-    let shared = Shared::new(Latch::new(chain, book, Some(sender), lead));
+    let shared = Shared::new(Latch::new(chain, book, Some(sender)), workers);
     let Back { all, sink, result } = run_beside(rt, alloc, &shared, workers, gate, all, sink);
     let result = write_after(sink, result);
     let (chain, commits) = shared.into_inner().close(all);

@@ -5,15 +5,14 @@ ghost use Rattle.std.specs.Prelude.{◌≡◌, ◌≤◌, ◌<◌, ◌+◌, fals
 ghost use Rattle.ftc_journal.specs.declared.job.Job.TheVariants as job;
 ghost use Rattle.ftc_chain.specs.Doing.{is_visit};
 ghost use Rattle.ftc_chain.specs.Slots.{IsIdle, AreIdle};
-ghost use Rattle.ftc_workers.specs.Choices.{MayBegin};
+ghost use Rattle.ftc_workers.specs.Choices.{MayBegin, IsChoice};
 ghost use Rattle.ftc_workers.specs.Given.{given_of};
 ghost use Rattle.ftc_workers.specs.Outlets.{sent_of, room_of};
 ghost use Rattle.ftc_workers.specs.Visits.{visits};
 
 use crate::batch::Batch;
 use crate::calls::{begin, commit, few, quit, read, step, take_seen};
-use crate::choosing::{Choice, choose};
-use crate::leading::Lead;
+use crate::choosing::{Choice, choose, choose_other, choose_visit};
 use crate::outlet::pass_on;
 use crate::tally::{Run, Tally};
 use ftc_base::{Answers, Bytes, Key, NoMemory, PacketNo, ServerId, WorkerId};
@@ -34,21 +33,19 @@ pub struct Latch<'a, L: Run> {
     pub book: Book<L>,
     /// Where released packets go, where they are taken out.
     pub outlet: Option<Sender>,
-    pub lead: Lead,
     pub batch: Batch,
     /// All workers ended.
     pub ended: bool,
-    /// The writer met a fault, and the workers are to end.
-    pub stopped: bool,
     pub ghost counted: { visits chain.journal ≡ L.start + book.total },
     pub ghost given: { given_of chain ≡ L.given },
     pub ghost sent: { sent_of outlet chain.drained ≡ chain.drained },
     pub ghost room: { length chain.packets ≤ room_of outlet (length chain.packets) },
 }
 
-/// A visit that a worker began: the server, and the packet as it is there.
+/// A visit that was begun in a slot: the server, and the packet as it is there.
 #[derive(Debug, Drop)]
 pub struct Begun {
+    pub slot: WorkerId,
     pub server: ServerId,
     pub packet: PacketNo,
     pub bytes: Bytes,
@@ -69,14 +66,16 @@ pub enum Found {
     Stepped,
     /// It made a step, or gave a visit up, after which slots that were blocked may go on.
     Freed,
-    /// It began this visit.
+    /// It began this visit, in its own slot or in that of a worker that waits for one.
     Begun(Begun),
     /// It copied this frame.
     Copied(Copied),
-    /// It waits.
+    /// Nothing now.
     Nothing,
-    /// It ends.
-    End,
+    /// Nothing more: the run is finished.
+    Finished,
+    /// Nothing: there was no memory, or no age was left.
+    Failed,
 }
 
 /// What was found, where the step that was made frees slots.
@@ -89,7 +88,7 @@ fn freed_by(found: Found) -> Found {
 
 impl<'a, L: Run> Latch<'a, L> {
     /// All slots are idle, and nothing was counted yet.
-    pub fn new(chain: Chain<'a>, book: Book<L>, outlet: Option<Sender>, lead: Lead) -> Latch<'a, L>
+    pub fn new(chain: Chain<'a>, book: Book<L>, outlet: Option<Sender>) -> Latch<'a, L>
         requires start { visits chain.journal ≡ L.start + book.total }
         requires given { given_of chain ≡ L.given }
         requires idle { AreIdle chain }
@@ -100,10 +99,8 @@ impl<'a, L: Run> Latch<'a, L> {
             chain,
             book,
             outlet,
-            lead,
             batch: Batch::new(),
             ended: false,
-            stopped: false,
         }
     }
 
@@ -118,18 +115,32 @@ impl<'a, L: Run> Latch<'a, L> {
         requires idle { IsIdle self.old.chain worker }
     {
         if !self.chain.ages_left(server) {
-            return Found::End;
+            return Found::Failed;
         }
         begin(&mut self.chain, worker, server, packet);
-        match self.chain.look(worker) {
-            Ok(Some(bytes)) => Found::Begun(Begun {
-                server,
-                packet,
-                bytes,
-            }),
+        match self.look(worker, server, packet) {
+            Ok(Some(begun)) => Found::Begun(begun),
             Ok(None) => Found::Stepped,
-            Err(_) => Found::End,
+            Err(_) => Found::Failed,
         }
+    }
+
+    /// What a slot runs at a server, with the packet as it is there. None where it runs nothing.
+    pub fn look(
+        &self,
+        slot: WorkerId,
+        server: ServerId,
+        packet: PacketNo,
+    ) -> Result<Option<Begun>, NoMemory> {
+        let Some(bytes) = self.chain.look(slot)? else {
+            return Ok(None);
+        };
+        Ok(Some(Begun {
+            slot,
+            server,
+            packet,
+            bytes,
+        }))
     }
 
     /// Makes the step of a job other than a visit.
@@ -139,7 +150,7 @@ impl<'a, L: Run> Latch<'a, L> {
     {
         match step(&mut self.chain, job) {
             Ok(()) => Found::Stepped,
-            Err(_) => Found::End,
+            Err(_) => Found::Failed,
         }
     }
 
@@ -158,6 +169,18 @@ impl<'a, L: Run> Latch<'a, L> {
         }
     }
 
+    /// Makes the step of a job that is no visit, or copies the frame that it takes.
+    fn make_other(&mut self, job: &Job) -> Found
+        requires other { is_visit job.now ≡ false }
+        requires may { MayBegin self.old.chain job.now }
+    {
+        match *job {
+            Job::Take { link, origin } => self.copy(job, link, origin),
+            Job::Crash { .. } => freed_by(self.step(job)),
+            _ => self.step(job),
+        }
+    }
+
     /// Begins the visit of a job, copies the frame that it takes, or makes its step.
     fn make(&mut self, worker: WorkerId, job: &Job) -> Found
         requires may { MayBegin self.old.chain job.now }
@@ -165,9 +188,7 @@ impl<'a, L: Run> Latch<'a, L> {
     {
         match *job {
             Job::Visit { server, packet } => self.begin(worker, server, packet),
-            Job::Take { link, origin } => self.copy(job, link, origin),
-            Job::Crash { .. } => freed_by(self.step(job)),
-            _ => self.step(job),
+            _ => self.make_other(job),
         }
     }
 
@@ -179,25 +200,48 @@ impl<'a, L: Run> Latch<'a, L> {
         take_seen(&mut self.chain, link, seen).is_ok()
     }
 
-    /// Makes a step or begins a visit. A slot that runs something gives that up first.
-    pub fn find(&mut self, worker: WorkerId) -> Found {
-        if self.stopped {
-            return Found::End;
+    /// Does what was chosen, in that slot, where it is a visit.
+    fn follow(&mut self, slot: WorkerId, choice: Choice) -> Found
+        requires may { IsChoice self.old.chain choice }
+        requires idle { IsIdle self.old.chain slot }
+    {
+        match choice {
+            Choice::Do(job) => self.make(slot, &job),
+            Choice::Wait => Found::Nothing,
+            Choice::Finished => Found::Finished,
         }
+    }
+
+    /// Makes a step, or begins a visit in a worker's own slot. What that runs is given up first.
+    pub fn find(&mut self, worker: WorkerId) -> Found {
         if self.chain.answers(worker).is_some() {
             quit(&mut self.chain, worker);
             return Found::Freed;
         }
-        match choose(&self.chain) {
-            Choice::Do(job) => self.make(worker, &job),
+        let choice = choose(&self.chain);
+        self.follow(worker, choice)
+    }
+
+    /// Begins a visit in a slot, where that runs nothing and a visit waits.
+    pub fn find_visit(&mut self, slot: WorkerId) -> Found {
+        if self.chain.answers(slot).is_some() {
+            return Found::Nothing;
+        }
+        let choice = choose_visit(&self.chain);
+        self.follow(slot, choice)
+    }
+
+    /// Makes a step that is no visit.
+    pub fn find_other(&mut self) -> Found {
+        match choose_other(&self.chain, false) {
+            Choice::Do(job) => self.make_other(&job),
             Choice::Wait => Found::Nothing,
-            Choice::Finished | Choice::NoMemory => Found::End,
+            Choice::Finished => Found::Finished,
         }
     }
 
     /// What a slot runs reads a key.
     pub fn read(&mut self, worker: WorkerId, key: &Key) -> ReadAnswer {
-        self.lead.come_back(worker);
         read(&mut self.chain, worker, key)
     }
 
@@ -209,7 +253,6 @@ impl<'a, L: Run> Latch<'a, L> {
 
     /// A worker ends: its slot gives up what it runs.
     pub fn leave(&mut self, worker: WorkerId) {
-        self.lead.give_up(worker);
         quit(&mut self.chain, worker)
     }
 
@@ -218,7 +261,6 @@ impl<'a, L: Run> Latch<'a, L> {
         requires { 0 < mine.old.share.parts }
         ensures { mine.new.share.parts ≡ mine.old.share.parts }
     {
-        self.lead.come_back(worker);
         let answer = commit(&mut self.chain, worker, plan);
         few(&self.chain);
         match answer {
@@ -238,10 +280,8 @@ impl<'a, L: Run> Latch<'a, L> {
             chain,
             book: _,
             outlet,
-            lead: _,
             batch,
             ended: _,
-            stopped: _,
         } = self;
         match outlet {
             Some(sender) => batch.add(pass_on(chain, sender)),
@@ -265,11 +305,6 @@ impl<'a, L: Run> Latch<'a, L> {
         self.ended = true;
     }
 
-    /// Tells the workers to end.
-    pub fn stop(&mut self) {
-        self.stopped = true;
-    }
-
     /// Puts two tallies together.
     pub fn merge(&mut self, mine: &mut Tally<L>, other: Tally<L>)
         ensures { mine.new.share.parts ≡ mine.old.share.parts + other.share.parts }
@@ -291,10 +326,8 @@ impl<'a, L: Run> Latch<'a, L> {
             chain,
             book,
             outlet,
-            lead: _,
             batch: _,
             ended: _,
-            stopped: _,
         } = self;
         drop(outlet);
         let Tally { share, count } = all;

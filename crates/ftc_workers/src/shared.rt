@@ -1,14 +1,16 @@
-//! The one latch, and what tells of changes under it.
+//! The one latch, the workers' desks, and what tells of changes.
 //!
-//! Before an open gate one worker at a time looks for jobs, and does one after the other: two would only stand in each
-//! other's way under the latch. Where it may be held for long, by an older transaction, it wakes another, which looks
-//! for jobs in its place if it still is held then. A worker that comes back from a visit looks itself, unless another
-//! does. Before a gate that holds visits all look, and each change wakes one that found nothing. So wherever a job can
-//! be done, a worker is awake that looks for one, or comes to.
+//! One worker leads: it alone looks for jobs, and makes the steps. Before an open gate it makes the visits too. Before
+//! a gate that may hold a visit it prepares one for each worker that waits: it begins the visit in that worker's slot,
+//! reads for it, makes the plan and puts it on the worker's desk. The worker passes the gate and puts it back, and the
+//! leader commits it. So what lies under the latch stays near one processor, and mostly nobody but the leader wants it.
+//! Where the leader is held itself, by a gate or by an older transaction, it leads no more, and the next worker that is
+//! awake does. So wherever a job can be done a worker is awake that looks for it, or comes to.
 
 ghost use Rattle.std.specs.Prelude.{◌≡◌, ◌<◌, ◌+◌};
 
-use crate::latch::{Found, Latch};
+use crate::latch::{Begun, Found, Latch};
+use crate::office::{Office, depart, give_up};
 use crate::tally::{Run, Tally};
 use ftc_base::{Answer, Answers, Key, NoMemory, PacketNo, ServerId, WorkerId};
 use ftc_mbox::{Plan, Rules};
@@ -22,12 +24,11 @@ use std::thread::yield_now;
 /// How often a worker looks for the latch before it sleeps.
 const LOOKS: u32 = 100;
 
-/// The latch, and what tells of a change under it.
+/// What workers share.
 #[derive(Drop)]
 pub struct Shared<'a, L: Run> {
     latch: Mutex<Latch<'a, L>>,
-    /// Tells a worker that doesn't look for jobs that it may.
-    work: Condvar,
+    pub office: Office,
     /// Tells workers that an older transaction blocked that they may ask again.
     freed: Condvar,
     /// Tells the writer to write.
@@ -36,10 +37,10 @@ pub struct Shared<'a, L: Run> {
 
 impl<'a, L: Run> Shared<'a, L> {
     /// Nobody waits yet.
-    pub fn new(latch: Latch<'a, L>) -> Shared<'a, L> {
+    pub fn new(latch: Latch<'a, L>, workers: u8) -> Shared<'a, L> {
         Shared {
             latch: Mutex::new(latch),
-            work: Condvar::new(),
+            office: Office::new(workers),
             freed: Condvar::new(),
             output: Condvar::new(),
         }
@@ -56,13 +57,10 @@ impl<'a, L: Run> Shared<'a, L> {
         self.latch.lock(rt)
     }
 
-    /// The chain changed: tells the writer where much is unwritten, and a worker that waits for a job.
+    /// Sends what was released, and tells the writer where much is unwritten.
     fn tell(&self, latch: &mut Latch<'a, L>) {
         if latch.flush() {
             self.output.notify_one();
-        }
-        if latch.lead.is_awaited() {
-            self.work.notify_one();
         }
     }
 
@@ -70,7 +68,7 @@ impl<'a, L: Run> Shared<'a, L> {
     pub fn into_inner(self) -> Latch<'a, L> {
         let Shared {
             latch,
-            work: _,
+            office: _,
             freed: _,
             output: _,
         } = self;
@@ -85,6 +83,8 @@ pub enum Turn {
     Asks,
     /// The slot runs nothing any more.
     Over,
+    /// An older transaction has what is asked for.
+    Blocked,
     /// There was no memory.
     NoMemory,
 }
@@ -109,39 +109,79 @@ pub fn rules<L: Run, R: Wait>(
     shared.lock(rt).rules(alloc)
 }
 
-/// Finds something to do. Where another worker leads, or where there is nothing, it waits.
-pub fn find<L: Run, R: Wait>(rt: &R, shared: &Shared<'_, L>, worker: WorkerId) -> Found {
-    let mut latch = shared.lock(rt);
-    if !latch.lead.take(worker) {
-        drop(shared.work.wait(rt, latch));
-        // Whoever woke this worker may be back before it takes its place.
-        yield_now();
-        return Found::Nothing;
+/// Begins a visit in a slot, whose worker waits for none then.
+fn find_for<L: Run>(shared: &Shared<'_, L>, latch: &mut Latch<'_, L>, slot: WorkerId) -> Found {
+    let found = latch.find_visit(slot);
+    match &found {
+        Found::Begun(_) => shared.office.set_free(slot, false),
+        _ => {}
     }
-    let found = latch.find(worker);
-    match found {
-        Found::Nothing => {
-            latch.lead.wait(worker);
-            if latch.batch.close() {
-                shared.output.notify_one();
-            }
-            shared.work.wait(rt, latch).lead.wake();
-            Found::Nothing
+    found
+}
+
+/// Which visits a leader makes itself.
+#[derive(Clone, Copy, Debug, PartialEq, Eq)]
+pub enum Own {
+    /// All: no gate holds it.
+    All,
+    /// Those for which nobody waits.
+    Spare,
+    /// None for now.
+    Nothing,
+}
+
+/// The leader finds something to do before a gate that may hold visits: one for a worker that waits, or else what is no
+/// visit, or else a visit of its own, where it makes any.
+fn find_shared<L: Run>(
+    shared: &Shared<'_, L>,
+    latch: &mut Latch<'_, L>,
+    worker: WorkerId,
+    own: Own,
+) -> Found {
+    let free = shared.office.free_worker();
+    if let Some(slot) = free {
+        match find_for(shared, latch, slot) {
+            Found::Nothing => {}
+            found => return found,
         }
-        Found::Stepped | Found::Freed => {
-            shared.tell(&mut latch);
-            found
-        }
-        other => other,
+    }
+    match latch.find_other() {
+        Found::Nothing if own == Own::Spare => latch.find_visit(worker),
+        found => found,
     }
 }
 
-/// This worker may be held for long: another may take its place.
-pub fn hold<L: Run, R: Wait>(rt: &R, shared: &Shared<'_, L>, worker: WorkerId) {
-    let wakes = shared.lock(rt).lead.hold(worker);
-    if wakes {
-        shared.work.notify_one();
+/// The leader finds something to do, and sends what was released.
+pub fn find<L: Run, R: Wait>(rt: &R, shared: &Shared<'_, L>, worker: WorkerId, own: Own) -> Found {
+    if shared.office.is_over() {
+        return Found::Finished;
     }
+    let mut latch = shared.lock(rt);
+    let found = match own {
+        Own::All => latch.find(worker),
+        other => find_shared(shared, &mut latch, worker, other),
+    };
+    match &found {
+        Found::Stepped | Found::Freed => shared.tell(&mut latch),
+        Found::Nothing => {
+            if own != Own::Nothing && latch.batch.close() {
+                shared.output.notify_one();
+            }
+        }
+        _ => {}
+    }
+    found
+}
+
+/// What a slot runs at a server, with the packet as it is there. None where it runs nothing.
+pub fn look<L: Run, R: Wait>(
+    rt: &R,
+    shared: &Shared<'_, L>,
+    slot: WorkerId,
+    server: ServerId,
+    packet: PacketNo,
+) -> Result<Option<Begun>, NoMemory> {
+    shared.lock(rt).look(slot, server, packet)
 }
 
 /// Slots may have become idle: those that were blocked ask again.
@@ -164,8 +204,37 @@ pub fn take<L: Run, R: Wait>(
     taken
 }
 
-/// Reads a key, and adds the answer. It waits where an older transaction has the key's partition.
+/// A slot reads a key, and the answer is added.
+fn try_read<L: Run>(
+    latch: &mut Latch<'_, L>,
+    slot: WorkerId,
+    key: &Key,
+    answers: &mut Answers,
+) -> Turn {
+    match latch.read(slot, key) {
+        ReadAnswer::Value(value) => match answers.try_push(Answer { key: *key, value }) {
+            Ok(()) => Turn::Asks,
+            Err(_) => turn_of(latch, slot, answers),
+        },
+        ReadAnswer::Blocked { .. } => Turn::Blocked,
+        _ => turn_of(latch, slot, answers),
+    }
+}
+
+/// Reads a key for a slot, and adds the answer.
 pub fn read<L: Run, R: Wait>(
+    rt: &R,
+    shared: &Shared<'_, L>,
+    slot: WorkerId,
+    key: &Key,
+    answers: &mut Answers,
+) -> Turn {
+    let mut latch = shared.lock(rt);
+    try_read(&mut latch, slot, key, answers)
+}
+
+/// The same for a worker's own slot. It waits where an older transaction has the key's partition, and leads no more.
+pub fn read_or_wait<L: Run, R: Wait>(
     rt: &R,
     shared: &Shared<'_, L>,
     worker: WorkerId,
@@ -173,19 +242,13 @@ pub fn read<L: Run, R: Wait>(
     answers: &mut Answers,
 ) -> Turn {
     let mut latch = shared.lock(rt);
-    match latch.read(worker, key) {
-        ReadAnswer::Value(value) => match answers.try_push(Answer { key: *key, value }) {
-            Ok(()) => Turn::Asks,
-            Err(_) => turn_of(&latch, worker, answers),
-        },
-        ReadAnswer::Blocked { .. } => {
-            if latch.lead.hold(worker) {
-                shared.work.notify_one();
-            }
+    match try_read(&mut latch, worker, key, answers) {
+        Turn::Blocked => {
+            give_up(rt, &shared.office, worker);
             let _latch = shared.freed.wait(rt, latch);
             Turn::Asks
         }
-        _ => turn_of(&latch, worker, answers),
+        turn => turn,
     }
 }
 
@@ -193,21 +256,20 @@ pub fn read<L: Run, R: Wait>(
 fn try_commit<L: Run, R: Wait>(
     rt: &R,
     shared: &Shared<'_, L>,
-    worker: WorkerId,
+    slot: WorkerId,
     plan: &Plan,
-    answers: &mut Answers,
     mine: &mut Tally<L>,
 ) -> Turn
     requires { 0 < mine.old.share.parts }
     ensures { mine.new.share.parts ≡ mine.old.share.parts }
 {
     let mut latch = shared.lock(rt);
-    let answer = latch.commit(worker, plan, mine);
+    let answer = latch.commit(slot, plan, mine);
     shared.tell(&mut latch);
     match answer {
-        CommitAnswer::Done => Turn::Over,
+        CommitAnswer::Done | CommitAnswer::Idle => Turn::Over,
         CommitAnswer::NoMemory => Turn::NoMemory,
-        _ => turn_of(&latch, worker, answers),
+        _ => Turn::Asks,
     }
 }
 
@@ -215,37 +277,36 @@ fn try_commit<L: Run, R: Wait>(
 pub fn commit<L: Run, R: Wait>(
     rt: &R,
     shared: &Shared<'_, L>,
-    worker: WorkerId,
+    slot: WorkerId,
     plan: &Plan,
-    answers: &mut Answers,
     mine: &mut Tally<L>,
 ) -> Turn
     requires { 0 < mine.old.share.parts }
     ensures { mine.new.share.parts ≡ mine.old.share.parts }
 {
-    let turn = try_commit(rt, shared, worker, plan, answers, mine);
+    let turn = try_commit(rt, shared, slot, plan, mine);
     free(shared);
     turn
 }
 
+/// A slot gives up what it runs, and those that it blocked ask again.
+pub fn quit<L: Run, R: Wait>(rt: &R, shared: &Shared<'_, L>, slot: WorkerId) {
+    shared.lock(rt).leave(slot);
+    free(shared);
+}
+
 /// The worker ends: its slot gives up what it runs, and all others look again.
 pub fn leave<L: Run, R: Wait>(rt: &R, shared: &Shared<'_, L>, worker: WorkerId) {
-    shared.lock(rt).leave(worker);
-    shared.work.notify_all();
-    shared.freed.notify_all();
+    // A leader that saw it free begins its visit before the slot gives that up.
+    shared.office.set_free(worker, false);
+    quit(rt, shared, worker);
+    depart(rt, &shared.office, worker);
 }
 
 /// Tells the writer that all workers ended.
 pub fn end<L: Run, R: Wait>(rt: &R, shared: &Shared<'_, L>) {
     shared.lock(rt).end();
     shared.output.notify_all();
-}
-
-/// Tells the workers to end.
-pub fn stop<L: Run, R: Wait>(rt: &R, shared: &Shared<'_, L>) {
-    shared.lock(rt).stop();
-    shared.work.notify_all();
-    shared.freed.notify_all();
 }
 
 /// The writer begins to write. True where all workers ended.

@@ -7,7 +7,6 @@ ghost use Rattle.ftc_workers.specs.Given.{given_of};
 ghost use Rattle.ftc_workers.specs.Visits.{visits};
 
 use crate::latch::Latch;
-use crate::leading::Lead;
 use crate::shared::Shared;
 use crate::spreading::spread;
 use crate::tally::{Run, Tally};
@@ -47,8 +46,7 @@ fn run_named<'a, L: Run + Send + Sync, R: Threads + Wait + Sync, G: Gate>(
 {
     let (book, share) = blank.open::<L>();
     let all = Tally { share, count: 0 };
-    let lead = Lead::new(!gate.is_open());
-    let shared = Shared::new(Latch::new(chain, book, None, lead));
+    let shared = Shared::new(Latch::new(chain, book, None), workers);
     let all = spread(rt, alloc, &shared, 0, workers, gate, all);
     let (chain, commits) = shared.into_inner().close(all);
     Worked { chain, commits }

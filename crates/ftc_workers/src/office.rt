@@ -1,0 +1,236 @@
+//! Who leads, and the desks at which the others wait for a visit or for the lead.
+
+use crate::desk::{Desk, Errand, Planned};
+use crate::lead::Lead;
+use ftc_base::WorkerId;
+use ftc_base::limits::MOST_THREADS;
+use std::array;
+use std::sync::Wait;
+use std::sync::atomic::{AtomicU32, Ordering};
+use std::thread::yield_now;
+
+/// How often a worker looks for something to do before it sleeps.
+const LOOKS: u32 = 100;
+
+/// How often it looks before it gives its processor away.
+const GLANCES: u32 = 16;
+
+/// What a worker is to do.
+#[derive(Debug, Drop)]
+pub enum Duty {
+    /// It leads.
+    Lead,
+    /// It makes this visit.
+    Errand(Errand),
+    /// Nothing now.
+    Nothing,
+    /// It ends.
+    End,
+}
+
+/// Who leads, and a desk for each worker.
+#[derive(Drop)]
+pub struct Office {
+    lead: Lead,
+    desks: [Desk; MOST_THREADS as usize],
+    /// How many of the desks are used, from the first one on.
+    workers: u8,
+    /// How many workers have come and aren't gone.
+    present: AtomicU32,
+}
+
+impl Office {
+    /// Nobody leads yet, and nobody waits.
+    pub fn new(workers: u8) -> Office {
+        Office {
+            lead: Lead::new(),
+            desks: array::from_fn(|_| Desk::new()),
+            workers,
+            present: AtomicU32::new(0),
+        }
+    }
+
+    /// Whether workers are to end.
+    pub fn is_over(&self) -> bool {
+        self.lead.is_over()
+    }
+
+    /// Whether that worker leads.
+    pub fn is_led_by(&self, worker: WorkerId) -> bool {
+        self.lead.is_of(worker)
+    }
+
+    /// The desks that are used.
+    fn desks(&self) -> &[Desk] {
+        let desks = self.desks.as_slice();
+        match desks.get(..usize::from(self.workers)) {
+            Some(used) => used,
+            None => desks,
+        }
+    }
+
+    /// How many workers are here.
+    pub fn present(&self) -> u32 {
+        self.present.load(Ordering::SeqCst)
+    }
+
+    /// A worker came, and waits for a visit.
+    pub fn arrive(&self, worker: WorkerId) {
+        self.present.fetch_add(1, Ordering::SeqCst);
+        self.set_free(worker, true);
+    }
+
+    /// A worker's desk.
+    fn desk(&self, worker: WorkerId) -> Option<&Desk> {
+        self.desks().get(usize::from(worker.number()))
+    }
+
+    /// A worker that waits for a visit.
+    pub fn free_worker(&self) -> Option<WorkerId> {
+        for number in 0..self.workers {
+            let worker = WorkerId::new(number)?;
+            if self.desk(worker)?.is_free() {
+                return Some(worker);
+            }
+        }
+        None
+    }
+
+    /// A worker waits for a visit, or doesn't any more.
+    pub fn set_free(&self, worker: WorkerId, free: bool) {
+        if let Some(desk) = self.desk(worker) {
+            desk.set_free(free);
+        }
+    }
+}
+
+/// Wakes the first worker that sleeps.
+fn wake_one<R: Wait>(rt: &R, office: &Office) {
+    for desk in office.desks() {
+        if desk.sleeps(rt) {
+            desk.ring(rt);
+            return;
+        }
+    }
+}
+
+/// Wakes all workers.
+fn wake_all<R: Wait>(rt: &R, office: &Office) {
+    for desk in office.desks() {
+        desk.ring(rt);
+    }
+}
+
+/// The chain changed without the leader, or may now: it looks again.
+pub fn ring_leader<R: Wait>(rt: &R, office: &Office) {
+    if let Some(leader) = office.lead.leader() {
+        if let Some(desk) = office.desk(leader) {
+            desk.ring(rt);
+        }
+    }
+}
+
+/// A worker leads no more, and another that sleeps is woken, which leads if none does then.
+pub fn give_up<R: Wait>(rt: &R, office: &Office, worker: WorkerId) {
+    if office.lead.give_up(worker) {
+        wake_one(rt, office);
+    }
+}
+
+/// A worker is here no more, and all others look again.
+pub fn depart<R: Wait>(rt: &R, office: &Office, worker: WorkerId) {
+    office.present.fetch_sub(1, Ordering::SeqCst);
+    office.lead.give_up(worker);
+    wake_all(rt, office);
+}
+
+/// The run is finished, or the writer met a fault: all workers end.
+pub fn close<R: Wait>(rt: &R, office: &Office) {
+    office.lead.end();
+    wake_all(rt, office);
+}
+
+/// What a worker is to do now, if anything. What was given to it comes before it leads.
+fn duty_now<R: Wait>(rt: &R, office: &Office, worker: WorkerId, desk: &Desk) -> Option<Duty> {
+    if office.is_over() {
+        return Some(Duty::End);
+    }
+    if let Some(errand) = desk.take(rt) {
+        return Some(Duty::Errand(errand));
+    }
+    if !office.lead.take(worker) {
+        return None;
+    }
+    desk.set_free(false);
+    match desk.take(rt) {
+        Some(errand) => {
+            give_up(rt, office, worker);
+            Some(Duty::Errand(errand))
+        }
+        None => Some(Duty::Lead),
+    }
+}
+
+/// Whether there may be something to do at a desk: looks some times.
+fn glance(office: &Office, desk: &Desk) -> bool {
+    for _ in 0..GLANCES {
+        if desk.is_given() || !office.lead.is_taken() || office.is_over() {
+            return true;
+        }
+    }
+    false
+}
+
+/// Looks for something to do at a worker's desk, and sleeps where nothing comes.
+pub fn wait_for_duty<R: Wait>(rt: &R, office: &Office, worker: WorkerId) -> Duty {
+    let Some(desk) = office.desk(worker) else {
+        return Duty::End;
+    };
+    for _ in 0..LOOKS {
+        if glance(office, desk) {
+            if let Some(duty) = duty_now(rt, office, worker, desk) {
+                return duty;
+            }
+        }
+        yield_now();
+    }
+    desk.sleep(rt, &office.lead);
+    Duty::Nothing
+}
+
+/// The leader found nothing to do so many times in turn: it looks again, or sleeps until the chain changes.
+pub fn wait_as_leader<R: Wait>(rt: &R, office: &Office, worker: WorkerId, turns: u32) {
+    if turns < LOOKS {
+        yield_now();
+        return;
+    }
+    if let Some(desk) = office.desk(worker) {
+        desk.sleep(rt, &office.lead);
+    }
+}
+
+/// The leader gives a visit to the slot's worker.
+pub fn give<R: Wait>(rt: &R, office: &Office, slot: WorkerId, errand: Errand) {
+    if let Some(desk) = office.desk(slot) {
+        desk.give(rt, errand);
+    }
+}
+
+/// A worker's visit passed the gate, and the leader is told.
+pub fn put_back<R: Wait>(rt: &R, office: &Office, worker: WorkerId, done: Planned) {
+    if let Some(desk) = office.desk(worker) {
+        desk.put_back(rt, done);
+        ring_leader(rt, office);
+    }
+}
+
+/// A visit that passed the gate, and its slot.
+pub fn take_back<R: Wait>(rt: &R, office: &Office) -> Option<(WorkerId, Planned)> {
+    for number in 0..office.workers {
+        let worker = WorkerId::new(number)?;
+        if let Some(done) = office.desk(worker)?.take_back(rt) {
+            return Some((worker, done));
+        }
+    }
+    None
+}
