@@ -39,9 +39,11 @@ pub fn choose_visit(chain: &Chain<'_>) -> Choice
     }
 }
 
-/// Whether a packet is let in: few messages are under way, and no visit waits for a worker, as may be known before.
-fn lets_in(chain: &Chain<'_>, none_waits: bool) -> bool {
-    chain.messages() < MOST_UNDER_WAY && (none_waits || chain.free_visit().is_none())
+/// Whether a packet is let in: few messages are under way, and no visit waits for a worker, as may be known before; or
+/// no other job is legal, so that its enter is the first.
+fn lets_in(chain: &Chain<'_>, enter: &Job, none_waits: bool) -> bool {
+    let few = chain.messages() < MOST_UNDER_WAY;
+    few && (none_waits || chain.free_visit().is_none()) || chain.next() == Some(*enter)
 }
 
 /// A job that is no visit.
@@ -51,7 +53,7 @@ pub fn choose_other(chain: &Chain<'_>, none_waits: bool) -> Choice
 {
     match chain.other_job() {
         Some(job) => {
-            if is_enter(&job) && !lets_in(chain, none_waits) {
+            if is_enter(&job) && !lets_in(chain, &job, none_waits) {
                 return Choice::Wait;
             }
             Choice::Do(job)

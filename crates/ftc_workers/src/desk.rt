@@ -123,14 +123,12 @@ impl Desk {
         tray.sleeps = false;
     }
 
-    /// Rings the bell. False where the worker is awake.
-    pub fn ring<R: Wait>(&self, rt: &R) -> bool {
+    /// Rings the bell, which wakes the worker where it sleeps.
+    pub fn ring<R: Wait>(&self, rt: &R) {
         self.is_rung.store(true, Ordering::SeqCst);
-        let sleeps = self.tray.lock(rt).sleeps;
-        if sleeps {
+        if self.sleeps(rt) {
             self.bell.notify_one();
         }
-        sleeps
     }
 
     /// Whether the worker sleeps.
