@@ -1,8 +1,7 @@
 //! A worker's desk, where the leader puts a visit for it, and from where the leader takes it back.
 
-use crate::latch::Begun;
 use crate::lead::Lead;
-use ftc_base::{PacketNo, ServerId};
+use ftc_base::{PacketNo, ServerId, WorkerId};
 use ftc_mbox::Plan;
 use std::sync::atomic::{AtomicBool, Ordering};
 use std::sync::{Condvar, Mutex, Wait};
@@ -10,29 +9,21 @@ use std::sync::{Condvar, Mutex, Wait};
 /// A visit whose plan is made: it passes the gate, and then it is committed.
 #[derive(Debug, Drop)]
 pub struct Planned {
+    pub slot: WorkerId,
     pub server: ServerId,
     pub packet: PacketNo,
     pub plan: Box<Plan>,
-}
-
-/// A visit that the leader began in the slot of the worker to which it is given.
-#[derive(Debug, Drop)]
-pub enum Errand {
-    /// The worker takes it through the gate, and the leader commits it.
-    Pass(Planned),
-    /// An older transaction blocked it: the worker waits, and makes it itself.
-    Make(Begun),
 }
 
 /// What lies on a desk.
 #[derive(Drop)]
 struct Tray {
     /// For the worker.
-    errand: Option<Errand>,
+    given: Option<Planned>,
     /// For the leader.
     done: Option<Planned>,
-    /// The worker sleeps until its bell is rung.
-    sleeps: bool,
+    /// The worker left.
+    is_left: bool,
 }
 
 /// A worker's desk.
@@ -42,9 +33,11 @@ pub struct Desk {
     bell: Condvar,
     /// The bell was rung since the worker slept last.
     is_rung: AtomicBool,
-    /// The worker waits for an errand.
+    /// The worker sleeps until the bell is rung, or is about to.
+    sleeps: AtomicBool,
+    /// The worker waits for a visit.
     is_free: AtomicBool,
-    /// An errand lies here for the worker.
+    /// A visit lies here for the worker.
     is_given: AtomicBool,
     /// A visit lies here for the leader.
     is_done: AtomicBool,
@@ -55,53 +48,70 @@ impl Desk {
     pub fn new() -> Desk {
         Desk {
             tray: Mutex::new(Tray {
-                errand: None,
+                given: None,
                 done: None,
-                sleeps: false,
+                is_left: false,
             }),
             bell: Condvar::new(),
             is_rung: AtomicBool::new(false),
+            sleeps: AtomicBool::new(false),
             is_free: AtomicBool::new(false),
             is_given: AtomicBool::new(false),
             is_done: AtomicBool::new(false),
         }
     }
 
-    /// Whether the worker waits for an errand.
+    /// Whether the worker waits for a visit, and nothing lies here for the leader.
     pub fn is_free(&self) -> bool {
-        self.is_free.load(Ordering::SeqCst)
+        self.is_free.load(Ordering::SeqCst) && !self.is_done.load(Ordering::SeqCst)
     }
 
-    /// The worker waits for an errand, or doesn't any more.
+    /// The worker waits for a visit, or doesn't any more.
     pub fn set_free(&self, free: bool) {
         self.is_free.store(free, Ordering::SeqCst);
     }
 
-    /// Whether an errand lies here for the worker.
+    /// Whether a visit lies here for the worker.
     pub fn is_given(&self) -> bool {
         self.is_given.load(Ordering::SeqCst)
     }
 
-    /// The leader gives the worker an errand.
-    pub fn give<R: Wait>(&self, rt: &R, errand: Errand) {
-        self.tray.lock(rt).errand = Some(errand);
+    /// The leader gives the worker a visit. It comes back where the worker left.
+    pub fn give<R: Wait>(&self, rt: &R, planned: Planned) -> Result<(), Planned> {
+        let mut tray = self.tray.lock(rt);
+        if tray.is_left {
+            return Err(planned);
+        }
+        tray.given = Some(planned);
+        drop(tray);
+        self.set_free(false);
         self.is_given.store(true, Ordering::SeqCst);
         self.ring(rt);
+        Ok(())
     }
 
-    /// The worker takes the errand that lies here for it.
-    pub fn take<R: Wait>(&self, rt: &R) -> Option<Errand> {
+    /// The worker leaves, and nothing is given to it any more. What lies here for it is left undone.
+    pub fn leave<R: Wait>(&self, rt: &R) -> Option<Planned> {
+        self.set_free(false);
+        let mut tray = self.tray.lock(rt);
+        tray.is_left = true;
+        tray.given.take()
+    }
+
+    /// The worker takes the visit that lies here for it.
+    pub fn take<R: Wait>(&self, rt: &R) -> Option<Planned> {
         if !self.is_given.load(Ordering::SeqCst) {
             return None;
         }
         self.is_given.store(false, Ordering::SeqCst);
-        self.tray.lock(rt).errand.take()
+        self.tray.lock(rt).given.take()
     }
 
-    /// The worker's visit passed the gate.
+    /// The worker's visit passed the gate, and it waits for another one.
     pub fn put_back<R: Wait>(&self, rt: &R, done: Planned) {
         self.tray.lock(rt).done = Some(done);
         self.is_done.store(true, Ordering::SeqCst);
+        self.set_free(true);
     }
 
     /// The leader takes the visit that passed the gate.
@@ -115,24 +125,25 @@ impl Desk {
 
     /// The worker sleeps until the bell is rung, unless it was since it slept last, nobody leads, or all are to end.
     pub fn sleep<R: Wait>(&self, rt: &R, lead: &Lead) {
-        let mut tray = self.tray.lock(rt);
-        tray.sleeps = true;
+        let tray = self.tray.lock(rt);
+        self.sleeps.store(true, Ordering::SeqCst);
         if !self.is_rung.swap(false, Ordering::SeqCst) && lead.is_taken() && !lead.is_over() {
-            tray = self.bell.wait(rt, tray);
+            let _tray = self.bell.wait(rt, tray);
         }
-        tray.sleeps = false;
+        self.sleeps.store(false, Ordering::SeqCst);
     }
 
-    /// Rings the bell, which wakes the worker where it sleeps.
+    /// Rings the bell, which wakes the worker where it sleeps. One that is about to sleep has the tray until it does.
     pub fn ring<R: Wait>(&self, rt: &R) {
         self.is_rung.store(true, Ordering::SeqCst);
-        if self.sleeps(rt) {
+        if self.sleeps() {
+            let _tray = self.tray.lock(rt);
             self.bell.notify_one();
         }
     }
 
     /// Whether the worker sleeps.
-    pub fn sleeps<R: Wait>(&self, rt: &R) -> bool {
-        self.tray.lock(rt).sleeps
+    pub fn sleeps(&self) -> bool {
+        self.sleeps.load(Ordering::SeqCst)
     }
 }

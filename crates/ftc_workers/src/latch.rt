@@ -66,7 +66,7 @@ pub enum Found {
     Stepped,
     /// It made a step, or gave a visit up, after which slots that were blocked may go on.
     Freed,
-    /// It began this visit, in its own slot or in that of a worker that waits for one.
+    /// It began this visit.
     Begun(Begun),
     /// It copied this frame.
     Copied(Copied),

@@ -2,22 +2,19 @@
 
 ghost use Rattle.std.specs.Prelude.{◌≡◌};
 
-use crate::desk::{Errand, Planned};
+use crate::desk::Planned;
+use crate::hand::Hand;
 use crate::latch::{Begun, Copied, Found};
-use crate::office::{close, give, give_up, ring_leader, take_back, wait_as_leader};
-use crate::shared::{Own, Turn, commit, find, free, look, quit, read, take};
+use crate::office::{close, give, give_up, ring_leader, take_back, wait_as_leader, wait_for_visit};
+use crate::shared::{Search, Turn, commit, drop_visit, find, free, take, tell_of_rest};
 use crate::tally::{Run, Tally};
-use crate::visiting::{Worker, rule_of};
-use ftc_base::{Answers, Ask, WorkerId};
-use ftc_mbox::{Plan, Rule, Rules, ask};
+use crate::visiting::Worker;
+use ftc_mbox::Rules;
 use ftc_message::Seen;
 use ftc_outside::Gate;
 use std::sync::Wait;
 
-/// After so many reads each visit is planned, unless it is wounded again and again.
-const MOST_TURNS: u32 = 32;
-
-/// How often a leader looks for what others put back before it makes a visit itself, while they wait for none.
+/// How often a leader looks for what others put back before it makes a visit itself, while more than one is at work.
 const PATIENCE: u32 = 50;
 
 /// How a leader's turn ended.
@@ -27,6 +24,8 @@ enum Led {
     On,
     /// There was nothing to do.
     Idle,
+    /// It makes the visit that it has at hand itself, and leads no more.
+    Held,
     /// It leads no more.
     Off,
     /// There was no memory.
@@ -52,161 +51,112 @@ impl<'a, 'b, L: Run, R: Wait, G: Gate> Worker<'a, 'b, L, R, G> {
         }
     }
 
-    /// Gives up what a slot runs. Its worker waits for another visit.
-    fn drop_visit(&self, slot: WorkerId) {
-        quit(self.rt, self.shared, slot);
-        self.shared.office.set_free(slot, true);
-    }
-
-    /// Gives a visit to the slot's worker.
-    fn give(&self, slot: WorkerId, errand: Errand) {
-        give(self.rt, &self.shared.office, slot, errand);
-    }
-
-    /// Plans how a visit ends, and gives it to the slot's worker. False where there was no memory.
-    fn give_planned(&self, rule: &Rule, begun: &Begun, answers: &Answers) -> bool {
-        let (slot, server, packet) = (begun.slot, begun.server, begun.packet);
-        let bytes = begun.bytes.as_slice();
-        let Ok(Some(plan)) = Plan::make(self.alloc, rule, bytes, answers) else {
-            self.drop_visit(slot);
-            return false;
-        };
-        let Ok(plan) = Box::new(self.alloc, plan) else {
-            self.drop_visit(slot);
-            return false;
-        };
-        let planned = Planned {
-            server,
-            packet,
-            plan,
-        };
-        self.give(slot, Errand::Pass(planned));
-        true
-    }
-
-    /// Reads and plans a visit that was begun for another worker, and gives it to that worker. One that is wounded
-    /// again and again is given up. False where there was no memory.
-    fn prepare(&self, rule: &Rule, begun: Begun) -> bool {
-        let slot = begun.slot;
-        let mut answers = Answers::new();
-        for _ in 0..MOST_TURNS {
-            let Ask::Read { key, .. } = ask(rule, begun.bytes.as_slice(), &answers) else {
-                return self.give_planned(rule, &begun, &answers);
-            };
-            match read(self.rt, self.shared, slot, &key, &mut answers) {
-                Turn::Asks => {}
-                Turn::Blocked => {
-                    self.give(slot, Errand::Make(begun));
-                    return true;
-                }
-                Turn::Over => {
-                    self.shared.office.set_free(slot, true);
-                    return true;
-                }
-                Turn::NoMemory => {
-                    self.drop_visit(slot);
-                    return false;
-                }
-            }
-        }
-        self.drop_visit(slot);
-        true
-    }
-
-    /// Prepares a visit by the rule of its server. False where there was no memory, or there is no such rule.
-    fn prepare_by(&self, rules: &Rules, begun: Begun) -> bool {
-        match rule_of(rules, &begun) {
-            Some(rule) => self.prepare(rule, begun),
-            None => {
-                self.drop_visit(begun.slot);
-                false
-            }
-        }
-    }
-
-    /// Prepares a visit once more whose slot has to begin again. False where there was no memory.
-    fn prepare_again(&self, rules: &Rules, slot: WorkerId, planned: &Planned) -> bool {
-        if slot == self.slot {
-            quit(self.rt, self.shared, slot);
-            return true;
-        }
-        match look(self.rt, self.shared, slot, planned.server, planned.packet) {
-            Ok(Some(begun)) => self.prepare_by(rules, begun),
-            Ok(None) => true,
-            Err(_) => {
-                self.drop_visit(slot);
-                false
-            }
-        }
-    }
-
     /// Commits a visit that passed the gate. False where there was no memory: then the visit is given up.
-    fn commit_for(
-        &self,
-        rules: &Rules,
-        slot: WorkerId,
-        planned: &Planned,
-        mine: &mut Tally<L>,
-    ) -> bool
+    fn commit_for(&self, planned: &Planned, hand: &mut Hand, mine: &mut Tally<L>) -> bool
         requires { mine.old.share.parts ≡ 1 }
         ensures { mine.new.share.parts ≡ 1 }
     {
-        match commit(self.rt, self.shared, slot, &planned.plan, mine) {
-            Turn::Asks | Turn::Blocked => self.prepare_again(rules, slot, planned),
-            Turn::Over => true,
+        hand.set_freed(true);
+        match commit(self.rt, self.shared, planned.slot, &planned.plan, mine) {
+            Turn::Asks | Turn::Blocked => self.begin_again(planned, hand),
+            Turn::Over => {
+                self.shared.office.slots.free(planned.slot);
+                true
+            }
             Turn::NoMemory => {
-                self.drop_visit(slot);
+                drop_visit(self.rt, self.shared, planned.slot);
                 false
             }
         }
     }
 
-    /// Makes a visit of its own. It leads on where nothing held it; else whoever leads then is told of the commit.
+    /// Gives the visit that is ready to a worker that waits, if any does.
+    fn hand_over(&self, hand: &mut Hand) {
+        if let Some(planned) = hand.ready.take() {
+            if let Err(planned) = give(self.rt, &self.shared.office, planned) {
+                hand.ready = Some(planned);
+            }
+        }
+    }
+
+    /// Commits a visit that passed the gate, where one was put back, and prepares those that it blocked. Its worker is
+    /// given what is ready before, so that it doesn't wait for the commit. False where there was no memory.
+    fn commit_next(&self, rules: &Rules, hand: &mut Hand, mine: &mut Tally<L>) -> bool
+        requires { mine.old.share.parts ≡ 1 }
+        ensures { mine.new.share.parts ≡ 1 }
+    {
+        let back = take_back(self.rt, &self.shared.office);
+        self.hand_over(hand);
+        if let Some(planned) = back {
+            if !self.commit_for(&planned, hand, mine) {
+                return false;
+            }
+        }
+        self.prepare_again(rules, hand)
+    }
+
+    /// Makes a visit itself. It leads on where nothing held it; else whoever leads then is told of the commit.
     fn visit_itself(&self, rules: &Rules, begun: &Begun, mine: &mut Tally<L>) -> Led
         requires { mine.old.share.parts ≡ 1 }
         ensures { mine.new.share.parts ≡ 1 }
     {
         if !self.gate.is_open() {
-            give_up(self.rt, &self.shared.office, self.slot);
+            give_up(self.rt, &self.shared.office, self.number);
         }
         let made = self.visit(rules, begun, mine);
-        if self.shared.office.is_led_by(self.slot) {
+        if self.shared.office.is_led_by(self.number) {
             return led_if(made);
         }
         ring_leader(self.rt, &self.shared.office);
         if made { Led::Off } else { Led::Failed }
     }
 
-    /// Which visits it makes itself, after so many turns in which there was nothing to do.
-    fn own(&self, turns: u32) -> Own {
-        if self.gate.is_open() {
-            Own::All
-        } else if turns < PATIENCE && self.shared.office.present() > 2 {
-            Own::Nothing
-        } else {
-            Own::Spare
+    /// Whether the leader makes all visits itself: no gate holds it, or it is alone.
+    fn is_alone(&self) -> bool {
+        self.gate.is_open() || self.shared.office.present() < 2
+    }
+
+    /// What a leader looks for.
+    fn search(&self, hand: &mut Hand) -> Search {
+        if hand.ready.is_some() {
+            return Search::Other;
+        }
+        if hand.slot.is_none() {
+            hand.slot = self.shared.office.slots.take(self.number);
+        }
+        match hand.slot {
+            Some(slot) if self.is_alone() => Search::Any(slot),
+            Some(slot) => Search::Visit(slot),
+            None => Search::Other,
         }
     }
 
+    /// Makes a visit that was begun, or prepares it for another worker.
+    fn go_to(&self, rules: &Rules, begun: Begun, hand: &mut Hand, mine: &mut Tally<L>) -> Led
+        requires { mine.old.share.parts ≡ 1 }
+        ensures { mine.new.share.parts ≡ 1 }
+    {
+        if self.is_alone() {
+            return self.visit_itself(rules, &begun, mine);
+        }
+        hand.slot = None;
+        led_if(self.prepare_by(rules, begun, hand))
+    }
+
     /// Does what it finds.
-    fn follow(&self, rules: &Rules, found: Found, mine: &mut Tally<L>) -> Led
+    fn follow(&self, rules: &Rules, found: Found, hand: &mut Hand, mine: &mut Tally<L>) -> Led
         requires { mine.old.share.parts ≡ 1 }
         ensures { mine.new.share.parts ≡ 1 }
     {
         match found {
             Found::Stepped => Led::On,
             Found::Freed => {
+                hand.set_freed(true);
                 free(self.shared);
                 Led::On
             }
             Found::Copied(copied) => led_if(self.take(copied)),
-            Found::Begun(begun) => {
-                if begun.slot == self.slot {
-                    self.visit_itself(rules, &begun, mine)
-                } else {
-                    led_if(self.prepare_by(rules, begun))
-                }
-            }
+            Found::Begun(begun) => self.go_to(rules, begun, hand, mine),
             Found::Nothing => Led::Idle,
             Found::Finished => {
                 close(self.rt, &self.shared.office);
@@ -216,29 +166,73 @@ impl<'a, 'b, L: Run, R: Wait, G: Gate> Worker<'a, 'b, L, R, G> {
         }
     }
 
-    /// Commits a visit that passed the gate, where one was put back. False where there was no memory.
-    fn commit_next(&self, rules: &Rules, mine: &mut Tally<L>) -> bool
+    /// One turn of a leader: a commit, and what it finds then. Before an open gate no other worker has a visit of it.
+    fn turn(&self, rules: &Rules, hand: &mut Hand, mine: &mut Tally<L>) -> Led
         requires { mine.old.share.parts ≡ 1 }
         ensures { mine.new.share.parts ≡ 1 }
     {
-        match take_back(self.rt, &self.shared.office) {
-            Some((slot, planned)) => self.commit_for(rules, slot, &planned, mine),
-            None => true,
-        }
-    }
-
-    /// One turn of a leader, after so many in which there was nothing to do: a commit, and what it finds then, which is
-    /// mostly the next visit for that worker. Before an open gate no other worker has a visit of it.
-    fn turn(&self, rules: &Rules, turns: u32, mine: &mut Tally<L>) -> Led
-        requires { mine.old.share.parts ≡ 1 }
-        ensures { mine.new.share.parts ≡ 1 }
-    {
-        let own = self.own(turns);
-        if own != Own::All && !self.commit_next(rules, mine) {
+        if !self.gate.is_open() && !self.commit_next(rules, hand, mine) {
             return Led::Failed;
         }
-        let found = find(self.rt, self.shared, self.slot, own);
-        self.follow(rules, found, mine)
+        if self.is_alone() {
+            self.drop_blocked(hand);
+        }
+        let search = self.search(hand);
+        let found = find(self.rt, self.shared, search);
+        self.follow(rules, found, hand, mine)
+    }
+
+    /// There was nothing to do, for so many turns in turn: it looks again, and after a while at what is blocked too; then
+    /// it makes the visit that is ready itself, unless another is blocked, for which nobody else would look; then it
+    /// sleeps.
+    fn wait(&self, hand: &mut Hand, turns: u32) -> Led {
+        if turns >= PATIENCE || self.shared.office.present() < 3 {
+            if hand.ready.is_some() && hand.blocked() == 0 {
+                return Led::Held;
+            }
+            hand.set_freed(true);
+            tell_of_rest(self.rt, self.shared);
+        }
+        wait_as_leader(self.rt, &self.shared.office, self.number, turns);
+        Led::Idle
+    }
+
+    /// Leads, until it is held or the run is finished.
+    fn lead_on(&self, rules: &Rules, hand: &mut Hand, mine: &mut Tally<L>) -> Led
+        requires { mine.old.share.parts ≡ 1 }
+        ensures { mine.new.share.parts ≡ 1 }
+    {
+        let mut turns: u32 = 0;
+        for _ in self.rt.forever() {
+            match self.turn(rules, hand, mine) {
+                Led::On => turns = 0,
+                Led::Idle => {
+                    if self.wait(hand, turns) == Led::Held {
+                        return Led::Held;
+                    }
+                    turns = turns.saturating_add(1);
+                }
+                led => return led,
+            }
+        }
+        unreachable!()
+    }
+
+    /// It leads no more. What is ready it makes itself where it was held, and all else is given up.
+    fn lay_down(&self, led: Led, hand: Hand) {
+        let mut hand = hand;
+        self.drop_blocked(&mut hand);
+        if let Some(slot) = hand.slot.take() {
+            drop_visit(self.rt, self.shared, slot);
+        }
+        match hand.ready.take() {
+            Some(planned) if led == Led::Held => {
+                give_up(self.rt, &self.shared.office, self.number);
+                self.pass_given(planned);
+            }
+            Some(planned) => drop_visit(self.rt, self.shared, planned.slot),
+            None => wait_for_visit(self.rt, &self.shared.office, self.number),
+        }
     }
 
     /// Leads, until it is held or the run is finished. False where there was no memory.
@@ -246,18 +240,9 @@ impl<'a, 'b, L: Run, R: Wait, G: Gate> Worker<'a, 'b, L, R, G> {
         requires { mine.old.share.parts ≡ 1 }
         ensures { mine.new.share.parts ≡ 1 }
     {
-        let mut turns: u32 = 0;
-        for _ in self.rt.forever() {
-            match self.turn(rules, turns, mine) {
-                Led::On => turns = 0,
-                Led::Idle => {
-                    wait_as_leader(self.rt, &self.shared.office, self.slot, turns);
-                    turns = turns.saturating_add(1);
-                }
-                Led::Off => return true,
-                Led::Failed => return false,
-            }
-        }
-        unreachable!()
+        let mut hand = Hand::new(self.alloc);
+        let led = self.lead_on(rules, &mut hand, mine);
+        self.lay_down(led, hand);
+        led != Led::Failed
     }
 }

@@ -1,7 +1,8 @@
-//! Who leads, and the desks at which the others wait for a visit or for the lead.
+//! Who leads, the desks at which the others wait for a visit or for the lead, and the slots of their visits.
 
-use crate::desk::{Desk, Errand, Planned};
+use crate::desk::{Desk, Planned};
 use crate::lead::Lead;
+use crate::slots::Slots;
 use ftc_base::WorkerId;
 use ftc_base::limits::MOST_THREADS;
 use std::array;
@@ -10,7 +11,7 @@ use std::sync::atomic::{AtomicU32, Ordering};
 use std::thread::yield_now;
 
 /// How often a worker looks for something to do before it sleeps.
-const LOOKS: u32 = 100;
+const LOOKS: u32 = 1000;
 
 /// How often it looks before it gives its processor away.
 const GLANCES: u32 = 16;
@@ -20,15 +21,15 @@ const GLANCES: u32 = 16;
 pub enum Duty {
     /// It leads.
     Lead,
-    /// It makes this visit.
-    Errand(Errand),
+    /// It passes the gate for this visit.
+    Pass(Planned),
     /// Nothing now.
     Nothing,
     /// It ends.
     End,
 }
 
-/// Who leads, and a desk for each worker.
+/// Who leads, a desk for each worker, and as many slots as workers.
 #[derive(Drop)]
 pub struct Office {
     lead: Lead,
@@ -37,6 +38,7 @@ pub struct Office {
     workers: u8,
     /// How many workers have come and aren't gone.
     present: AtomicU32,
+    pub slots: Slots,
 }
 
 impl Office {
@@ -47,6 +49,7 @@ impl Office {
             desks: array::from_fn(|_| Desk::new()),
             workers,
             present: AtomicU32::new(0),
+            slots: Slots::new(workers),
         }
     }
 
@@ -74,40 +77,26 @@ impl Office {
         self.present.load(Ordering::SeqCst)
     }
 
-    /// A worker came, and waits for a visit.
-    pub fn arrive(&self, worker: WorkerId) {
-        self.present.fetch_add(1, Ordering::SeqCst);
-        self.set_free(worker, true);
-    }
-
     /// A worker's desk.
     fn desk(&self, worker: WorkerId) -> Option<&Desk> {
         self.desks().get(usize::from(worker.number()))
     }
 
-    /// A worker that waits for a visit.
-    pub fn free_worker(&self) -> Option<WorkerId> {
-        for number in 0..self.workers {
-            let worker = WorkerId::new(number)?;
-            if self.desk(worker)?.is_free() {
-                return Some(worker);
+    /// The desk of a worker that waits for a visit.
+    fn free_desk(&self) -> Option<&Desk> {
+        for desk in self.desks() {
+            if desk.is_free() {
+                return Some(desk);
             }
         }
         None
-    }
-
-    /// A worker waits for a visit, or doesn't any more.
-    pub fn set_free(&self, worker: WorkerId, free: bool) {
-        if let Some(desk) = self.desk(worker) {
-            desk.set_free(free);
-        }
     }
 }
 
 /// Wakes the first worker that sleeps.
 fn wake_one<R: Wait>(rt: &R, office: &Office) {
     for desk in office.desks() {
-        if desk.sleeps(rt) {
+        if desk.sleeps() {
             desk.ring(rt);
             return;
         }
@@ -130,11 +119,35 @@ pub fn ring_leader<R: Wait>(rt: &R, office: &Office) {
     }
 }
 
+/// A worker waits for a visit, and the leader is told.
+pub fn wait_for_visit<R: Wait>(rt: &R, office: &Office, worker: WorkerId) {
+    if let Some(desk) = office.desk(worker) {
+        desk.set_free(true);
+        ring_leader(rt, office);
+    }
+}
+
+/// A worker came, and waits for a visit. A leader that counts it finds it free.
+pub fn arrive<R: Wait>(rt: &R, office: &Office, worker: WorkerId) {
+    wait_for_visit(rt, office, worker);
+    office.present.fetch_add(1, Ordering::SeqCst);
+}
+
 /// A worker leads no more, and another that sleeps is woken, which leads if none does then.
 pub fn give_up<R: Wait>(rt: &R, office: &Office, worker: WorkerId) {
     if office.lead.give_up(worker) {
         wake_one(rt, office);
     }
+}
+
+/// A worker is given nothing any more. The visit that it was given and hasn't made is left.
+pub fn leave_desk<R: Wait>(rt: &R, office: &Office, worker: WorkerId) -> Option<Planned> {
+    office.desk(worker)?.leave(rt)
+}
+
+/// The visit of a worker that leaves which passed the gate and isn't committed.
+pub fn take_own_back<R: Wait>(rt: &R, office: &Office, worker: WorkerId) -> Option<Planned> {
+    office.desk(worker)?.take_back(rt)
 }
 
 /// A worker is here no more, and all others look again.
@@ -155,17 +168,17 @@ fn duty_now<R: Wait>(rt: &R, office: &Office, worker: WorkerId, desk: &Desk) -> 
     if office.is_over() {
         return Some(Duty::End);
     }
-    if let Some(errand) = desk.take(rt) {
-        return Some(Duty::Errand(errand));
+    if let Some(planned) = desk.take(rt) {
+        return Some(Duty::Pass(planned));
     }
     if !office.lead.take(worker) {
         return None;
     }
     desk.set_free(false);
     match desk.take(rt) {
-        Some(errand) => {
+        Some(planned) => {
             give_up(rt, office, worker);
-            Some(Duty::Errand(errand))
+            Some(Duty::Pass(planned))
         }
         None => Some(Duty::Lead),
     }
@@ -209,10 +222,11 @@ pub fn wait_as_leader<R: Wait>(rt: &R, office: &Office, worker: WorkerId, turns:
     }
 }
 
-/// The leader gives a visit to the slot's worker.
-pub fn give<R: Wait>(rt: &R, office: &Office, slot: WorkerId, errand: Errand) {
-    if let Some(desk) = office.desk(slot) {
-        desk.give(rt, errand);
+/// The leader gives a visit to the first worker that waits. It comes back where none does.
+pub fn give<R: Wait>(rt: &R, office: &Office, planned: Planned) -> Result<(), Planned> {
+    match office.free_desk() {
+        Some(desk) => desk.give(rt, planned),
+        None => Err(planned),
     }
 }
 
@@ -224,12 +238,12 @@ pub fn put_back<R: Wait>(rt: &R, office: &Office, worker: WorkerId, done: Planne
     }
 }
 
-/// A visit that passed the gate, and its slot.
-pub fn take_back<R: Wait>(rt: &R, office: &Office) -> Option<(WorkerId, Planned)> {
-    for number in 0..office.workers {
-        let worker = WorkerId::new(number)?;
-        if let Some(done) = office.desk(worker)?.take_back(rt) {
-            return Some((worker, done));
+/// A visit that passed the gate.
+pub fn take_back<R: Wait>(rt: &R, office: &Office) -> Option<Planned> {
+    for desk in office.desks() {
+        let done = desk.take_back(rt);
+        if done.is_some() {
+            return done;
         }
     }
     None

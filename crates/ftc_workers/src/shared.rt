@@ -1,16 +1,17 @@
 //! The one latch, the workers' desks, and what tells of changes.
 //!
 //! One worker leads: it alone looks for jobs, and makes the steps. Before an open gate it makes the visits too. Before
-//! a gate that may hold a visit it prepares one for each worker that waits: it begins the visit in that worker's slot,
-//! reads for it, makes the plan and puts it on the worker's desk. The worker passes the gate and puts it back, and the
-//! leader commits it. So what lies under the latch stays near one processor, and mostly nobody but the leader wants it.
-//! Where the leader is held itself, by a gate or by an older transaction, it leads no more, and the next worker that is
-//! awake does. So wherever a job can be done a worker is awake that looks for it, or comes to.
+//! a gate that may hold a visit it prepares visits for the others: it begins one, reads for it, makes the plan, and has
+//! it ready for the next worker that waits, on whose desk it puts it. The worker passes the gate and puts it back, and
+//! the leader commits it. So what lies under the latch stays near one processor, and mostly nobody but the leader wants
+//! it. Where the leader is held itself, by a gate or by an older transaction, it leads no more, and the next worker that
+//! is awake does. So wherever a job can be done a worker is awake that looks for it, or comes to.
 
 ghost use Rattle.std.specs.Prelude.{◌≡◌, ◌<◌, ◌+◌};
 
+use crate::desk::Planned;
 use crate::latch::{Begun, Found, Latch};
-use crate::office::{Office, depart, give_up};
+use crate::office::{Office, depart, give_up, leave_desk, take_own_back};
 use crate::tally::{Run, Tally};
 use ftc_base::{Answer, Answers, Key, NoMemory, PacketNo, ServerId, WorkerId};
 use ftc_mbox::{Plan, Rules};
@@ -109,68 +110,48 @@ pub fn rules<L: Run, R: Wait>(
     shared.lock(rt).rules(alloc)
 }
 
-/// Begins a visit in a slot, whose worker waits for none then.
-fn find_for<L: Run>(shared: &Shared<'_, L>, latch: &mut Latch<'_, L>, slot: WorkerId) -> Found {
-    let found = latch.find_visit(slot);
-    match &found {
-        Found::Begun(_) => shared.office.set_free(slot, false),
-        _ => {}
-    }
-    found
-}
-
-/// Which visits a leader makes itself.
+/// What a leader looks for.
 #[derive(Clone, Copy, Debug, PartialEq, Eq)]
-pub enum Own {
-    /// All: no gate holds it.
-    All,
-    /// Those for which nobody waits.
-    Spare,
-    /// None for now.
-    Nothing,
+pub enum Search {
+    /// Any job. A visit is begun in this slot.
+    Any(WorkerId),
+    /// A visit, which is begun in this slot, or else another job.
+    Visit(WorkerId),
+    /// A job that is no visit.
+    Other,
 }
 
-/// The leader finds something to do before a gate that may hold visits: one for a worker that waits, or else what is no
-/// visit, or else a visit of its own, where it makes any.
-fn find_shared<L: Run>(
-    shared: &Shared<'_, L>,
-    latch: &mut Latch<'_, L>,
-    worker: WorkerId,
-    own: Own,
-) -> Found {
-    let free = shared.office.free_worker();
-    if let Some(slot) = free {
-        match find_for(shared, latch, slot) {
-            Found::Nothing => {}
-            found => return found,
-        }
-    }
-    match latch.find_other() {
-        Found::Nothing if own == Own::Spare => latch.find_visit(worker),
+/// Begins a visit in that slot, or else makes another step.
+fn find_visit_first<L: Run>(latch: &mut Latch<'_, L>, slot: WorkerId) -> Found {
+    match latch.find_visit(slot) {
+        Found::Nothing => latch.find_other(),
         found => found,
     }
 }
 
 /// The leader finds something to do, and sends what was released.
-pub fn find<L: Run, R: Wait>(rt: &R, shared: &Shared<'_, L>, worker: WorkerId, own: Own) -> Found {
+pub fn find<L: Run, R: Wait>(rt: &R, shared: &Shared<'_, L>, search: Search) -> Found {
     if shared.office.is_over() {
         return Found::Finished;
     }
     let mut latch = shared.lock(rt);
-    let found = match own {
-        Own::All => latch.find(worker),
-        other => find_shared(shared, &mut latch, worker, other),
+    let found = match search {
+        Search::Any(slot) => latch.find(slot),
+        Search::Visit(slot) => find_visit_first(&mut latch, slot),
+        Search::Other => latch.find_other(),
     };
     match &found {
         Found::Stepped | Found::Freed => shared.tell(&mut latch),
-        Found::Nothing => {
-            if own != Own::Nothing && latch.batch.close() {
-                shared.output.notify_one();
-            }
-        }
         _ => {}
     }
     found
+}
+
+/// Nothing is to be done now: the writer writes what is left.
+pub fn tell_of_rest<L: Run, R: Wait>(rt: &R, shared: &Shared<'_, L>) {
+    if shared.lock(rt).batch.close() {
+        shared.output.notify_one();
+    }
 }
 
 /// What a slot runs at a server, with the packet as it is there. None where it runs nothing.
@@ -233,16 +214,18 @@ pub fn read<L: Run, R: Wait>(
     try_read(&mut latch, slot, key, answers)
 }
 
-/// The same for a worker's own slot. It waits where an older transaction has the key's partition, and leads no more.
+/// The same for a visit that a worker makes itself. It waits where an older transaction has the key's partition, and
+/// leads no more.
 pub fn read_or_wait<L: Run, R: Wait>(
     rt: &R,
     shared: &Shared<'_, L>,
     worker: WorkerId,
+    slot: WorkerId,
     key: &Key,
     answers: &mut Answers,
 ) -> Turn {
     let mut latch = shared.lock(rt);
-    match try_read(&mut latch, worker, key, answers) {
+    match try_read(&mut latch, slot, key, answers) {
         Turn::Blocked => {
             give_up(rt, &shared.office, worker);
             let _latch = shared.freed.wait(rt, latch);
@@ -295,11 +278,23 @@ pub fn quit<L: Run, R: Wait>(rt: &R, shared: &Shared<'_, L>, slot: WorkerId) {
     free(shared);
 }
 
-/// The worker ends: its slot gives up what it runs, and all others look again.
+/// A visit is given up, and its slot is free for another one.
+pub fn drop_visit<L: Run, R: Wait>(rt: &R, shared: &Shared<'_, L>, slot: WorkerId) {
+    quit(rt, shared, slot);
+    shared.office.slots.free(slot);
+}
+
+/// A worker that ends gives a visit up, if it has one.
+fn drop_left<L: Run, R: Wait>(rt: &R, shared: &Shared<'_, L>, left: Option<Planned>) {
+    if let Some(planned) = left {
+        drop_visit(rt, shared, planned.slot);
+    }
+}
+
+/// The worker ends: it gives up what it was given and what isn't committed, and all others look again.
 pub fn leave<L: Run, R: Wait>(rt: &R, shared: &Shared<'_, L>, worker: WorkerId) {
-    // A leader that saw it free begins its visit before the slot gives that up.
-    shared.office.set_free(worker, false);
-    quit(rt, shared, worker);
+    drop_left(rt, shared, leave_desk(rt, &shared.office, worker));
+    drop_left(rt, shared, take_own_back(rt, &shared.office, worker));
     depart(rt, &shared.office, worker);
 }
 

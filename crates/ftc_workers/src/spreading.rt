@@ -13,56 +13,56 @@ use std::alloc::Global;
 use std::sync::Wait;
 use std::thread::{Threads, join};
 
-/// Runs one worker in the slot of that number.
+/// Runs the worker of that number.
 fn work_in<L: Run, R: Wait, G: Gate>(
     rt: &R,
     alloc: Global,
     shared: &Shared<'_, L>,
-    slot: u8,
+    number: u8,
     gate: &G,
     mine: Tally<L>,
 ) -> Tally<L>
-    requires slot { slot < MOST_SLOTS }
+    requires number { number < MOST_SLOTS }
     requires part { mine.share.parts ≡ 1 }
     ensures { result.share.parts ≡ 1 }
 {
-    let slot = WorkerId::new(slot).unwrap();
+    let number = WorkerId::new(number).unwrap();
     let worker = Worker {
         rt,
         alloc,
         shared,
-        slot,
+        number,
         gate,
     };
     worker.work(mine)
 }
 
-/// Starts so many workers in the slots from this one on, and joins them. The caller runs one that can't be started.
+/// Starts so many workers, with numbers from this one on, and joins them. The caller runs one that can't be started.
 pub fn spread<L: Run + Send + Sync, R: Threads + Wait + Sync, G: Gate>(
     rt: &R,
     alloc: Global,
     shared: &Shared<'_, L>,
-    slot: u8,
+    number: u8,
     count: u8,
     gate: &G,
     mine: Tally<L>,
 ) -> Tally<L>
     requires some { 0 < count }
-    requires slots { slot + count ≤ MOST_SLOTS }
+    requires numbers { number + count ≤ MOST_SLOTS }
     requires parts { mine.share.parts ≡ count }
     ensures { result.share.parts ≡ count }
 {
     if count == 1 {
-        return work_in(rt, alloc, shared, slot, gate, mine);
+        return work_in(rt, alloc, shared, number, gate, mine);
     }
     let mut mine = mine;
     let one = mine.split();
-    let next = slot + 1;
+    let next = number + 1;
     let rest = count - 1;
     let first = move || -> Tally<L>
-        requires { (slot < MOST_SLOTS) × (one.share.parts ≡ 1) }
+        requires { (number < MOST_SLOTS) × (one.share.parts ≡ 1) }
         ensures { result.share.parts ≡ 1 }
-    { work_in(rt, alloc, shared, slot, gate, one) };
+    { work_in(rt, alloc, shared, number, gate, one) };
     let others = move || -> Tally<L>
         requires { IsSync R.row × IsSync L.row × IsSend L.row × IsSync G.row × (0 < rest) × (next + rest ≤ MOST_SLOTS) ×
             (mine.share.parts ≡ rest) }

@@ -64,24 +64,24 @@ fn frame_from(source: u8) -> [u8; 42] {
 }
 
 /// A capture of so many packets, from two sources in turn.
-fn capture_of(alloc: Global, packets: u8) -> Result<Capture, Refuse<CaptureFault>> {
+fn capture_of(alloc: Global, packets: u16) -> Result<Capture, Refuse<CaptureFault>> {
     let mut text = Bytes::new(alloc);
     text.append(&HEADER)?;
     for packet in 0..packets {
         text.append(&HEAD)?;
-        text.append(&frame_from(5 + packet % 2))?;
+        text.append(&frame_from(5 + (packet % 2) as u8))?;
     }
     read_capture(alloc, text.as_slice())
 }
 
-/// The script without lines, for that ring and so many packets.
-fn empty_script(alloc: Global, ring: &Ring, packets: u32) -> Result<Script, Fail>
+/// A script for that ring and so many packets.
+fn script_of(alloc: Global, text: &[u8], ring: &Ring, packets: u32) -> Result<Script, Fail>
     ensures ring { IfOk result (λ script. script.ring ≡ ring.now) }
     ensures packets { IfOk result (λ script. script.packets ≡ packets) }
 {
     let _servers = ring.servers();
     accepted();
-    match read_script(alloc, b"", ring, packets) {
+    match read_script(alloc, text, ring, packets) {
         Ok(script) => Ok(script),
         Err(_) => Err(Fail::new("the script is right")),
     }
@@ -101,7 +101,7 @@ fn visits_below(chain: &Chain<'_>, slots: u8) -> u32 {
     count
 }
 
-/// A chain of middleboxes, a capture, and the script without lines for them.
+/// A chain of middleboxes, a capture, and a script for them.
 #[derive(Drop)]
 struct Parts {
     spec: ChainSpec,
@@ -112,11 +112,17 @@ struct Parts {
 }
 
 impl Parts {
-    fn new(alloc: Global, spec: ChainSpec, packets: u8) -> Result<Parts, Fail> {
+    /// The script has no lines.
+    fn new(alloc: Global, spec: ChainSpec, packets: u16) -> Result<Parts, Fail> {
+        Parts::with(alloc, spec, packets, b"")
+    }
+
+    fn with(alloc: Global, spec: ChainSpec, packets: u16, script: &[u8]) -> Result<Parts, Fail> {
         let Ok(capture) = capture_of(alloc, packets) else {
             return Err(Fail::new("the capture is right"));
         };
-        let script = empty_script(alloc, &ring_of(&spec), capture.packets.len() as u32)?;
+        let count = capture.packets.len() as u32;
+        let script = script_of(alloc, script, &ring_of(&spec), count)?;
         Ok(Parts {
             spec,
             capture,
@@ -213,6 +219,16 @@ fn many_packets_pass_a_gate_that_holds(rt: HostRuntime) -> Result<(), Fail> {
     let parts = Parts::new(rt.alloc(), three_monitors(rt.alloc())?, 200)?;
     let ended = run_parts(&rt, &parts, 8, &SlowGate)?;
     assert_eq!(rt; ended, MANY);
+    Ok(())
+}
+
+#[test]
+fn workers_go_on_beside_a_down_server(rt: HostRuntime) -> Result<(), Fail> {
+    let script = b"at 10 crash 1\nat 50 recover 1\n";
+    let parts = Parts::with(rt.alloc(), three_monitors(rt.alloc())?, 60, script)?;
+    let ended = run_parts(&rt, &parts, 4, &SlowGate)?;
+    assert!(rt; ended.finished);
+    assert_eq!(rt; u64::from(ended.visits), ended.commits);
     Ok(())
 }
 

@@ -2,9 +2,9 @@
 
 ghost use Rattle.std.specs.Prelude.{◌≡◌};
 
-use crate::desk::Errand;
+use crate::desk::Planned;
 use crate::latch::Begun;
-use crate::office::{Duty, give_up, put_back, ring_leader, wait_for_duty};
+use crate::office::{Duty, arrive, give_up, put_back, wait_for_duty};
 use crate::shared::{Shared, Turn, commit, leave, read_or_wait, rules};
 use crate::tally::{Run, Tally};
 use ftc_base::{Answers, Ask, WorkerId};
@@ -13,13 +13,14 @@ use ftc_outside::Gate;
 use std::alloc::Global;
 use std::sync::Wait;
 
-/// A worker in its slot, with what it shares with the others and the gate that it passes.
+/// The worker of a number, with what it shares with the others and the gate that it passes. It sits at the desk of that
+/// number, and the visits that it finds itself are in the slot of that number, where that is free.
 #[derive(Drop)]
 pub struct Worker<'a, 'b, L: Run, R, G> {
     pub rt: &'a R,
     pub alloc: Global,
     pub shared: &'a Shared<'b, L>,
-    pub slot: WorkerId,
+    pub number: WorkerId,
     pub gate: &'a G,
 }
 
@@ -37,7 +38,7 @@ impl<'a, 'b, L: Run, R: Wait, G: Gate> Worker<'a, 'b, L, R, G> {
     /// leader works on is near it.
     fn pass(&self, begun: &Begun, commits: u64) {
         if self.gate.is_open() && commits.is_power_of_two() {
-            give_up(self.rt, &self.shared.office, self.slot);
+            give_up(self.rt, &self.shared.office, self.number);
         }
         self.gate.pause(begun.server, begun.packet);
     }
@@ -51,7 +52,7 @@ impl<'a, 'b, L: Run, R: Wait, G: Gate> Worker<'a, 'b, L, R, G> {
             return Turn::NoMemory;
         };
         self.pass(begun, mine.count);
-        let turn = commit(self.rt, self.shared, self.slot, &plan, mine);
+        let turn = commit(self.rt, self.shared, begun.slot, &plan, mine);
         if turn == Turn::Asks {
             *answers = Answers::new();
         }
@@ -64,12 +65,15 @@ impl<'a, 'b, L: Run, R: Wait, G: Gate> Worker<'a, 'b, L, R, G> {
         ensures { mine.new.share.parts ≡ 1 }
     {
         match ask(rule, begun.bytes.as_slice(), answers) {
-            Ask::Read { key, .. } => read_or_wait(self.rt, self.shared, self.slot, &key, answers),
+            Ask::Read { key, .. } => {
+                let (number, slot) = (self.number, begun.slot);
+                read_or_wait(self.rt, self.shared, number, slot, &key, answers)
+            }
             Ask::Finish(_) => self.finish(rule, begun, answers, mine),
         }
     }
 
-    /// Makes a visit that was begun in its own slot, until that runs nothing any more. False where there was no memory.
+    /// Makes a visit that was begun, until its slot runs nothing any more. False where there was no memory.
     pub fn visit(&self, rules: &Rules, begun: &Begun, mine: &mut Tally<L>) -> bool
         requires { mine.old.share.parts ≡ 1 }
         ensures { mine.new.share.parts ≡ 1 }
@@ -88,23 +92,10 @@ impl<'a, 'b, L: Run, R: Wait, G: Gate> Worker<'a, 'b, L, R, G> {
         unreachable!()
     }
 
-    /// Makes a visit that the leader gave it. False where there was no memory.
-    fn serve(&self, rules: &Rules, errand: Errand, mine: &mut Tally<L>) -> bool
-        requires { mine.old.share.parts ≡ 1 }
-        ensures { mine.new.share.parts ≡ 1 }
-    {
-        match errand {
-            Errand::Pass(planned) => {
-                self.gate.pause(planned.server, planned.packet);
-                put_back(self.rt, &self.shared.office, self.slot, planned);
-                true
-            }
-            Errand::Make(begun) => {
-                let made = self.visit(rules, &begun, mine);
-                ring_leader(self.rt, &self.shared.office);
-                made
-            }
-        }
+    /// Passes the gate for a visit, and waits for another one then.
+    pub fn pass_given(&self, planned: Planned) {
+        self.gate.pause(planned.server, planned.packet);
+        put_back(self.rt, &self.shared.office, self.number, planned);
     }
 
     /// Leads or makes visits, until there is nothing to do any more.
@@ -113,31 +104,33 @@ impl<'a, 'b, L: Run, R: Wait, G: Gate> Worker<'a, 'b, L, R, G> {
         ensures { mine.new.share.parts ≡ 1 }
     {
         for _ in self.rt.forever() {
-            let goes_on = match wait_for_duty(self.rt, &self.shared.office, self.slot) {
+            let goes_on = match wait_for_duty(self.rt, &self.shared.office, self.number) {
                 Duty::Lead => self.lead(rules, mine),
-                Duty::Errand(errand) => self.serve(rules, errand, mine),
+                Duty::Pass(planned) => {
+                    self.pass_given(planned);
+                    true
+                }
                 Duty::Nothing => continue,
                 Duty::End => false,
             };
             if !goes_on {
                 return;
             }
-            self.shared.office.set_free(self.slot, true);
         }
         unreachable!()
     }
 
-    /// All of its work. When it ends it gives up what it runs, and wakes the others.
+    /// All of its work. When it ends it gives up what it has, and wakes the others.
     pub fn work(&self, mine: Tally<L>) -> Tally<L>
         requires { mine.share.parts ≡ 1 }
         ensures { result.share.parts ≡ 1 }
     {
         let mut mine = mine;
-        self.shared.office.arrive(self.slot);
+        arrive(self.rt, &self.shared.office, self.number);
         if let Ok(rules) = rules(self.rt, self.alloc, self.shared) {
             self.work_by(&rules, &mut mine);
         }
-        leave(self.rt, self.shared, self.slot);
+        leave(self.rt, self.shared, self.number);
         mine
     }
 }
