@@ -10,8 +10,8 @@ pub trait Gate: Sync {
     /// Holds the visit of a packet at a server for as long as it likes.
     fn pause(&self, server: ServerId, packet: PacketNo);
 
-    /// Whether it holds nobody. Before such a gate one worker leads, and the others sleep; before one that says false,
-    /// since it may hold a visit, all look for jobs.
+    /// Whether it holds nobody. Before such a gate one worker makes all visits, and the others sleep; before one that
+    /// says false, since it may hold a visit, that worker prepares visits, and the others pass the gate with them.
     fn is_open(&self) -> bool {
         false
     }
