@@ -1,7 +1,7 @@
 -- The jobs of a chain that no slot runs, and those that are wanted.
 use Rattle.std.proofs.Common.{◌≡◌, ◌∙◌, ℕ, Bool, true, false, not, List, Option, ap, refl, sym}
 use Rattle.ftc_jobs.specs.All.{AreJobs, IsUntaken, is_running_by}
-use Rattle.ftc_jobs.specs.Beside.{is_wanted, IsWanted, IsNoneWanted}
+use Rattle.ftc_jobs.specs.Beside.{is_sought, IsWanted, IsNoneWanted}
 use Rattle.ftc_journal.specs.declared.job.Job.{Job}
 use Rattle.ftc_journal.specs.declared.job.Job.TheVariants as job
 use Rattle.ftc_protocol.specs.Setting.{Setting}
@@ -30,7 +30,7 @@ untaken_as runs other same (job.Propagate origin) is = is
 
 wanted_as : (visits : Bool) (runs other : ℕ → ℕ → Bool) →
     ((server packet : ℕ) → other server packet ≡ runs server packet) → (done : Job) →
-    is_wanted visits other done ≡ is_wanted visits runs done
+    is_sought visits other done ≡ is_sought visits runs done
 wanted_as false runs other same done = refl
 wanted_as true runs other same (job.Visit server packet) = ap not (same server packet)
 wanted_as true runs other same (job.Enter packet) = refl

@@ -10,7 +10,7 @@ use Rattle.ftc_protocol.specs.State.{Message, ChainState}
 use Rattle.ftc_script.specs.declared.line.ScriptLine.{ScriptLine}
 use Rattle.ftc_script.specs.declared.line.ScriptLine.TheVariants.{Crash as CrashLine, Recover as RecoverLine}
 use Rattle.ftc_jobs.specs.All.{IsUntaken}
-use Rattle.ftc_jobs.specs.Beside.{is_visit, is_wanted, IsWanted, IsNoneWanted, IsOtherJob, IsUnwanted, IsNoneOutside}
+use Rattle.ftc_jobs.specs.Beside.{is_visit, is_sought, IsWanted, IsNoneWanted, IsOtherJob, IsUnwanted, IsNoneOutside}
 use Rattle.ftc_jobs.specs.Lines.{job_of_line}
 use Rattle.ftc_jobs.proofs.JobKinds.{held_where}
 
@@ -21,7 +21,7 @@ line_is_no_visit (RecoverLine at server) = refl
 
 -- a visit that a slot runs isn't wanted
 pub taken_is_unwanted : (visits : Bool) (runs : ℕ → ℕ → Bool) (server packet : ℕ) → runs server packet ≡ true →
-    is_wanted visits runs (Visit server packet) ≡ false
+    is_sought visits runs (Visit server packet) ≡ false
 taken_is_unwanted true runs server packet taken = ap not taken
 taken_is_unwanted false runs server packet taken = refl
 
@@ -70,7 +70,7 @@ module _ (setting : Setting) (state : ChainState) where
   module _ (runs : ℕ → ℕ → Bool) where
     -- work that isn't wanted where no visit is, is a visit, beside which nothing is to be applied
     no_apply : (server origin : ℕ) (job : Job) → IsWork setting state server origin job →
-        is_wanted false runs job ≡ false → IsNoApply setting state server origin
+        is_sought false runs job ≡ false → IsNoApply setting state server origin
     no_apply server origin (Visit at own) work isnt = work.2
     no_apply server origin (Apply at own group packet) work isnt = absurd cc
     no_apply server origin (Pass at own) work isnt = absurd cc

@@ -16,20 +16,20 @@ is_free_visit runs (kind.Visit server packet) = not (runs server packet)
 is_free_visit runs other = false
 
 -- a visit that no slot runs is wanted, or what is no visit
-abbrev pub is_wanted : Bool → (ℕ → ℕ → Bool) → Job → Bool
-is_wanted true runs job = is_free_visit runs job
-is_wanted false runs job = not (is_visit job)
+abbrev pub is_sought : Bool → (ℕ → ℕ → Bool) → Job → Bool
+is_sought true runs job = is_free_visit runs job
+is_sought false runs job = not (is_visit job)
 
 -- the job is legal and wanted
 pub record IsWanted (visits : Bool) (runs : ℕ → ℕ → Bool) (setting : Setting) (state : ChainState) (job : Job) :
     Type 0 where
   pub legal : IsLegalJob setting state job
-  pub wanted : is_wanted visits runs job ≡ true
+  pub wanted : is_sought visits runs job ≡ true
 
 -- no legal job is wanted
 abbrev pub IsNoneWanted : Bool → (ℕ → ℕ → Bool) → Setting → ChainState → Type 0
 IsNoneWanted visits runs setting state =
-    (job : Job) → IsLegalJob setting state job → is_wanted visits runs job ≡ false
+    (job : Job) → IsLegalJob setting state job → is_sought visits runs job ≡ false
 
 -- the job is legal and no visit
 pub record IsOtherJob (setting : Setting) (state : ChainState) (job : Job) : Type 0 where
@@ -39,7 +39,7 @@ pub record IsOtherJob (setting : Setting) (state : ChainState) (job : Job) : Typ
 -- the work of the message of that origin at the server isn't wanted
 abbrev pub IsUnwanted : Bool → (ℕ → ℕ → Bool) → Setting → ChainState → ℕ → ℕ → Type 0
 IsUnwanted visits runs setting state server origin =
-    (job : Job) → IsWork setting state server origin job → is_wanted visits runs job ≡ false
+    (job : Job) → IsWork setting state server origin job → is_sought visits runs job ≡ false
 
 -- no line is to be done, no packet may enter, and no message may begin without one
 pub record IsNoneOutside (setting : Setting) (state : ChainState) : Type 0 where

@@ -8,7 +8,7 @@ ghost use Rattle.ftc_server.specs.declared.held.HeldMessage.{HeldMessage as AHel
 ghost use Rattle.ftc_server.specs.Holding.{found};
 ghost use Rattle.ftc_refinement.specs.Contents.{IsServerAt};
 ghost use Rattle.ftc_jobs.specs.All.{is_running_by, IsUntaken};
-ghost use Rattle.ftc_jobs.specs.Beside.{is_wanted, IsWanted, IsNoneWanted, IsOtherJob, IsUnwanted, IsNoneOutside};
+ghost use Rattle.ftc_jobs.specs.Beside.{is_sought, IsWanted, IsNoneWanted, IsOtherJob, IsUnwanted, IsNoneOutside};
 ghost use Rattle.ftc_jobs.specs.Rest.{IsAtRest};
 ghost use Rattle.ftc_jobs.specs.Turn.{IsRising};
 
@@ -27,8 +27,8 @@ use ftc_script::Script;
 use ftc_server::Server;
 
 /// Whether a job is wanted that is no visit that a slot runs: where visits are, each visit, and else what is no visit.
-fn is_wanted(visits: bool, job: &Job) -> bool
-    ensures { (runs : ℕ → ℕ → Bool) → IsUntaken runs job.now → result ≡ is_wanted visits runs job.now }
+fn is_sought(visits: bool, job: &Job) -> bool
+    ensures { (runs : ℕ → ℕ → Bool) → IsUntaken runs job.now → result ≡ is_sought visits runs job.now }
 {
     match *job {
         Job::Visit { .. } => visits,
@@ -64,7 +64,7 @@ fn wanted_of(
     }
     let work = live.work_of(origin)?;
     let job = job_of_work(network, script, server, origin, work);
-    if is_wanted(visits, &job) {
+    if is_sought(visits, &job) {
         Some(job)
     } else {
         None

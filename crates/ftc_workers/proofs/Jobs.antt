@@ -5,7 +5,7 @@ use Rattle.std.specs.Coded.{Coded-set, coded_bool}
 use Rattle.ftc_journal.specs.declared.job.Job.{Job}
 use Rattle.ftc_journal.specs.declared.job.Job.TheVariants as job
 use Rattle.ftc_jobs.specs.All.{IsUntaken}
-use Rattle.ftc_jobs.specs.Beside.{is_visit, is_wanted, IsWanted}
+use Rattle.ftc_jobs.specs.Beside.{is_visit, is_sought, IsWanted}
 use Rattle.ftc_protocol.specs.Jobs.{IsFirstJob}
 use Rattle.ftc_chain.specs.ChainRun.{ChainRun, setting_in, chain_state}
 use Rattle.ftc_chain.specs.Slots.{is_running_at}
@@ -39,7 +39,7 @@ not_so true is = absurd cc
 not_so false is = refl
 
 -- a wanted job is nobody's
-untaken_wanted : (run : ChainRun) (visits : Bool) (done : Job) → is_wanted visits (is_running_at run) done ≡ true →
+untaken_wanted : (run : ChainRun) (visits : Bool) (done : Job) → is_sought visits (is_running_at run) done ≡ true →
     IsUntaken (is_running_at run) done
 untaken_wanted run true (job.Visit server packet) wanted = not_so (is_running_at run server packet) wanted
 untaken_wanted run false (job.Visit server packet) wanted = absurd cc
@@ -56,7 +56,7 @@ untaken_wanted run visits (job.Propagate origin) wanted = tt
 
 is_so : (run : ChainRun) (visits : Bool) (done : Job) →
     ∥ IsWanted visits (is_running_at run) (setting_in run) (chain_state run) done ∥₁ →
-    is_wanted visits (is_running_at run) done ≡ true
+    is_sought visits (is_running_at run) done ≡ true
 is_so run visits done is = ∥∥₁_elim is (Coded-set coded_bool _ _) (λ it. it.wanted)
 
 pub may_wanted : (run : ChainRun) (visits : Bool) (done : Job) →

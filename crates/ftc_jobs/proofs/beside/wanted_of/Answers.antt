@@ -5,7 +5,7 @@ use Rattle.ftc_journal.specs.declared.job.Job.{Job}
 use Rattle.ftc_journal.specs.declared.job.Job.TheVariants.{Visit}
 use Rattle.ftc_network.specs.Parts.{server_in}
 use Rattle.ftc_jobs.specs.All.{is_running_by}
-use Rattle.ftc_jobs.specs.Beside.{is_wanted}
+use Rattle.ftc_jobs.specs.Beside.{is_sought}
 use Rattle.ftc_jobs.proofs.RunVisit.{run_visit}
 use Rattle.ftc_jobs.proofs.Sizes.{size_of}
 use Rattle.ftc_jobs.proofs.Wanted.{legal_work, not_work, taken_is_unwanted, untaken_work}
@@ -24,7 +24,7 @@ returns-then-is_running-clause-none c none setting state packets held rest up th
     c.what_runs_may_be_visited.ensures setting state server worker live running run is rest.resting.none_due at)
     origin (server_in network.servers.items server) slot runs in
     ∥∥₁_elim legal (Bool-set _ _) (λ visit.
-    subst (λ (j : Job). is_wanted c.args.visits (is_running_by network) j ≡ false)
+    subst (λ (j : Job). is_sought c.args.visits (is_running_by network) j ≡ false)
     (c.work.ensures.single setting state server origin (Visit server origin) job
     (c.work.ensures.visit setting state server origin visit) work)
     (taken_is_unwanted c.args.visits (is_running_by network) server origin runs))
@@ -35,8 +35,8 @@ returns-in_err-work-clause-none c none setting state packets held rest up there 
     (c.what_work_is.ensures.none setting state c.args.server c.args.origin held c.args.live.now rest.resting.run
     rest.resting.none_due up there rising (sym c.work_of.ensures.work ∙ c.in_err-work.was)) job work)
 
-pub returns-then-is_wanted-clause-some : goal.returns-then-is_wanted-clause-some
-returns-then-is_wanted-clause-some c setting state packets held rest up there rising =
+pub returns-then-is_sought-clause-some : goal.returns-then-is_sought-clause-some
+returns-then-is_sought-clause-some c setting state packets held rest up there rising =
     let job = c.job_of_work-job.result in
     let work = c.job_of_work-job.ensures setting state packets held c.args.live.now rest up there rising
     (sym c.work_of.ensures.work ∙ c.in_ok-work.was) in
@@ -45,17 +45,17 @@ returns-then-is_wanted-clause-some c setting state packets held rest up there ri
     let untaken = untaken_work setting state runs c.args.server c.args.origin job work free in
     record {
       legal = legal_work setting state c.args.server c.args.origin job work;
-      wanted = sym (c.is_wanted.ensures runs untaken) ∙ c.if-is_wanted.true;
+      wanted = sym (c.is_sought.ensures runs untaken) ∙ c.if-is_sought.true;
     }
 
-pub returns-else-is_wanted-clause-none : goal.returns-else-is_wanted-clause-none
-returns-else-is_wanted-clause-none c none setting state packets held rest up there rising other also =
+pub returns-else-is_sought-clause-none : goal.returns-else-is_sought-clause-none
+returns-else-is_sought-clause-none c none setting state packets held rest up there rising other also =
     let job = c.job_of_work-job.result in
     let work = c.job_of_work-job.ensures setting state packets held c.args.live.now rest up there rising
     (sym c.work_of.ensures.work ∙ c.in_ok-work.was) in
     let runs = is_running_by c.args.network.now in
     let free = sym (c.is_running.ensures setting state rest.resting.stands) ∙ c.if-is_running.false in
     let untaken = untaken_work setting state runs c.args.server c.args.origin job work free in
-    subst (λ (j : Job). is_wanted c.args.visits runs j ≡ false)
+    subst (λ (j : Job). is_sought c.args.visits runs j ≡ false)
     (c.work.ensures.single setting state c.args.server c.args.origin job other work also)
-    (sym (c.is_wanted.ensures runs untaken) ∙ c.if-is_wanted.false)
+    (sym (c.is_sought.ensures runs untaken) ∙ c.if-is_sought.false)
