@@ -32,7 +32,7 @@ if_some Fact Other None from fact = tt
 if_some Fact Other (Some item) from fact = from item fact
 
 -- the packets are few
-pub short_packets : (packets : List Packet) (size : ℕ) → size ≡ length packets → size ≤ MOST_RECORDS →
+short_packets : (packets : List Packet) (size : ℕ) → size ≡ length packets → size ≤ MOST_RECORDS →
     length (bytes_of_packets packets) ≤ MOST_RECORDS
 short_packets packets size same few = let each = bytes_count packets in omega (arith, same, few, each)
 
@@ -77,16 +77,19 @@ some_cannot Fact (Some item) some cannot fact = ∥∥₁_elim fact none_is (can
 
 -- jobs may be asked for
 pub at_rest : (given : Given) (course : Course) (packets : ℕ) → packets ≡ length given.packets.now →
+    packets ≤ MOST_RECORDS →
     ((setting : Setting) → IsSetting setting → (journal : List Event) → IsRun setting journal →
     AreFew setting journal) →
-    most_messages (setting_by given) < 2 ^ 32 → IsResting (setting_by given) course →
+    (length (bytes_of_packets given.packets.now) ≤ MOST_RECORDS → most_messages (setting_by given) < 2 ^ 32) →
+    IsResting (setting_by given) course →
     IsAtRest (setting_by given)
     (state_by (setting_by given) course.journal.items) given.script.now packets course.network
-at_rest given course packets same begun few is =
+at_rest given course packets same short begun most is =
     let setting : Setting = setting_by given in
     let state : ChainState = state_by setting course.journal.items in
     let number = propagates_on setting course.journal.items (opening setting) in
     let bound = begun setting is.course_is.right course.journal.items is.course_is.run in
+    let few = most (short_packets given.packets.now packets same short) in
     record {
       resting = record {
         run = is_run_state setting course is.course_is;

@@ -1,42 +1,23 @@
-use Rattle.std.proofs.Common.{false, subst}
-use Rattle.std.proofs.Math.Logic.{∥∥₁_elim, ∥∥₁_map}
-use Rattle.std.specs.Coded.{Coded-set, coded_bool}
-use Rattle.std.specs.Prelude.{IfSome}
-use Rattle.ftc_jobs.specs.Beside.{IsWanted, IsNoneWanted}
-use Rattle.ftc_journal.specs.declared.job.Job.{Job}
-use Rattle.ftc_chain.specs.ChainRun.{ChainRun, setting_in, chain_state}
-use Rattle.ftc_chain.specs.Course.{state_by}
-use Rattle.ftc_chain.specs.Doing.{setting_by}
-use Rattle.ftc_chain.specs.Slots.{is_running_at}
-use Rattle.ftc_chain.proofs.AtRest.{at_rest, if_some, short_packets}
-use Rattle.ftc_chain.proofs.SeenJobs.{seen_unwanted, seen_wanted}
+use Rattle.std.proofs.Common.{false}
+use Rattle.ftc_chain.proofs.AtRest.{at_rest}
+use Rattle.ftc_chain.proofs.SeenJobs.{none_wanted, wanted_found}
 use Rattle.ftc_chain.proofs.chain.Chain.other_job.Goals as goal
 
 pub returns-clause-some : goal.returns-clause-some
 returns-clause-some c =
     let given = c.self.inside.given in
-    subst (λ (run : ChainRun). IfSome c.other_job.result
-    (λ (job : Job). ∥ IsWanted false (is_running_at run) (setting_in run) (chain_state run) job ∥₁)) c.self.view_is
-    (if_some _ _ c.other_job.result (λ job wanted. ∥∥₁_map c.self.invariant.1 (λ resting.
-    seen_wanted given c.self.inside.course (setting_by given) _ false job (wanted _ _
-    (at_rest given c.self.inside.course _ c.len-packets.ensures.same c.few_propagates.ensures
-    (c.accepted.ensures.few given.spec.now _ given.script.now c.ring.ensures.accepted
-    (short_packets given.packets.now c.len-packets.result c.len-packets.ensures.same c.len-packets.ensures.few))
-    resting))))
-    c.other_job.ensures.some)
+    let course = c.self.inside.course in
+    wanted_found given course c.args.self.now c.self.view_is c.self.invariant.1 false _ c.other_job.result
+    (λ job wanted resting. wanted _ _
+    (at_rest given course _ c.len-packets.ensures.same c.len-packets.ensures.few c.few_propagates.ensures
+    (c.accepted.ensures.few given.spec.now _ given.script.now c.ring.ensures.accepted) resting))
+    c.other_job.ensures.some
 
 pub returns-clause-none : goal.returns-clause-none
 returns-clause-none c none =
     let given = c.self.inside.given in
     let course = c.self.inside.course in
-    let setting = setting_by given in
-    subst (λ (run : ChainRun). IsNoneWanted false (is_running_at run) (setting_in run) (chain_state run))
-    c.self.view_is
-    (λ job legal. ∥∥₁_elim c.self.invariant.1 (Coded-set coded_bool _ _) (λ resting.
-    seen_unwanted given course setting (state_by setting course.journal.items) false
-    (c.other_job.ensures.none none _ _
-    (at_rest given course _ c.len-packets.ensures.same c.few_propagates.ensures
-    (c.accepted.ensures.few given.spec.now _ given.script.now c.ring.ensures.accepted
-    (short_packets given.packets.now c.len-packets.result c.len-packets.ensures.same c.len-packets.ensures.few))
-    resting))
-    job legal))
+    none_wanted given course c.args.self.now c.self.view_is c.self.invariant.1 false
+    (λ resting. c.other_job.ensures.none none _ _
+    (at_rest given course _ c.len-packets.ensures.same c.len-packets.ensures.few c.few_propagates.ensures
+    (c.accepted.ensures.few given.spec.now _ given.script.now c.ring.ensures.accepted) resting))
