@@ -1,6 +1,7 @@
 mod AllJobs
 mod ApplyNow
 mod Begins
+mod Below
 mod Chosen
 mod FirstWork
 mod JobKinds

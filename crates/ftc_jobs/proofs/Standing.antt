@@ -1,5 +1,7 @@
--- What stands for a server that is up, and which are down.
-use Rattle.std.proofs.Common.{◌≡◌, ◌<◌, ℕ, suc, zero, false, List, [], ◌∷◌, Option, Some, None, length, subst, arith}
+-- What stands for a server that is up, and that one that is down holds no message.
+use Rattle.std.proofs.Common.{◌≡◌, ◌∙◌, ◌<◌, ℕ, suc, zero, true, false, List, [], ◌∷◌, Option, Some, None, length}
+use Rattle.std.proofs.Common.{sym, subst, arith}
+use Rattle.std.proofs.lemmas.Bool.{true≢false}
 use Rattle.ftc_protocol.specs.Setting.{Setting, servers}
 use Rattle.ftc_protocol.specs.State.{ChainState}
 use Rattle.ftc_server.specs.declared.server.Server.{Server}
@@ -26,6 +28,10 @@ module _ (setting : Setting) (state : ChainState) (network : Network) (rest : Is
         subst (IsSlot setting state server) slot
         (rest.stands.servers_are server (omega (arith, size, below, network.each_server)))
 
-    pub is_down_there : server < servers setting → server_in network.servers.items server ≡ None →
-        state.up server ≡ false
+    is_down_there : server < servers setting → server_in network.servers.items server ≡ None → state.up server ≡ false
     is_down_there below slot = subst (IsSlot setting state server) slot (rest.stands.servers_are server below)
+
+    -- what holds a message is a server of the chain that is up
+    pub down_holds_none : (server < servers setting) × (state.up server ≡ true) →
+        server_in network.servers.items server ≡ None → ⊥
+    down_holds_none holder slot = true≢false (sym holder.1 ∙ is_down_there holder.0 slot)

@@ -1,13 +1,12 @@
 use Rattle.std.proofs.Common.{◌≡◌, ◌∙◌, refl, sym, ap, subst}
 use Rattle.std.specs.Option.{option_copied}
-use Rattle.std.proofs.lemmas.Bool.{true≢false}
 use Rattle.ftc_journal.specs.declared.job.Job.{Job}
 use Rattle.ftc_journal.specs.declared.job.Job.TheVariants.{Crash, Recover}
 use Rattle.ftc_protocol.specs.Jobs.{IsLegalJob}
 use Rattle.ftc_jobs.specs.All.{is_running_by, IsOfMessages}
 use Rattle.ftc_jobs.proofs.AllJobs.{adds_if, adds_none, on_ok}
 use Rattle.ftc_jobs.proofs.JobKinds.{held_where, server_jobs}
-use Rattle.ftc_jobs.proofs.Standing.{is_down_there}
+use Rattle.ftc_jobs.proofs.Standing.{down_holds_none}
 use Rattle.ftc_jobs.proofs.all.add_server.Goals as goal
 
 pub returns-in-Some : goal.returns-in-Some
@@ -30,7 +29,6 @@ pub returns-in-None : goal.returns-in-None
 returns-in-None c setting state packets rest =
     let server = c.args.server in
     let runs = is_running_by c.args.network.now in
-    let network = c.args.network.now in
     let crash = c.may_crash-crash.ensures setting state packets rest in
     let recover = c.may_recover-recover.ensures setting state packets rest in
     server_jobs runs setting state server c.args.jobs.now c.add_if.new.jobs c.add_if-2.new.jobs c.add_if-2.new.jobs
@@ -42,7 +40,6 @@ returns-in-None c setting state packets rest =
     (λ job of legal. (of, recover.1 (subst (IsLegalJob setting state) (sym of) legal.0))))
     (adds_none runs setting state (IsOfMessages server) _ _ refl (λ job of legal.
     let there = held_where setting state server of.0 job of.1 legal.0 in
-    let holder = c.held_in_turn.ensures.holder setting state server of.0 there.0 rest.resting.run there.1 in
-    let down = is_down_there setting state network rest.resting server holder.0
-    (sym c.server_at.ensures ∙ ap (λ o. option_copied o) c.in-None.is) in
-    true≢false (sym holder.1 ∙ down)))
+    down_holds_none setting state c.args.network.now rest.resting server
+    (c.held_in_turn.ensures.holder setting state server of.0 there.0 rest.resting.run there.1)
+    (sym c.server_at.ensures ∙ ap (λ o. option_copied o) c.in-None.is)))

@@ -1,7 +1,7 @@
 use Rattle.std.proofs.Common.{◌∙◌, sym, ap}
 use Rattle.std.specs.Option.{option_copied}
 use Rattle.std.proofs.lemmas.Bool.{true≢false}
-use Rattle.ftc_jobs.proofs.Standing.{is_down_there, is_up_there}
+use Rattle.ftc_jobs.proofs.Standing.{down_holds_none, is_up_there}
 use Rattle.ftc_jobs.proofs.applies.may_apply.Goals as goal
 
 pub returns-in-Some : goal.returns-in-Some
@@ -17,12 +17,10 @@ returns-in-Some c setting state rest =
 
 pub returns-in-None : goal.returns-in-None
 returns-in-None c setting state rest =
-    let network = c.args.network.now in
     let server = c.args.server in (
       (λ test. absurd (true≢false (sym test))),
       (λ legal.
-          let holder = c.held_in_turn.ensures.holder setting state server c.args.origin legal.0.0 rest.run legal.0.1 in
-          let down = is_down_there setting state network rest server holder.0
-          (sym c.server_at.ensures ∙ ap (λ o. option_copied o) c.in-None.is) in
-          absurd (true≢false (sym holder.1 ∙ down))),
+          absurd (down_holds_none setting state c.args.network.now rest server
+          (c.held_in_turn.ensures.holder setting state server c.args.origin legal.0.0 rest.run legal.0.1)
+          (sym c.server_at.ensures ∙ ap (λ o. option_copied o) c.in-None.is))),
     )

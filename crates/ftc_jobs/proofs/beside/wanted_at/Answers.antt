@@ -3,12 +3,12 @@ use Rattle.std.proofs.Common.{subst, arith, eqb-true}
 use Rattle.std.specs.List.{AllByRecursion}
 use Rattle.std.specs.Option.{option_copied}
 use Rattle.std.specs.VecDeque.Iter.{deque_iter_rest}
-use Rattle.std.proofs.lemmas.Bool.{true≢false}
 use Rattle.std.proofs.lemmas.Iterator.Consumers.{YieldsList-from_deque, YieldsList-turn, YieldsList-end}
 use Rattle.std.proofs.lemmas.List.{length_push}
 use Rattle.std.proofs.lemmas.Option.{IfSome_then}
 use Rattle.ftc_protocol.specs.Setting.{Setting}
 use Rattle.ftc_protocol.specs.State.{ChainState}
+use Rattle.ftc_network.specs.Stand.{IsUp}
 use Rattle.ftc_refinement.specs.Contents.{IsServerAt}
 use Rattle.ftc_refinement.proofs.Messages.{found_is}
 use Rattle.ftc_server.specs.declared.held.HeldMessage.{HeldMessage}
@@ -16,12 +16,20 @@ use Rattle.ftc_server.specs.Holding.{found, is_of}
 use Rattle.ftc_standing.proofs.Arriving.{all_both}
 use Rattle.ftc_jobs.specs.All.{is_running_by}
 use Rattle.ftc_jobs.specs.Beside.{IsUnwanted}
+use Rattle.ftc_jobs.specs.Rest.{IsResting}
 use Rattle.ftc_jobs.specs.Turn.{IsRising}
 use Rattle.ftc_jobs.proofs.AllJobs.{items_around, one_taken}
 use Rattle.ftc_jobs.proofs.FirstWork.{so_of_found}
-use Rattle.ftc_jobs.proofs.Standing.{is_down_there, is_up_there}
+use Rattle.ftc_jobs.proofs.Standing.{down_holds_none, is_up_there}
 use Rattle.ftc_jobs.proofs.beside.wanted_at.Goals as goal
-use Rattle.ftc_jobs.proofs.beside.wanted_at.Goals.{In-Some}
+use Rattle.ftc_jobs.proofs.beside.wanted_at.Goals.{In_ok-live, In-Some}
+
+-- the server that was read is up
+up_there : (c : In_ok-live) (setting : Setting) (state : ChainState) → IsResting setting state c.args.network.now →
+    IsUp setting state c.args.server c.in_ok-live.live.now
+up_there c setting state rest =
+    is_up_there setting state c.args.network.now rest c.args.server c.in_ok-live.live.now
+    (sym c.server_at.ensures ∙ ap (λ o. option_copied o) c.in_ok-live.was)
 
 -- where the message at hand stands, that it is found, and that its logs rise
 record IsAtHand (items : List HeldMessage) (place : ℕ) (held : HeldMessage) : Type 0 where
@@ -52,19 +60,16 @@ at_hand c setting state up =
 
 pub returns-in_err-live-clause-none : goal.returns-in_err-live-clause-none
 returns-in_err-live-clause-none c none setting state packets rest origin message held =
-    let network = c.args.network.now in
-    let server = c.args.server in
-    let holder = c.held_in_turn.ensures.holder setting state server origin message rest.resting.run held in
-    let down = is_down_there setting state network rest.resting server holder.0
-    (sym c.server_at.ensures ∙ ap (λ o. option_copied o) c.in_err-live.was) in
-    absurd (true≢false (sym holder.1 ∙ down))
+    absurd (down_holds_none setting state c.args.network.now rest.resting c.args.server
+    (c.held_in_turn.ensures.holder setting state c.args.server origin message rest.resting.run held)
+    (sym c.server_at.ensures ∙ ap (λ o. option_copied o) c.in_err-live.was))
 
 pub returns-then-is_some-clause-some : goal.returns-then-is_some-clause-some
 returns-then-is_some-clause-some c =
     IfSome_then c.wanted_of-wanted.result c.wanted_of-wanted.ensures.some (λ job wanted setting state packets rest.
-    let up = is_up_there setting state c.args.network.now rest.resting c.args.server c.in_ok-live.live.now
-    (sym c.server_at.ensures ∙ ap (λ o. option_copied o) c.in_ok-live.was) in
-    let hand = at_hand (goal.at.returns-then-is_some-clause-some c).In-Some setting state up.at in
+    let there = goal.at.returns-then-is_some-clause-some c in
+    let up = up_there there.In_ok-live setting state rest.resting in
+    let hand = at_hand there.In-Some setting state up.at in
     wanted setting state packets c.in-Some.held.now rest up.at hand.there hand.rising)
 
 pub loop-held-preserved : goal.loop-held-preserved
@@ -76,9 +81,9 @@ loop-held-preserved c setting state packets rest =
     let held = c.in-Some.held.now in
     let Unwanted = λ (h : HeldMessage).
     IsUnwanted c.args.visits (is_running_by network) setting state server h.message.origin in
-    let up = is_up_there setting state network rest.resting server c.in_ok-live.live.now
-    (sym c.server_at.ensures ∙ ap (λ o. option_copied o) c.in_ok-live.was) in
-    let hand = at_hand (goal.at.loop-held-preserved c).In-Some setting state up.at in
+    let there = goal.at.loop-held-preserved c in
+    let up = up_there there.In_ok-live setting state rest.resting in
+    let hand = at_hand there.In-Some setting state up.at in
     subst (λ (next : ℕ). AllByRecursion Unwanted (take next items))
     (sym (length_push c.loop-held.yielded c.in-Some.held))
     (subst (AllByRecursion Unwanted) (sym (one_taken items place held hand.below hand.is))
@@ -96,8 +101,7 @@ returns-clause-none c none setting state packets rest origin message held job wo
     let items = live.held.items in
     let Unwanted = λ (h : HeldMessage).
     IsUnwanted c.args.visits (is_running_by network) setting state server h.message.origin in
-    let up = is_up_there setting state network rest.resting server live
-    (sym c.server_at.ensures ∙ ap (λ o. option_copied o) c.in_ok-live.was) in
+    let up = up_there (goal.at.returns-clause-none c).In_ok-live setting state rest.resting in
     let start =
     ap deque_iter_rest c.into_iter-held-iterator.ensures.into_iter_gives ∙ c.iter-held-items.ensures.rest in
     let ending = YieldsList-end (YieldsList-from_deque items start) c.loop-held.yielded _

@@ -1,5 +1,4 @@
 use Rattle.std.proofs.Common.{◌≡◌, ◌∙◌, Bool, true, false, Some, sym, ap, subst, cond}
-use Rattle.std.proofs.lemmas.Bool.{true≢false}
 use Rattle.ftc_base.specs.declared.limits.TheConstants.{FINISHING_SLOT}
 use Rattle.ftc_journal.specs.declared.job.Job.TheVariants as job
 use Rattle.ftc_protocol.specs.Jobs.{IsLegalJob, IsWork}
@@ -11,7 +10,7 @@ use Rattle.ftc_server.specs.Work.{is_waiting, work_for_found}
 use Rattle.ftc_network.specs.Parts.{server_in}
 use Rattle.ftc_refinement.proofs.Messages.{found_as}
 use Rattle.ftc_refinement.proofs.Works.{last_comes, same_flags}
-use Rattle.ftc_jobs.proofs.Standing.{is_down_there, is_up_there}
+use Rattle.ftc_jobs.proofs.Standing.{down_holds_none, is_up_there}
 use Rattle.ftc_jobs.proofs.WorkAt.{at_slot}
 use Rattle.ftc_jobs.proofs.tasks.which_tasks.Goals as goal
 
@@ -24,13 +23,8 @@ returns-clause-visit c setting state network server packet rest =
     ((λ works. (says.0 works, λ other. rest.none_due)), (λ legal. says.1 legal.0)))
     (λ slot legal.
     let may = legal.0 in
-    let holder = c.held_in_turn.ensures.holder setting state server packet may.0 rest.run (
-      may.3,
-      false,
-      may.2,
-      may.4,
-    ) in
-    true≢false (sym holder.1 ∙ is_down_there setting state network rest server holder.0 slot))
+    down_holds_none setting state network rest server
+    (c.held_in_turn.ensures.holder setting state server packet may.0 rest.run (may.3, false, may.2, may.4)) slot)
 
 pub returns-clause-send : goal.returns-clause-send
 returns-clause-send c setting state network server origin rest =
@@ -42,9 +36,9 @@ returns-clause-send c setting state network server origin rest =
     c.what_work_says.ensures.send setting state server origin live rest.run up.at)
     (λ slot leaves.
     let may = leaves.1 in
-    let holder = c.held_in_turn.ensures.holder setting state server origin leaves.0 rest.run
-    (may.there, may.visited, false, may.held) in
-    true≢false (sym holder.1 ∙ is_down_there setting state network rest server holder.0 slot))
+    down_holds_none setting state network rest server
+    (c.held_in_turn.ensures.holder setting state server origin leaves.0 rest.run
+    (may.there, may.visited, false, may.held)) slot)
 
 pub returns-clause-carry : goal.returns-clause-carry
 returns-clause-carry c setting state network origin rest =
@@ -79,5 +73,5 @@ returns-clause-carry c setting state network origin rest =
     ))
     (λ slot legal.
     let may = legal.0 in
-    let holder = c.held_in_turn.ensures.holder setting state 0 origin may.0 rest.run (may.1, may.2, true, may.3) in
-    true≢false (sym holder.1 ∙ is_down_there setting state network rest 0 holder.0 slot))
+    down_holds_none setting state network rest 0
+    (c.held_in_turn.ensures.holder setting state 0 origin may.0 rest.run (may.1, may.2, true, may.3)) slot)

@@ -1,8 +1,8 @@
-use Rattle.std.proofs.Common.{◌∙◌, ◌<◌, ℕ, inl, inr, refl, sym, subst, arith}
-use Rattle.std.proofs.lemmas.Bool.{cases_eq}
+use Rattle.std.proofs.Common.{◌<◌, ℕ, inl, inr, refl, sym, subst, arith}
 use Rattle.ftc_protocol.specs.Legal.{IsHeld}
 use Rattle.ftc_protocol.specs.Jobs.{IsNoWork}
 use Rattle.ftc_jobs.specs.Turn.{IsIdleAt}
+use Rattle.ftc_jobs.proofs.Below.{below_next}
 use Rattle.ftc_jobs.proofs.Sizes.{size_of}
 use Rattle.ftc_jobs.proofs.WorkInTurn.{work_in_turn}
 use Rattle.ftc_jobs.proofs.works.first_work.Goals as goal
@@ -21,12 +21,9 @@ returns-in-Some-clause-some c setting state packets rest no_pull =
     c.in-Some.job first.work
 
 pub loop-number-preserved : goal.loop-number-preserved
-loop-number-preserved c setting state packets rest server below =
-    elim (cases_eq server c.loop-number.number) [
-      | inl same ↦ subst (λ (s : ℕ). IsIdleAt setting state s) (c.server_of.ensures ∙ sym same)
-          (c.in_default.ensures.none refl setting state packets rest)
-      | inr differs ↦ c.loop-number.invariant setting state packets rest server (omega (arith, below, differs))
-    ]
+loop-number-preserved c setting state packets rest =
+    below_next (IsIdleAt setting state) c.loop-number.number c.server_of.result _ c.server_of.ensures (omega arith)
+    (c.loop-number.invariant setting state packets rest) (c.in_default.ensures.none refl setting state packets rest)
 
 pub returns-clause-none : goal.returns-clause-none
 returns-clause-none c none setting state packets rest server origin message held =
