@@ -1,5 +1,5 @@
 -- Lists of jobs that are legal and that no slot runs, one behind another.
-use Rattle.std.proofs.Common.{◌≡◌, ◌≢◌, ◌↔◌, Result, Ok, Err, OnOk, Option, Some, None, ◌∙◌, ◌++◌, ◌⊎◌, ◌+◌, ◌<◌, ℕ}
+use Rattle.std.proofs.Common.{◌≡◌, ◌≢◌, ◌↔◌, Option, Some, None, ◌∙◌, ◌++◌, ◌⊎◌, ◌+◌, ◌<◌, ℕ}
 use Rattle.std.proofs.Common.{zero, suc, Bool, true, false, List, [], ◌∷◌, inl, inr, refl, sym, ap, subst, arith}
 use Rattle.std.proofs.Common.{append_assoc, append-nil, if◌then◌else◌, length, take, drop, get_or}
 use Rattle.std.specs.List.{AllByRecursion}
@@ -12,13 +12,6 @@ use Rattle.ftc_protocol.specs.Setting.{Setting}
 use Rattle.ftc_protocol.specs.State.{ChainState}
 use Rattle.ftc_standing.proofs.Arriving.{all_both}
 use Rattle.ftc_jobs.specs.All.{HasJobsOf, IsUntaken}
-
--- ---- results
-
-pub on_ok : {A E : Type 0} (result : Result A E) (Fact Other : Type 0) → (Fact → Other) → OnOk result Fact →
-    OnOk result Other
-on_ok (Ok value) Fact Other from fact = from fact
-on_ok (Err fault) Fact Other from fact = tt
 
 -- ---- lists
 

@@ -4,7 +4,7 @@ use Rattle.std.proofs.Common.{None, length, refl, sym, ap, subst, lt-ltb, arith}
 use Rattle.std.specs.Prelude.{nat_lt}
 use Rattle.std.specs.List.{find}
 use Rattle.std.specs.Option.{option_map}
-use Rattle.std.proofs.lemmas.Bool.{eqb-true, ne_eqb, true≢false}
+use Rattle.std.proofs.lemmas.Bool.{and_from, and_parts, eqb-true, ne_eqb, true≢false}
 use Rattle.std.proofs.lemmas.Bool.Decides.{nat_tests}
 use Rattle.ftc_base.specs.declared.ask.Write.{Write}
 use Rattle.ftc_journal.specs.declared.event.Event.TheVariants as event
@@ -44,7 +44,7 @@ use Rattle.ftc_refinement.proofs.Ring.{each_named}
 use Rattle.ftc_refinement.proofs.VisitCalls.{changes_nothing, changes_some}
 use Rattle.ftc_refinement.proofs.Works.{held_in}
 use Rattle.ftc_jobs.specs.Applies.{had_if_smaller, has_writes, may_apply_now, may_apply_of, smaller_had, writes_some}
-use Rattle.ftc_jobs.proofs.TwoParts.{all_so, both, from_both, so_of_all}
+use Rattle.ftc_jobs.proofs.TwoParts.{all_so, so_of_all}
 
 -- ---- what the test says of a server
 
@@ -68,9 +68,9 @@ module _ (old : Server) (origin group packet : ℕ) where
       IsApplicable old origin group packet
   applicable_of None there is = absurd cc
   applicable_of (Some held) there is =
-      let halves = both (writes_some group packet held.message)
+      let halves = and_parts (writes_some group packet held.message)
       (may_apply_in old origin group packet && smaller_had old.others.items group packet held.message.logs) is in
-      let rest = both (may_apply_in old origin group packet)
+      let rest = and_parts (may_apply_in old origin group packet)
       (smaller_had old.others.items group packet held.message.logs)
       halves.1 in
       let log = written (find (is_log_of packet group) held.message.logs) halves.0 in
@@ -97,10 +97,10 @@ module _ (old : Server) (origin group packet : ℕ) where
       ap (λ (o : Option HeldMessage). may_apply_of old origin group packet
       (option_map (λ (h : HeldMessage). h.message) o))
       there
-      ∙ from_both (writes_some group packet held.message)
+      ∙ and_from (writes_some group packet held.message)
       (may_apply_in old origin group packet && smaller_had old.others.items group packet held.message.logs)
       (ap has_writes log_is ∙ writes)
-      (from_both (may_apply_in old origin group packet)
+      (and_from (may_apply_in old origin group packet)
       (smaller_had old.others.items group packet held.message.logs) may
       smaller)
 
@@ -176,7 +176,7 @@ module _ (setting : Setting) (state : ChainState) (server origin group packet : 
       let one = found_with
       (λ (l : Logged). IsLogIn setting.partitions state.trace l × (had_if_smaller others group packet l ≡ true))
       (λ (l : Logged). l.group == smaller && l.origin == packet) logs known (are.names smaller packet ∙ carried) in
-      let its_names = both (one.0.group == smaller) (one.0.origin == packet) one.1 in
+      let its_names = and_parts (one.0.group == smaller) (one.0.origin == packet) one.1 in
       let group_is = eqb-true one.0.group smaller its_names.0 in
       let origin_is = eqb-true one.0.origin packet its_names.1 in
       let its : In message.logs one.0.group one.0.origin =

@@ -2,6 +2,7 @@
 use Rattle.std.proofs.Common.{◌≡◌, ◌∙◌, ◌<◌, ◌-◌, ◌+◌, ◌&&◌, ◌==◌, ℕ, true, false, not, [], Option, Some, None, length}
 use Rattle.std.proofs.Common.{refl, sym, ap, subst, inl, inr, arith}
 use Rattle.std.specs.Prelude.{is_some, nat_lt}
+use Rattle.std.proofs.lemmas.Bool.{and_from, and_parts, not-true, or_cases, or_left, or_right}
 use Rattle.ftc_link.specs.Queue.{Queue}
 use Rattle.ftc_protocol.specs.Setting.{Setting, servers, count}
 use Rattle.ftc_protocol.specs.State.{ChainState}
@@ -15,8 +16,7 @@ use Rattle.ftc_jobs.specs.Quiet.{all_clear, all_up, came_by_ring, has_forwarded,
 use Rattle.ftc_jobs.specs.Quiet.{may_begin, none_held}
 use Rattle.ftc_jobs.specs.Rest.{IsResting}
 use Rattle.ftc_jobs.proofs.Sizes.{size_of}
-use Rattle.ftc_jobs.proofs.TwoParts.{all_of, all_so, both, each_of, first_part, from_both, length_none, length_some}
-use Rattle.ftc_jobs.proofs.TwoParts.{negated, none_in, second_part, so_of_all, some_in, some_part}
+use Rattle.ftc_jobs.proofs.TwoParts.{all_of, all_so, each_of, length_none, length_some, none_in, so_of_all, some_in}
 
 -- ---- one server
 
@@ -98,9 +98,9 @@ module _ (setting : Setting) (state : ChainState) (network : Network) (rest : Is
         none_held = λ number server below same. nothing_held (slots number) server same
             (each_of holds_nothing network.servers.items None held number (within number below));
         none_queued = λ link below. none_in (queues link).messages
-            (both (length (queues link).messages == 0) (not (queues link).gap) (is_clear_at link below)).0;
-        no_gap = λ link below. negated (queues link).gap
-            (both (length (queues link).messages == 0) (not (queues link).gap) (is_clear_at link below)).1;
+            (and_parts (length (queues link).messages == 0) (not (queues link).gap) (is_clear_at link below)).0;
+        no_gap = λ link below. not-true (queues link).gap
+            (and_parts (length (queues link).messages == 0) (not (queues link).gap) (is_clear_at link below)).1;
         last = last.0;
         last_is = ap slots (sym last_is) ∙ last.1;
         withheld = last.2;
@@ -109,8 +109,8 @@ module _ (setting : Setting) (state : ChainState) (network : Network) (rest : Is
   pub may_be : (origin : ℕ) → state.entered ≡ count setting → origin ≡ count setting + state.propagates →
       may_begin network ≡ true → IsToPropagate setting state slots queues origin
   may_be origin entered origin_is begins =
-      let parts = both (came_by_ring (slots 0)) (all_up network && is_wanted network) begins in
-      let others = both (all_up network) (is_wanted network) parts.1 in
+      let parts = and_parts (came_by_ring (slots 0)) (all_up network && is_wanted network) begins in
+      let others = and_parts (all_up network) (is_wanted network) parts.1 in
       let first = by_ring_there (slots 0) parts.0 in
       record {
         entered = entered;
@@ -121,13 +121,13 @@ module _ (setting : Setting) (state : ChainState) (network : Network) (rest : Is
         first_is = first.1;
         by_ring = so_of_all (λ (held : HeldMessage). held.by_ring) first.0.held.items
             (subst (λ (slot : Option Server). came_by_ring slot ≡ true) first.1 parts.0);
-        some = elim (some_part (has_forwarded (slots 0))
+        some = elim (or_cases (has_forwarded (slots 0))
             (nat_lt 0 (withheld_in network) && (none_held network && all_clear network)) others.1) [
               | inl forwarded ↦ inl (some_in first.0.forwarder
                   (subst (λ (slot : Option Server). has_forwarded slot ≡ true) first.1 forwarded))
               | inr still ↦
-                  let withheld = both (nat_lt 0 (withheld_in network)) (none_held network && all_clear network) still in
-                  let quiet = both (none_held network) (all_clear network) withheld.1 in
+                  let withheld = and_parts (nat_lt 0 (withheld_in network)) (none_held network && all_clear network) still in
+                  let quiet = and_parts (none_held network) (all_clear network) withheld.1 in
                   inr (stalled withheld.0 quiet.0 quiet.1)
             ];
         origin_is = origin_is;
@@ -135,29 +135,29 @@ module _ (setting : Setting) (state : ChainState) (network : Network) (rest : Is
 
   pub must_be : (origin : ℕ) → IsToPropagate setting state slots queues origin → may_begin network ≡ true
   must_be origin is =
-      from_both (came_by_ring (slots 0)) (all_up network && is_wanted network)
+      and_from (came_by_ring (slots 0)) (all_up network && is_wanted network)
       (subst (λ (slot : Option Server). came_by_ring slot ≡ true) (sym is.first_is)
       (all_so (λ (held : HeldMessage). held.by_ring) is.first.held.items is.by_ring))
-      (from_both (all_up network) (is_wanted network)
+      (and_from (all_up network) (is_wanted network)
       (all_of (λ (slot : Option Server). is_some slot) network.servers.items None
       (λ number below. up_there (slots number) (is.up number (outside number below))))
       (elim is.some [
-        | inl forwarded ↦ first_part (has_forwarded (slots 0))
+        | inl forwarded ↦ or_left (has_forwarded (slots 0))
             (nat_lt 0 (withheld_in network) && (none_held network && all_clear network))
             (subst (λ (slot : Option Server). has_forwarded slot ≡ true) (sym is.first_is)
             (length_some is.first.forwarder forwarded))
-        | inr still ↦ second_part (has_forwarded (slots 0))
+        | inr still ↦ or_right (has_forwarded (slots 0))
             (nat_lt 0 (withheld_in network) && (none_held network && all_clear network))
-            (from_both (nat_lt 0 (withheld_in network)) (none_held network && all_clear network)
+            (and_from (nat_lt 0 (withheld_in network)) (none_held network && all_clear network)
             (subst (λ (n : ℕ). nat_lt 0 (length (buffer_of (slots n))) ≡ true) (sym last_is)
             (subst (λ (slot : Option Server). nat_lt 0 (length (buffer_of slot)) ≡ true) (sym still.last_is)
             (length_some still.last.buffer.items still.withheld)))
-            (from_both (none_held network) (all_clear network)
+            (and_from (none_held network) (all_clear network)
             (all_of holds_nothing network.servers.items None
             (λ number below. holds_none (slots number) (λ server same.
             still.none_held number server (outside number below) same)))
             (all_of is_clear network.links.items (record { from = 0; messages = []; gap = false })
-            (λ link below. from_both (length (queues link).messages == 0) (not (queues link).gap)
+            (λ link below. and_from (length (queues link).messages == 0) (not (queues link).gap)
             (length_none (queues link).messages (still.none_queued link (outside_links link below)))
             (ap not (still.no_gap link (outside_links link below)))))))
       ]))

@@ -5,7 +5,7 @@ use Rattle.std.proofs.Common.{arith, take, drop, eqb-true, ltb-true, cond, appen
 use Rattle.std.specs.Prelude.{nat_lt}
 use Rattle.std.specs.List.{AllByRecursion, find}
 use Rattle.std.specs.Option.{option_map}
-use Rattle.std.proofs.lemmas.Bool.{cases_lt}
+use Rattle.std.proofs.lemmas.Bool.{and_parts, cases_lt, or_cases}
 use Rattle.ftc_journal.specs.declared.job.Job.{Job}
 use Rattle.ftc_journal.specs.declared.job.Job.TheVariants.{Enter, Take, Apply, Visit, Pass, Lose, Carry, Crash, Recover}
 use Rattle.ftc_journal.specs.declared.job.Job.TheVariants.{Pull, Propagate}
@@ -28,7 +28,6 @@ use Rattle.ftc_jobs.specs.All.{IsOfServers, IsEnter, IsPropagate}
 use Rattle.ftc_jobs.proofs.AllJobs.{any_one, any_other, any_either, any_mapped, some_of, one_taken, items_around}
 use Rattle.ftc_jobs.proofs.AllJobs.{adds_if, adds_then, adds_as}
 use Rattle.ftc_jobs.proofs.ApplyNow.{applicable}
-use Rattle.ftc_jobs.proofs.TwoParts.{both, some_part}
 
 -- ---- logs that rise
 
@@ -38,10 +37,10 @@ IsBehind origin group log = (origin < log.origin) ⊎ ((origin ≡ log.origin) �
 follows : (origin group : ℕ) (log : Logged) → log_follows (Some (origin, group)) log.origin log.group ≡ true →
     IsBehind origin group log
 follows origin group log is =
-    elim (some_part (nat_lt origin log.origin) (origin == log.origin && nat_lt group log.group) is) [
+    elim (or_cases (nat_lt origin log.origin) (origin == log.origin && nat_lt group log.group) is) [
       | inl less ↦ inl (ltb-true origin log.origin less)
       | inr same ↦
-          let parts = both (origin == log.origin) (nat_lt group log.group) same in
+          let parts = and_parts (origin == log.origin) (nat_lt group log.group) same in
           inr (eqb-true origin log.origin parts.0, ltb-true group log.group parts.1)
     ]
 
@@ -57,7 +56,7 @@ all_behind : (origin group : ℕ) (logs : List Logged) → logs_rise (Some (orig
     AllByRecursion (IsBehind origin group) logs
 all_behind origin group [] rise = tt
 all_behind origin group (log ∷ logs) rise =
-    let parts = both (log_follows (Some (origin, group)) log.origin log.group)
+    let parts = and_parts (log_follows (Some (origin, group)) log.origin log.group)
     (logs_rise (Some (log.origin, log.group)) logs) rise in
     let first = follows origin group log parts.0 in (
       first,
@@ -70,7 +69,7 @@ each_behind : (last : Option (ℕ × ℕ)) (logs : List Logged) → logs_rise la
     EachLater (λ (one other : Logged). IsBehind one.origin one.group other) logs
 each_behind last [] rise = tt
 each_behind last (log ∷ logs) rise =
-    let parts = both (log_follows last log.origin log.group) (logs_rise (Some (log.origin, log.group)) logs) rise in
+    let parts = and_parts (log_follows last log.origin log.group) (logs_rise (Some (log.origin, log.group)) logs) rise in
     (all_behind log.origin log.group logs parts.1, each_behind (Some (log.origin, log.group)) logs parts.1)
 
 -- no log before another is of its packet and group
@@ -303,7 +302,7 @@ log_there packet group (first ∷ logs) log is =
     cond b (Some first) (find (is_log_of packet group) logs) ≡ Some log →
     AnyOf (λ (other : Logged). (other.origin ≡ packet) × (other.group ≡ group)) (first ∷ logs)) [
       | true ↦ λ test same.
-          let parts = both (first.origin == packet) (first.group == group) test in
+          let parts = and_parts (first.origin == packet) (first.group == group) test in
           inl (eqb-true first.origin packet parts.0, eqb-true first.group group parts.1)
       | false ↦ λ test later. inr (log_there packet group logs log later)
     ] refl is

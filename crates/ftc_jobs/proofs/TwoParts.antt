@@ -1,17 +1,9 @@
 -- What tests of two parts and of lists say.
-use Rattle.std.proofs.Common.{◌≡◌, ◌<◌, ◌&&◌, ◌||◌, ◌⊎◌, ◌==◌, ℕ, suc, zero, Bool, true, false, not, List, [], ◌∷◌}
+use Rattle.std.proofs.Common.{◌≡◌, ◌<◌, ◌&&◌, ◌⊎◌, ◌==◌, ℕ, suc, zero, Bool, true, false, List, [], ◌∷◌}
 use Rattle.std.proofs.Common.{length, refl, inl, inr, arith, lt-ltb}
-use Rattle.std.proofs.lemmas.Bool.{eqb-true}
+use Rattle.std.proofs.lemmas.Bool.{and_from, and_parts, eqb-true}
 use Rattle.std.specs.Prelude.{slice_index_or, nat_lt}
 use Rattle.std.specs.List.{AllByRecursion, list_all}
-
-pub both : (a b : Bool) → a && b ≡ true → (a ≡ true) × (b ≡ true)
-both true b is = (refl, is)
-both false b is = absurd cc
-
-pub from_both : (a b : Bool) → a ≡ true → b ≡ true → a && b ≡ true
-from_both true b a_is b_is = b_is
-from_both false b a_is b_is = absurd cc
 
 -- one part is false
 pub either : (a b : Bool) → a && b ≡ false → (b ≡ false) ⊎ (a ≡ false)
@@ -23,47 +15,31 @@ neither true b (inl isnt) = isnt
 neither true b (inr isnt) = absurd cc
 neither false b isnt = refl
 
-pub some_part : (a b : Bool) → a || b ≡ true → (a ≡ true) ⊎ (b ≡ true)
-some_part true b is = inl refl
-some_part false b is = inr is
-
-pub first_part : (a b : Bool) → a ≡ true → a || b ≡ true
-first_part true b is = refl
-first_part false b is = absurd cc
-
-pub second_part : (a b : Bool) → b ≡ true → a || b ≡ true
-second_part true b is = refl
-second_part false b is = is
-
-pub negated : (a : Bool) → not a ≡ true → a ≡ false
-negated true is = absurd cc
-negated false is = refl
-
 -- ---- lists
 
 pub each_of : {A : Type 0} (test : A → Bool) (items : List A) (other : A) → list_all test items ≡ true → (place : ℕ) →
     place < length items → test (slice_index_or items place other) ≡ true
 each_of test [] other all place below = absurd (omega (arith, below))
-each_of test (item ∷ items) other all zero below = (both (test item) (list_all test items) all).0
+each_of test (item ∷ items) other all zero below = (and_parts (test item) (list_all test items) all).0
 each_of test (item ∷ items) other all (suc place) below =
-    each_of test items other (both (test item) (list_all test items) all).1 place (omega (arith, below))
+    each_of test items other (and_parts (test item) (list_all test items) all).1 place (omega (arith, below))
 
 pub all_of : {A : Type 0} (test : A → Bool) (items : List A) (other : A) →
     ((place : ℕ) → place < length items → test (slice_index_or items place other) ≡ true) → list_all test items ≡ true
 all_of test [] other each = refl
-all_of test (item ∷ items) other each = from_both (test item) (list_all test items) (each 0 (omega arith))
+all_of test (item ∷ items) other each = and_from (test item) (list_all test items) (each 0 (omega arith))
     (all_of test items other (λ place below. each (suc place) (omega (arith, below))))
 
 pub so_of_all : {A : Type 0} (test : A → Bool) (items : List A) → list_all test items ≡ true →
     AllByRecursion (λ item. test item ≡ true) items
 so_of_all test [] all = tt
 so_of_all test (item ∷ items) all =
-    let parts = both (test item) (list_all test items) all in (parts.0, so_of_all test items parts.1)
+    let parts = and_parts (test item) (list_all test items) all in (parts.0, so_of_all test items parts.1)
 
 pub all_so : {A : Type 0} (test : A → Bool) (items : List A) → AllByRecursion (λ item. test item ≡ true) items →
     list_all test items ≡ true
 all_so test [] all = refl
-all_so test (item ∷ items) all = from_both (test item) (list_all test items) all.0 (all_so test items all.1)
+all_so test (item ∷ items) all = and_from (test item) (list_all test items) all.0 (all_so test items all.1)
 
 pub none_in : {A : Type 0} (items : List A) → length items == 0 ≡ true → items ≡ []
 none_in [] is = refl

@@ -1,14 +1,15 @@
 use Rattle.std.proofs.Common.{◌≡◌, ℕ, refl, sym, subst}
+use Rattle.std.proofs.lemmas.Result.{on_ok_weaker}
 use Rattle.ftc_journal.specs.declared.job.Job.{Job}
 use Rattle.ftc_journal.specs.declared.job.Job.TheVariants.{Pull, Take}
 use Rattle.ftc_protocol.specs.Jobs.{IsLegalJob}
 use Rattle.ftc_jobs.specs.All.{is_running_by}
-use Rattle.ftc_jobs.proofs.AllJobs.{adds_found, adds_if, adds_not_found, on_ok}
+use Rattle.ftc_jobs.proofs.AllJobs.{adds_found, adds_if, adds_not_found}
 use Rattle.ftc_jobs.proofs.JobKinds.{link_jobs}
 use Rattle.ftc_jobs.proofs.all.add_link.Goals as goal
 
 pub returns-in-Some : goal.returns-in-Some
-returns-in-Some c = on_ok c.push.result _ _ (λ grown setting state rest.
+returns-in-Some c = on_ok_weaker c.push.result (λ grown setting state rest.
     let link = c.args.link in
     let runs = is_running_by c.args.network.now in
     let may = c.may_pull.ensures setting state rest in

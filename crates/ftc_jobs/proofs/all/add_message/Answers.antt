@@ -1,16 +1,17 @@
 use Rattle.std.proofs.Common.{◌≡◌, List, refl, sym, subst}
+use Rattle.std.proofs.lemmas.Result.{on_ok_weaker}
 use Rattle.ftc_journal.specs.declared.job.Job.{Job}
 use Rattle.ftc_journal.specs.declared.job.Job.TheVariants.{Carry, Lose, Pass, Visit}
 use Rattle.ftc_message.specs.Logged.{Logged}
 use Rattle.ftc_protocol.specs.Jobs.{IsLegalJob}
 use Rattle.ftc_jobs.specs.All.{is_running_by, HasJobsOf, IsOfLogs, IsUntaken}
-use Rattle.ftc_jobs.proofs.AllJobs.{adds_if, on_ok}
+use Rattle.ftc_jobs.proofs.AllJobs.{adds_if}
 use Rattle.ftc_jobs.proofs.JobKinds.{apply_of_message, message_jobs}
 use Rattle.ftc_jobs.proofs.Standing.{is_up_there}
 use Rattle.ftc_jobs.proofs.all.add_message.Goals as goal
 
 pub returns : goal.returns
-returns c = on_ok c.add_if-4.result _ _ (λ grown setting state packets live rest slot there.
+returns c = on_ok_weaker c.add_if-4.result (λ grown setting state packets live rest slot there.
     let network = c.args.network.now in
     let server = c.args.server in
     let runs = is_running_by network in

@@ -1,16 +1,17 @@
 use Rattle.std.proofs.Common.{◌≡◌, ◌∙◌, refl, sym, ap, subst}
 use Rattle.std.specs.Option.{option_copied}
+use Rattle.std.proofs.lemmas.Result.{on_ok_weaker}
 use Rattle.ftc_journal.specs.declared.job.Job.{Job}
 use Rattle.ftc_journal.specs.declared.job.Job.TheVariants.{Crash, Recover}
 use Rattle.ftc_protocol.specs.Jobs.{IsLegalJob}
 use Rattle.ftc_jobs.specs.All.{is_running_by, IsOfMessages}
-use Rattle.ftc_jobs.proofs.AllJobs.{adds_if, adds_none, on_ok}
+use Rattle.ftc_jobs.proofs.AllJobs.{adds_if, adds_none}
 use Rattle.ftc_jobs.proofs.JobKinds.{held_where, server_jobs}
 use Rattle.ftc_jobs.proofs.Standing.{down_holds_none}
 use Rattle.ftc_jobs.proofs.all.add_server.Goals as goal
 
 pub returns-in-Some : goal.returns-in-Some
-returns-in-Some c = on_ok c.add_messages.result _ _ (λ messages setting state packets rest.
+returns-in-Some c = on_ok_weaker c.add_messages.result (λ messages setting state packets rest.
     let server = c.args.server in
     let runs = is_running_by c.args.network.now in
     let crash = c.may_crash-crash.ensures setting state packets rest in

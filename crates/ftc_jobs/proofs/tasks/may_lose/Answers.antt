@@ -1,10 +1,9 @@
 use Rattle.std.proofs.Common.{◌∙◌, sym}
-use Rattle.std.proofs.lemmas.Bool.{true≢false}
+use Rattle.std.proofs.lemmas.Bool.{and_from, and_parts, true≢false}
 use Rattle.ftc_journal.specs.declared.job.Job.TheVariants as job
 use Rattle.ftc_protocol.specs.Jobs.{IsLegalJob}
 use Rattle.ftc_protocol.specs.Legal.{is_sent}
 use Rattle.ftc_jobs.proofs.Chosen.{untrue}
-use Rattle.ftc_jobs.proofs.TwoParts.{both, from_both}
 use Rattle.ftc_jobs.proofs.tasks.may_lose.Goals as goal
 
 pub returns-then-may_leave : goal.returns-then-may_leave
@@ -15,9 +14,9 @@ returns-then-may_leave c setting state packets rest =
     let lost = c.is_lost.ensures setting state packets rest in (
       (λ test.
           let may = leaves.0 c.if-may_leave.true in
-          let parts = both sent loses (sym lost ∙ test) in
+          let parts = and_parts sent loses (sym lost ∙ test) in
           ((may.0, may.1, parts.0, parts.1), λ other. rest.resting.none_due)),
-      (λ legal. lost ∙ from_both sent loses legal.0.2 legal.0.3),
+      (λ legal. lost ∙ and_from sent loses legal.0.2 legal.0.3),
     )
 
 pub returns-else-may_leave : goal.returns-else-may_leave

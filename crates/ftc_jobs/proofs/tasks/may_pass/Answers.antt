@@ -1,10 +1,10 @@
 use Rattle.std.proofs.Common.{◌∙◌, not, sym, ap}
-use Rattle.std.proofs.lemmas.Bool.{true≢false}
+use Rattle.std.proofs.lemmas.Bool.{not-true, true≢false}
 use Rattle.ftc_journal.specs.declared.job.Job.TheVariants as job
 use Rattle.ftc_protocol.specs.Jobs.{IsLegalJob}
 use Rattle.ftc_protocol.specs.Legal.{is_sent}
 use Rattle.ftc_jobs.proofs.Chosen.{untrue}
-use Rattle.ftc_jobs.proofs.TwoParts.{either, negated, neither}
+use Rattle.ftc_jobs.proofs.TwoParts.{either, neither}
 use Rattle.ftc_jobs.proofs.tasks.may_pass.Goals as goal
 
 pub returns-then-may_leave : goal.returns-then-may_leave
@@ -15,7 +15,7 @@ returns-then-may_leave c setting state packets rest =
     let lost = c.is_lost.ensures setting state packets rest in (
       (λ test.
           let may = leaves.0 c.if-may_leave.true in (
-            (may.0, may.1, either sent loses (sym lost ∙ negated c.is_lost.result test)),
+            (may.0, may.1, either sent loses (sym lost ∙ not-true c.is_lost.result test)),
             λ other. rest.resting.none_due,
           )),
       (λ legal. ap not (lost ∙ neither sent loses legal.0.2)),
