@@ -145,6 +145,14 @@ module _ (runs : ℕ → ℕ → Bool) (setting : Setting) (state : ChainState) 
       adds_none Of old new (grown ∙ append-nil old) (λ job of legal.
       let untrue : false ≡ true = (only job of legal).1 in absurd cc)
 
+  -- a job that no slot runs is added where it is legal
+  pub adds_itself : (old new : List Job) (test : Bool) (one : Job) → IsUntaken runs one →
+      new ≡ old ++ (if test then one ∷ [] else []) → (test ≡ true) ↔ IsLegalJob setting state one →
+      Adds (λ job. one ≡ job) old new
+  adds_itself old new test one untaken grown says =
+      adds_if (λ job. one ≡ job) old new test one grown (λ so. (refl, (says.0 so, untaken)))
+      (λ job of legal. (of, says.1 (subst (IsLegalJob setting state) (sym of) legal.0)))
+
   -- those of two kinds, one behind the other
   pub adds_then : (P Q : Job → Type 0) (old mid new : List Job) → Adds P old mid → Adds Q mid new →
       ((job : Job) → P job → Q job → ⊥) → Adds (λ job. P job ⊎ Q job) old new
@@ -185,6 +193,33 @@ module _ (runs : ℕ → ℕ → Bool) (setting : Setting) (state : ChainState) 
       once = has.are.once;
     };
   }
+
+  -- those of the items before a place, and of the item there
+  pub adds_item : {A : Type 0} (Of : A → Job → Type 0) (items : List A) (place : ℕ) (item : A)
+      (old mid new : List Job) → place < length items → item ≡ get_or items place item →
+      ((job : Job) → AnyOf (λ (other : A). Of other job) (take place items) → Of item job → ⊥) →
+      Adds (λ job. AnyOf (λ (other : A). Of other job) (take place items)) old mid → Adds (Of item) mid new →
+      Adds (λ job. AnyOf (λ (other : A). Of other job) (take (place + 1) items)) old new
+  adds_item {A} Of items place item old mid new below is apart first second =
+      subst (λ (list : List A). Adds (λ job. AnyOf (λ (other : A). Of other job) list) old new)
+      (sym (one_taken items place item below is))
+      (adds_as (λ job. AnyOf (λ (other : A). Of other job) (take place items) ⊎ Of item job)
+      (λ job. AnyOf (λ (other : A). Of other job) (take place items ++ item ∷ [])) old new
+      (λ job legal. to job) (λ job legal. from job)
+      (adds_then (λ job. AnyOf (λ (other : A). Of other job) (take place items)) (Of item) old mid new first second
+      apart))
+    where
+      to : (job : Job) → AnyOf (λ (other : A). Of other job) (take place items) ⊎ Of item job →
+          AnyOf (λ (other : A). Of other job) (take place items ++ item ∷ [])
+      to job (inl of) = any_one _ (take place items) (item ∷ []) of
+      to job (inr own) = any_other _ (take place items) (item ∷ []) (inl own)
+
+      from : (job : Job) → AnyOf (λ (other : A). Of other job) (take place items ++ item ∷ []) →
+          AnyOf (λ (other : A). Of other job) (take place items) ⊎ Of item job
+      from job of = elim (any_either _ (take place items) (item ∷ []) of) [
+        | inl before ↦ inl before
+        | inr last ↦ elim last [ inl own ↦ inr own | inr none ↦ absurd none ]
+      ]
 
   -- the one that was found, and none where none was, of a kind that slots don't run
   pub adds_found : (make : ℕ → Job) (found : Option ℕ) → ((number : ℕ) → IsUntaken runs (make number)) →

@@ -25,8 +25,7 @@ use Rattle.ftc_standing.proofs.Arriving.{all_mapped, in_front}
 use Rattle.ftc_jobs.specs.Applies.{may_apply_now}
 use Rattle.ftc_jobs.specs.All.{AreJobs, HasJobsOf, IsOfLink, IsOfLinks, IsOfLogs, IsOfMessage, IsOfMessages, IsOfServer}
 use Rattle.ftc_jobs.specs.All.{IsOfServers, IsEnter, IsPropagate}
-use Rattle.ftc_jobs.proofs.AllJobs.{any_one, any_other, any_either, any_mapped, some_of, one_taken, items_around}
-use Rattle.ftc_jobs.proofs.AllJobs.{adds_if, adds_then, adds_as}
+use Rattle.ftc_jobs.proofs.AllJobs.{adds_as, adds_if, adds_item, adds_then, any_mapped, items_around, some_of}
 use Rattle.ftc_jobs.proofs.ApplyNow.{applicable}
 
 -- ---- logs that rise
@@ -444,29 +443,12 @@ module _ (runs : ℕ → ℕ → Bool) (setting : Setting) (state : ChainState) 
       (λ so. (here, (says.0 so, tt)))
       (λ job of legal.
       let same : one ≡ job = here ∙ sym of in (same, says.1 (subst (IsLegalJob setting state) (sym same) legal.0))) in
-      subst (λ (list : List Logged). Adds (IsOfLogs server origin list) old new)
-      (sym (one_taken logs place log below is))
-      (adds_as runs setting state
-      (λ job. IsOfLogs server origin (take place logs) job ⊎ (job ≡ Apply server origin log.group log.origin))
-      (IsOfLogs server origin (take place logs ++ log ∷ [])) old new (λ job legal. to job) (λ job legal. from job)
-      (adds_then runs setting state _ _ old mid new first second (λ job of same.
+      adds_item runs setting state (λ (other : Logged) (job : Job). job ≡ Apply server origin other.group other.origin)
+      logs place log old mid new below is (λ job of same.
       none_before logs (take place logs) (drop (suc place) logs) log rise (items_around logs place log below is)
       (any_mapped (λ (other : Logged). job ≡ Apply server origin other.group other.origin)
       (λ (other : Logged). (other.origin ≡ log.origin) × (other.group ≡ log.group))
-      (λ other also. same_apply server origin other log (sym also ∙ same)) (take place logs) of))))
-    where
-      to : (job : Job) → IsOfLogs server origin (take place logs) job
-          ⊎ (job ≡ Apply server origin log.group log.origin) →
-          IsOfLogs server origin (take place logs ++ log ∷ []) job
-      to job (inl of) = any_one _ (take place logs) (log ∷ []) of
-      to job (inr same) = any_other _ (take place logs) (log ∷ []) (inl same)
-
-      from : (job : Job) → IsOfLogs server origin (take place logs ++ log ∷ []) job →
-          IsOfLogs server origin (take place logs) job ⊎ (job ≡ Apply server origin log.group log.origin)
-      from job of = elim (any_either _ (take place logs) (log ∷ []) of) [
-        | inl before ↦ inl before
-        | inr last ↦ elim last [ inl same ↦ inr same | inr none ↦ absurd none ]
-      ]
+      (λ other also. same_apply server origin other log (sym also ∙ same)) (take place logs) of)) first second
 
   -- ---- held messages
 
@@ -477,29 +459,13 @@ module _ (runs : ℕ → ℕ → Bool) (setting : Setting) (state : ChainState) 
       Adds (IsOfHeld server (take place items)) old mid → Adds (IsOfMessage server held.message.origin) mid new →
       Adds (IsOfHeld server (take (place + 1) items)) old new
   one_message server items place held old mid new below is apart first second =
-      subst (λ (list : List HeldMessage). Adds (IsOfHeld server list) old new)
-      (sym (one_taken items place held below is))
-      (adds_as runs setting state
-      (λ job. IsOfHeld server (take place items) job ⊎ IsOfMessage server held.message.origin job)
-      (IsOfHeld server (take place items ++ held ∷ [])) old new (λ job legal. to job) (λ job legal. from job)
-      (adds_then runs setting state _ _ old mid new first second (λ job of own.
+      adds_item runs setting state (λ (other : HeldMessage) (job : Job). IsOfMessage server other.message.origin job)
+      items place held old mid new below is (λ job of own.
       apart (take place items) (drop (suc place) items) (items_around items place held below is)
       (any_mapped (λ (other : HeldMessage). IsOfMessage server other.message.origin job)
       (λ (other : HeldMessage). other.message.origin ≡ held.message.origin)
       (λ other also. (same_origin server server other.message.origin held.message.origin job also own).1)
-      (take place items) of))))
-    where
-      to : (job : Job) → IsOfHeld server (take place items) job ⊎ IsOfMessage server held.message.origin job →
-          IsOfHeld server (take place items ++ held ∷ []) job
-      to job (inl of) = any_one _ (take place items) (held ∷ []) of
-      to job (inr own) = any_other _ (take place items) (held ∷ []) (inl own)
-
-      from : (job : Job) → IsOfHeld server (take place items ++ held ∷ []) job →
-          IsOfHeld server (take place items) job ⊎ IsOfMessage server held.message.origin job
-      from job of = elim (any_either _ (take place items) (held ∷ []) of) [
-        | inl before ↦ inl before
-        | inr last ↦ elim last [ inl own ↦ inr own | inr none ↦ absurd none ]
-      ]
+      (take place items) of)) first second
 
   -- those of the held messages are those of all messages there
   pub held_jobs : (server : ℕ) (items : List HeldMessage) (old new : List Job) →

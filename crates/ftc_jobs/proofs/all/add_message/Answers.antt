@@ -5,7 +5,7 @@ use Rattle.ftc_journal.specs.declared.job.Job.TheVariants.{Carry, Lose, Pass, Vi
 use Rattle.ftc_message.specs.Logged.{Logged}
 use Rattle.ftc_protocol.specs.Jobs.{IsLegalJob}
 use Rattle.ftc_jobs.specs.All.{is_running_by, HasJobsOf, IsOfLogs, IsUntaken}
-use Rattle.ftc_jobs.proofs.AllJobs.{adds_if}
+use Rattle.ftc_jobs.proofs.AllJobs.{adds_if, adds_itself}
 use Rattle.ftc_jobs.proofs.JobKinds.{apply_of_message, message_jobs}
 use Rattle.ftc_jobs.proofs.Standing.{is_up_there}
 use Rattle.ftc_jobs.proofs.all.add_message.Goals as goal
@@ -20,8 +20,6 @@ returns c = on_ok_weaker c.add_if-4.result (λ grown setting state packets live 
     let resting = rest.resting in
     let up = is_up_there setting state network resting server live slot in
     let visit = c.may_begin_visit.ensures setting state resting in
-    let pass = c.may_pass-pass.ensures setting state packets rest in
-    let lose = c.may_lose-lose.ensures setting state packets rest in
     let carry = c.may_carry_at-carry.ensures setting state resting in
     message_jobs setting state server origin message.logs runs c.args.jobs.now c.add_applies.new.jobs c.add_if.new.jobs
     c.add_if-2.new.jobs c.add_if-3.new.jobs c.add_if-4.new.jobs
@@ -31,12 +29,10 @@ returns c = on_ok_weaker c.add_if-4.result (λ grown setting state packets live 
     (Visit server origin) c.in_ok-add_if.ensures (λ test. (refl, visit.0 test))
     (λ job of legal.
     (of, visit.1 (subst (λ (j : Job). IsLegalJob setting state j × IsUntaken runs j) (sym of) legal))))
-    (adds_if runs setting state (λ (job : Job). Pass server origin ≡ job) _ _ c.may_pass-pass.result
-    (Pass server origin) c.in_ok-add_if-2.ensures (λ test. (refl, (pass.0 test, tt)))
-    (λ job of legal. (of, pass.1 (subst (IsLegalJob setting state) (sym of) legal.0))))
-    (adds_if runs setting state (λ (job : Job). Lose server origin ≡ job) _ _ c.may_lose-lose.result
-    (Lose server origin) c.in_ok-add_if-3.ensures (λ test. (refl, (lose.0 test, tt)))
-    (λ job of legal. (of, lose.1 (subst (IsLegalJob setting state) (sym of) legal.0))))
+    (adds_itself runs setting state _ _ c.may_pass-pass.result (Pass server origin) tt c.in_ok-add_if-2.ensures
+    (c.may_pass-pass.ensures setting state packets rest))
+    (adds_itself runs setting state _ _ c.may_lose-lose.result (Lose server origin) tt c.in_ok-add_if-3.ensures
+    (c.may_lose-lose.ensures setting state packets rest))
     (adds_if runs setting state (λ (job : Job). (Carry origin ≡ job) × (server ≡ 0)) _ _ c.may_carry_at-carry.result
     (Carry origin) grown (λ test. ((refl, (carry.0 test).0), ((carry.0 test).1, tt)))
     (λ job of legal. (of.0, carry.1 (of.1, subst (IsLegalJob setting state) (sym of.0) legal.0))))
