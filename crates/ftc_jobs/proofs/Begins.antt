@@ -126,7 +126,8 @@ module _ (setting : Setting) (state : ChainState) (network : Network) (rest : Is
               | inl forwarded ↦ inl (some_in first.0.forwarder
                   (subst (λ (slot : Option Server). has_forwarded slot ≡ true) first.1 forwarded))
               | inr still ↦
-                  let withheld = and_parts (nat_lt 0 (withheld_in network)) (none_held network && all_clear network) still in
+                  let withheld = and_parts (nat_lt 0 (withheld_in network))
+                  (none_held network && all_clear network) still in
                   let quiet = and_parts (none_held network) (all_clear network) withheld.1 in
                   inr (stalled withheld.0 quiet.0 quiet.1)
             ];

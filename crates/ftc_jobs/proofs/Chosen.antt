@@ -19,8 +19,13 @@ module _ (Fact : Type 0) where
     (λ fact. absurd (none-some wanted (sym none ∙ says.1 fact))),
   )
 
-  pub untrue : (test : Bool) → test ≡ false → (Fact → ⊥) → (test ≡ true) ↔ Fact
-  untrue test is isnt = ((λ so. absurd (true≢false (sym so ∙ is))), (λ fact. absurd (isnt fact)))
+  -- a test that is false, of what the fact needs
+  pub needed : (Part : Type 0) (test : Bool) → (test ≡ true) ↔ Part → test ≡ false → (Fact → Part) →
+      (test ≡ true) ↔ Fact
+  needed Part test says is part = (
+    (λ so. absurd (true≢false (sym so ∙ is))),
+    (λ fact. absurd (true≢false (sym (says.1 (part fact)) ∙ is))),
+  )
 
   pub never : (Fact → ⊥) → (false ≡ true) ↔ Fact
   never isnt = ((λ test. absurd (true≢false (sym test))), (λ fact. absurd (isnt fact)))

@@ -68,7 +68,8 @@ each_behind : (last : Option (ℕ × ℕ)) (logs : List Logged) → logs_rise la
     EachLater (λ (one other : Logged). IsBehind one.origin one.group other) logs
 each_behind last [] rise = tt
 each_behind last (log ∷ logs) rise =
-    let parts = and_parts (log_follows last log.origin log.group) (logs_rise (Some (log.origin, log.group)) logs) rise in
+    let parts = and_parts (log_follows last log.origin log.group)
+    (logs_rise (Some (log.origin, log.group)) logs) rise in
     (all_behind log.origin log.group logs parts.1, each_behind (Some (log.origin, log.group)) logs parts.1)
 
 -- no log before another is of its packet and group

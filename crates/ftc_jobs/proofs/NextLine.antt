@@ -1,7 +1,7 @@
 -- The next line of those that are left.
-use Rattle.std.proofs.Common.{◌≡◌, ◌≢◌, ◌∙◌, ◌<◌, ◌≤◌, ◌∷◌, ℕ, suc, zero, List, [], Some, drop, length, refl, sym, ap}
-use Rattle.std.proofs.Common.{subst, arith}
-use Rattle.std.specs.Prelude.{slice_get}
+use Rattle.std.proofs.Common.{◌≡◌, ◌≢◌, ◌∙◌, ◌<◌, ◌≤◌, ◌∷◌, ℕ, suc, zero, Bool, true, List, [], Option, Some, None}
+use Rattle.std.proofs.Common.{drop, length, refl, sym, ap, subst, arith}
+use Rattle.std.specs.Prelude.{◌↔◌, slice_get}
 use Rattle.std.specs.List.{AllByRecursion}
 use Rattle.std.proofs.lemmas.Option.{none-some, same_Some}
 use Rattle.ftc_script.specs.declared.line.ScriptLine.{ScriptLine}
@@ -60,3 +60,25 @@ pub not_for : (lines : List ScriptLine) (entered : ℕ) (line : ScriptLine) →
     AllByRecursion (λ (line : ScriptLine). at_of line ≢ entered) lines → IsNextLine lines line → at_of line ≢ entered
 not_for [] entered line all next same = next
 not_for (first ∷ lines) entered line all next same = all.0 (ap at_of next ∙ same)
+
+-- ---- lines of a kind
+
+module _ (make : ℕ → ScriptLine) (at_made : (at : ℕ) → at_of (make at) ≡ at) (lines : List ScriptLine) (entered : ℕ)
+    (found : Option ScriptLine)
+    (says : (line : ScriptLine) → (found ≡ Some line) ↔ (IsNextLine lines line × (at_of line ≡ entered)))
+  where
+    -- the line that was found is of the kind exactly where one of the kind is next and due
+    pub kind_found : (line : ScriptLine) (test : Bool) → found ≡ Some line →
+        (test ≡ true) ↔ ((at : ℕ) × (line ≡ make at)) → (test ≡ true) ↔ IsNextLine lines (make entered)
+    kind_found line test is tests = (
+      (λ so.
+          let made = tests.0 so in
+          let next = (says line).0 is in
+          let due : made.0 ≡ entered = sym (at_made made.0) ∙ (sym (ap at_of made.1) ∙ next.1) in
+          subst (λ (at : ℕ). IsNextLine lines (make at)) due (subst (IsNextLine lines) made.1 next.0)),
+      (λ next. tests.1
+          (entered, same_Some line (make entered) (sym is ∙ (says (make entered)).1 (next, at_made entered)))),
+    )
+
+    pub none_of_kind : found ≡ None → IsNextLine lines (make entered) → ⊥
+    none_of_kind none next = none-some (make entered) (sym none ∙ (says (make entered)).1 (next, at_made entered))

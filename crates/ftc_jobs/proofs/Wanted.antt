@@ -13,6 +13,7 @@ use Rattle.ftc_jobs.specs.All.{IsUntaken}
 use Rattle.ftc_jobs.specs.Beside.{is_visit, is_sought, IsWanted, IsNoneWanted, IsOtherJob, IsUnwanted, IsNoneOutside}
 use Rattle.ftc_jobs.specs.Lines.{job_of_line}
 use Rattle.ftc_jobs.proofs.JobKinds.{held_where}
+use Rattle.ftc_jobs.proofs.WorkAt.{at_its_place}
 
 -- the job of a line is no visit
 pub line_is_no_visit : (line : ScriptLine) → is_visit (job_of_line line) ≡ false
@@ -26,23 +27,16 @@ taken_is_unwanted true runs server packet taken = ap not taken
 taken_is_unwanted false runs server packet taken = refl
 
 module _ (setting : Setting) (state : ChainState) where
-  -- a job of that server and origin
-  at_its_place : (make : ℕ → ℕ → Job) (server origin at own : ℕ) → at ≡ server → own ≡ origin →
-      IsLegalJob setting state (make server origin) → IsLegalJob setting state (make at own)
-  at_its_place make server origin at own at_is own_is legal =
-      subst (λ (a : ℕ). IsLegalJob setting state (make a own)) (sym at_is)
-      (subst (λ (o : ℕ). IsLegalJob setting state (make server o)) (sym own_is) legal)
-
   pub legal_work : (server origin : ℕ) (job : Job) → IsWork setting state server origin job →
       IsLegalJob setting state job
   legal_work server origin (Apply at own group packet) work =
-      at_its_place (λ a o. Apply a o group packet) server origin at own work.0 work.1 work.2
+      at_its_place (IsLegalJob setting state) (λ a o. Apply a o group packet) server origin at own work.0 work.1 work.2
   legal_work server origin (Visit at own) work =
-      at_its_place (λ a o. Visit a o) server origin at own work.0 work.1 work.3
+      at_its_place (IsLegalJob setting state) (λ a o. Visit a o) server origin at own work.0 work.1 work.3
   legal_work server origin (Pass at own) work =
-      at_its_place (λ a o. Pass a o) server origin at own work.0 work.1 work.4
+      at_its_place (IsLegalJob setting state) (λ a o. Pass a o) server origin at own work.0 work.1 work.4
   legal_work server origin (Lose at own) work =
-      at_its_place (λ a o. Lose a o) server origin at own work.0 work.1 work.4
+      at_its_place (IsLegalJob setting state) (λ a o. Lose a o) server origin at own work.0 work.1 work.4
   legal_work server origin (Carry own) work =
       subst (λ (o : ℕ). IsLegalJob setting state (Carry o)) (sym work.1) work.4
   legal_work server origin (Enter packet) work = absurd work

@@ -1,9 +1,9 @@
 use Rattle.std.proofs.Common.{◌∙◌, sym}
-use Rattle.std.proofs.lemmas.Bool.{and_from, and_parts, true≢false}
+use Rattle.std.proofs.lemmas.Bool.{and_from, and_parts}
 use Rattle.ftc_journal.specs.declared.job.Job.TheVariants as job
 use Rattle.ftc_protocol.specs.Jobs.{IsLegalJob}
 use Rattle.ftc_protocol.specs.Legal.{is_sent}
-use Rattle.ftc_jobs.proofs.Chosen.{untrue}
+use Rattle.ftc_jobs.proofs.Chosen.{needed}
 use Rattle.ftc_jobs.proofs.tasks.may_lose.Goals as goal
 
 pub returns-then-may_leave : goal.returns-then-may_leave
@@ -21,6 +21,5 @@ returns-then-may_leave c setting state packets rest =
 
 pub returns-else-may_leave : goal.returns-else-may_leave
 returns-else-may_leave c setting state packets rest =
-    untrue (IsLegalJob setting state (job.Lose c.args.server c.args.origin)) c.may_leave.result c.if-may_leave.false
-    (λ legal.
-    true≢false (sym ((c.may_leave.ensures setting state rest.resting).1 (legal.0.0, legal.0.1)) ∙ c.if-may_leave.false))
+    needed (IsLegalJob setting state (job.Lose c.args.server c.args.origin)) _ c.may_leave.result
+    (c.may_leave.ensures setting state rest.resting) c.if-may_leave.false (λ legal. (legal.0.0, legal.0.1))
