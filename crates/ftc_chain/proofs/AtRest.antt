@@ -25,12 +25,6 @@ use Rattle.ftc_chain.specs.Doing.{MayDo, setting_by}
 use Rattle.ftc_chain.proofs.Releases.{is_run_state}
 use Rattle.ftc_chain.proofs.Rooms.{bytes_count}
 
--- what holds of an item that is there, of what may hold of it
-pub if_some : {A : Type 0} (Fact Other : A → Type 0) (option : Option A) → ((item : A) → Fact item → Other item) →
-    IfSome option Fact → IfSome option Other
-if_some Fact Other None from fact = tt
-if_some Fact Other (Some item) from fact = from item fact
-
 -- the packets are few
 short_packets : (packets : List Packet) (size : ℕ) → size ≡ length packets → size ≤ MOST_RECORDS →
     length (bytes_of_packets packets) ≤ MOST_RECORDS

@@ -1,5 +1,5 @@
 -- What a network may be asked to do where a job is legal, and that the job is done by it.
-use Rattle.std.proofs.Common.{◌≡◌, ◌<◌, ℕ, true, Bool, List, Result, Ok, Err, OnOk, OnErr, IfOk, refl, sym, subst}
+use Rattle.std.proofs.Common.{◌≡◌, ◌<◌, ℕ, true, Bool, List, Result, Ok, Err, OnOk, OnErr, refl, sym, ap, subst}
 use Rattle.std.proofs.Math.Bool.{Bool-set}
 use Rattle.std.proofs.Math.Logic.{∥∥₁_elim, ∥∥₁_map}
 use Rattle.std.proofs.lemmas.Bool.{ltb-true, lt-ltb}
@@ -32,6 +32,11 @@ allowed_where setting job event network legal may = ∥∥₁_map may (λ given.
   few = given.few;
   stands = given.stands;
 })
+
+-- the event of a job that is another
+pub event_as : (setting : Setting) {job other : Job} → job ≡ other → (state : ChainState) →
+    event_of setting state FINISHING_SLOT other ≡ event_of setting state FINISHING_SLOT job
+event_as setting same state = sym (ap (event_of setting state FINISHING_SLOT) same)
 
 -- the job's event
 pub allowed : (setting : Setting) (job : Job) (event : Event) (network : Network) →
@@ -73,16 +78,6 @@ pub may_leave : (setting : Setting) (server origin : ℕ) (network : Network) (l
 may_leave setting server origin network lost same may =
     subst (λ (b : Bool). ∥ IsAllowed (leaving b server origin) network ∥₁) (sym same)
     (allowed setting (job.Lose server origin) (event.Lose server origin) network (λ state. refl) may)
-
-pub on_ok : {A E : Type 0} (result : Result A E) (Fact Other : Type 0) → (Fact → Other) → OnOk result Fact →
-    OnOk result Other
-on_ok (Ok value) Fact Other from fact = from fact
-on_ok (Err fault) Fact Other from fact = tt
-
-pub if_ok : {A E : Type 0} (result : Result A E) (Fact Other : A → Type 0) → ((value : A) → Fact value → Other value) →
-    IfOk result Fact → IfOk result Other
-if_ok (Ok value) Fact Other from fact = from value fact
-if_ok (Err fault) Fact Other from fact = tt
 
 -- a job that is legal in the state to which a run leads has the numbers of servers and messages
 pub within_of : (setting : Setting) (state : ChainState) (job : Job) → IsRunState setting state →

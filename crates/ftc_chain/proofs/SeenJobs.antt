@@ -3,6 +3,7 @@ use Rattle.std.proofs.Common.{◌≡◌, ◌∙◌, ℕ, Bool, true, false, not,
 use Rattle.std.proofs.Math.Logic.{∥∥₁_elim, ∥∥₁_map}
 use Rattle.std.specs.Coded.{Coded-set, coded_bool}
 use Rattle.std.specs.Prelude.{IfSome}
+use Rattle.std.proofs.lemmas.Option.{IfSome_then}
 use Rattle.ftc_jobs.specs.All.{AreJobs, IsUntaken, is_running_by}
 use Rattle.ftc_jobs.specs.Beside.{is_sought, IsWanted, IsNoneWanted}
 use Rattle.ftc_journal.specs.declared.job.Job.{Job}
@@ -17,7 +18,6 @@ use Rattle.ftc_chain.specs.Doing.{setting_by}
 use Rattle.ftc_chain.specs.declared.course.Course.{Course}
 use Rattle.ftc_chain.specs.declared.given.Given.{Given}
 use Rattle.ftc_chain.specs.Slots.{is_running_at}
-use Rattle.ftc_chain.proofs.AtRest.{if_some}
 use Rattle.ftc_chain.proofs.HeadsKept.{head_as}
 use Rattle.ftc_chain.proofs.Made.{run_of}
 
@@ -102,7 +102,7 @@ module _ (given : Given) (course : Course) where
       wanted_found Fact found wanted =
           subst (λ (r : ChainRun). IfSome found Fact →
           IfSome found (λ (done : Job). ∥ IsWanted visits (is_running_at r) (setting_in r) (chain_state r) done ∥₁)) is
-          (if_some _ _ found (λ done fact. ∥∥₁_map rests (λ resting.
+          (λ facts. IfSome_then found facts (λ done fact. ∥∥₁_map rests (λ resting.
           seen_wanted setting state visits done (wanted done fact resting))))
 
       -- and where none is wanted at rest, none is

@@ -1,10 +1,11 @@
 use Rattle.std.proofs.Common.{◌∙◌, refl, arith}
 use Rattle.std.proofs.lemmas.List.{length-map}
+use Rattle.std.proofs.lemmas.Result.{on_ok_weaker}
 use Rattle.ftc_journal.specs.declared.event.Event.TheVariants as event
 use Rattle.ftc_journal.specs.declared.job.Job.TheVariants as job
 use Rattle.ftc_pcap.specs.declared.packets.Packet.{Packet}
 use Rattle.ftc_chain.specs.Doing.{setting_by}
-use Rattle.ftc_chain.proofs.Permitted.{allowed, on_ok}
+use Rattle.ftc_chain.proofs.Permitted.{allowed}
 use Rattle.ftc_chain.proofs.Rooms.{bytes_at, room_to_enter}
 use Rattle.ftc_chain.proofs.given.Given.enter.Goals as goal
 
@@ -23,7 +24,7 @@ enter-requires-clause-room c =
 pub returns-clause-ok : goal.returns-clause-ok
 returns-clause-ok c =
     let given = c.args.self.now in
-    on_ok c.enter.result _ _ (λ follows state run legal is. ∣ follows (setting_by given) state
+    on_ok_weaker c.enter.result (λ follows state run legal is. ∣ follows (setting_by given) state
     (c.in_ok-bytes.ensures ∙ bytes_at given.packets.now c.args.packet c.at.result.now c.at.ensures.same) run legal is
     ∣₁)
     c.enter.ensures.ok

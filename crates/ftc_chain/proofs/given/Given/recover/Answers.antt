@@ -1,6 +1,7 @@
 use Rattle.std.proofs.Common.{◌≡◌, ◌∙◌, ℕ, List, length, slice_get, Some, refl, sym, ap, subst, arith}
 use Rattle.std.proofs.Math.Logic.{∥∥₁_map}
 use Rattle.std.proofs.lemmas.Option.{get_or_from_slice_get}
+use Rattle.std.proofs.lemmas.Result.{IfOk-weaker}
 use Rattle.ftc_journal.specs.declared.event.Event.TheVariants as event
 use Rattle.ftc_journal.specs.declared.job.Job.TheVariants as job
 use Rattle.ftc_mbox.specs.declared.rule.Rule.{Rule}
@@ -8,7 +9,7 @@ use Rattle.ftc_mbox.specs.declared.rule.Rule.TheVariants.{Pass}
 use Rattle.ftc_protocol.specs.Setting.{servers}
 use Rattle.ftc_script.specs.declared.line.ScriptLine.TheVariants.{Recover}
 use Rattle.ftc_chain.specs.Doing.{setting_by}
-use Rattle.ftc_chain.proofs.Permitted.{is_below, if_ok, within_of}
+use Rattle.ftc_chain.proofs.Permitted.{is_below, within_of}
 use Rattle.ftc_chain.proofs.Rooms.{line_there}
 use Rattle.ftc_chain.proofs.given.Given.recover.Goals as goal
 
@@ -59,7 +60,7 @@ returns-clause-ok c =
     subst (λ (n : ℕ). slice_get setting.rules n ≡ Some c.at-rule.result.now) place
     (subst (λ (rules : List Rule). slice_get rules c.from.result ≡ Some c.at-rule.result.now) c.rules.ensures.same
     c.at-rule.ensures) in
-    if_ok c.recover.result _ _ (λ undone follows state run legal is.
+    IfOk-weaker c.recover.result _ _ (λ undone follows state run legal is.
     let has = follows setting state run (legal.1 refl) legal.0.0
     (sym (get_or_from_slice_get setting.rules c.args.server c.at-rule.result.now Pass read)) is in
     (ap (event.Recover c.args.server) has.undone_is, ∣ has.stands ∣₁)) c.recover.ensures.ok
