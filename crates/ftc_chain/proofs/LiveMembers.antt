@@ -1,5 +1,6 @@
 -- What a live member has of a group is what the list says that it has of the group's visits.
 use Rattle.std.proofs.Common.{◌≡◌, ◌<◌, ◌∙◌, ℕ, true, false, List, Option, Some, None, inl, inr, refl, sym, ap, subst}
+use Rattle.std.proofs.Math.Logic.{∥∥₁_elim}
 use Rattle.std.proofs.lemmas.Bool.{leb-true, le-leb}
 use Rattle.ftc_store.specs.Store.{Stored}
 use Rattle.ftc_network.specs.declared.network.Network.{Network}
@@ -15,7 +16,14 @@ use Rattle.ftc_server.specs.Replicas.{replica_at}
 use Rattle.ftc_standing.specs.Stand.{IsReplicaSlot}
 use Rattle.ftc_ties.specs.Servers.{IsReplicaAt}
 use Rattle.ftc_vector.specs.Commits.{vector_of}
+use Rattle.ftc_chain.specs.declared.course.Course.{Course}
+use Rattle.ftc_chain.specs.declared.given.Given.{Given}
+use Rattle.ftc_chain.specs.ChainRun.{ChainRun, setting_in, chain_state}
+use Rattle.ftc_chain.specs.Course.{IsResting, state_by}
+use Rattle.ftc_chain.specs.Doing.{setting_by}
 use Rattle.ftc_chain.specs.Members.{IsLiveMember, IsMemberIn, IsStoreAt, IsVectorAt}
+use Rattle.ftc_chain.proofs.AtRest.{none_is}
+use Rattle.ftc_chain.proofs.Made.{run_of}
 
 -- what a server has of a group that it belongs to: of its own one, or a replica
 slot_has : (setting : Setting) (state : ChainState) (server group : ℕ) (known : List (List ℕ)) (member : Server) →
@@ -68,7 +76,7 @@ module _ (setting : Setting) (state : ChainState) (network : Network) (stands : 
     vector_at vector same = record { live = live; numbers = same ∙ has.vector }
 
   -- a live member is one of the network
-  pub member_in : IsLiveMember setting state server group →
+  member_in : IsLiveMember setting state server group →
       ((member : Server) → IsMemberIn network server group member → ⊥) → ⊥
   member_in is none =
       elim (server_in network.servers.items server) as (λ (slot : Option Server).
@@ -83,3 +91,14 @@ module _ (setting : Setting) (state : ChainState) (network : Network) (stands : 
               (leb-true _ _ is.member);
         })
       ] refl
+
+-- where no member of the network is found, a contract sees no live one
+pub none_live : (given : Given) (course : Course) (run : ChainRun) → run_of given course ≡ run →
+    ∥ IsResting (setting_by given) course ∥₁ → (server group : ℕ) →
+    ((member : Server) → IsMemberIn course.network server group member → ⊥) →
+    IsLiveMember (setting_in run) (chain_state run) server group → ⊥
+none_live given course run same rests server group none live =
+    let setting = setting_by given in
+    ∥∥₁_elim rests none_is (λ resting.
+    member_in setting (state_by setting course.journal.items) course.network resting.course_is.stands server group
+    (subst (λ (r : ChainRun). IsLiveMember (setting_in r) (chain_state r) server group) (sym same) live) none)

@@ -5,12 +5,14 @@ use Rattle.ftc_network.specs.declared.network.Network.{Network}
 use Rattle.ftc_network.specs.Slots.{head_at}
 use Rattle.ftc_network.specs.Stand.{IsNetwork}
 use Rattle.ftc_chain.specs.declared.course.Course.{Course}
+use Rattle.ftc_chain.specs.Course.{HasMade, IsResting}
 use Rattle.ftc_chain.specs.Doing.{MayDo, setting_by}
 use Rattle.ftc_chain.proofs.AtRest.{may_do}
 use Rattle.ftc_chain.proofs.HeadsKept.{once_as, once_kept, once_after, same_no_more}
 use Rattle.ftc_chain.proofs.HeadsSeen.{heads_after, as_it_was}
-use Rattle.ftc_chain.proofs.Made.{before, stepped, still_rests}
+use Rattle.ftc_chain.proofs.Made.{before, run_of, stepped, still_rests}
 use Rattle.ftc_chain.proofs.Permitted.{on_any_err}
+use Rattle.ftc_chain.proofs.chain.Chain.make.Goals.{After-release_due}
 use Rattle.ftc_chain.proofs.chain.Chain.make.Goals as goal
 
 pub invariant_of-self : goal.invariant_of-self
@@ -51,30 +53,12 @@ invariant_of-self-in_err-event c =
           c.self.invariant.2),
     )
 
-pub invariant_of-self-2 : goal.invariant_of-self-2
-invariant_of-self-2 c =
-    let given = c.self.inside.given in (
-      c.self.invariant.0,
-      ∥∥₁_map (stepped given FINISHING_SLOT c.args.job.now c.self.inside.course c.make_room.new.self
-          (record {
-            journal = c.push.new.self;
-            network = c.happen.new.network;
-            outlet = c.make_room.new.self.outlet;
-          }) c.release_due.new.course c.in_ok-event.event
-          c.args.self.now c.self.view_is c.self.invariant.1 c.requires.legal (λ setting state legal. legal)
-          c.make_room.ensures.journal c.make_room.ensures.network c.make_room.ensures.waiting
-          c.make_room.ensures.drained refl c.in_ok-push.ensures.ok c.in_ok-event.ensures.ok
-          c.release_due.ensures.released c.releases.ensures.end) (λ both. both.0),
-      once_after c.args.job.now c.self.inside.course.network c.make_room.new.self.network c.happen.new.network
-          c.release_due.new.course.network c.make_room.ensures.network c.in_ok-event.ensures.heads
-          c.release_due.ensures.heads
-          c.self.invariant.2,
-    )
-
-pub returns-clause-ok : goal.returns-clause-ok
-returns-clause-ok c =
+-- the job was made
+made : (c : After-release_due) → ∥ IsResting (setting_by c.self.inside.given) c.release_due.new.course
+    × HasMade FINISHING_SLOT c.args.job.now c.args.self.now (run_of c.self.inside.given c.release_due.new.course) ∥₁
+made c =
     let given = c.self.inside.given in
-    ∥∥₁_map (stepped given FINISHING_SLOT c.args.job.now c.self.inside.course c.make_room.new.self
+    stepped given FINISHING_SLOT c.args.job.now c.self.inside.course c.make_room.new.self
     (record {
       journal = c.push.new.self;
       network = c.happen.new.network;
@@ -83,7 +67,20 @@ returns-clause-ok c =
     c.args.self.now c.self.view_is c.self.invariant.1 c.requires.legal (λ setting state legal. legal)
     c.make_room.ensures.journal c.make_room.ensures.network c.make_room.ensures.waiting c.make_room.ensures.drained refl
     c.in_ok-push.ensures.ok c.in_ok-event.ensures.ok
-    c.release_due.ensures.released c.releases.ensures.end) (λ both. both.1)
+    c.release_due.ensures.released c.releases.ensures.end
+
+pub invariant_of-self-2 : goal.invariant_of-self-2
+invariant_of-self-2 c = (
+  c.self.invariant.0,
+  ∥∥₁_map (made c) (λ both. both.0),
+  once_after c.args.job.now c.self.inside.course.network c.make_room.new.self.network c.happen.new.network
+      c.release_due.new.course.network c.make_room.ensures.network c.in_ok-event.ensures.heads
+      c.release_due.ensures.heads
+      c.self.invariant.2,
+)
+
+pub returns-clause-ok : goal.returns-clause-ok
+returns-clause-ok c = ∥∥₁_map (made c) (λ both. both.1)
 
 pub returns-clause-heads : goal.returns-clause-heads
 returns-clause-heads c =

@@ -1,23 +1,16 @@
-use Rattle.std.proofs.Common.{refl, sym, subst}
-use Rattle.std.proofs.Math.Logic.{∥∥₁_elim, ∥∥₁_map}
+use Rattle.std.proofs.Common.{refl, subst}
+use Rattle.std.proofs.Math.Logic.{∥∥₁_map}
 use Rattle.ftc_chain.specs.ChainRun.{ChainRun, setting_in, chain_state}
 use Rattle.ftc_chain.specs.Course.{state_by}
 use Rattle.ftc_chain.specs.Doing.{setting_by}
-use Rattle.ftc_chain.specs.Members.{IsLiveMember, IsStoreAt}
-use Rattle.ftc_chain.proofs.AtRest.{none_is}
-use Rattle.ftc_chain.proofs.LiveMembers.{store_at, member_in}
+use Rattle.ftc_chain.specs.Members.{IsStoreAt}
+use Rattle.ftc_chain.proofs.LiveMembers.{none_live, store_at}
 use Rattle.ftc_chain.proofs.chain.Chain.store_of.Goals as goal
 
 pub returns-in_err-member-clause-none : goal.returns-in_err-member-clause-none
-returns-in_err-member-clause-none c none live =
-    let course = c.self.inside.course in
-    let setting = setting_by c.self.inside.given in
-    ∥∥₁_elim c.self.invariant.1 none_is (λ resting.
-    member_in setting (state_by setting course.journal.items) course.network resting.course_is.stands
-    c.args.server c.args.group
-    (subst (λ (run : ChainRun). IsLiveMember (setting_in run) (chain_state run) c.args.server c.args.group)
-    (sym c.self.view_is) live)
-    (c.in_err-member.ensures.none refl))
+returns-in_err-member-clause-none c none =
+    none_live c.self.inside.given c.self.inside.course c.args.self.now c.self.view_is c.self.invariant.1 c.args.server
+    c.args.group (c.in_err-member.ensures.none refl)
 
 pub returns-clause-some : goal.returns-clause-some
 returns-clause-some c =

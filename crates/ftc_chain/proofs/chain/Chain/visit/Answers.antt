@@ -5,11 +5,13 @@ use Rattle.ftc_journal.specs.declared.job.Job.TheVariants.{Visit}
 use Rattle.ftc_network.specs.declared.network.Network.{Network}
 use Rattle.ftc_network.specs.Slots.{head_at}
 use Rattle.ftc_network.specs.Stand.{IsNetwork}
+use Rattle.ftc_chain.specs.Course.{HasMade, IsResting}
 use Rattle.ftc_chain.specs.Doing.{MayDo, setting_by}
 use Rattle.ftc_chain.proofs.AtRest.{may_do}
-use Rattle.ftc_chain.proofs.HeadsKept.{once_as, once_kept, same_no_more, others_no_more, then_no_more, visited_no_more}
+use Rattle.ftc_chain.proofs.HeadsKept.{SlotsRunNoMore, once_as, once_kept, same_no_more, then_no_more, visited_no_more}
 use Rattle.ftc_chain.proofs.HeadsSeen.{others_stay, idle_stays, visited_others}
-use Rattle.ftc_chain.proofs.Made.{before, stepped, still_rests}
+use Rattle.ftc_chain.proofs.Made.{before, run_of, stepped, still_rests}
+use Rattle.ftc_chain.proofs.chain.Chain.visit.Goals.{After-release_due}
 use Rattle.ftc_chain.proofs.chain.Chain.visit.Goals as goal
 
 pub invariant_of-self : goal.invariant_of-self
@@ -45,44 +47,18 @@ invariant_of-self-in_err-visit c =
           c.make_room.ensures.journal c.make_room.ensures.waiting c.make_room.ensures.drained
           (λ state stands. c.in_err-visit.ensures.err (setting_by given) state
           (subst (IsNetwork (setting_by given) state) (sym c.make_room.ensures.network) stands)) is),
-      once_kept c.make_room.new.self.network c.visit.new.network
-          (others_no_more c.args.server c.make_room.new.self.network c.visit.new.network c.visit.ensures.others
-          c.visit.ensures.fewer)
-          (once_as c.self.inside.course.network c.make_room.new.self.network c.make_room.ensures.network
-          c.self.invariant.2),
+      once_kept c.self.inside.course.network c.visit.new.network
+          (visited_no_more c.args.server c.self.inside.course.network c.make_room.new.self.network c.visit.new.network
+          c.make_room.ensures.network c.visit.ensures.others c.visit.ensures.fewer) c.self.invariant.2,
     )
 
-pub invariant_of-self-2 : goal.invariant_of-self-2
-invariant_of-self-2 c =
-    let given = c.self.inside.given in (
-      c.self.invariant.0,
-      ∥∥₁_map (stepped given c.args.worker (Visit c.args.server c.args.packet) c.self.inside.course c.make_room.new.self
-          (record {
-            journal = c.push.new.self;
-            network = c.visit.new.network;
-            outlet = c.make_room.new.self.outlet;
-          }) c.release_due.new.course
-          (event.Visit c.args.server c.args.packet c.args.worker)
-          c.args.self.now c.self.view_is c.self.invariant.1 c.requires
-          (λ setting state legal. (c.jobs_of_events.ensures.slots setting state c.args.worker
-          (Visit c.args.server c.args.packet)).1 legal)
-          c.make_room.ensures.journal c.make_room.ensures.network c.make_room.ensures.waiting
-          c.make_room.ensures.drained refl c.in_ok-push.ensures.ok
-          (λ state run legal stands. (refl, c.in_ok-visit.ensures.ok state run legal stands))
-          c.release_due.ensures.released c.releases.ensures.end) (λ both. both.0),
-      once_kept c.visit.new.network c.release_due.new.course.network
-          (same_no_more c.visit.new.network c.release_due.new.course.network c.release_due.ensures.heads)
-          (once_kept c.make_room.new.self.network c.visit.new.network
-          (others_no_more c.args.server c.make_room.new.self.network c.visit.new.network c.visit.ensures.others
-          c.visit.ensures.fewer)
-          (once_as c.self.inside.course.network c.make_room.new.self.network c.make_room.ensures.network
-          c.self.invariant.2)),
-    )
-
-pub returns-clause-ok : goal.returns-clause-ok
-returns-clause-ok c =
+-- the visit was made
+made : (c : After-release_due) → ∥ IsResting (setting_by c.self.inside.given) c.release_due.new.course
+    × HasMade c.args.worker (Visit c.args.server c.args.packet) c.args.self.now
+    (run_of c.self.inside.given c.release_due.new.course) ∥₁
+made c =
     let given = c.self.inside.given in
-    ∥∥₁_map (stepped given c.args.worker (Visit c.args.server c.args.packet) c.self.inside.course c.make_room.new.self
+    stepped given c.args.worker (Visit c.args.server c.args.packet) c.self.inside.course c.make_room.new.self
     (record {
       journal = c.push.new.self;
       network = c.visit.new.network;
@@ -95,7 +71,25 @@ returns-clause-ok c =
     c.make_room.ensures.journal c.make_room.ensures.network c.make_room.ensures.waiting c.make_room.ensures.drained refl
     c.in_ok-push.ensures.ok
     (λ state run legal stands. (refl, c.in_ok-visit.ensures.ok state run legal stands))
-    c.release_due.ensures.released c.releases.ensures.end) (λ both. both.1)
+    c.release_due.ensures.released c.releases.ensures.end
+
+-- and then releases, after which no slot runs more either
+fewer_then : (c : After-release_due) → SlotsRunNoMore c.self.inside.course.network c.release_due.new.course.network
+fewer_then c =
+    then_no_more c.self.inside.course.network c.visit.new.network c.release_due.new.course.network
+    (visited_no_more c.args.server c.self.inside.course.network c.make_room.new.self.network c.visit.new.network
+    c.make_room.ensures.network c.visit.ensures.others c.visit.ensures.fewer)
+    (same_no_more c.visit.new.network c.release_due.new.course.network c.release_due.ensures.heads)
+
+pub invariant_of-self-2 : goal.invariant_of-self-2
+invariant_of-self-2 c = (
+  c.self.invariant.0,
+  ∥∥₁_map (made c) (λ both. both.0),
+  once_kept c.self.inside.course.network c.release_due.new.course.network (fewer_then c) c.self.invariant.2,
+)
+
+pub returns-clause-ok : goal.returns-clause-ok
+returns-clause-ok c = ∥∥₁_map (made c) (λ both. both.1)
 
 pub returns-in_err-visit-clause-others : goal.returns-in_err-visit-clause-others
 returns-in_err-visit-clause-others c =
@@ -129,7 +123,4 @@ returns-clause-others c =
 pub returns-clause-idle : goal.returns-clause-idle
 returns-clause-idle c other idle =
     idle_stays c.self.inside.given c.self.inside.course c.release_due.new.course c.args.self.now c.self.view_is other
-    (then_no_more c.self.inside.course.network c.visit.new.network c.release_due.new.course.network
-    (visited_no_more c.args.server c.self.inside.course.network c.make_room.new.self.network c.visit.new.network
-    c.make_room.ensures.network c.visit.ensures.others c.visit.ensures.fewer)
-    (same_no_more c.visit.new.network c.release_due.new.course.network c.release_due.ensures.heads)) idle
+    (fewer_then c) idle
