@@ -14,7 +14,8 @@ returns-clause-first c =
     let given = c.self.inside.given in
     subst (λ (run : ChainRun). IfSome c.first_job.result
     (λ (job : Job). ∥ IsFirstJob (setting_in run) (chain_state run) job ∥₁)) c.self.view_is
-    (IfSome_then c.first_job.result c.first_job.ensures.first (λ job first. ∥∥₁_map c.self.invariant.1 (λ resting. first _ _
+    (IfSome_then c.first_job.result c.first_job.ensures.first (λ job first. ∥∥₁_map c.self.invariant.1 (λ resting.
+    first _ _
     (at_rest given c.self.inside.course _ c.len-packets.ensures.same c.len-packets.ensures.few c.few_propagates.ensures
     (c.accepted.ensures.few given.spec.now _ given.script.now c.ring.ensures.accepted)
     resting))))
