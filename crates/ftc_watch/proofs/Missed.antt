@@ -18,31 +18,21 @@ use Rattle.ftc_watch.proofs.Rows.{counts_own, judges_missed}
 abbrev anew : Watching → ℕ → ℕ
 anew w k = if w.live k then w.missed k else 0
 
-other_missed : (at : ℕ) (w : Watching) (server k : ℕ) → (k == server) ≡ false
-    → (recover_at at w server).missed k ≡ w.missed k
-other_missed at w server k other =
-    elim (w.live server) as (λ t. (if t then w
-    else record {
-      live = with_at w.live server true;
-      missed = with_at w.missed server 0;
-      script = w.script ++ Recover at server ∷ [];
-      held = w.held;
-    }).missed k ≡ w.missed k) [
-      | true ↦ refl
-      | false ↦ rw other refl
-    ]
+-- a recovery of one server leaves the others as they are
+abbrev IsSameAt : ℕ → Watching → Watching → Type 0
+IsSameAt k w v = (v.live k ≡ w.live k) × (v.missed k ≡ w.missed k)
 
-other_live : (at : ℕ) (w : Watching) (server k : ℕ) → (k == server) ≡ false → (recover_at at w server).live k ≡ w.live k
-other_live at w server k other =
-    elim (w.live server) as (λ t. (if t then w
+other_stays : (at : ℕ) (w : Watching) (server k : ℕ) → (k == server) ≡ false → IsSameAt k w (recover_at at w server)
+other_stays at w server k other =
+    elim (w.live server) as (λ t. IsSameAt k w (if t then w
     else record {
       live = with_at w.live server true;
       missed = with_at w.missed server 0;
       script = w.script ++ Recover at server ∷ [];
       held = w.held;
-    }).live k ≡ w.live k) [
-      | true ↦ refl
-      | false ↦ rw other refl
+    })) [
+      | true ↦ (refl, refl)
+      | false ↦ rw other (refl, refl)
     ]
 
 own_missed : (at : ℕ) (w : Watching) (server : ℕ) → (recover_at at w server).missed server ≡ anew w server
@@ -63,7 +53,7 @@ before_missed : (at : ℕ) (w : Watching) (low more k : ℕ) → k < low
 before_missed at w low zero k below = refl
 before_missed at w low (suc more) k below =
     let other : (k == low) ≡ false = grind (arith, nat_tests) in
-    before_missed at (recover_at at w low) (low + 1) more k (omega arith) ∙ other_missed at w low k other
+    before_missed at (recover_at at w low) (low + 1) more k (omega arith) ∙ (other_stays at w low k other).1
 
 recovered_missed : (at : ℕ) (w : Watching) (low more k : ℕ) → low ≤ k → k < low + more
     → (at_each (recover_at at) w (range_with_len low more)).missed k ≡ anew w k
@@ -73,9 +63,10 @@ recovered_missed at w low (suc more) k above below = elim (eq-or-lt_of_le above)
       (range_with_len (low + 1) more)).missed j ≡ anew w j) same
       (before_missed at (recover_at at w low) (low + 1) more low (omega arith) ∙ own_missed at w low)
   | inr up ↦ (let other : (k == low) ≡ false = grind (arith, nat_tests) in
+      let stays = other_stays at w low k other in
       recovered_missed at (recover_at at w low) (low + 1) more k (omega arith) (omega arith)
-      ∙ ap (λ (b : Bool). if b then (recover_at at w low).missed k else 0) (other_live at w low k other)
-      ∙ ap (λ (m : ℕ). if w.live k then m else 0) (other_missed at w low k other))
+      ∙ ap (λ (b : Bool). if b then (recover_at at w low).missed k else 0) stays.0
+      ∙ ap (λ (m : ℕ). if w.live k then m else 0) stays.1)
 ]
 
 pub tick_missed : (ring : RingShape) (limit : ℕ) (w : Watching) (tick : Tick) (k : ℕ) → k < ring.servers
