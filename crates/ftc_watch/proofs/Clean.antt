@@ -1,5 +1,5 @@
 -- A server that beats at each tick is never fenced.
-use Rattle.std.proofs.Common.{◌≡◌, ◌≢◌, ℕ, ◌≤◌, Bool, true, false, Option, Some, None, List, [], ◌∷◌, ◌++◌, refl, sym}
+use Rattle.std.proofs.Common.{◌≡◌, ◌≢◌, ℕ, ◌≤◌, Bool, true, false, Option, Some, None, List, [], ◌∷◌, refl, sym}
 use Rattle.std.proofs.Common.{ap, ◌∙◌, arith}
 use Rattle.std.specs.Prelude.{◌==◌, if◌then◌else◌}
 use Rattle.std.specs.List.{AllByRecursion}
@@ -14,6 +14,7 @@ use Rattle.ftc_watch.specs.declared.tick.Tick.{Tick}
 use Rattle.ftc_watch.specs.Fenced.{IsNoCrashOf}
 use Rattle.ftc_watch.specs.Watch.{Watching, at_start, missed_of, recover_at, count_at, fence_at, judge_at, at_each}
 use Rattle.ftc_watch.specs.Watch.{servers_of, recover_all, count_all, tick_on, ticks_on, watch_of}
+use Rattle.ftc_watch.proofs.Recovered.{either_recovers}
 
 -- the server has missed no tick, and no line fences it
 record IsClean (k : ℕ) (w : Watching) : Type 0 where
@@ -25,19 +26,10 @@ same_number a b e = grind (arith, nat_tests)
 
 recover_clean : (k at : ℕ) (w : Watching) (server : ℕ) → IsClean k w → IsClean k (recover_at at w server)
 recover_clean k at w server is =
-    elim (w.live server) as (λ t. IsClean k (if t then w
-    else record {
-      live = with_at w.live server true;
-      missed = with_at w.missed server 0;
-      script = w.script ++ Recover at server ∷ [];
-      held = w.held;
-    })) [
-      | true ↦ is
-      | false ↦ record {
-        none = elim (k == server) as (λ t. (if t then 0 else w.missed k) ≡ 0) [ true ↦ refl | false ↦ is.none ];
-        lines = all_push (IsNoCrashOf k) w.script (Recover at server) is.lines tt;
-      }
-    ]
+    either_recovers (IsClean k) at w server (λ up. is) (λ down. record {
+      none = elim (k == server) as (λ t. (if t then 0 else w.missed k) ≡ 0) [ true ↦ refl | false ↦ is.none ];
+      lines = all_push (IsNoCrashOf k) w.script (Recover at server) is.lines tt;
+    })
 
 count_clean : (k limit beaten : ℕ) (w : Watching) (server : ℕ) → has beaten k ≡ true → IsClean k w
     → IsClean k (count_at limit beaten w server)

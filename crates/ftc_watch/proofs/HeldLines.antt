@@ -8,12 +8,12 @@ use Rattle.ftc_ring.specs.Ring.{RingShape, IsRing}
 use Rattle.ftc_ring.specs.Live.{IsLive, gone_of}
 use Rattle.ftc_ring.proofs.Nearest.{gone_none, gone_found, more_live}
 use Rattle.ftc_script.specs.Steps.{with_at}
-use Rattle.ftc_script.specs.declared.statement.Statement.TheVariants.{Recover}
 use Rattle.ftc_watch.specs.declared.held.Held.{Held}
 use Rattle.ftc_watch.specs.declared.tick.Tick.{Tick}
 use Rattle.ftc_watch.specs.Fenced.{earlier, held_line, held_in}
 use Rattle.ftc_watch.specs.Watch.{Watching, recover_at, count_at, fence_at, judge_at, at_each, servers_of, recover_all}
 use Rattle.ftc_watch.specs.Watch.{count_all, tick_on}
+use Rattle.ftc_watch.proofs.Recovered.{either_recovers}
 use Rattle.ftc_watch.proofs.Sound.{all_up, count_live, judge_others}
 use Rattle.ftc_watch.proofs.Rows.{judges_missed}
 use Rattle.ftc_watch.proofs.Exact.{judges_before, alike_at}
@@ -86,16 +86,7 @@ judged_held ring limit at final w low (suc more) shape size up is =
 -- recoveries and counts add none
 recover_held : (at : ℕ) (w : Watching) (server : ℕ) → (recover_at at w server).held ≡ w.held
 recover_held at w server =
-    elim (w.live server) as (λ t. (if t then w
-    else record {
-      live = with_at w.live server true;
-      missed = with_at w.missed server 0;
-      script = w.script ++ Recover at server ∷ [];
-      held = w.held;
-    }).held ≡ w.held) [
-      | true ↦ refl
-      | false ↦ refl
-    ]
+    either_recovers (λ v. v.held ≡ w.held) at w server (λ up. refl) (λ down. refl)
 
 recovers_held : (at : ℕ) (w : Watching) (servers : List ℕ) → (at_each (recover_at at) w servers).held ≡ w.held
 recovers_held at w [] = refl

@@ -4,6 +4,7 @@ pub mod Lines
 pub mod Steps
 pub mod Begun
 pub mod Sizes
+pub mod Recovered
 pub mod Sound
 pub mod Making
 pub mod Clean

@@ -1,5 +1,5 @@
 -- How many ticks a server has missed behind a tick.
-use Rattle.std.proofs.Common.{◌≡◌, ℕ, zero, suc, ◌+◌, ◌≤◌, ◌<◌, Bool, true, false, ◌++◌, [], ◌∷◌, inl, inr, refl, ap}
+use Rattle.std.proofs.Common.{◌≡◌, ℕ, zero, suc, ◌+◌, ◌≤◌, ◌<◌, Bool, false, inl, inr, refl, ap}
 use Rattle.std.proofs.Common.{subst, ◌∙◌, arith}
 use Rattle.std.specs.Prelude.{◌==◌, if◌then◌else◌}
 use Rattle.std.specs.List.{range_with_len}
@@ -7,10 +7,9 @@ use Rattle.std.proofs.Math.Nat.{eq-or-lt_of_le}
 use Rattle.std.proofs.lemmas.Bool.Decides.{nat_tests}
 use Rattle.ftc_base.specs.Sets.{has}
 use Rattle.ftc_ring.specs.Ring.{RingShape}
-use Rattle.ftc_script.specs.Steps.{with_at}
-use Rattle.ftc_script.specs.declared.statement.Statement.TheVariants.{Recover}
 use Rattle.ftc_watch.specs.declared.tick.Tick.{Tick}
 use Rattle.ftc_watch.specs.Watch.{Watching, missed_of, recover_at, at_each, servers_of, recover_all, count_all, tick_on}
+use Rattle.ftc_watch.proofs.Recovered.{either_recovers}
 use Rattle.ftc_watch.proofs.Sound.{same_server}
 use Rattle.ftc_watch.proofs.Rows.{counts_own, judges_missed}
 
@@ -24,29 +23,12 @@ IsSameAt k w v = (v.live k ≡ w.live k) × (v.missed k ≡ w.missed k)
 
 other_stays : (at : ℕ) (w : Watching) (server k : ℕ) → (k == server) ≡ false → IsSameAt k w (recover_at at w server)
 other_stays at w server k other =
-    elim (w.live server) as (λ t. IsSameAt k w (if t then w
-    else record {
-      live = with_at w.live server true;
-      missed = with_at w.missed server 0;
-      script = w.script ++ Recover at server ∷ [];
-      held = w.held;
-    })) [
-      | true ↦ (refl, refl)
-      | false ↦ rw other (refl, refl)
-    ]
+    either_recovers (IsSameAt k w) at w server (λ up. (refl, refl)) (λ down. rw other (refl, refl))
 
 own_missed : (at : ℕ) (w : Watching) (server : ℕ) → (recover_at at w server).missed server ≡ anew w server
 own_missed at w server =
-    elim (w.live server) as (λ t. (if t then w
-    else record {
-      live = with_at w.live server true;
-      missed = with_at w.missed server 0;
-      script = w.script ++ Recover at server ∷ [];
-      held = w.held;
-    }).missed server ≡ (if t then w.missed server else 0)) [
-      | true ↦ refl
-      | false ↦ rw (same_server server) refl
-    ]
+    either_recovers (λ v. v.missed server ≡ anew w server) at w server (λ up. rw up refl)
+    (λ down. rw (down, same_server server) refl)
 
 before_missed : (at : ℕ) (w : Watching) (low more k : ℕ) → k < low
     → (at_each (recover_at at) w (range_with_len low more)).missed k ≡ w.missed k

@@ -1,6 +1,6 @@
 -- A server that is fenced has missed as many ticks in a row as the limit.
 use Rattle.std.proofs.Common.{◌≡◌, ℕ, zero, suc, ◌+◌, ◌≤◌, ◌<◌, Bool, true, false, Option, Some, None, List, [], ◌∷◌}
-use Rattle.std.proofs.Common.{◌++◌, inl, inr, refl, sym, ap, subst, ◌∙◌, arith}
+use Rattle.std.proofs.Common.{inl, inr, refl, sym, ap, subst, ◌∙◌, arith}
 use Rattle.std.specs.Prelude.{◌==◌, if◌then◌else◌}
 use Rattle.std.specs.List.{range_with_len}
 use Rattle.std.proofs.Math.Nat.{eq-or-lt_of_le}
@@ -9,26 +9,18 @@ use Rattle.ftc_base.specs.Sets.{has}
 use Rattle.ftc_ring.specs.Ring.{RingShape}
 use Rattle.ftc_ring.specs.Live.{IsLive, IsDown, gone_of}
 use Rattle.ftc_script.specs.Steps.{with_at}
-use Rattle.ftc_script.specs.declared.statement.Statement.TheVariants.{Recover}
 use Rattle.ftc_watch.specs.declared.tick.Tick.{Tick}
 use Rattle.ftc_watch.specs.Fenced.{row_after, row_from}
 use Rattle.ftc_watch.specs.Watch.{Watching, at_start, missed_of, recover_at, count_at, fence_at, judge_at, at_each}
 use Rattle.ftc_watch.specs.Watch.{servers_of, recover_all, count_all, judge_all, tick_on, ticks_on}
+use Rattle.ftc_watch.proofs.Recovered.{either_recovers}
 use Rattle.ftc_watch.proofs.Sound.{all_up, count_live, judge_others}
 
 -- a recovery leaves no more missed than before
 recover_missed : (at : ℕ) (w : Watching) (server k row : ℕ) → w.missed k ≤ row → (recover_at at w server).missed k ≤ row
 recover_missed at w server k row few =
-    elim (w.live server) as (λ t. (if t then w
-    else record {
-      live = with_at w.live server true;
-      missed = with_at w.missed server 0;
-      script = w.script ++ Recover at server ∷ [];
-      held = w.held;
-    }).missed k ≤ row) [
-      | true ↦ few
-      | false ↦ elim (k == server) as (λ t. (if t then 0 else w.missed k) ≤ row) [ true ↦ omega arith | false ↦ few ]
-    ]
+    either_recovers (λ v. v.missed k ≤ row) at w server (λ up. few)
+    (λ down. elim (k == server) as (λ t. (if t then 0 else w.missed k) ≤ row) [ true ↦ omega arith | false ↦ few ])
 
 recovers_missed : (at : ℕ) (w : Watching) (servers : List ℕ) (k row : ℕ) → w.missed k ≤ row
     → (at_each (recover_at at) w servers).missed k ≤ row

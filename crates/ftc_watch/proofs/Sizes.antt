@@ -1,5 +1,5 @@
 -- How many lines come of some ticks.
-use Rattle.std.proofs.Common.{◌≡◌, ℕ, ◌+◌, ◌*◌, ◌≤◌, true, false, Option, Some, None, List, [], ◌∷◌, ◌++◌, length, sym}
+use Rattle.std.proofs.Common.{◌≡◌, ℕ, ◌+◌, ◌*◌, ◌≤◌, true, false, Option, Some, None, List, [], ◌∷◌, length, sym}
 use Rattle.std.proofs.Common.{ap, subst, ◌∙◌, arith, length-append}
 use Rattle.std.specs.Prelude.{◌==◌, if◌then◌else◌}
 use Rattle.std.proofs.lemmas.List.FromFn.{length-range_with_len}
@@ -14,6 +14,7 @@ use Rattle.ftc_watch.specs.declared.tick.Tick.{Tick}
 use Rattle.ftc_watch.specs.Watcher.{Kept, known}
 use Rattle.ftc_watch.specs.Watch.{Watching, at_start, recover_at, count_at, fence_at, judge_at, at_each, servers_of}
 use Rattle.ftc_watch.specs.Watch.{recover_all, count_all, judge_all, tick_on, ticks_on, watch_of}
+use Rattle.ftc_watch.proofs.Recovered.{either_recovers}
 
 -- the greatest number of lines: each server may recover and go down or be held at each tick, and recover at the end
 abbrev pub most_lines : ℕ
@@ -24,17 +25,9 @@ abbrev lines_in : Watching → ℕ
 lines_in w = length w.script + length w.held
 
 recovered_few : (at : ℕ) (w : Watching) (server : ℕ) → lines_in (recover_at at w server) ≤ lines_in w + 1
-recovered_few at w server = elim (w.live server) as (λ t. lines_in
-    (if t then w else record {
-      live = with_at w.live server true;
-      missed = with_at w.missed server 0;
-      script =
-          w.script ++ Recover at server ∷ [];
-      held = w.held;
-    }) ≤ lines_in w + 1) [
-      | true ↦ omega arith
-      | false ↦ omega (arith, length-append w.script (Recover at server ∷ []))
-    ]
+recovered_few at w server =
+    either_recovers (λ v. lines_in v ≤ lines_in w + 1) at w server (λ up. omega arith)
+    (λ down. omega (arith, length-append w.script (Recover at server ∷ [])))
 
 fenced_few : (at : ℕ) (w : Watching) (server : ℕ) (gone : Option ℕ)
     → lines_in (fence_at at w server gone) ≤ lines_in w + 1

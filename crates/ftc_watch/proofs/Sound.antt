@@ -21,6 +21,7 @@ use Rattle.ftc_watch.specs.declared.tick.Tick.{Tick}
 use Rattle.ftc_watch.specs.Beats.{AreTicks}
 use Rattle.ftc_watch.specs.Watch.{Watching, at_start, recover_at, count_at, fence_at, judge_at, at_each, recover_all}
 use Rattle.ftc_watch.specs.Watch.{count_all, tick_on, ticks_on, watch_of}
+use Rattle.ftc_watch.proofs.Recovered.{either_recovers}
 
 -- a line of a crash or a recovery of a server, with numbers that aren't long
 abbrev pub IsMove : Statement → Type 0
@@ -99,18 +100,9 @@ recover_sound : (ring : RingShape) (packets at : ℕ) (w : Watching) (server : �
 recover_sound ring packets at w server shape few entered within is =
     let small = shape.servers in
     let l = is.ordered in
-    elim (w.live server) as (λ t. w.live server ≡ t
-    → Sound ring packets at (if t then w
-    else record {
-      live = with_at w.live server true;
-      missed = with_at w.missed server 0;
-      script = w.script ++ Recover at server ∷ [];
-      held = w.held;
-    })) [
-      | true ↦ λ up. is
-      | false ↦ λ down. moved ring packets at w.live w.script (step.Recover at server) is
-          (record { within = within; ordered = l; entered = entered }, down) (omega arith, omega arith)
-    ] refl
+    either_recovers (Sound ring packets at) at w server (λ up. is)
+    (λ down. moved ring packets at w.live w.script (step.Recover at server) is
+    (record { within = within; ordered = l; entered = entered }, down) (omega arith, omega arith))
 
 -- a server that is live is judged
 fence_sound : (ring : RingShape) (packets at : ℕ) (w : Watching) (server : ℕ) (gone : Option ℕ) → IsRing ring
@@ -149,32 +141,15 @@ recovers ring packets at w low (suc more) shape few entered within is =
 
 -- and are live then
 stays_live : (at : ℕ) (w : Watching) (server k : ℕ) → IsLive w.live k → IsLive (recover_at at w server).live k
-stays_live at w server k up = elim (w.live server) as (λ t. IsLive
-    (if t then w else record {
-      live = with_at w.live server true;
-      missed = with_at w.missed server 0;
-      script =
-          w.script ++ Recover at server ∷ [];
-      held = w.held;
-    }).live k) [
-      | true ↦ up
-      | false ↦ elim (k == server) as (λ t. (if t then true else w.live k) ≡ true) [ true ↦ refl | false ↦ up ]
-    ]
+stays_live at w server k up = either_recovers (λ v. IsLive v.live k) at w server (λ was. up)
+    (λ down. elim (k == server) as (λ t. (if t then true else w.live k) ≡ true) [ true ↦ refl | false ↦ up ])
 
 pub same_server : (k : ℕ) → (k == k) ≡ true
 same_server k = grind (arith, nat_tests)
 
 comes_back : (at : ℕ) (w : Watching) (server : ℕ) → IsLive (recover_at at w server).live server
-comes_back at w server = elim (w.live server) as (λ t. w.live server ≡ t
-    → IsLive (if t then w else record {
-      live = with_at w.live server true;
-      missed = with_at w.missed server 0;
-      script = w.script ++ Recover at server ∷ [];
-      held = w.held;
-    }).live server) [
-      | true ↦ λ up. up
-      | false ↦ λ down. rw (same_server server) refl
-    ] refl
+comes_back at w server =
+    either_recovers (λ v. IsLive v.live server) at w server (λ up. up) (λ down. rw (same_server server) refl)
 
 all_stay : (at : ℕ) (w : Watching) (servers : List ℕ) (k : ℕ) → IsLive w.live k
     → IsLive (at_each (recover_at at) w servers).live k

@@ -13,6 +13,7 @@ use Rattle.ftc_watch.specs.declared.tick.Tick.{Tick}
 use Rattle.ftc_watch.specs.Fenced.{downs_in}
 use Rattle.ftc_watch.specs.Watch.{Watching, recover_at, fence_at, judge_at, at_each, servers_of, recover_all, count_all}
 use Rattle.ftc_watch.specs.Watch.{tick_on}
+use Rattle.ftc_watch.proofs.Recovered.{recovered}
 use Rattle.ftc_watch.proofs.Sound.{same_server, all_up, count_live, count_script, judge_others}
 use Rattle.ftc_watch.proofs.Exact.{judges_before}
 
@@ -33,12 +34,7 @@ recover_up : (at : ℕ) (w : Watching) (server : ℕ) → w.live server ≡ true
 recover_up at w server e = rw e refl
 
 recover_down : (at : ℕ) (w : Watching) (server : ℕ) → w.live server ≡ false
-    → recover_at at w server ≡ record {
-      live = with_at w.live server true;
-      missed = with_at w.missed server 0;
-      script = w.script ++ Recover at server ∷ [];
-      held = w.held;
-    }
+    → recover_at at w server ≡ recovered at w server
 recover_down at w server e = rw e refl
 
 other_than : (live : ℕ → Bool) (server j : ℕ) → server + 1 ≤ j → with_at live server true j ≡ live j
