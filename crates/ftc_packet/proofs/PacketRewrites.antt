@@ -6,7 +6,7 @@ use Rattle.ftc_packet.specs.declared.rewrite.End.TheVariants.{Source, Destinatio
 use Rattle.ftc_packet.specs.Layout.{checksum_place, fixed_header, protocol_of, transport_start, word_at}
 use Rattle.ftc_packet.specs.Flow.{IsFlow, flow_in}
 use Rattle.ftc_packet.specs.Check.{IsWhole}
-use Rattle.ftc_packet.specs.Rewrite.{IsBeyondEnd, address_place, new_header_checksum, new_transport_checksum}
+use Rattle.ftc_packet.specs.Rewrite.{ChangesOnlyEnd, address_place, new_header_checksum, new_transport_checksum}
 use Rattle.ftc_packet.specs.Rewrite.{port_place, with_end}
 use Rattle.ftc_packet.proofs.Rewritten.{rewritten, length-rewritten, get-rewritten_apart, get-rewritten_front}
 use Rattle.ftc_packet.proofs.Rewritten.{word_at-rewritten_apart, word_at-rewritten_high, word_at-rewritten_low}
@@ -123,8 +123,7 @@ IsWhole-packet bs end n₁ n₂ c n₃ w flow whole =
     record { has_headers = rw (protocol, start, total) whole.has_headers; captured = omega (arith, whole.captured) }
 
 -- All other bytes stay.
-pub others_stay : (bs : List ℕ) (end : End) (address port k : ℕ) → IsBeyondEnd bs end k →
-    get_or (with_end bs end address port) k 0 ≡ get_or bs k 0
+pub others_stay : (bs : List ℕ) (end : End) (address port : ℕ) → ChangesOnlyEnd end bs (with_end bs end address port)
 unfolding packet
 others_stay bs end address port k beyond =
     let place = address_place-header end in
@@ -152,33 +151,68 @@ flow_in-fields b p h₁ h₂ sp d₁ d₂ dp t e₁ e₂ e₃ e₄ e₅ e₆ e�
 address-halves : (address : ℕ) → 65536 * (address / 65536) + address % 65536 ≡ address
 address-halves address = omega arith
 
+-- The end that stays.
+abbrev pub other_end : End → End
+other_end Source = Destination
+other_end Destination = Source
+
+-- A rewritten packet has the words n₁, n₂ and n₃ at one end, and the words that it had at the other.
+pub record AreEndWords (bs new : List ℕ) (end : End) (n₁ n₂ n₃ : ℕ) : Type 0 where
+  pub high : word_at new (14 + header_place end) ≡ n₁
+  pub low : word_at new (14 + (header_place end + 2)) ≡ n₂
+  pub port : word_at new (transport_start bs + port_place end) ≡ n₃
+  pub other_high : word_at new (14 + header_place (other_end end)) ≡ word_at bs (14 + header_place (other_end end))
+  pub other_low : word_at new (14 + (header_place (other_end end) + 2))
+      ≡ word_at bs (14 + (header_place (other_end end) + 2))
+  pub other_port : word_at new (transport_start bs + port_place (other_end end))
+      ≡ word_at bs (transport_start bs + port_place (other_end end))
+
+other_places : (end : End) → (header_place end + header_place (other_end end) ≡ 28)
+    × (port_place end + port_place (other_end end) ≡ 2)
+other_places Source = (refl, refl)
+other_places Destination = (refl, refl)
+
+pub end_words : (bs : List ℕ) (end : End) (n₁ n₂ c n₃ w : ℕ) → IsFlow bs →
+    AreEndWords bs (packet bs end n₁ n₂ c n₃ w) end n₁ n₂ n₃
+unfolding packet
+end_words bs end n₁ n₂ c n₃ w flow =
+    let t = transport_start bs in
+    let i = header_place end in
+    let j = port_place end in
+    let k = checksum_place (protocol_of bs) in
+    let places = end_places end in
+    let other = other_places end in
+    let least = transport_start_least bs flow in
+    let of_checksum = checksum_places (protocol_of bs) flow.carries in
+    let stays : (e : ℕ) → (e + 1 < 14 + i) ⊎ (14 + i + 4 ≤ e) → 26 ≤ e → (e + 1 < t + j) ⊎ (t + j + 2 ≤ e) →
+    e + 1 < t + k → word_at (packet bs end n₁ n₂ c n₃ w) e ≡ word_at bs e =
+    λ e address header port checksum.
+    word_at-rewritten_apart bs i n₁ n₂ c t j n₃ k w e address (inr header) port (inl checksum) in
+    record {
+      high = word_at-rewritten_high bs i n₁ n₂ c t j n₃ k w least flow.header_captured (omega arith) (omega arith);
+      low = word_at-rewritten_low bs i n₁ n₂ c t j n₃ k w least flow.header_captured (omega arith) (omega arith);
+      port = word_at-rewritten_port bs i n₁ n₂ c t j n₃ k w (omega (arith, of_checksum.1))
+          (omega (arith, of_checksum.2, flow.transport_captured));
+      other_high = stays _ (grind (arith, places, other)) (omega arith) (inl (omega arith)) (omega arith);
+      other_low = stays _ (grind (arith, places, other)) (omega arith) (inl (omega arith)) (omega arith);
+      other_port = stays _ (inr (omega arith)) (omega arith) (grind (arith, places, other))
+          (omega (arith, of_checksum.1));
+    }
+
 -- The flow that is named once the source is another.
 pub flow_in-with_source : (bs : List ℕ) (address port : ℕ) → IsFlow bs →
     flow_in (with_end bs Source address port) ≡ record (flow_in bs) { source = address; source_port = port }
-unfolding packet flow_in
+unfolding flow_in
 flow_in-with_source bs address port flow =
-    let t = transport_start bs in
-    let k = checksum_place (protocol_of bs) in
     let h₁ = address / 65536 in
     let h₂ = address % 65536 in
     let c = new_header_checksum bs Source address in
     let w = new_transport_checksum bs Source address port in
-    let least = transport_start_least bs flow in
-    let places = checksum_places (protocol_of bs) flow.carries in
-    let all = flow_in-fields (packet bs Source h₁ h₂ c port w) (get_or bs 23 0) h₁ h₂ port (word_at bs 30)
-    (word_at bs 32) (word_at bs (t + 2)) t
-    (transport_start-packet bs Source h₁ h₂ c port w flow)
+    let new = packet bs Source h₁ h₂ c port w in
+    let words = end_words bs Source h₁ h₂ c port w flow in
+    let all = flow_in-fields new _ h₁ h₂ port _ _ _ _ (transport_start-packet bs Source h₁ h₂ c port w flow)
     (get-packet_front bs Source h₁ h₂ c port w 23 flow (omega arith))
-    (word_at-rewritten_high bs 12 h₁ h₂ c t 0 port k w least flow.header_captured (omega arith) (omega arith))
-    (word_at-rewritten_low bs 12 h₁ h₂ c t 0 port k w least flow.header_captured (omega arith) (omega arith))
-    (word_at-rewritten_port bs 12 h₁ h₂ c t 0 port k w (omega (arith, places.1))
-    (omega (arith, places.2, flow.transport_captured)))
-    (word_at-rewritten_apart bs 12 h₁ h₂ c t 0 port k w 30 (inr (omega arith)) (inr (omega arith)) (inl (omega arith))
-    (inl (omega arith)))
-    (word_at-rewritten_apart bs 12 h₁ h₂ c t 0 port k w 32 (inr (omega arith)) (inr (omega arith)) (inl (omega arith))
-    (inl (omega arith)))
-    (word_at-rewritten_apart bs 12 h₁ h₂ c t 0 port k w (t + 2) (inr (omega arith)) (inr (omega arith))
-    (inr (omega arith)) (inl (omega (arith, places.1)))) in
+    words.high words.low words.port words.other_high words.other_low words.other_port in
     ap flow_in (with_end-packet bs Source address port) ∙ rw (address-halves address) at all
 
 -- The flow that is named once the destination is another.
@@ -187,28 +221,15 @@ pub flow_in-with_destination : (bs : List ℕ) (address port : ℕ) → IsFlow b
       destination = address;
       destination_port = port;
     }
-unfolding packet flow_in
+unfolding flow_in
 flow_in-with_destination bs address port flow =
-    let t = transport_start bs in
-    let k = checksum_place (protocol_of bs) in
     let h₁ = address / 65536 in
     let h₂ = address % 65536 in
     let c = new_header_checksum bs Destination address in
     let w = new_transport_checksum bs Destination address port in
-    let least = transport_start_least bs flow in
-    let places = checksum_places (protocol_of bs) flow.carries in
-    let all = flow_in-fields (packet bs Destination h₁ h₂ c port w) (get_or bs 23 0) (word_at bs 26) (word_at bs 28)
-    (word_at bs (t + 0)) h₁ h₂ port t
-    (transport_start-packet bs Destination h₁ h₂ c port w flow)
+    let new = packet bs Destination h₁ h₂ c port w in
+    let words = end_words bs Destination h₁ h₂ c port w flow in
+    let all = flow_in-fields new _ _ _ _ h₁ h₂ port _ (transport_start-packet bs Destination h₁ h₂ c port w flow)
     (get-packet_front bs Destination h₁ h₂ c port w 23 flow (omega arith))
-    (word_at-rewritten_apart bs 16 h₁ h₂ c t 2 port k w 26 (inl (omega arith)) (inr (omega arith)) (inl (omega arith))
-    (inl (omega arith)))
-    (word_at-rewritten_apart bs 16 h₁ h₂ c t 2 port k w 28 (inl (omega arith)) (inr (omega arith)) (inl (omega arith))
-    (inl (omega arith)))
-    (word_at-rewritten_apart bs 16 h₁ h₂ c t 2 port k w (t + 0) (inr (omega arith)) (inr (omega arith))
-    (inl (omega arith)) (inl (omega (arith, places.1))))
-    (word_at-rewritten_high bs 16 h₁ h₂ c t 2 port k w least flow.header_captured (omega arith) (omega arith))
-    (word_at-rewritten_low bs 16 h₁ h₂ c t 2 port k w least flow.header_captured (omega arith) (omega arith))
-    (word_at-rewritten_port bs 16 h₁ h₂ c t 2 port k w (omega (arith, places.1))
-    (omega (arith, places.2, flow.transport_captured))) in
+    words.other_high words.other_low words.other_port words.high words.low words.port in
     ap flow_in (with_end-packet bs Destination address port) ∙ rw (address-halves address) at all

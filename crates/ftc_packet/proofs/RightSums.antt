@@ -17,9 +17,9 @@ use Rattle.ftc_packet.proofs.Weights.{weighted}
 use Rattle.ftc_packet.proofs.WordEdits.{part, length-part, word_at-part, length-with_word, with_word-sum}
 use Rattle.ftc_packet.proofs.ListUpdates.{list_of_two_updates, list_of_three_updates}
 use Rattle.ftc_packet.proofs.PacketSums.{addresses, header_sum-weighted, plain_sum, transport_sum-weighted}
-use Rattle.ftc_packet.proofs.Rewritten.{part-rewritten_header, part-rewritten_segment, word_at-rewritten_apart}
-use Rattle.ftc_packet.proofs.Rewritten.{word_at-rewritten_high, word_at-rewritten_low, word_at-rewritten_checksum}
-use Rattle.ftc_packet.proofs.PacketRewrites.{IsFlow-packet, IsWhole-packet, checksum_places, end_places}
+use Rattle.ftc_packet.proofs.Rewritten.{part-rewritten_header, part-rewritten_segment}
+use Rattle.ftc_packet.proofs.Rewritten.{word_at-rewritten_checksum}
+use Rattle.ftc_packet.proofs.PacketRewrites.{IsFlow-packet, IsWhole-packet, checksum_places, end_places, end_words}
 use Rattle.ftc_packet.proofs.PacketRewrites.{get-packet_front, header_place, length-packet, packet}
 use Rattle.ftc_packet.proofs.PacketRewrites.{transport_start-packet, transport_start_least, with_end-packet}
 use Rattle.ftc_packet.proofs.PacketRewrites.{word_at-packet_front}
@@ -157,29 +157,21 @@ record StayBeside (bs new : List ℕ) (m₁ m₂ n₁ n₂ : ℕ) : Type 0 where
 addresses_stay : (bs : List ℕ) (end : End) (n₁ n₂ c n₃ w : ℕ) → IsFlow bs →
     StayBeside bs (packet bs end n₁ n₂ c n₃ w) (word_at bs (14 + header_place end))
     (word_at bs (14 + (header_place end + 2))) n₁ n₂
-unfolding addresses packet
+unfolding addresses
 addresses_stay bs Source n₁ n₂ c n₃ w flow =
-    let t = transport_start bs in
-    let k = checksum_place (protocol_of bs) in
-    let least = transport_start_least bs flow in
-    let a = word_at-rewritten_high bs 12 n₁ n₂ c t 0 n₃ k w least flow.header_captured (omega arith) (omega arith) in
-    let b = word_at-rewritten_low bs 12 n₁ n₂ c t 0 n₃ k w least flow.header_captured (omega arith) (omega arith) in
-    let d = word_at-rewritten_apart bs 12 n₁ n₂ c t 0 n₃ k w 30 (inr (omega arith)) (inr (omega arith))
-    (inl (omega arith)) (inl (omega arith)) in
-    let e = word_at-rewritten_apart bs 12 n₁ n₂ c t 0 n₃ k w 32 (inr (omega arith)) (inr (omega arith))
-    (inl (omega arith)) (inl (omega arith)) in
-    record { rest = word_at bs 30 + word_at bs 32; before = omega arith; after = omega (arith, a, b, d, e) }
+    let words = end_words bs Source n₁ n₂ c n₃ w flow in
+    record {
+      rest = word_at bs 30 + word_at bs 32;
+      before = omega arith;
+      after = omega (arith, words.high, words.low, words.other_high, words.other_low);
+    }
 addresses_stay bs Destination n₁ n₂ c n₃ w flow =
-    let t = transport_start bs in
-    let k = checksum_place (protocol_of bs) in
-    let least = transport_start_least bs flow in
-    let a = word_at-rewritten_high bs 16 n₁ n₂ c t 2 n₃ k w least flow.header_captured (omega arith) (omega arith) in
-    let b = word_at-rewritten_low bs 16 n₁ n₂ c t 2 n₃ k w least flow.header_captured (omega arith) (omega arith) in
-    let d = word_at-rewritten_apart bs 16 n₁ n₂ c t 2 n₃ k w 26 (inl (omega arith)) (inr (omega arith))
-    (inl (omega arith)) (inl (omega arith)) in
-    let e = word_at-rewritten_apart bs 16 n₁ n₂ c t 2 n₃ k w 28 (inl (omega arith)) (inr (omega arith))
-    (inl (omega arith)) (inl (omega arith)) in
-    record { rest = word_at bs 26 + word_at bs 28; before = omega arith; after = omega (arith, a, b, d, e) }
+    let words = end_words bs Destination n₁ n₂ c n₃ w flow in
+    record {
+      rest = word_at bs 26 + word_at bs 28;
+      before = omega arith;
+      after = omega (arith, words.high, words.low, words.other_high, words.other_low);
+    }
 
 -- The transport checksum stays right, where the update's is written, or 65535 for 0.
 transport_stays_right : (bs : List ℕ) (end : End) (n₁ n₂ c n₃ w : ℕ) → AreWords bs end → IsFlow bs → IsWhole bs →
