@@ -1,7 +1,7 @@
 -- Each call keeps what holds of a head.
 use Rattle.std.proofs.Common.{◌≡◌, ◌≢◌, ◌<◌, ℕ, Bool, true, List, [], ◌∷◌, length, Option, Some, None, refl, sym, ap}
 use Rattle.std.proofs.Common.{subst, ◌∙◌, inl, inr, ⊎_elim, arith}
-use Rattle.std.specs.Prelude.{◌⊎◌, slice_set, nat_eq}
+use Rattle.std.specs.Prelude.{◌⊎◌, IfSome, slice_set, nat_eq}
 use Rattle.std.specs.Cmp.Lexicographic.{pointwise}
 use Rattle.std.specs.List.{AllByRecursion}
 use Rattle.std.specs.FinMap.{get, get-insert, get-remove}
@@ -15,7 +15,8 @@ use Rattle.ftc_base.specs.Partition.{partition_of}
 use Rattle.ftc_store.specs.Store.{Content, changed, written}
 use Rattle.ftc_store.proofs.Lookups.{same_test}
 use Rattle.ftc_locks.specs.Locks.{Locks, holds, holds_exclusively, conflicts, SameHoldings, IsLockTable}
-use Rattle.ftc_txn.specs.Slots.{Running, slot_at, begun, restarted, answered}
+use Rattle.ftc_txn.specs.Slots.{Running, slot_at, begun, restarted, answered, IsTurn}
+use Rattle.ftc_txn.specs.declared.turn.Turn.TheVariants.{Wounded}
 use Rattle.ftc_txn.specs.Head.{HeadState, RunsUnwounded, RunsWounded, IsCurrent, IsRunning, IsHead, AreItsWrites}
 use Rattle.ftc_txn.specs.Head.{next_age}
 use Rattle.ftc_txn.specs.Steps.{begins, restarts, IsGranted, IsFreed, HasRead, HasQuit}
@@ -61,7 +62,7 @@ begin_keeps old worker packet within valid none =
     (some_of (slot_at new.slots worker) (begun packet (next_age old)) running here is) in
     omega (arith, drawn_before old other another valid other_is))
 
-pub restart_keeps : (old : HeadState) (worker by : ℕ) (running : Running) → IsHead old →
+restart_keeps : (old : HeadState) (worker by : ℕ) (running : Running) → IsHead old →
     RunsWounded old worker running by → IsHead (restarts old worker running)
 restart_keeps old worker by running valid runs =
     let new : HeadState = restarts old worker running in
@@ -84,6 +85,15 @@ restart_keeps old worker by running valid runs =
     let age_is : running.age ≡ r.age =
     ap (λ (r : Running). r.age) (some_of (slot_at new.slots worker) (restarted running) r here is) in
     valid.ages worker other running another (λ e. differs (sym e)) runs.slot other_is (age_is ∙ same_age))
+
+-- the same where the slots are those that a restart leaves
+pub restarted_keeps : (old : HeadState) (worker by : ℕ) (slots : List (Option Running)) → IsHead old →
+    IsTurn (slot_at old.slots worker) (Wounded by) →
+    IfSome (slot_at old.slots worker) (λ running. slots ≡ slice_set old.slots worker (Some (restarted running))) →
+    IsHead (record old { slots = slots })
+restarted_keeps old worker by slots valid (running, slot, wounded) left =
+    let written : slots ≡ slice_set old.slots worker (Some (restarted running)) = rw slot at left in
+    rw written (restart_keeps old worker by running valid (record { slot = slot; wounded = wounded }))
 
 -- a slot that becomes idle and frees its locks, where the content stays at the answers of others
 freed_keeps : (old new : HeadState) (worker : ℕ) → worker < length old.slots → IsHead old →
