@@ -63,22 +63,6 @@ figures_some (word ∷ words) a more e =
     let later : two.0 ≡ more = cc in
     (word, words, refl, one.1 ∙ ap Ok first, two.1 ∙ ap Ok later)
 
--- the words behind the first word, and the bounds of an event
-abbrev tail_list : Event → List (List ℕ)
-tail_list (event.Enter packet) = decimal packet ∷ []
-tail_list (event.Take link origin) = decimal link ∷ decimal origin ∷ []
-tail_list (event.Apply server origin group packet) =
-    decimal server ∷ decimal origin ∷ decimal group ∷ decimal packet ∷ []
-tail_list (event.Visit server packet worker) = decimal server ∷ decimal packet ∷ decimal worker ∷ []
-tail_list (event.Pass server origin) = decimal server ∷ decimal origin ∷ []
-tail_list (event.Lose server origin) = decimal server ∷ decimal origin ∷ []
-tail_list (event.Carry origin) = decimal origin ∷ []
-tail_list (event.Crash server) = decimal server ∷ []
-tail_list (event.Recover server undone) = decimal server ∷ map name_text undone
-tail_list (event.Pull link) = decimal link ∷ []
-tail_list (event.Propagate origin) = decimal origin ∷ []
-tail_list (event.Release packet) = decimal packet ∷ []
-
 -- the word of a form
 abbrev form_word : Form → List ℕ
 form_word (form.Single single.Enter) = codes "enter"
@@ -104,61 +88,50 @@ said_same : (v : Version) (f : Form) (words : List (List ℕ)) (a b : Event) →
 said_same v f words a b is e = let same : a ≡ b = cc in subst (IsSaid v f words) same is
 
 -- one number
-one_word : (w : List ℕ) (words rest : List (List ℕ)) (n : ℕ) → words ≡ w ∷ rest → rest ≡ [] → w ≡ decimal n →
-    words ≡ decimal n ∷ []
-one_word w words rest n e none is = e ∙ ap (λ (ws : List (List ℕ)). w ∷ ws) none ∙ ap (λ (x : List ℕ). x ∷ []) is
+abbrev single_event : Single → ℕ → Event
+single_event single.Enter n = event.Enter n
+single_event single.Carry n = event.Carry n
+single_event single.Crash n = event.Crash n
+single_event single.Pull n = event.Pull n
+single_event single.Propagate n = event.Propagate n
+single_event single.Release n = event.Release n
+
+single_words : (kind : Single) (n : ℕ) → form_word (form.Single kind) ∷ decimal n ∷ [] ≡ word_list (single_event kind n)
+single_words single.Enter n = refl
+single_words single.Carry n = refl
+single_words single.Crash n = refl
+single_words single.Pull n = refl
+single_words single.Propagate n = refl
+single_words single.Release n = refl
+
+-- where a reading gives the number that the word spells, in its bounds
+one_said : (v : Version) (kind : Single) (words : List (List ℕ)) (w : List ℕ) (e : Event)
+    (reading : Result ℕ JournalCause) → words ≡ w ∷ [] →
+    ((n : ℕ) → reading ≡ Ok n → (w ≡ decimal n) × IsEvent v (single_event kind n)) →
+    (reading >>= λ n. Ok (single_event kind n)) ≡ Ok e → IsSaid v (form.Single kind) words e
+one_said v kind words w e reading is spells said =
+    let n = went reading (λ n. Ok (single_event kind n)) e said in
+    let word = spells n.0 n.1 in
+    said_same v (form.Single kind) words (single_event kind n.0) e (record {
+      spelled = ap (λ (ws : List (List ℕ)). form_word (form.Single kind) ∷ ws) (is ∙ ap (λ (x : List ℕ). x ∷ []) word.0)
+          ∙ single_words kind n.0;
+      bounds = word.1;
+    }) n.2
 
 single_said : (v : Version) (kind : Single) (words : List (List ℕ)) (w : List ℕ) (a : Option ℕ) (e : Event) →
     words ≡ w ∷ [] → figure_of w ≡ Ok a → single_in v kind a ≡ Ok e → IsSaid v (form.Single kind) words e
 single_said v single.Enter words w a e is read said =
-    let n = went (number_in a) (λ packet. Ok (event.Enter packet)) e said in
-    let word = number_word w a n.0 read n.1 in
-    said_same v (form.Single single.Enter) words (event.Enter n.0) e
-    (record {
-      spelled = ap (λ (ws : List (List ℕ)). codes "enter" ∷ ws) (one_word w words [] n.0 is refl word.0);
-      bounds = word.1;
-    }) n.2
+    one_said v single.Enter words w e (number_in a) is (λ n. number_word w a n read) said
 single_said v single.Carry words w a e is read said =
-    let n = went (number_in a) (λ origin. Ok (event.Carry origin)) e said in
-    let word = number_word w a n.0 read n.1 in
-    said_same v (form.Single single.Carry) words (event.Carry n.0) e
-    (record {
-      spelled = ap (λ (ws : List (List ℕ)). codes "carry" ∷ ws) (one_word w words [] n.0 is refl word.0);
-      bounds = word.1;
-    }) n.2
+    one_said v single.Carry words w e (number_in a) is (λ n. number_word w a n read) said
 single_said v single.Crash words w a e is read said =
-    let n = went (server_in v a) (λ server. Ok (event.Crash server)) e said in
-    let word = below_word w a (servers_of v) n.0 read n.1 in
-    said_same v (form.Single single.Crash) words (event.Crash n.0) e
-    (record {
-      spelled = ap (λ (ws : List (List ℕ)). codes "crash" ∷ ws) (one_word w words [] n.0 is refl word.0);
-      bounds = word.1;
-    }) n.2
+    one_said v single.Crash words w e (server_in v a) is (λ n. below_word w a (servers_of v) n read) said
 single_said v single.Pull words w a e is read said =
-    let n = went (server_in v a) (λ link. Ok (event.Pull link)) e said in
-    let word = below_word w a (servers_of v) n.0 read n.1 in
-    said_same v (form.Single single.Pull) words (event.Pull n.0) e
-    (record {
-      spelled = ap (λ (ws : List (List ℕ)). codes "pull" ∷ ws) (one_word w words [] n.0 is refl word.0);
-      bounds = word.1;
-    }) n.2
+    one_said v single.Pull words w e (server_in v a) is (λ n. below_word w a (servers_of v) n read) said
 single_said v single.Propagate words w a e is read said =
-    let n = went (number_in a) (λ origin. Ok (event.Propagate origin)) e said in
-    let word = number_word w a n.0 read n.1 in
-    said_same v (form.Single single.Propagate) words (event.Propagate n.0) e
-    (record {
-      spelled = ap (λ (ws : List (List ℕ)). codes "propagate"
-          ∷ ws) (one_word w words [] n.0 is refl word.0);
-      bounds = word.1;
-    }) n.2
+    one_said v single.Propagate words w e (number_in a) is (λ n. number_word w a n read) said
 single_said v single.Release words w a e is read said =
-    let n = went (number_in a) (λ packet. Ok (event.Release packet)) e said in
-    let word = number_word w a n.0 read n.1 in
-    said_same v (form.Single single.Release) words (event.Release n.0) e
-    (record {
-      spelled = ap (λ (ws : List (List ℕ)). codes "release" ∷ ws) (one_word w words [] n.0 is refl word.0);
-      bounds = word.1;
-    }) n.2
+    one_said v single.Release words w e (number_in a) is (λ n. number_word w a n read) said
 
 single_figures : (v : Version) (kind : Single) (words : List (List ℕ)) (figures : List (Option ℕ)) (e : Event) →
     figures_of words ≡ Ok figures → single_of v kind figures ≡ Ok e → IsSaid v (form.Single kind) words e
@@ -363,65 +336,26 @@ tested first word a b rest e =
       | false ↦ λ is told. inr told
     ] refl e
 
-form_same : (first : List ℕ) (a b : Form) → (first ≡ form_word a) × (a ≡ b) → first ≡ form_word b
-form_same first a b is = is.0 ∙ ap form_word is.1
+-- a form whose word is tested is that of the word, or a later test tells
+known_or : (first : List ℕ) (a f : Form) (rest : Option Form) → (rest ≡ Some f → first ≡ form_word f) →
+    (if bytes_eq first (form_word a) then Some a else rest) ≡ Some f → first ≡ form_word f
+known_or first a f rest later e =
+    elim (tested first (form_word a) a f rest e) [ inl is ↦ is.0 ∙ ap form_word is.1 | inr other ↦ later other ]
 
 form_known : (first : List ℕ) (f : Form) → form_of first ≡ Some f → first ≡ form_word f
-form_known first f e =
-    elim (tested first (codes "enter") (form.Single single.Enter) f _ e) [
-      | inl is ↦ form_same first (form.Single single.Enter) f is
-      | inr e1 ↦
-          elim (tested first (codes "take") (form.Double double.Take) f _ e1) [
-            | inl is ↦ form_same first (form.Double double.Take) f is
-            | inr e2 ↦
-                elim (tested first (codes "apply") form.Apply f _ e2) [
-                  | inl is ↦ form_same first form.Apply f is
-                  | inr e3 ↦
-                      elim (tested first (codes "visit") form.Visit f _ e3) [
-                        | inl is ↦ form_same first form.Visit f is
-                        | inr e4 ↦
-                            elim (tested first (codes "pass") (form.Double double.Pass) f _ e4) [
-                              | inl is ↦ form_same first (form.Double double.Pass) f is
-                              | inr e5 ↦
-                                  elim (tested first (codes "lose") (form.Double double.Lose) f _ e5) [
-                                    | inl is ↦ form_same first (form.Double double.Lose) f is
-                                    | inr e6 ↦
-                                        elim (tested first (codes "carry") (form.Single single.Carry) f _ e6) [
-                                          | inl is ↦ form_same first (form.Single single.Carry) f is
-                                          | inr e7 ↦
-                                              elim (tested first (codes "crash") (form.Single single.Crash) f _ e7) [
-                                                | inl is ↦ form_same first (form.Single single.Crash) f is
-                                                | inr e8 ↦
-                                                    elim (tested first (codes "recover") form.Recover f _ e8) [
-                                                      | inl is ↦ form_same first form.Recover f is
-                                                      | inr e9 ↦
-                                                          elim (tested first (codes "pull")
-                                                          (form.Single single.Pull) f _ e9) [
-                                                            | inl is ↦ form_same first (form.Single single.Pull) f is
-                                                            | inr e10 ↦
-                                                                elim (tested first (codes "propagate")
-                                                                (form.Single single.Propagate) f _ e10) [
-                                                                  | inl is ↦ form_same first
-                                                                      (form.Single single.Propagate) f is
-                                                                  | inr e11 ↦
-                                                                      elim (tested first (codes "release")
-                                                                      (form.Single single.Release) f None e11) [
-                                                                        | inl is ↦ form_same first
-                                                                            (form.Single single.Release) f is
-                                                                        | inr e12 ↦
-                                                                            absurd cc
-                                                                      ]
-                                                                ]
-                                                          ]
-                                                    ]
-                                              ]
-                                        ]
-                                  ]
-                            ]
-                      ]
-                ]
-          ]
-    ]
+form_known first f =
+    known_or first (form.Single single.Enter) f _ (
+    known_or first (form.Double double.Take) f _ (
+    known_or first form.Apply f _ (
+    known_or first form.Visit f _ (
+    known_or first (form.Double double.Pass) f _ (
+    known_or first (form.Double double.Lose) f _ (
+    known_or first (form.Single single.Carry) f _ (
+    known_or first (form.Single single.Crash) f _ (
+    known_or first form.Recover f _ (
+    known_or first (form.Single single.Pull) f _ (
+    known_or first (form.Single single.Propagate) f _ (
+    known_or first (form.Single single.Release) f None (λ none. absurd cc))))))))))))
 
 by_form : (v : Version) (first : List ℕ) (words : List (List ℕ)) (r : Option Form) (e : Event) →
     ((f : Form) → r ≡ Some f → first ≡ form_word f) → said_by v r words ≡ Ok e →

@@ -1,11 +1,12 @@
 -- The words of an event's line.
-use Rattle.std.proofs.Common.{◌≡◌, ◌≤◌, ◌<◌, ℕ, true, false, nat_lt, List, [], ◌∷◌, ◌++◌, refl, sym, ap, subst, ◌∙◌}
-use Rattle.std.proofs.Common.{arith, rules, Ok, Some, ◌⊎◌, inl, inr, append_assoc, append-nil}
-use Rattle.std.specs.Prelude.{◌==◌, codes, decimal, map}
-use Rattle.std.specs.List.{AllByRecursion, join_with_byte, flat_map}
+use Rattle.std.proofs.Common.{◌≡◌, ◌≤◌, ◌<◌, ℕ, true, nat_lt, List, [], ◌∷◌, ◌++◌, refl, ap, ◌∙◌}
+use Rattle.std.proofs.Common.{arith, rules, Ok, Some, inl, inr, append_assoc, append-nil}
+use Rattle.std.specs.Prelude.{nat_le, codes, decimal, map}
+use Rattle.std.specs.List.{AllByRecursion, list_all, join_with_byte, flat_map}
+use Rattle.std.proofs.lemmas.Bool.Decides.{nat_tests}
 use Rattle.ftc_base.specs.Endpoint.{parts_of}
 use Rattle.ftc_base.specs.declared.limits.TheConstants.{MOST_SLOTS}
-use Rattle.ftc_base.proofs.Separated.{Without, without-append, written, parts_of-part, parts_of-last, parts_of-join}
+use Rattle.ftc_base.proofs.Separated.{Without, both, without-append, parts_of-part, parts_of-last, parts_of-join}
 use Rattle.ftc_base.proofs.Separated.{without-join}
 use Rattle.ftc_base.proofs.Decimals.{without_decimal}
 use Rattle.ftc_journal.specs.declared.event.Event.{Event}
@@ -22,21 +23,38 @@ use Rattle.ftc_journal.proofs.Letters.{figure_of-decimal}
 abbrev pub name_text : VisitName → List ℕ
 name_text name = decimal name.server ++ 58 ∷ decimal name.packet
 
--- the words of a line, one by one
+-- the words of a line: the first one, and those behind it
+abbrev pub first_word : Event → List ℕ
+first_word (event.Enter packet) = codes "enter"
+first_word (event.Take link origin) = codes "take"
+first_word (event.Apply server origin group packet) = codes "apply"
+first_word (event.Visit server packet worker) = codes "visit"
+first_word (event.Pass server origin) = codes "pass"
+first_word (event.Lose server origin) = codes "lose"
+first_word (event.Carry origin) = codes "carry"
+first_word (event.Crash server) = codes "crash"
+first_word (event.Recover server undone) = codes "recover"
+first_word (event.Pull link) = codes "pull"
+first_word (event.Propagate origin) = codes "propagate"
+first_word (event.Release packet) = codes "release"
+
+abbrev pub tail_list : Event → List (List ℕ)
+tail_list (event.Enter packet) = decimal packet ∷ []
+tail_list (event.Take link origin) = decimal link ∷ decimal origin ∷ []
+tail_list (event.Apply server origin group packet) =
+    decimal server ∷ decimal origin ∷ decimal group ∷ decimal packet ∷ []
+tail_list (event.Visit server packet worker) = decimal server ∷ decimal packet ∷ decimal worker ∷ []
+tail_list (event.Pass server origin) = decimal server ∷ decimal origin ∷ []
+tail_list (event.Lose server origin) = decimal server ∷ decimal origin ∷ []
+tail_list (event.Carry origin) = decimal origin ∷ []
+tail_list (event.Crash server) = decimal server ∷ []
+tail_list (event.Recover server undone) = decimal server ∷ map name_text undone
+tail_list (event.Pull link) = decimal link ∷ []
+tail_list (event.Propagate origin) = decimal origin ∷ []
+tail_list (event.Release packet) = decimal packet ∷ []
+
 abbrev pub word_list : Event → List (List ℕ)
-word_list (event.Enter packet) = codes "enter" ∷ decimal packet ∷ []
-word_list (event.Take link origin) = codes "take" ∷ decimal link ∷ decimal origin ∷ []
-word_list (event.Apply server origin group packet) =
-    codes "apply" ∷ decimal server ∷ decimal origin ∷ decimal group ∷ decimal packet ∷ []
-word_list (event.Visit server packet worker) = codes "visit" ∷ decimal server ∷ decimal packet ∷ decimal worker ∷ []
-word_list (event.Pass server origin) = codes "pass" ∷ decimal server ∷ decimal origin ∷ []
-word_list (event.Lose server origin) = codes "lose" ∷ decimal server ∷ decimal origin ∷ []
-word_list (event.Carry origin) = codes "carry" ∷ decimal origin ∷ []
-word_list (event.Crash server) = codes "crash" ∷ decimal server ∷ []
-word_list (event.Recover server undone) = codes "recover" ∷ decimal server ∷ map name_text undone
-word_list (event.Pull link) = codes "pull" ∷ decimal link ∷ []
-word_list (event.Propagate origin) = codes "propagate" ∷ decimal origin ∷ []
-word_list (event.Release packet) = codes "release" ∷ decimal packet ∷ []
+word_list e = first_word e ∷ tail_list e
 
 names_joined : (first : List ℕ) (undone : List VisitName) →
     first ++ flat_map spaced_name undone ≡ join_with_byte 32 (first ∷ map name_text undone)
@@ -75,177 +93,106 @@ words_joined (event.Pull link) = refl
 words_joined (event.Propagate origin) = refl
 words_joined (event.Release packet) = refl
 
--- a separator that stands in no number and in no name of a line
-pub record IsSeparator (separator : ℕ) : Type 0 where
-  pub apart : (separator < 48) ⊎ (57 < separator)
-  pub colon : (58 == separator) ≡ false
-
 few_servers : (v : Version) (n : ℕ) → n < servers_of v → n ≤ 4294967295
 few_servers version.First n less = omega arith
 few_servers version.Second n less = omega arith
 
-without_name : (v : Version) (separator : ℕ) (name : VisitName) → IsSeparator separator → IsVisitName v name →
+-- a separator below 48 stands in no number and in no name of a line
+without_name : (v : Version) (separator : ℕ) (name : VisitName) → separator < 48 → IsVisitName v name →
     Without separator (name_text name)
-without_name v separator name sep is =
+without_name v separator name low is =
     without-append separator (decimal name.server) (58 ∷ decimal name.packet)
-    (without_decimal separator name.server sep.apart (few_servers v name.server is.0)) (
-      sep.colon,
-      without_decimal separator name.packet sep.apart is.1,
+    (without_decimal separator name.server (inl low) (few_servers v name.server is.0)) (
+      grind (arith, nat_tests),
+      without_decimal separator name.packet (inl low) is.1,
     )
 
-without_names : (v : Version) (separator : ℕ) (undone : List VisitName) → IsSeparator separator →
+without_names : (v : Version) (separator : ℕ) (undone : List VisitName) → separator < 48 →
     AllByRecursion (IsVisitName v) undone → AllByRecursion (Without separator) (map name_text undone)
-without_names v separator [] sep all = tt
-without_names v separator (name ∷ names) sep all =
-    (without_name v separator name sep all.0, without_names v separator names sep all.1)
+without_names v separator [] low all = tt
+without_names v separator (name ∷ names) low all =
+    (without_name v separator name low all.0, without_names v separator names low all.1)
 
--- first words
-abbrev pub first_word : Event → List ℕ
-first_word (event.Enter packet) = codes "enter"
-first_word (event.Take link origin) = codes "take"
-first_word (event.Apply server origin group packet) = codes "apply"
-first_word (event.Visit server packet worker) = codes "visit"
-first_word (event.Pass server origin) = codes "pass"
-first_word (event.Lose server origin) = codes "lose"
-first_word (event.Carry origin) = codes "carry"
-first_word (event.Crash server) = codes "crash"
-first_word (event.Recover server undone) = codes "recover"
-first_word (event.Pull link) = codes "pull"
-first_word (event.Propagate origin) = codes "propagate"
-first_word (event.Release packet) = codes "release"
-
-pub without_words : (v : Version) (separator : ℕ) (e : Event) → IsSeparator separator →
-    Without separator (first_word e) → IsEvent v e → AllByRecursion (Without separator) (word_list e)
-without_words v separator (event.Enter packet) sep first is =
-    (first, (without_decimal separator packet sep.apart is, tt))
-without_words v separator (event.Take link origin) sep first is = (
-  first,
-  (
-    without_decimal separator link sep.apart (few_servers v link is.0),
-    (without_decimal separator origin sep.apart is.1, tt),
-  ),
+without_tail : (v : Version) (separator : ℕ) (e : Event) → separator < 48 → IsEvent v e →
+    AllByRecursion (Without separator) (tail_list e)
+without_tail v separator (event.Enter packet) low is = (without_decimal separator packet (inl low) is, tt)
+without_tail v separator (event.Take link origin) low is = (
+  without_decimal separator link (inl low) (few_servers v link is.0),
+  (without_decimal separator origin (inl low) is.1, tt),
 )
-without_words v separator (event.Apply server origin group packet) sep first is = (
-  first,
+without_tail v separator (event.Apply server origin group packet) low is = (
+  without_decimal separator server (inl low) (few_servers v server is.0),
   (
-    without_decimal separator server sep.apart (few_servers v server is.0),
+    without_decimal separator origin (inl low) is.1,
     (
-      without_decimal separator origin sep.apart is.1,
-      (
-        without_decimal separator group sep.apart (few_servers v group is.2),
-        (without_decimal separator packet sep.apart is.3, tt),
-      ),
+      without_decimal separator group (inl low) (few_servers v group is.2),
+      (without_decimal separator packet (inl low) is.3, tt),
     ),
   ),
 )
-without_words v separator (event.Visit server packet worker) sep first is =
+without_tail v separator (event.Visit server packet worker) low is =
     let slot = is.2 in (
-      first,
+      without_decimal separator server (inl low) (few_servers v server is.0),
       (
-        without_decimal separator server sep.apart (few_servers v server is.0),
-        (
-          without_decimal separator packet sep.apart is.1,
-          (without_decimal separator worker sep.apart (omega arith), tt),
-        ),
+        without_decimal separator packet (inl low) is.1,
+        (without_decimal separator worker (inl low) (omega arith), tt),
       ),
     )
-without_words v separator (event.Pass server origin) sep first is = (
-  first,
-  (
-    without_decimal separator server sep.apart (few_servers v server is.0),
-    (without_decimal separator origin sep.apart is.1, tt),
-  ),
+without_tail v separator (event.Pass server origin) low is = (
+  without_decimal separator server (inl low) (few_servers v server is.0),
+  (without_decimal separator origin (inl low) is.1, tt),
 )
-without_words v separator (event.Lose server origin) sep first is = (
-  first,
-  (
-    without_decimal separator server sep.apart (few_servers v server is.0),
-    (without_decimal separator origin sep.apart is.1, tt),
-  ),
+without_tail v separator (event.Lose server origin) low is = (
+  without_decimal separator server (inl low) (few_servers v server is.0),
+  (without_decimal separator origin (inl low) is.1, tt),
 )
-without_words v separator (event.Carry origin) sep first is =
-    (first, (without_decimal separator origin sep.apart is, tt))
-without_words v separator (event.Crash server) sep first is =
-    (first, (without_decimal separator server sep.apart (few_servers v server is), tt))
-without_words v separator (event.Recover server undone) sep first is = (
-  first,
-  (
-    without_decimal separator server sep.apart (few_servers v server is.0),
-    without_names v separator undone sep is.1,
-  ),
+without_tail v separator (event.Carry origin) low is = (without_decimal separator origin (inl low) is, tt)
+without_tail v separator (event.Crash server) low is =
+    (without_decimal separator server (inl low) (few_servers v server is), tt)
+without_tail v separator (event.Recover server undone) low is = (
+  without_decimal separator server (inl low) (few_servers v server is.0),
+  without_names v separator undone low is.1,
 )
-without_words v separator (event.Pull link) sep first is =
-    (first, (without_decimal separator link sep.apart (few_servers v link is), tt))
-without_words v separator (event.Propagate origin) sep first is =
-    (first, (without_decimal separator origin sep.apart is, tt))
-without_words v separator (event.Release packet) sep first is =
-    (first, (without_decimal separator packet sep.apart is, tt))
+without_tail v separator (event.Pull link) low is =
+    (without_decimal separator link (inl low) (few_servers v link is), tt)
+without_tail v separator (event.Propagate origin) low is = (without_decimal separator origin (inl low) is, tt)
+without_tail v separator (event.Release packet) low is = (without_decimal separator packet (inl low) is, tt)
 
-space : IsSeparator 32
-space = record { apart = inl (omega arith); colon = refl }
+-- a first word has no byte below 48
+first_high : (e : Event) → list_all (nat_le 48) (first_word e) ≡ true
+first_high (event.Enter packet) = refl
+first_high (event.Take link origin) = refl
+first_high (event.Apply server origin group packet) = refl
+first_high (event.Visit server packet worker) = refl
+first_high (event.Pass server origin) = refl
+first_high (event.Lose server origin) = refl
+first_high (event.Carry origin) = refl
+first_high (event.Crash server) = refl
+first_high (event.Recover server undone) = refl
+first_high (event.Pull link) = refl
+first_high (event.Propagate origin) = refl
+first_high (event.Release packet) = refl
 
-feed : IsSeparator 10
-feed = record { apart = inl (omega arith); colon = refl }
+without_high : (separator : ℕ) (word : List ℕ) → separator < 48 → list_all (nat_le 48) word ≡ true →
+    Without separator word
+without_high separator [] low high = tt
+without_high separator (b ∷ bs) low high =
+    let split = both (nat_le 48 b) (list_all (nat_le 48) bs) high in
+    (grind (arith, nat_tests, split.0), without_high separator bs low split.1)
 
-first_without_space : (e : Event) → Without 32 (first_word e)
-first_without_space (event.Enter packet) = written 32 (codes "enter") refl
-first_without_space (event.Take link origin) = written 32 (codes "take") refl
-first_without_space (event.Apply server origin group packet) = written 32 (codes "apply") refl
-first_without_space (event.Visit server packet worker) = written 32 (codes "visit") refl
-first_without_space (event.Pass server origin) = written 32 (codes "pass") refl
-first_without_space (event.Lose server origin) = written 32 (codes "lose") refl
-first_without_space (event.Carry origin) = written 32 (codes "carry") refl
-first_without_space (event.Crash server) = written 32 (codes "crash") refl
-first_without_space (event.Recover server undone) = written 32 (codes "recover") refl
-first_without_space (event.Pull link) = written 32 (codes "pull") refl
-first_without_space (event.Propagate origin) = written 32 (codes "propagate") refl
-first_without_space (event.Release packet) = written 32 (codes "release") refl
-
-first_without_feed : (e : Event) → Without 10 (first_word e)
-first_without_feed (event.Enter packet) = written 10 (codes "enter") refl
-first_without_feed (event.Take link origin) = written 10 (codes "take") refl
-first_without_feed (event.Apply server origin group packet) = written 10 (codes "apply") refl
-first_without_feed (event.Visit server packet worker) = written 10 (codes "visit") refl
-first_without_feed (event.Pass server origin) = written 10 (codes "pass") refl
-first_without_feed (event.Lose server origin) = written 10 (codes "lose") refl
-first_without_feed (event.Carry origin) = written 10 (codes "carry") refl
-first_without_feed (event.Crash server) = written 10 (codes "crash") refl
-first_without_feed (event.Recover server undone) = written 10 (codes "recover") refl
-first_without_feed (event.Pull link) = written 10 (codes "pull") refl
-first_without_feed (event.Propagate origin) = written 10 (codes "propagate") refl
-first_without_feed (event.Release packet) = written 10 (codes "release") refl
+without_words : (v : Version) (separator : ℕ) (e : Event) → separator < 48 → IsEvent v e →
+    AllByRecursion (Without separator) (word_list e)
+without_words v separator e low is =
+    (without_high separator (first_word e) low (first_high e), without_tail v separator e low is)
 
 pub without_feed : (v : Version) (e : Event) → IsEvent v e → Without 10 (words_of e)
-without_feed v e is = rw (words_joined e)
-    (without-join 10 32 (word_list e) refl (without_words v 10 e feed (first_without_feed e) is))
-
--- the words are some
-parted : (e : Event) → (tail : List (List ℕ)) × (word_list e ≡ first_word e ∷ tail)
-parted (event.Enter packet) = (decimal packet ∷ [], refl)
-parted (event.Take link origin) = (decimal link ∷ decimal origin ∷ [], refl)
-parted (event.Apply server origin group packet) =
-    (decimal server ∷ decimal origin ∷ decimal group ∷ decimal packet ∷ [], refl)
-parted (event.Visit server packet worker) = (decimal server ∷ decimal packet ∷ decimal worker ∷ [], refl)
-parted (event.Pass server origin) = (decimal server ∷ decimal origin ∷ [], refl)
-parted (event.Lose server origin) = (decimal server ∷ decimal origin ∷ [], refl)
-parted (event.Carry origin) = (decimal origin ∷ [], refl)
-parted (event.Crash server) = (decimal server ∷ [], refl)
-parted (event.Recover server undone) = (decimal server ∷ map name_text undone, refl)
-parted (event.Pull link) = (decimal link ∷ [], refl)
-parted (event.Propagate origin) = (decimal origin ∷ [], refl)
-parted (event.Release packet) = (decimal packet ∷ [], refl)
-
-parts_again : (words : List (List ℕ)) (first : List ℕ) (tail : List (List ℕ)) → words ≡ first ∷ tail →
-    AllByRecursion (Without 32) words → parts_of 32 (join_with_byte 32 words) ≡ words
-parts_again words first tail e all =
-    subst (λ (ws : List (List ℕ)). AllByRecursion (Without 32) ws →
-    parts_of 32 (join_with_byte 32 ws) ≡ ws) (sym e) (parts_of-join 32 first tail refl) all
+without_feed v e is =
+    rw (words_joined e) (without-join 10 32 (word_list e) refl (without_words v 10 e (omega arith) is))
 
 pub words_found : (v : Version) (e : Event) → IsEvent v e → parts_of 32 (words_of e) ≡ word_list e
 words_found v e is =
-    let parts = parted e in
-    ap (parts_of 32) (words_joined e) ∙ parts_again (word_list e) (first_word e) parts.0 parts.1
-    (without_words v 32 e space (first_without_space e) is)
+    ap (parts_of 32) (words_joined e)
+    ∙ parts_of-join 32 (first_word e) (tail_list e) refl (without_words v 32 e (omega arith) is)
 
 -- names are read again
 abbrev figures_in : VisitName → NameFigures
