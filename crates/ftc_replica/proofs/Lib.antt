@@ -1,4 +1,5 @@
 pub mod Needed
 pub mod Lacking
 pub mod Left
+pub mod Swept
 pub mod Tickets

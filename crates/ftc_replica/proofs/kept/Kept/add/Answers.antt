@@ -2,6 +2,7 @@ use Rattle.std.proofs.Common.{◌∙◌, ◌∷◌, [], length, refl, length-app
 use Rattle.std.specs.Prelude.{Result, Ok, Err, OnErr}
 use Rattle.ftc_replica.specs.Kept.{KeptLogs, left}
 use Rattle.ftc_replica.proofs.Left.{left_none}
+use Rattle.ftc_replica.proofs.Swept.{swept_items}
 use Rattle.ftc_replica.proofs.kept.Kept.add.Goals as goal
 
 -- what holds in any case holds where a call was refused
@@ -11,11 +12,9 @@ where_refused (Err error) holds = holds
 
 pub returns-in_err-push_back-clause-err : goal.returns-in_err-push_back-clause-err
 returns-in_err-push_back-clause-err c =
-    where_refused c.from_residual.result (
-    rw c.sweep.ensures.pruned (left_none c.push_back-in-Err.new.self.items
-    ∙ c.in_err-push_back.ensures.items ∙ c.sweep.ensures.items
-    ∙ ap (left c.make_way.new.pruned) c.in-Err.ensures.items ∙ c.make_way.ensures.items
-    ∙ ap (λ (kept : KeptLogs). kept.items) c.self.view_is))
+    where_refused c.from_residual.result (swept_items _ _ _ _ _ _ _ c.sweep.ensures.pruned
+    c.in_err-push_back.ensures.items c.sweep.ensures.items c.in-Err.ensures.items
+    (c.make_way.ensures.items ∙ ap (λ (kept : KeptLogs). kept.items) c.self.view_is))
 
 pub returns-in_ok-push_back-clause-ok : goal.returns-in_ok-push_back-clause-ok
 returns-in_ok-push_back-clause-ok c =

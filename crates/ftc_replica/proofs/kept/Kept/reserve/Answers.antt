@@ -1,29 +1,19 @@
-use Rattle.std.proofs.Common.{◌≡◌, ◌∙◌, false, sym, ap, arith, length}
+use Rattle.std.proofs.Common.{◌≡◌, ◌∙◌, false, sym, ap, arith}
 use Rattle.std.specs.Prelude.{Result, Ok, Err, OnOk, is_err}
-use Rattle.ftc_replica.specs.Kept.{KeptLogs, left}
-use Rattle.ftc_replica.proofs.Left.{left_none, left_few}
+use Rattle.ftc_replica.specs.Kept.{KeptLogs}
+use Rattle.ftc_replica.proofs.Left.{left_few}
+use Rattle.ftc_replica.proofs.Swept.{swept_items, swept_spare}
 use Rattle.ftc_replica.proofs.kept.Kept.reserve.Goals as goal
 
 pub returns-in_err-reserve-clause-items : goal.returns-in_err-reserve-clause-items
 returns-in_err-reserve-clause-items c =
-    rw c.sweep.ensures.pruned (left_none c.reserve-then-is_err.new.self.items
-    ∙ c.reserve-then-is_err.ensures.items ∙ c.sweep.ensures.items
-    ∙ ap (left c.self.inside.pruned) c.reserve.ensures.items ∙ ap (λ (kept : KeptLogs). kept.items) c.self.view_is)
+    swept_items _ _ _ _ _ _ _ c.sweep.ensures.pruned c.reserve-then-is_err.ensures.items c.sweep.ensures.items
+    c.reserve.ensures.items (ap (λ (kept : KeptLogs). kept.items) c.self.view_is)
 
 pub returns-in_err-reserve-clause-spare : goal.returns-in_err-reserve-clause-spare
 returns-in_err-reserve-clause-spare c =
-    let same = ap length (returns-in_err-reserve-clause-items c) in
-    let before = ap (λ (kept : KeptLogs). kept.spare) c.self.view_is in
-    let items = ap (λ (kept : KeptLogs). length kept.items) c.self.view_is in
-    omega (
-      arith,
-      same,
-      before,
-      items,
-      c.reserve.ensures.capacity,
-      c.sweep.ensures.capacity,
-      c.reserve-then-is_err.ensures.capacity,
-    )
+    swept_spare _ _ _ _ _ _ _ c.self.view_is (returns-in_err-reserve-clause-items c) c.reserve.ensures.capacity
+    c.sweep.ensures.capacity c.reserve-then-is_err.ensures.capacity
 
 pub returns-in_ok-reserve-clause-ok : goal.returns-in_ok-reserve-clause-ok
 returns-in_ok-reserve-clause-ok c =
@@ -33,24 +23,13 @@ returns-in_ok-reserve-clause-ok c =
 
 pub returns-in_ok-reserve-clause-items : goal.returns-in_ok-reserve-clause-items
 returns-in_ok-reserve-clause-items c =
-    rw c.sweep.ensures.pruned (left_none c.reserve-then-is_err.new.self.items
-    ∙ c.reserve-then-is_err.ensures.items ∙ c.sweep.ensures.items
-    ∙ ap (left c.self.inside.pruned) c.reserve.ensures.items ∙ ap (λ (kept : KeptLogs). kept.items) c.self.view_is)
+    swept_items _ _ _ _ _ _ _ c.sweep.ensures.pruned c.reserve-then-is_err.ensures.items c.sweep.ensures.items
+    c.reserve.ensures.items (ap (λ (kept : KeptLogs). kept.items) c.self.view_is)
 
 pub returns-in_ok-reserve-clause-spare : goal.returns-in_ok-reserve-clause-spare
 returns-in_ok-reserve-clause-spare c =
-    let same = ap length (returns-in_ok-reserve-clause-items c) in
-    let before = ap (λ (kept : KeptLogs). kept.spare) c.self.view_is in
-    let items = ap (λ (kept : KeptLogs). length kept.items) c.self.view_is in
-    omega (
-      arith,
-      same,
-      before,
-      items,
-      c.reserve.ensures.capacity,
-      c.sweep.ensures.capacity,
-      c.reserve-then-is_err.ensures.capacity,
-    )
+    swept_spare _ _ _ _ _ _ _ c.self.view_is (returns-in_ok-reserve-clause-items c) c.reserve.ensures.capacity
+    c.sweep.ensures.capacity c.reserve-then-is_err.ensures.capacity
 
 -- what is known of a call that wasn't refused
 where_ok : {T E P : Type 0} (result : Result T E) → is_err result ≡ false → OnOk result P → P
