@@ -35,11 +35,11 @@ lines_of_list f start out next line xs place x within there was is added =
     rw one (lines_more f start out next line (take place xs) place x (length-take-le place xs small) was is added)
 
 -- and where they are a function's values
-pub lines_of_values : {A : Type 0} (f : ℕ × A → List ℕ) (start out next line : List ℕ) (value : ℕ → A) (place : ℕ) →
-    out ≡ start ++ flat_map f (enumerate_from 0 (map value (range_with_len 0 place))) → line ≡ f (place, value place) →
-    next ≡ out ++ line
+pub lines_of_values : {A : Type 0} (f : ℕ × A → List ℕ) (start out next : List ℕ) (value : ℕ → A) (place number : ℕ)
+    (x : A) → out ≡ start ++ flat_map f (enumerate_from 0 (map value (range_with_len 0 place))) → number ≡ place →
+    x ≡ value number → next ≡ out ++ f (number, x)
     → next ≡ start ++ flat_map f (enumerate_from 0 (map value (range_with_len 0 (place + 1))))
-lines_of_values f start out next line value place was is added =
+lines_of_values f start out next value place number x was same is added =
     rw (map-range_with_len_more value 0 place place (omega arith))
-    (lines_more f start out next line (map value (range_with_len 0 place)) place (value place)
-    (length-map-range_with_len value 0 place) was is added)
+    (lines_more f start out next (f (number, x)) (map value (range_with_len 0 place)) place (value place)
+    (length-map-range_with_len value 0 place) was (rw (is, same) refl) added)
