@@ -85,6 +85,36 @@ items_read {L = L} {X = X} items (suc count) last front bytes x fits is =
     (items_read items count (items.place item.0.0) (front ++ item.0.0 ∷ []) item.0.1 x read.0.rest_fits
     (subst (λ (y : (L × List X) × List ℕ). times (with_item items) count y.0 y.1 ≡ Ok x) (sym same) next.2))
 
+-- items that are read behind their number
+pub record CountedRead {L X : Type 0} (items : Items L X) (first : L) (count_bytes : ℕ → List ℕ) (IsFew : ℕ → Type 0)
+    (bytes : List ℕ) (x : List X × List ℕ) : Type 0 where
+  pub takes : Takes bytes (count_bytes (length x.0) ++ flat_map items.item_bytes x.0) x.1
+  pub few : IsFew (length x.0)
+  pub each : AllByRecursion items.IsItem x.0
+  pub rising : in_order items first x.0 ≡ true
+
+pub counted_read : {L X : Type 0} (items : Items L X) (first : L) (count_bytes : ℕ → List ℕ) (IsFew : ℕ → Type 0)
+    (count_at : List ℕ → Result (ℕ × List ℕ) FieldFault) (bytes : List ℕ) (x : List X × List ℕ) →
+    ((count : ℕ × List ℕ) → count_at bytes ≡ Ok count → Takes bytes (count_bytes count.0) count.1 × IsFew count.0) →
+    (count_at bytes >>= λ count. times (with_item items) count.0 (first, []) count.1 >>= λ all. Ok (all.0.1, all.1))
+    ≡ Ok x → CountedRead items first count_bytes IsFew bytes x
+counted_read {L = L} {X = X} items first count_bytes IsFew count_at bytes x counts is =
+    let count = bind_ok (count_at bytes) (λ count. times (with_item items) count.0 (first, []) count.1 >>= λ all.
+    Ok (all.0.1, all.1)) x is in
+    let all = bind_ok (times (with_item items) count.0.0 (first, []) count.0.1) (λ all. Ok (all.0.1, all.1)) x count.2 in
+    let head = counts count.0 count.1 in
+    let read = items_read items count.0.0 first [] count.0.1 all.0 head.0.rest_fits all.1 in
+    let counted : Takes bytes (count_bytes (length read.back)) count.0.1 =
+    subst (λ (n : ℕ). Takes bytes (count_bytes n) count.0.1) (sym read.all) head.0 in
+    let whole : (read.back, all.0.1) ≡ (all.0.0.1, all.0.1) = ap (λ (xs : List X). (xs, all.0.1)) (sym read.whole) in
+    subst (CountedRead items first count_bytes IsFew bytes) (whole ∙ ok_is (all.0.0.1, all.0.1) x all.2) (record {
+      takes = Takes-then bytes (count_bytes (length read.back)) count.0.1 (flat_map items.item_bytes read.back) all.0.1
+          counted read.takes;
+      few = subst IsFew (sym read.all) head.1;
+      each = read.each;
+      rising = read.rising;
+    })
+
 pub items_again : {L X : Type 0} (items : Items L X) (last : L) (front back : List X) (rest : List ℕ) →
     AllByRecursion items.IsItem back → in_order items last back ≡ true
     → (end : L) × (times (with_item items) (length back) (last, front) (flat_map items.item_bytes back ++ rest)

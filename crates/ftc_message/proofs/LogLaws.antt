@@ -13,13 +13,13 @@ use Rattle.ftc_message.specs.Numbers.{number_bytes}
 use Rattle.ftc_message.specs.Spelling.{marked, parts_bytes, writes_bytes, log_bytes, logs_bytes}
 use Rattle.ftc_base.specs.Reading.{◌>>=◌, ◌>>◌, unless}
 use Rattle.ftc_message.specs.Fields.{fault_of, number_at, group_at}
-use Rattle.ftc_message.specs.Reading.{times, parts_at, writes_at, head_at, log_at, with_log, logs_at}
+use Rattle.ftc_message.specs.Reading.{parts_at, writes_at, head_at, log_at, logs_at}
 use Rattle.ftc_message.proofs.Fields.{IsBytes, Takes, Takes-then, bind_ok, test_ok, ok_is, group_takes, group_again}
 use Rattle.ftc_message.proofs.Fields.{number_takes, number_again, wide_4}
 use Rattle.ftc_message.proofs.MarkLaws.{IsMark, AreSpelled}
 use Rattle.ftc_message.proofs.PartLaws.{ArePartsSpelled, parts_at_takes, parts_at_again}
 use Rattle.ftc_message.proofs.WriteLaws.{AreWritesSpelled, writes_at_takes, writes_at_again}
-use Rattle.ftc_message.proofs.ItemLaws.{Items, in_order, items_read, items_again}
+use Rattle.ftc_message.proofs.ItemLaws.{Items, in_order, counted_read, items_again}
 
 -- ---- marks by place and by recursion
 
@@ -241,26 +241,9 @@ pub logs_at_takes : (bytes : List ℕ) (x : List Logged × List ℕ) → IsBytes
     Takes bytes (logs_bytes x.0) x.1 × AreLogsSpelled x.0
 unfolding logs_at
 logs_at_takes bytes x fits is =
-    let count = bind_ok (number_at 4 bytes) (λ count. times with_log count.0 (None, []) count.1 >>= λ ls.
-    Ok (ls.0.1, ls.1)) x is in
-    let all = bind_ok (times with_log count.0.0 (None, []) count.0.1) (λ ls. Ok (ls.0.1, ls.1)) x count.2 in
-    let head = number_takes 4 (2 ^ 32) wide_4 bytes count.0 fits count.1 in
-    let read = items_read logs count.0.0 None [] count.0.1 all.0 head.0.rest_fits all.1 in
-    let counted : Takes bytes (number_bytes 4 (length read.back)) count.0.1 =
-    subst (λ (n : ℕ). Takes bytes (number_bytes 4 n) count.0.1) (sym read.all) head.0 in
-    let both = Takes-then bytes (number_bytes 4 (length read.back)) count.0.1
-    (flat_map log_bytes read.back) all.0.1 counted read.takes in
-    let P : List Logged × List ℕ → Type 0 = λ y. Takes bytes (logs_bytes y.0) y.1 × AreLogsSpelled y.0 in
-    let whole : (read.back, all.0.1) ≡ (all.0.0.1, all.0.1) =
-    ap (λ (ls : List Logged). (ls, all.0.1)) (sym read.whole) in
-    subst P (whole ∙ ok_is (all.0.0.1, all.0.1) x all.2) (
-      both,
-      record {
-        few = omega (arith, read.all, head.1);
-        each = read.each;
-        rising = sym (in_order_is None read.back) ∙ read.rising;
-      },
-    )
+    let read = counted_read logs None (number_bytes 4) (λ n. n < 2 ^ 32) (number_at 4) bytes x
+    (λ count. number_takes 4 (2 ^ 32) wide_4 bytes count fits) is in
+    (read.takes, record { few = read.few; each = read.each; rising = sym (in_order_is None x.0) ∙ read.rising })
 
 pub logs_at_again : (ls : List Logged) (rest : List ℕ) → AreLogsSpelled ls →
     logs_at (logs_bytes ls ++ rest) ≡ Ok (ls, rest)

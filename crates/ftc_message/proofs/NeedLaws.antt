@@ -10,11 +10,11 @@ use Rattle.ftc_message.specs.Spelling.{marks_bytes, need_bytes, needs_bytes}
 use Rattle.ftc_base.specs.Reading.{◌>>=◌, ◌>>◌, unless}
 use Rattle.ftc_message.specs.Fields.{fault_of, within_at, group_at}
 use Rattle.ftc_message.specs.declared.fault.FieldFault.{FieldFault}
-use Rattle.ftc_message.specs.Reading.{times, marks_at, later_group_at, need_at, with_need, needs_at}
+use Rattle.ftc_message.specs.Reading.{marks_at, later_group_at, need_at, needs_at}
 use Rattle.ftc_message.proofs.Fields.{IsBytes, Takes, Takes-then, bind_ok, test_ok, ok_is, within_takes, within_again}
 use Rattle.ftc_message.proofs.Fields.{group_takes, group_again}
 use Rattle.ftc_message.proofs.MarkLaws.{AreSpelled, marks_at_takes, marks_at_again}
-use Rattle.ftc_message.proofs.ItemLaws.{Items, in_order, items_read, items_again}
+use Rattle.ftc_message.proofs.ItemLaws.{Items, in_order, counted_read, items_again}
 
 -- a need that has a spelling, with numbers that are at least `least`
 pub record IsNeedSpelled (least : ℕ) (need : Need) : Type 0 where
@@ -107,25 +107,9 @@ pub needs_at_takes : (most least : ℕ) (bytes : List ℕ) (x : List Need × Lis
     needs_at most least bytes ≡ Ok x → Takes bytes (needs_bytes x.0) x.1 × AreNeedsSpelled least most x.0
 unfolding needs_at
 needs_at_takes most least bytes x fits is =
-    let count = bind_ok (within_at 0 most bytes) (λ count. times (with_need least) count.0 (0, []) count.1 >>= λ ns.
-    Ok (ns.0.1, ns.1)) x is in
-    let all = bind_ok (times (with_need least) count.0.0 (0, []) count.0.1) (λ ns. Ok (ns.0.1, ns.1)) x count.2 in
-    let head = within_takes 0 most bytes count.0 fits count.1 in
-    let read = items_read (needs least) count.0.0 0 [] count.0.1 all.0 head.0.rest_fits all.1 in
-    let counted : Takes bytes (length read.back ∷ []) count.0.1 =
-    subst (λ (n : ℕ). Takes bytes (n ∷ []) count.0.1) (sym read.all) head.0 in
-    let both = Takes-then bytes (length read.back
-    ∷ []) count.0.1 (flat_map need_bytes read.back) all.0.1 counted read.takes in
-    let P : List Need × List ℕ → Type 0 = λ y. Takes bytes (needs_bytes y.0) y.1 × AreNeedsSpelled least most y.0 in
-    let whole : (read.back, all.0.1) ≡ (all.0.0.1, all.0.1) = ap (λ (ns : List Need). (ns, all.0.1)) (sym read.whole) in
-    subst P (whole ∙ ok_is (all.0.0.1, all.0.1) x all.2) (
-      both,
-      record {
-        few = omega (arith, read.all, head.2);
-        each = read.each;
-        rising = sym (in_order_is least 0 read.back) ∙ read.rising;
-      },
-    )
+    let read = counted_read (needs least) 0 (λ n. n ∷ []) (λ n. n ≤ most) (within_at 0 most) bytes x
+    (λ count at. (let head = within_takes 0 most bytes count fits at in (head.0, head.2))) is in
+    (read.takes, record { few = read.few; each = read.each; rising = sym (in_order_is least 0 x.0) ∙ read.rising })
 
 pub needs_at_again : (most least : ℕ) (ns : List Need) (rest : List ℕ) → AreNeedsSpelled least most ns →
     needs_at most least (needs_bytes ns ++ rest) ≡ Ok (ns, rest)

@@ -12,10 +12,10 @@ use Rattle.ftc_message.specs.Bounds.{IsWrite}
 use Rattle.ftc_message.specs.Spelling.{value_bytes, write_bytes, writes_bytes}
 use Rattle.ftc_base.specs.Reading.{◌>>=◌, ◌>>◌, unless}
 use Rattle.ftc_message.specs.Fields.{fault_of, within_at, taken_at}
-use Rattle.ftc_message.specs.Reading.{times, put_at, value_at, key_at, write_at, with_write, writes_at}
+use Rattle.ftc_message.specs.Reading.{put_at, value_at, key_at, write_at, writes_at}
 use Rattle.ftc_message.proofs.Fields.{IsBytes, Takes, Takes-then, bind_ok, test_ok, ok_is, within_takes, within_again}
 use Rattle.ftc_message.proofs.Fields.{taken_takes, taken_again}
-use Rattle.ftc_message.proofs.ItemLaws.{Items, in_order, items_read, items_again}
+use Rattle.ftc_message.proofs.ItemLaws.{Items, in_order, counted_read, items_again}
 
 -- ---- a value
 
@@ -184,26 +184,9 @@ pub writes_at_takes : (bytes : List ℕ) (x : List Write × List ℕ) → IsByte
     Takes bytes (writes_bytes x.0) x.1 × AreWritesSpelled x.0
 unfolding writes_at
 writes_at_takes bytes x fits is =
-    let count = bind_ok (within_at 0 MOST_WRITES bytes) (λ count. times with_write count.0 (None, []) count.1 >>= λ ws.
-    Ok (ws.0.1, ws.1)) x is in
-    let all = bind_ok (times with_write count.0.0 (None, []) count.0.1) (λ ws. Ok (ws.0.1, ws.1)) x count.2 in
-    let head = within_takes 0 MOST_WRITES bytes count.0 fits count.1 in
-    let read = items_read writes count.0.0 None [] count.0.1 all.0 head.0.rest_fits all.1 in
-    let counted : Takes bytes (length read.back ∷ []) count.0.1 =
-    subst (λ (n : ℕ). Takes bytes (n ∷ []) count.0.1) (sym read.all) head.0 in
-    let both = Takes-then bytes (length read.back
-    ∷ []) count.0.1 (flat_map write_bytes read.back) all.0.1 counted read.takes in
-    let P : List Write × List ℕ → Type 0 = λ y. Takes bytes (writes_bytes y.0) y.1 × AreWritesSpelled y.0 in
-    let whole : (read.back, all.0.1) ≡ (all.0.0.1, all.0.1) =
-    ap (λ (ws : List Write). (ws, all.0.1)) (sym read.whole) in
-    subst P (whole ∙ ok_is (all.0.0.1, all.0.1) x all.2) (
-      both,
-      record {
-        few = omega (arith, read.all, head.2);
-        each = read.each;
-        rising = sym (in_order_is None read.back) ∙ read.rising;
-      },
-    )
+    let read = counted_read writes None (λ n. n ∷ []) (λ n. n ≤ MOST_WRITES) (within_at 0 MOST_WRITES) bytes x
+    (λ count at. (let head = within_takes 0 MOST_WRITES bytes count fits at in (head.0, head.2))) is in
+    (read.takes, record { few = read.few; each = read.each; rising = sym (in_order_is None x.0) ∙ read.rising })
 
 pub writes_at_again : (ws : List Write) (rest : List ℕ) → AreWritesSpelled ws →
     writes_at (writes_bytes ws ++ rest) ≡ Ok (ws, rest)
