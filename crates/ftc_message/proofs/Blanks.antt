@@ -42,6 +42,18 @@ replace {A = A} blank front k from place value size low high =
     ++ replicate (place - from) blank) blank behind value place
     (length_before blank front from place size low) ∙ regrouped
 
+-- what stands behind a value that was put behind copies
+pub put_behind : {A : Type 0} (front copies : List A) (value : A) (back : List A) →
+    (front ++ (copies ++ value ∷ [])) ++ back ≡ front ++ (copies ++ value ∷ back)
+put_behind {A = A} front copies value back =
+    append_assoc front (copies ++ value ∷ []) back
+    ∙ ap (λ (xs : List A). front ++ xs) (append_assoc copies (value ∷ []) back)
+
+pub length_behind : {A : Type 0} (blank : A) (k j : ℕ) (value : A) (back : List A) → j < k →
+    length back ≡ k - (j + 1) → length (replicate j blank ++ value ∷ back) ≡ k
+length_behind {A = A} blank k j value back under size =
+    omega (arith, length-append (replicate j blank) (value ∷ back), length-replicate {A = A} j blank)
+
 -- a blank is filled
 pub fill : {A : Type 0} (front : List (Option A)) (k from place : ℕ) (value : A) → length front ≡ from → from ≤ place →
     place < from + k

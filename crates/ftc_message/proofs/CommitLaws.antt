@@ -25,7 +25,7 @@ use Rattle.ftc_message.specs.Reading.{needs_at}
 use Rattle.ftc_message.specs.Reading.{no_commits, numbers_in, known_at, with_known, commits_at}
 use Rattle.ftc_message.specs.Fields.{within_at}
 use Rattle.ftc_message.proofs.Fields.{IsBytes, Takes, bind_ok, ok_is}
-use Rattle.ftc_message.proofs.Blanks.{split_at, length_before, replace}
+use Rattle.ftc_message.proofs.Blanks.{split_at, length_before, replace, put_behind, length_behind}
 use Rattle.ftc_message.proofs.MarkLaws.{IsMark, AreSpelled}
 use Rattle.ftc_message.proofs.NeedLaws.{IsNeedSpelled, needs_at_takes, needs_at_again, need_read, group_refused}
 use Rattle.ftc_message.proofs.NeedLaws.{marks_refused}
@@ -312,10 +312,6 @@ one_read from k front need ns size within low high spelled rest =
     ≡ (front ++ (replicate (group - from) zeros ++ vector ∷ [])) ++ replicate (k - (group - from + 1)) zeros =
     ap (λ (v : List ℕ). slice_set commits group
     (merged v (numbers_in need.marks))) old ∙ replace zeros front k from group vector size low (omega arith) in
-    let regrouped : (front ++ (replicate (group - from) zeros ++ vector ∷ [])) ++ rest.back ≡ front
-    ++ (replicate (group - from) zeros ++ vector ∷ rest.back) =
-    append_assoc front (replicate (group - from) zeros ++ vector ∷ []) rest.back ∙ ap (λ (vs : List (List ℕ)). front
-    ++ vs) (append_assoc (replicate (group - from) zeros) (vector ∷ []) rest.back) in
     let same : not_zero vector ≡ need.marks = marks_back need.marks spelled in
     let any : list_any is_some (not_zero vector) ≡ true =
     ap (list_any is_some) same ∙ any_some need.marks spelled.some in
@@ -324,13 +320,9 @@ one_read from k front need ns size within low high spelled rest =
     let need_is : known group vector ≡ need = λ i. record { group = group; marks = same i } in
     record {
       back = replicate (group - from) zeros ++ vector ∷ rest.back;
-      whole = ap (with_known ns) raised ∙ rest.whole ∙ regrouped;
-      size = omega (
-        arith,
-        length-append (replicate (group - from) zeros) (vector ∷ rest.back),
-        length-replicate (group - from) zeros,
-        rest.size,
-      );
+      whole = ap (with_known ns) raised ∙ rest.whole
+          ∙ put_behind front (replicate (group - from) zeros) vector rest.back;
+      size = length_behind zeros k (group - from) vector rest.back (omega arith) rest.size;
       all = known_from-behind (group - from) from group (vector ∷ rest.back) (omega arith) ∙ here ∙ (λ i. need_is i
           ∷ rest.all i);
       each = each_behind (group - from) (vector ∷ rest.back) (vector_is need.marks spelled, rest.each);

@@ -15,7 +15,7 @@ use Rattle.ftc_message.specs.Fields.{fault_of, within_at, number_at}
 use Rattle.ftc_message.specs.Reading.{times, partition_at, least_at, mark_at, with_mark, no_marks, marks_at}
 use Rattle.ftc_message.proofs.Fields.{IsBytes, Takes, Takes-then, bind_ok, test_ok, ok_is, times_ok, within_takes}
 use Rattle.ftc_message.proofs.Fields.{within_again, number_takes, number_again, wide_8}
-use Rattle.ftc_message.proofs.Blanks.{blanks, fill, length_filled, all_blanks, all_behind}
+use Rattle.ftc_message.proofs.Blanks.{blanks, put_behind, length_behind, fill, length_filled, all_blanks, all_behind}
 
 -- ---- one partition
 
@@ -114,12 +114,28 @@ marks_from-behind : (j from place : ℕ) (marks : List (Option ℕ)) → place �
 marks_from-behind zero from place marks is = ap (λ (p : ℕ). marks_from p marks) (omega arith)
 marks_from-behind (suc j) from place marks is = marks_from-behind j (from + 1) place marks (omega arith)
 
+-- behind the front stand k marks, and so many of them have a number
+pub record MarksBehind (count k : ℕ) (front marks back : List (Option ℕ)) : Type 0 where
+  pub whole : marks ≡ front ++ back
+  pub size : length back ≡ k
+  pub all : marked back ≡ count
+
+pub none_behind : (k : ℕ) (front : List (Option ℕ)) → MarksBehind 0 k front (front ++ blanks k) (blanks k)
+none_behind k front = record { whole = refl; size = length-replicate k None; all = marked-blanks k }
+
+pub one_behind : (count k j number : ℕ) (front marks back : List (Option ℕ)) → j < k →
+    MarksBehind count (k - (j + 1)) (front ++ (blanks j ++ Some number ∷ [])) marks back →
+    MarksBehind (suc count) k front marks (blanks j ++ Some number ∷ back)
+one_behind count k j number front marks back under rest = record {
+  whole = rest.whole ∙ put_behind front (blanks j) (Some number) back;
+  size = length_behind None k j (Some number) back under rest.size;
+  all = marked-behind j (Some number ∷ back) ∙ (add-one (marked back) ∙ ap suc rest.all);
+}
+
 record MarksRead (least count from k : ℕ) (front : List (Option ℕ)) (bytes : List ℕ) (x : (ℕ × List (Option ℕ))
     × List ℕ) : Type 0 where
   pub back : List (Option ℕ)
-  pub whole : x.0.1 ≡ front ++ back
-  pub size : length back ≡ k
-  pub all : marked back ≡ count
+  pub marks : MarksBehind count k front x.0.1 back
   pub takes : Takes bytes (marks_from from back) x.1
   pub each : AllByRecursion (IsMark least) back
 
@@ -135,24 +151,10 @@ one_more least count from k place number front bytes middle x within read rest =
     marks_from-behind (place - from) from place (Some number ∷ rest.back) (omega (arith, read.low)) in
     let both = Takes-then bytes (place ∷ number_bytes 8 number) middle
     (marks_from (place + 1) rest.back) x.1 read.takes rest.takes in
-    let regrouped : (front ++ (blanks (place - from) ++ Some number ∷ [])) ++ rest.back ≡ front
-    ++ (blanks (place - from) ++ Some number ∷ rest.back) =
-    append_assoc front (blanks (place - from)
-    ++ Some number ∷ []) rest.back ∙ ap (λ (marks : List (Option ℕ)). front
-    ++ marks) (append_assoc (blanks (place - from)) (Some number ∷ []) rest.back) in
-    let some : marked (Some number ∷ rest.back) ≡ suc count = add-one (marked rest.back) ∙ ap suc rest.all in
     record {
       back = blanks (place - from) ++ Some number ∷ rest.back;
-      whole = rest.whole ∙ regrouped;
-      size = omega (
-        arith,
-        length-append (blanks (place - from)) (Some number ∷ rest.back),
-        length-replicate {A = Option ℕ} (place - from) None,
-        rest.size,
-        read.low,
-        read.high,
-      );
-      all = marked-behind (place - from) (Some number ∷ rest.back) ∙ some;
+      marks = one_behind count k (place - from) number front x.0.1 rest.back (omega (arith, read.low, read.high))
+          rest.marks;
       takes = record {
         parts = both.parts ∙ ap (λ (text : List ℕ). text ++ x.1) (sym here);
         rest_fits = both.rest_fits;
@@ -188,9 +190,7 @@ unfolding times
 none_read least from k front bytes x fits is =
     subst (MarksRead least 0 from k front bytes) (ok_is ((from, front ++ blanks k), bytes) x is) (record {
       back = blanks k;
-      whole = refl;
-      size = length-replicate k None;
-      all = marked-blanks k;
+      marks = none_behind k front;
       takes = record {
         parts = ap (λ (text : List ℕ). text ++ bytes) (sym (marks_from-blanks k from));
         rest_fits = fits;
@@ -272,10 +272,10 @@ whole_read least count bytes middle x head some read =
     let P : List (Option ℕ) → Type 0 = λ marks. Takes bytes (marks_bytes marks) x.1 × AreSpelled least marks in
     let both = Takes-then bytes (count ∷ []) middle (marks_from 0 read.back) x.1 head read.takes in
     let counted : count ∷ marks_from 0 read.back ≡ marks_bytes read.back =
-    ap (λ (n : ℕ). n ∷ marks_from 0 read.back) (sym read.all) in
-    subst P (sym read.whole) (
+    ap (λ (n : ℕ). n ∷ marks_from 0 read.back) (sym read.marks.all) in
+    subst P (sym read.marks.whole) (
       record { parts = both.parts ∙ ap (λ (text : List ℕ). text ++ x.1) counted; rest_fits = both.rest_fits },
-      record { size = read.size; some = omega (arith, read.all); each = read.each },
+      record { size = read.marks.size; some = omega (arith, read.marks.all); each = read.each },
     )
 
 pub marks_at_takes : (least : ℕ) (bytes : List ℕ) (x : List (Option ℕ) × List ℕ) → IsBytes bytes →

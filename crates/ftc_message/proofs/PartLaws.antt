@@ -22,7 +22,7 @@ use Rattle.ftc_message.proofs.Fields.{IsBytes, Takes, Takes-then, bind_ok, ok_is
 use Rattle.ftc_message.proofs.Fields.{number_takes, number_again, wide_8}
 use Rattle.ftc_message.proofs.Blanks.{blanks, fill, length_filled, all_blanks, all_behind}
 use Rattle.ftc_message.proofs.Members.{has_added_same, has_added_other, has_none}
-use Rattle.ftc_message.proofs.MarkLaws.{partition_takes, partition_again, IsMark, marked-blanks, marked-behind}
+use Rattle.ftc_message.proofs.MarkLaws.{partition_takes, partition_again, IsMark, MarksBehind, none_behind, one_behind}
 use Rattle.ftc_message.proofs.MarkLaws.{marked_few, blanks_are, AreSpelled}
 
 -- ---- one partition
@@ -124,9 +124,7 @@ parts_from-behind (suc j) changed from place marks is = parts_from-behind j chan
 record PartsRead (count from k changed : ℕ) (front : List (Option ℕ)) (bytes : List ℕ) (x : (ℕ × Parts)
     × List ℕ) : Type 0 where
   pub back : List (Option ℕ)
-  pub whole : x.0.1.before ≡ front ++ back
-  pub size : length back ≡ k
-  pub all : marked back ≡ count
+  pub marks : MarksBehind count k front x.0.1.before back
   pub takes : Takes bytes (parts_from x.0.1.changed from back) x.1
   pub each : AllByRecursion (IsMark 0) back
   pub kept : (q : ℕ) → q < from → has x.0.1.changed q ≡ has changed q
@@ -150,24 +148,10 @@ one_more count from k changed place is_changed number front bytes middle x withi
     ∷ (flag b ∷ (number_bytes 8 number ++ parts_from last (place + 1) rest.back))) flagged in
     let both = Takes-then bytes (place ∷ (flag is_changed ∷ number_bytes 8 number)) middle
     (parts_from last (place + 1) rest.back) x.1 read.takes rest.takes in
-    let regrouped : (front ++ (blanks (place - from) ++ Some number ∷ [])) ++ rest.back ≡ front
-    ++ (blanks (place - from) ++ Some number ∷ rest.back) =
-    append_assoc front (blanks (place - from)
-    ++ Some number ∷ []) rest.back ∙ ap (λ (marks : List (Option ℕ)). front
-    ++ marks) (append_assoc (blanks (place - from)) (Some number ∷ []) rest.back) in
-    let some : marked (Some number ∷ rest.back) ≡ suc count = add-one (marked rest.back) ∙ ap suc rest.all in
     record {
       back = blanks (place - from) ++ Some number ∷ rest.back;
-      whole = rest.whole ∙ regrouped;
-      size = omega (
-        arith,
-        length-append (blanks (place - from)) (Some number ∷ rest.back),
-        length-replicate {A = Option ℕ} (place - from) None,
-        rest.size,
-        read.low,
-        read.high,
-      );
-      all = marked-behind (place - from) (Some number ∷ rest.back) ∙ some;
+      marks = one_behind count k (place - from) number front x.0.1.before rest.back
+          (omega (arith, read.low, read.high)) rest.marks;
       takes = record {
         parts = both.parts ∙ ap (λ (text : List ℕ). text ++ x.1) (sym spelled);
         rest_fits = both.rest_fits;
@@ -212,9 +196,7 @@ none_read from k changed front bytes x fits is =
     subst (PartsRead 0 from k changed front bytes) (ok_is (state from (front ++ blanks k) changed, bytes) x is)
     (record {
       back = blanks k;
-      whole = refl;
-      size = length-replicate k None;
-      all = marked-blanks k;
+      marks = none_behind k front;
       takes = record {
         parts = ap (λ (text : List ℕ). text ++ bytes) (sym (parts_from-blanks k changed from));
         rest_fits = fits;
@@ -406,16 +388,16 @@ whole_read count bytes middle x head some read marks =
     let last = x.0.1.changed in
     let both = Takes-then bytes (count ∷ []) middle (parts_from last 0 read.back) x.1 head read.takes in
     let counted : count ∷ parts_from last 0 read.back ≡ parts_bytes read.back last =
-    ap (λ (n : ℕ). n ∷ parts_from last 0 read.back) (sym read.all) in
+    ap (λ (n : ℕ). n ∷ parts_from last 0 read.back) (sym read.marks.all) in
     let T : List (Option ℕ) → Type 0 = λ m. Takes bytes (parts_bytes m last) x.1 in (
-      subst T (sym read.whole) (record {
+      subst T (sym read.marks.whole) (record {
         parts = both.parts ∙ ap (λ (text : List ℕ). text ++ x.1) counted;
         rest_fits = both.rest_fits;
       }),
       record {
-        before = subst (AreSpelled 0) (sym read.whole) (record {
-          size = read.size;
-          some = omega (arith, read.all);
+        before = subst (AreSpelled 0) (sym read.marks.whole) (record {
+          size = read.marks.size;
+          some = omega (arith, read.marks.all);
           each = read.each;
         });
         changed = marks;
