@@ -1,5 +1,5 @@
 -- What a rule's visit is, one read after another.
-use Rattle.std.proofs.Common.{◌≡◌, ◌∙◌, ℕ, Bool, List, [], ◌∷◌, Option, refl}
+use Rattle.std.proofs.Common.{◌≡◌, ◌∙◌, ℕ, Bool, List, [], ◌∷◌, Option, refl, ap}
 use Rattle.ftc_base.specs.declared.ask.Answer.{Answer}
 use Rattle.ftc_base.specs.declared.ask.Ask.TheVariants.{Read, Finish}
 use Rattle.ftc_base.specs.declared.ask.Finish.{Finish as End}
@@ -8,7 +8,9 @@ use Rattle.ftc_packet.specs.Flow.{flow_found}
 use Rattle.ftc_store.specs.Store.{Content}
 use Rattle.ftc_mbox.specs.declared.rule.Rule.{Rule}
 use Rattle.ftc_mbox.specs.Ask.{ask, ask_of}
-use Rattle.ftc_serial.specs.Take.{asked, answer_at, ended}
+use Rattle.ftc_mbox.specs.Change.{packet_after}
+use Rattle.ftc_serial.specs.declared.visit.Asked.{Asked}
+use Rattle.ftc_serial.specs.Take.{asked, answer_at, ended, taken}
 use Rattle.ftc_serial.proofs.Asking.{read_more, read_end}
 
 pub of_flow : (rule : Rule) (packet : List ℕ) (found : Option Flow) (answers : List Answer) → flow_found packet ≡ found
@@ -17,6 +19,15 @@ unfolding ask
 of_flow rule packet found answers is = rw is refl
 
 module _ (rule : Rule) (packet : List ℕ) (content : Content) where
+  -- what a visit writes, and the packet that goes on
+  pub writes_told : (told : Asked) → asked rule packet content ≡ told
+      → (taken rule packet content).writes ≡ told.end.writes.items
+  writes_told told is = ap (λ (t : Asked). t.end.writes.items) is
+
+  pub packet_told : (told : Asked) → asked rule packet content ≡ told
+      → (taken rule packet content).packet ≡ packet_after packet told.end.verdict
+  packet_told told is = ap (λ (t : Asked). packet_after packet t.end.verdict) is
+
   -- after no read, one, two and three
   pub ends_at_once : (end : End) → ask rule packet [] ≡ Finish end → asked rule packet content ≡ ended [] end
   unfolding asked

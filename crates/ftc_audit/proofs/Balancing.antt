@@ -25,15 +25,14 @@ use Rattle.ftc_balance.specs.Bounds.{IsBalanceRule}
 use Rattle.ftc_store.specs.Store.{Content, written}
 use Rattle.ftc_mbox.specs.declared.rule.Rule.TheVariants.{Balance}
 use Rattle.ftc_mbox.specs.Ask.{ask}
-use Rattle.ftc_serial.specs.declared.visit.Asked.{Asked}
-use Rattle.ftc_mbox.specs.Change.{packet_after}
-use Rattle.ftc_serial.specs.Take.{Outcome, asked, answer_at, ended, taken}
+use Rattle.ftc_serial.specs.Take.{Outcome, answer_at, taken}
 use Rattle.ftc_audit.specs.declared.line.ClientLine.{ClientLine}
 use Rattle.ftc_audit.specs.Visits.{Seen}
 use Rattle.ftc_audit.specs.Backends.{destination, client_line_of}
 use Rattle.ftc_audit.proofs.Runs.{IsKept}
 use Rattle.ftc_audit.proofs.Keys.{at_put, off_put}
-use Rattle.ftc_audit.proofs.Asked.{of_flow, ends_at_once, ends_after_one, ends_after_two}
+use Rattle.ftc_audit.proofs.Asked.{of_flow, ends_at_once, ends_after_one, ends_after_two, writes_told, packet_told}
+use Rattle.ftc_audit.proofs.Quiet as quiet
 
 -- the backend at a key
 abbrev pub backend_at : Content → List ℕ → Option ℕ
@@ -77,10 +76,8 @@ module _ (rule : BalanceRule) where
     seen server = record { server = server; before = packet; outcome = outcome }
 
     -- nothing is written, and the store has the line that there is
-    record IsQuiet : Type 0 where
-      pub nothing : outcome.writes ≡ []
-      pub had : (server : ℕ) (line : ClientLine) → client_line_of rule (seen server) ≡ Some line →
-          HasBackend content line
+    abbrev IsQuiet : Type 0
+    IsQuiet = quiet.IsQuiet (Balance rule) (client_line_of rule) HasBackend packet content
 
     -- the next backend for a client that has none
     record IsNew : Type 0 where
@@ -93,14 +90,6 @@ module _ (rule : BalanceRule) where
       pub gave : (server : ℕ) (line : ClientLine) → client_line_of rule (seen server) ≡ Some line
           → record { backend = backend; protocol = flow.protocol; address = flow.source; port = flow.source_port }
           ≡ line
-
-    -- what a visit writes, and the packet that goes on
-    writes_of : (told : Asked) → asked (Balance rule) packet content ≡ told → outcome.writes ≡ told.end.writes.items
-    writes_of told is = ap (λ (t : Asked). t.end.writes.items) is
-
-    packet_of : (told : Asked) → asked (Balance rule) packet content ≡ told
-        → outcome.packet ≡ packet_after packet told.end.verdict
-    packet_of told is = ap (λ (t : Asked). packet_after packet t.end.verdict) is
 
     no_line : (server : ℕ) (line : ClientLine) → flow_found packet ≡ None →
         client_line_of rule (seen server) ≡ Some line → ⊥
@@ -140,13 +129,8 @@ module _ (rule : BalanceRule) where
     -- a packet of no flow goes on unread
     of_none : flow_found packet ≡ None → IsQuiet
     of_none found =
-        let end : End = record { writes = record { items = [] }; verdict = Forward Keep } in
-        let told = ends_at_once (Balance rule) packet content end (of_flow (Balance rule) packet None [] found) in
-        record {
-          nothing = writes_of (ended [] end) told;
-          had = λ server line is. absurd
-              (no_line server line found is);
-        }
+        quiet.unread (Balance rule) (client_line_of rule) HasBackend packet content (Forward Keep) refl found
+        (λ server line is. no_line server line found is)
 
     -- a client goes on to the backend that it has
     of_known : (flow : Flow) (backend : ℕ) → flow_found packet ≡ Some flow → comes flow ≡ true
@@ -163,9 +147,9 @@ module _ (rule : BalanceRule) where
         let told = ends_after_one (Balance rule) packet content (key_of flow) true end (asks flow found []
         ∙ reads) (asks flow found (first ∷ []) ∙ ends) in
         record {
-          nothing = writes_of (ended (first ∷ []) end) told;
+          nothing = writes_told _ _ _ _ told;
           had = λ server line is.
-              let same = line_is server line flow backend found goes (packet_of (ended (first ∷ []) end) told) is in
+              let same = line_is server line flow backend found goes (packet_told _ _ _ _ told) is in
               subst (λ (l : ClientLine). HasBackend content l) same has;
         }
 
@@ -196,9 +180,8 @@ module _ (rule : BalanceRule) where
           turn = to_be_bytes w32 ((index + 1) % count);
           none = none;
           within = λ fits. below 4294967295 rule.backends index fits.addresses;
-          writes = writes_of (ended (first ∷ next ∷ []) end) told;
-          gave = λ server line is. line_is server line flow backend found goes (packet_of (ended
-              (first ∷ next ∷ []) end) told) is;
+          writes = writes_told _ _ _ _ told;
+          gave = λ server line is. line_is server line flow backend found goes (packet_told _ _ _ _ told) is;
         }
 
     -- the end that a value of a backend gives a reply
@@ -224,7 +207,7 @@ module _ (rule : BalanceRule) where
         let end : End = record { writes = record { items = [] }; verdict = quiet.0 } in
         let reads : balance_ask rule flow [] ≡ Read key false = rw (other, back) refl in
         let ends : balance_ask rule flow (first ∷ []) ≡ Finish end = rw (other, back) quiet.1 in
-        writes_of (ended (first ∷ []) end) (ends_after_one (Balance rule) packet content key false end
+        writes_told _ _ _ _ (ends_after_one (Balance rule) packet content key false end
         (asks flow found [] ∙ reads) (asks flow found (first ∷ []) ∙ ends))
 
     -- what else goes through writes nothing
@@ -237,7 +220,7 @@ module _ (rule : BalanceRule) where
             | false ↦ λ away.
                 let end : End = record { writes = record { items = [] }; verdict = Forward Keep } in
                 let ends : balance_ask rule flow [] ≡ Finish end = rw (other, away) refl in
-                writes_of (ended [] end) (ends_at_once (Balance rule) packet content end (asks flow found [] ∙ ends))
+                writes_told _ _ _ _ (ends_at_once (Balance rule) packet content end (asks flow found [] ∙ ends))
           ] refl;
       had = λ server line is. absurd (other_line server line flow found other outcome.packet refl is);
     }
@@ -295,13 +278,12 @@ module _ (rule : BalanceRule) where
   balancing fits = record {
     holds = λ packet content held. tt;
     has = λ packet content line held has. elim (visited packet content) [
-      | inl quiet ↦ subst (λ (writes : List Write). HasBackend (written writes content) line) (sym quiet.nothing) has
+      | inl still ↦ quiet.quiet_stays _ _ _ _ _ (λ c. HasBackend c line) still has
       | inr new ↦ subst (λ (c : Content). HasBackend c line) (sym (written_is packet content fits new))
           (new_has packet content fits new line has)
     ];
     gives = λ server packet content line held told. elim (visited packet content) [
-      | inl quiet ↦ subst (λ (writes : List Write). HasBackend (written writes content) line) (sym quiet.nothing)
-          (quiet.had server line told)
+      | inl still ↦ quiet.quiet_stays _ _ _ _ _ (λ c. HasBackend c line) still (still.had server line told)
       | inr new ↦ subst (λ (c : Content). HasBackend c line) (sym (written_is packet content fits new))
           (subst (λ (l : ClientLine). HasBackend (with_turn packet content fits new) l) (new.gave server line told)
           (own_now packet content fits new))

@@ -1,6 +1,7 @@
 pub mod Runs
 pub mod Keys
 pub mod Asked
+pub mod Quiet
 pub mod Translating
 pub mod Balancing
 pub mod PortLaw

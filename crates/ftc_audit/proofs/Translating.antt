@@ -27,15 +27,15 @@ use Rattle.ftc_nat.specs.Nat.{outside_port_key, next_port_key, inside_key, leave
 use Rattle.ftc_store.specs.Store.{Content, written}
 use Rattle.ftc_mbox.specs.declared.rule.Rule.TheVariants.{Nat}
 use Rattle.ftc_mbox.specs.Ask.{ask}
-use Rattle.ftc_serial.specs.declared.visit.Asked.{Asked}
-use Rattle.ftc_mbox.specs.Change.{packet_after}
-use Rattle.ftc_serial.specs.Take.{Outcome, asked, answer_at, ended, taken}
+use Rattle.ftc_serial.specs.Take.{Outcome, answer_at, taken}
 use Rattle.ftc_audit.specs.declared.line.PortLine.{PortLine}
 use Rattle.ftc_audit.specs.Visits.{Seen}
 use Rattle.ftc_audit.specs.Ports.{source_port, port_line_of}
 use Rattle.ftc_audit.proofs.Runs.{IsKept}
 use Rattle.ftc_audit.proofs.Keys.{at_put, off_put}
 use Rattle.ftc_audit.proofs.Asked.{of_flow, ends_at_once, ends_after_one, ends_after_two, ends_after_three}
+use Rattle.ftc_audit.proofs.Asked.{writes_told, packet_told}
+use Rattle.ftc_audit.proofs.Quiet as quiet
 
 -- the port at a key
 abbrev pub port_at : Content → List ℕ → Option ℕ
@@ -92,9 +92,8 @@ module _ (rule : NatRule) where
     seen server = record { server = server; before = packet; outcome = outcome }
 
     -- nothing is written, and the store has the line that there is
-    record IsQuiet : Type 0 where
-      pub nothing : outcome.writes ≡ []
-      pub had : (server : ℕ) (line : PortLine) → port_line_of rule (seen server) ≡ Some line → HasPort content line
+    abbrev IsQuiet : Type 0
+    IsQuiet = quiet.IsQuiet (Nat rule) (port_line_of rule) HasPort packet content
 
     -- the next port is drawn for an endpoint that has none
     record IsDrawn : Type 0 where
@@ -119,14 +118,6 @@ module _ (rule : NatRule) where
         address = flow.source;
         port = flow.source_port;
       })
-
-    -- what a visit writes, and the packet that goes on
-    writes_of : (told : Asked) → asked (Nat rule) packet content ≡ told → outcome.writes ≡ told.end.writes.items
-    writes_of told is = ap (λ (t : Asked). t.end.writes.items) is
-
-    packet_of : (told : Asked) → asked (Nat rule) packet content ≡ told
-        → outcome.packet ≡ packet_after packet told.end.verdict
-    packet_of told is = ap (λ (t : Asked). packet_after packet t.end.verdict) is
 
     no_line : (server : ℕ) (line : PortLine) → flow_found packet ≡ None → port_line_of rule (seen server) ≡ Some line →
         ⊥
@@ -180,13 +171,8 @@ module _ (rule : NatRule) where
     -- a packet of no flow goes on unread
     of_none : flow_found packet ≡ None → IsQuiet
     of_none found =
-        let end : End = record { writes = record { items = [] }; verdict = Forward Keep } in
-        let told = ends_at_once (Nat rule) packet content end (of_flow (Nat rule) packet None [] found) in
-        record {
-          nothing = writes_of (ended [] end) told;
-          had = λ server line is. absurd
-              (no_line server line found is);
-        }
+        quiet.unread (Nat rule) (port_line_of rule) HasPort packet content (Forward Keep) refl found
+        (λ server line is. no_line server line found is)
 
     -- an endpoint goes on with the port that it has
     of_known : (flow : Flow) (port : ℕ) → flow_found packet ≡ Some flow → leaves rule flow ≡ true
@@ -199,9 +185,9 @@ module _ (rule : NatRule) where
         let told = ends_after_one (Nat rule) packet content (key_of flow) true end (asks flow found []
         ∙ reads) (asks flow found (first ∷ []) ∙ ends) in
         record {
-          nothing = writes_of (ended (first ∷ []) end) told;
+          nothing = writes_told _ _ _ _ told;
           had = λ server line is.
-              let same = line_is server line flow port found goes (packet_of (ended (first ∷ []) end) told) is in
+              let same = line_is server line flow port found goes (packet_told _ _ _ _ told) is in
               subst (λ (l : PortLine). HasPort content l) same has;
         }
 
@@ -220,9 +206,8 @@ module _ (rule : NatRule) where
         (asks flow found [] ∙ reads) (asks flow found (first ∷ []) ∙ more) (asks flow found (first ∷ next ∷ [])
         ∙ ends) in
         record {
-          nothing = writes_of (ended (first ∷ next ∷ []) end) told;
-          had = λ server line is. absurd (dropped server line flow found (packet_of (ended
-              (first ∷ next ∷ []) end) told) is);
+          nothing = writes_told _ _ _ _ told;
+          had = λ server line is. absurd (dropped server line flow found (packet_told _ _ _ _ told) is);
         }
 
     of_new : (flow : Flow) → flow_found packet ≡ Some flow → leaves rule flow ≡ true
@@ -256,11 +241,9 @@ module _ (rule : NatRule) where
           flow = flow;
           none = none;
           within = grind (arith, nat_tests);
-          writes = writes_of (ended (first ∷ next ∷ reverse ∷ []) end) told;
-          drawn = λ server line is. line_is server line flow port found goes (packet_of (ended
-              (first ∷ next ∷ reverse ∷ []) end) told) is;
-          gave = λ server. line_was server flow port found goes (packet_of (ended
-              (first ∷ next ∷ reverse ∷ []) end) told);
+          writes = writes_told _ _ _ _ told;
+          drawn = λ server line is. line_is server line flow port found goes (packet_told _ _ _ _ told) is;
+          gave = λ server. line_was server flow port found goes (packet_told _ _ _ _ told);
         }
 
     -- the end that a value of an inside endpoint gives
@@ -284,7 +267,7 @@ module _ (rule : NatRule) where
         let end : End = record { writes = record { items = [] }; verdict = quiet.0 } in
         let reads : nat_ask rule flow [] ≡ Read key false = rw (stays, here) refl in
         let ends : nat_ask rule flow (first ∷ []) ≡ Finish end = rw (stays, here) quiet.1 in
-        writes_of (ended (first ∷ []) end) (ends_after_one (Nat rule) packet content key false end (asks flow found []
+        writes_told _ _ _ _ (ends_after_one (Nat rule) packet content key false end (asks flow found []
         ∙ reads) (asks flow found (first ∷ []) ∙ ends))
 
     -- what else goes through writes nothing
@@ -296,7 +279,7 @@ module _ (rule : NatRule) where
             | false ↦ λ other.
                 let end : End = record { writes = record { items = [] }; verdict = Forward Keep } in
                 let ends : nat_ask rule flow [] ≡ Finish end = rw (stays, other) refl in
-                writes_of (ended [] end) (ends_at_once (Nat rule) packet content end (asks flow found [] ∙ ends))
+                writes_told _ _ _ _ (ends_at_once (Nat rule) packet content end (asks flow found [] ∙ ends))
           ] refl;
       had = λ server line is. absurd (inside server line flow found stays outcome.packet refl is);
     }
@@ -431,17 +414,16 @@ module _ (rule : NatRule) where
   pub translating : rule.last ≤ 65535 → IsKept (Nat rule) (port_line_of rule) Holds HasPort
   translating few = record {
     holds = λ packet content held. elim (visited packet content) [
-      | inl quiet ↦ subst (λ (writes : List Write). Holds (written writes content)) (sym quiet.nothing) held
+      | inl still ↦ quiet.quiet_stays _ _ _ _ _ Holds still held
       | inr drawn ↦ subst Holds (sym (written_is packet content few drawn)) (drawn_holds packet content few drawn held)
     ];
     has = λ packet content line held has. elim (visited packet content) [
-      | inl quiet ↦ subst (λ (writes : List Write). HasPort (written writes content) line) (sym quiet.nothing) has
+      | inl still ↦ quiet.quiet_stays _ _ _ _ _ (λ c. HasPort c line) still has
       | inr drawn ↦ subst (λ (c : Content). HasPort c line) (sym (written_is packet content few drawn))
           (drawn_has packet content few drawn line has)
     ];
     gives = λ server packet content line held told. elim (visited packet content) [
-      | inl quiet ↦ subst (λ (writes : List Write). HasPort (written writes content) line) (sym quiet.nothing)
-          (quiet.had server line told)
+      | inl still ↦ quiet.quiet_stays _ _ _ _ _ (λ c. HasPort c line) still (still.had server line told)
       | inr drawn ↦ subst (λ (c : Content). HasPort c line) (sym (written_is packet content few drawn))
           (subst (λ (l : PortLine). HasPort (with_all packet content few drawn) l) (drawn.drawn server line told)
           (own_now packet content few drawn))
