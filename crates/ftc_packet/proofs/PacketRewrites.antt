@@ -156,8 +156,10 @@ abbrev pub other_end : End → End
 other_end Source = Destination
 other_end Destination = Source
 
--- A rewritten packet has the words n₁, n₂ and n₃ at one end, and the words that it had at the other.
+-- A rewritten packet has the words n₁, n₂ and n₃ at one end, and what it had of the other end and of the protocol.
 pub record AreEndWords (bs new : List ℕ) (end : End) (n₁ n₂ n₃ : ℕ) : Type 0 where
+  pub start : transport_start new ≡ transport_start bs
+  pub protocol : get_or new 23 0 ≡ get_or bs 23 0
   pub high : word_at new (14 + header_place end) ≡ n₁
   pub low : word_at new (14 + (header_place end + 2)) ≡ n₂
   pub port : word_at new (transport_start bs + port_place end) ≡ n₃
@@ -189,6 +191,8 @@ end_words bs end n₁ n₂ c n₃ w flow =
     λ e address header port checksum.
     word_at-rewritten_apart bs i n₁ n₂ c t j n₃ k w e address (inr header) port (inl checksum) in
     record {
+      start = transport_start-packet bs end n₁ n₂ c n₃ w flow;
+      protocol = get-packet_front bs end n₁ n₂ c n₃ w 23 flow (omega arith);
       high = word_at-rewritten_high bs i n₁ n₂ c t j n₃ k w least flow.header_captured (omega arith) (omega arith);
       low = word_at-rewritten_low bs i n₁ n₂ c t j n₃ k w least flow.header_captured (omega arith) (omega arith);
       port = word_at-rewritten_port bs i n₁ n₂ c t j n₃ k w (omega (arith, of_checksum.1))
@@ -199,21 +203,21 @@ end_words bs end n₁ n₂ c n₃ w flow =
           (omega (arith, of_checksum.1));
     }
 
+with_end-words : (bs : List ℕ) (end : End) (address port : ℕ) → IsFlow bs →
+    AreEndWords bs (with_end bs end address port) end (address / 65536) (address % 65536) port
+with_end-words bs end address port flow =
+    rw (with_end-packet bs end address port) (end_words bs end (address / 65536) (address % 65536)
+    (new_header_checksum bs end address) port (new_transport_checksum bs end address port) flow)
+
 -- The flow that is named once the source is another.
 pub flow_in-with_source : (bs : List ℕ) (address port : ℕ) → IsFlow bs →
     flow_in (with_end bs Source address port) ≡ record (flow_in bs) { source = address; source_port = port }
 unfolding flow_in
 flow_in-with_source bs address port flow =
-    let h₁ = address / 65536 in
-    let h₂ = address % 65536 in
-    let c = new_header_checksum bs Source address in
-    let w = new_transport_checksum bs Source address port in
-    let new = packet bs Source h₁ h₂ c port w in
-    let words = end_words bs Source h₁ h₂ c port w flow in
-    let all = flow_in-fields new _ h₁ h₂ port _ _ _ _ (transport_start-packet bs Source h₁ h₂ c port w flow)
-    (get-packet_front bs Source h₁ h₂ c port w 23 flow (omega arith))
+    let words = with_end-words bs Source address port flow in
+    let all = flow_in-fields (with_end bs Source address port) _ _ _ port _ _ _ _ words.start words.protocol
     words.high words.low words.port words.other_high words.other_low words.other_port in
-    ap flow_in (with_end-packet bs Source address port) ∙ rw (address-halves address) at all
+    rw (address-halves address) at all
 
 -- The flow that is named once the destination is another.
 pub flow_in-with_destination : (bs : List ℕ) (address port : ℕ) → IsFlow bs →
@@ -223,13 +227,7 @@ pub flow_in-with_destination : (bs : List ℕ) (address port : ℕ) → IsFlow b
     }
 unfolding flow_in
 flow_in-with_destination bs address port flow =
-    let h₁ = address / 65536 in
-    let h₂ = address % 65536 in
-    let c = new_header_checksum bs Destination address in
-    let w = new_transport_checksum bs Destination address port in
-    let new = packet bs Destination h₁ h₂ c port w in
-    let words = end_words bs Destination h₁ h₂ c port w flow in
-    let all = flow_in-fields new _ _ _ _ h₁ h₂ port _ (transport_start-packet bs Destination h₁ h₂ c port w flow)
-    (get-packet_front bs Destination h₁ h₂ c port w 23 flow (omega arith))
+    let words = with_end-words bs Destination address port flow in
+    let all = flow_in-fields (with_end bs Destination address port) _ _ _ _ _ _ port _ words.start words.protocol
     words.other_high words.other_low words.other_port words.high words.low words.port in
-    ap flow_in (with_end-packet bs Destination address port) ∙ rw (address-halves address) at all
+    rw (address-halves address) at all
