@@ -20,7 +20,8 @@ module _ (rule : Rule) {Line : Type 0} (line_of : Seen → Option Line) (Has : C
         → line_of (record { server = server; before = packet; outcome = taken rule packet content }) ≡ Some line
         → Has content line
 
-  pub quiet_stays : (P : Content → Type 0) → IsQuiet → P content → P (written (taken rule packet content).writes content)
+  pub quiet_stays : (P : Content → Type 0) → IsQuiet → P content
+      → P (written (taken rule packet content).writes content)
   quiet_stays P quiet holds = subst (λ (writes : List Write). P (written writes content)) (sym quiet.nothing) holds
 
   -- a packet of no flow, for which nothing is read, and whose visit has no line

@@ -101,7 +101,8 @@ pub counted_read : {L X : Type 0} (items : Items L X) (first : L) (count_bytes :
 counted_read {L = L} {X = X} items first count_bytes IsFew count_at bytes x counts is =
     let count = bind_ok (count_at bytes) (λ count. times (with_item items) count.0 (first, []) count.1 >>= λ all.
     Ok (all.0.1, all.1)) x is in
-    let all = bind_ok (times (with_item items) count.0.0 (first, []) count.0.1) (λ all. Ok (all.0.1, all.1)) x count.2 in
+    let all = bind_ok (times (with_item items) count.0.0 (first, []) count.0.1)
+    (λ all. Ok (all.0.1, all.1)) x count.2 in
     let head = counts count.0 count.1 in
     let read = items_read items count.0.0 first [] count.0.1 all.0 head.0.rest_fits all.1 in
     let counted : Takes bytes (count_bytes (length read.back)) count.0.1 =
