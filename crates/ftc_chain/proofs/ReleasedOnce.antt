@@ -18,13 +18,14 @@ use Rattle.ftc_protocol.specs.Orderly.{IsOrderly}
 use Rattle.ftc_protocol.specs.Run.{IsRun, IsRunState, AreLegal, state_after}
 use Rattle.ftc_protocol.specs.Setting.{Setting, IsSetting, count}
 use Rattle.ftc_protocol.specs.State.{ChainState, opening}
+use Rattle.ftc_jobs.proofs.Joined.{any_either, once_both}
 use Rattle.ftc_chain.specs.declared.course.Course.{Course}
 use Rattle.ftc_chain.specs.declared.given.Given.{Given as GivenInputs}
 use Rattle.ftc_chain.specs.Course.{IsResting, state_by}
 use Rattle.ftc_chain.specs.Doing.{setting_by}
 use Rattle.ftc_chain.proofs.Outlets.{released_kept}
 use Rattle.ftc_chain.proofs.Releases.{is_run_state}
-use Rattle.ftc_chain.proofs.UnderWay.{IsIn, AreOnce, in_either, once_both, few_numbers, all_in}
+use Rattle.ftc_chain.proofs.UnderWay.{IsIn, AreOnce, few_numbers, all_in}
 
 abbrev packets_in : List Entry → List ℕ
 packets_in trace = map (λ (one : Released). one.packet) (released_in trace)
@@ -39,7 +40,7 @@ given_of : (trace : List Entry) (packet : ℕ) → IsIn (packets_in trace) packe
 given_of [] packet is = absurd is
 given_of (Visited server passed outcome ∷ older) packet is = inr (given_of older packet is)
 given_of (Given own bytes ∷ older) packet is =
-    elim (in_either (packets_in older) (own ∷ []) packet
+    elim (any_either _ (packets_in older) (own ∷ [])
     (subst (λ (list : List ℕ). IsIn list packet)
     (packets_more (released_in older) (record { packet = own; bytes = bytes })) is)) [
       | inl before ↦ inr (given_of older packet before)

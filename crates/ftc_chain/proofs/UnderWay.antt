@@ -2,6 +2,7 @@
 use Rattle.std.proofs.Common.{◌≡◌, ◌≢◌, ◌∙◌, ◌++◌, ◌+◌, ◌<◌, ◌≤◌, ◌==◌, ◌^◌, ◌⊎◌, ◌↔◌, ℕ, zero, suc, Bool, true, false}
 use Rattle.std.proofs.Common.{List, [], ◌∷◌, map, length, Option, Some, None, inl, inr, refl, sym, ap, subst, arith}
 use Rattle.std.proofs.Common.{length-append, eq-eqb, eqb-true, if◌then◌else◌}
+use Rattle.std.specs.Prelude.{slice_index_or}
 use Rattle.std.specs.List.{AllByRecursion}
 use Rattle.std.proofs.lemmas.Bool.{cases_eq, true≢false}
 use Rattle.std.proofs.lemmas.List.{length-map}
@@ -15,9 +16,11 @@ use Rattle.ftc_protocol.specs.Setting.{Setting, servers, count}
 use Rattle.ftc_protocol.specs.State.{Where, Held, Queued, Message, ChainState}
 use Rattle.ftc_server.specs.declared.server.Server.{Server}
 use Rattle.ftc_standing.specs.Arrivals.{kept_of, IsKeptAs, IsSooner, AreArrived}
-use Rattle.ftc_standing.specs.Stand.{IsLink, HeldItem}
+use Rattle.ftc_standing.specs.Stand.{HeldItem}
 use Rattle.ftc_standing.specs.View.{where_it, is_held_by, is_queued_on, held_at, queued_on}
-use Rattle.ftc_standing.proofs.Arriving.{all_both, all_mapped, behind, in_front, later_without}
+use Rattle.ftc_standing.proofs.Arriving.{all_back, all_both, all_front, all_mapped, all_mapped_of, behind}
+use Rattle.ftc_standing.proofs.Arriving.{in_front, later_without}
+use Rattle.ftc_jobs.proofs.Joined.{any_either, any_one, any_other, once_both}
 use Rattle.ftc_refinement.specs.Contents.{item_of_held, items_of}
 use Rattle.ftc_network.specs.declared.network.Network.{Network}
 use Rattle.ftc_network.specs.Parts.{server_in, link_in}
@@ -32,38 +35,6 @@ IsIn numbers number = AnyOf (λ (other : ℕ). other ≡ number) numbers
 abbrev pub AreOnce : List ℕ → Type 0
 AreOnce numbers = EachLater (λ (one other : ℕ). one ≢ other) numbers
 
-in_one : (one other : List ℕ) (number : ℕ) → IsIn one number → IsIn (one ++ other) number
-in_one [] other number is = absurd is
-in_one (first ∷ one) other number (inl same) = inl same
-in_one (first ∷ one) other number (inr later) = inr (in_one one other number later)
-
-pub in_other : (one other : List ℕ) (number : ℕ) → IsIn other number → IsIn (one ++ other) number
-in_other [] other number is = is
-in_other (first ∷ one) other number is = inr (in_other one other number is)
-
-pub in_either : (one other : List ℕ) (number : ℕ) → IsIn (one ++ other) number → IsIn one number ⊎ IsIn other number
-in_either [] other number is = inr is
-in_either (first ∷ one) other number (inl same) = inl (inl same)
-in_either (first ∷ one) other number (inr later) = elim (in_either one other number later) [
-  | inl is ↦ inl (inr is)
-  | inr is ↦ inr is
-]
-
-not_in : (number : ℕ) (numbers : List ℕ) → (IsIn numbers number → ⊥) →
-    AllByRecursion (λ (other : ℕ). number ≢ other) numbers
-not_in number [] isnt = tt
-not_in number (first ∷ numbers) isnt =
-    ((λ same. isnt (inl (sym same))), not_in number numbers (λ later. isnt (inr later)))
-
--- two lists without a number in common
-pub once_both : (one other : List ℕ) → AreOnce one → AreOnce other →
-    ((number : ℕ) → IsIn one number → IsIn other number → ⊥) → AreOnce (one ++ other)
-once_both [] other first second apart = second
-once_both (number ∷ one) other first second apart = (
-  all_both (λ (n : ℕ). number ≢ n) one other first.0 (not_in number other (apart number (inl refl))),
-  once_both one other first.1 second (λ n is. apart n (inr is)),
-)
-
 -- a number stands in a list or doesn't
 split_at : (number : ℕ) (numbers : List ℕ) →
     ((before : List ℕ) × (after : List ℕ) × (numbers ≡ before ++ number ∷ after))
@@ -77,11 +48,6 @@ split_at number (first ∷ numbers) = elim (cases_eq first number) [
   ]
 ]
 
-both_are : {A : Type 0} (P Q R : A → Type 0) → ((x : A) → P x → Q x → R x) → (xs : List A) → AllByRecursion P xs →
-    AllByRecursion Q xs → AllByRecursion R xs
-both_are P Q R from [] first second = tt
-both_are P Q R from (x ∷ xs) first second = (from x first.0 second.0, both_are P Q R from xs first.1 second.1)
-
 less_of : (most number : ℕ) → number < suc most → number ≢ most → number < most
 less_of most number below differs = omega (arith, below, differs)
 
@@ -93,7 +59,7 @@ few_numbers zero (first ∷ numbers) once below = let none = below.0 in absurd (
 few_numbers (suc most) numbers once below = elim (split_at most numbers) [
   | inr none ↦
       let fewer = few_numbers most numbers once
-      (both_are (λ (n : ℕ). n < suc most) (λ (n : ℕ). n ≢ most) (λ (n : ℕ). n < most)
+      (all_mapped_of (λ (n : ℕ). n < suc most) (λ (n : ℕ). n ≢ most) (λ (n : ℕ). n < most)
       (less_of most) numbers below none) in
       omega (arith, fewer)
   | inl parts ↦
@@ -109,17 +75,13 @@ few_numbers (suc most) numbers once below = elim (split_at most numbers) [
       (behind (λ (one other : ℕ). one ≢ other) before most after apart)) in
       let fewer = few_numbers most (before ++ after)
       (later_without (λ (one other : ℕ). one ≢ other) before most after apart)
-      (both_are (λ (n : ℕ). n < suc most) (λ (n : ℕ). n ≢ most) (λ (n : ℕ). n < most) (less_of most) (before ++ after)
-      (without before most after all) others) in
+      (all_mapped_of (λ (n : ℕ). n < suc most) (λ (n : ℕ). n ≢ most) (λ (n : ℕ). n < most) (less_of most)
+      (before ++ after)
+      (all_both (λ (n : ℕ). n < suc most) before after (all_front (λ (n : ℕ). n < suc most) before (most ∷ after) all)
+      (all_back (λ (n : ℕ). n < suc most) before (most ∷ after) all).1) others) in
       let size = ap (λ (list : List ℕ). length list) parts.2 in
       omega (arith, fewer, size, length-append before (most ∷ after), length-append before after)
 ]
-  where
-    without : (before : List ℕ) (number : ℕ) (after : List ℕ) →
-        AllByRecursion (λ (n : ℕ). n < suc number) (before ++ number ∷ after) →
-        AllByRecursion (λ (n : ℕ). n < suc number) (before ++ after)
-    without [] number after all = all.1
-    without (first ∷ before) number after all = (all.0, without before number after all.1)
 
 -- ---- what came to one place
 
@@ -239,7 +201,7 @@ all_at At apart from (numbers ∷ lists) at =
     let later = all_at At apart (suc from) lists at.1 in
     record {
       each = λ origin. (
-        (λ is. elim (in_either numbers (flat lists) origin is) [
+        (λ is. elim (any_either _ numbers (flat lists) is) [
           | inl here ↦ (from, omega arith, omega arith, (first.each origin).0 here)
           | inr there ↦
               let place = (later.each origin).0 there in
@@ -252,8 +214,8 @@ all_at At apart from (numbers ∷ lists) at =
             let less = is.2 in
             elim (cases_eq is.0 from) [
               | inl same ↦
-                  in_one numbers (flat lists) origin ((first.each origin).1 (subst (λ (n : ℕ). At n origin) same is.3))
-              | inr differs ↦ in_other numbers (flat lists) origin
+                  any_one _ numbers (flat lists) ((first.each origin).1 (subst (λ (n : ℕ). At n origin) same is.3))
+              | inr differs ↦ any_other _ numbers (flat lists)
                   ((later.each origin).1 (is.0, omega (arith, more, differs), omega (arith, less), is.3))
             ]),
       );
@@ -263,6 +225,33 @@ all_at At apart from (numbers ∷ lists) at =
           let same = apart from place.0 n ((first.each n).0 one) place.3 in
           omega (arith, more, same));
     }
+
+-- where each item's numbers are those of its place, so it is with all
+at_each : {A : Type 0} (At : ℕ → ℕ → Type 0) (numbers_of : A → List ℕ) (none : A) (from : ℕ) (items : List A) →
+    ((number : ℕ) → number < length items →
+    AreOrigins (At (from + number)) (numbers_of (slice_index_or items number none))) →
+    AreAt At from (map numbers_of items)
+at_each At numbers_of none from [] each = tt
+at_each At numbers_of none from (item ∷ items) each =
+    let here : from + 0 ≡ from = omega arith in (
+      subst (λ (n : ℕ). AreOrigins (At n) (numbers_of item)) here (each 0 (omega arith)),
+      at_each At numbers_of none (suc from) items (λ number below.
+          let next : from + suc number ≡ suc from + number = omega arith in
+          subst (λ (n : ℕ). AreOrigins (At n) (numbers_of (slice_index_or items number none))) next
+          (each (suc number) (omega (arith, below)))),
+    )
+
+-- and so it is with as many items as there are places
+all_of : {A : Type 0} (At : ℕ → ℕ → Type 0) → ((one other origin : ℕ) → At one origin → At other origin → one ≡ other) →
+    (numbers_of : A → List ℕ) (none : A) (items : List A) (places : ℕ) → length items ≡ places →
+    ((number : ℕ) → number < places → AreOrigins (At number) (numbers_of (slice_index_or items number none))) →
+    AreOrigins (AtSome At 0 (0 + length (map numbers_of items))) (flat (map numbers_of items))
+all_of At apart numbers_of none items places size each =
+    all_at At apart 0 (map numbers_of items)
+    (at_each At numbers_of none 0 items (λ number below.
+    let same : number ≡ 0 + number = omega arith in
+    subst (λ (n : ℕ). AreOrigins (At n) (numbers_of (slice_index_or items number none))) same
+    (each number (omega (arith, below, size)))))
 
 -- ---- servers and links
 
@@ -332,48 +321,17 @@ module _ (setting : Setting) (state : ChainState) (order : IsOrderly setting sta
   }
   held_of_slot server (Some live) up = arrived_origins _ _ _ _ (items_of live.held.items) up.at.stands.held
 
-  held_of_slots : (from : ℕ) (slots : List (Option Server)) →
-      ((number : ℕ) → number < length slots → IsSlot setting state (from + number) (server_in slots number)) →
-      AreAt IsHeldAt from (map held_origins slots)
-  held_of_slots from [] each = tt
-  held_of_slots from (slot ∷ slots) each =
-      let here : from + 0 ≡ from = omega arith in (
-        held_of_slot from slot (subst (λ (n : ℕ). IsSlot setting state n slot) here (each 0 (omega arith))),
-        held_of_slots (suc from) slots (λ number below.
-            let next : from + suc number ≡ suc from + number = omega arith in
-            subst (λ (n : ℕ). IsSlot setting state n (server_in slots number)) next
-            (each (suc number) (omega (arith, below)))),
-      )
-
-  queued_on_links : (from : ℕ) (links : List Queue) →
-      ((number : ℕ) → number < length links → IsLink setting state (from + number) (link_in links number)) →
-      AreAt IsQueuedOn from (map queued_origins links)
-  queued_on_links from [] each = tt
-  queued_on_links from (queue ∷ links) each =
-      let here : from + 0 ≡ from = omega arith in
-      let first = subst (λ (n : ℕ). IsLink setting state n queue) here (each 0 (omega arith)) in (
-        arrived_origins _ _ _ _ queue.messages first.queued,
-        queued_on_links (suc from) links (λ number below.
-            let next : from + suc number ≡ suc from + number = omega arith in
-            subst (λ (n : ℕ). IsLink setting state n (link_in links number)) next
-            (each (suc number) (omega (arith, below)))),
-      )
-
-  held_apart : (one other origin : ℕ) → IsHeldAt one origin → IsHeldAt other origin → one ≡ other
-  held_apart one other origin is also =
-      let first = there_where (is_held_by one) (state.message origin) is.0 is.1 in
-      let second = there_where (is_held_by other) (state.message origin) also.0 also.1 in
+  -- places at which one message is are one, where a test says at which place it is
+  one_place : (test : ℕ → Where → Bool) → ((one other : ℕ) (place : Where) → test one place ≡ true →
+      test other place ≡ true → one ≡ other) → (one other origin : ℕ) →
+      (message : Message) × (where_it (test one) (state.message origin) ≡ Some message) →
+      (message : Message) × (where_it (test other) (state.message origin) ≡ Some message) → one ≡ other
+  one_place test same_place one other origin is also =
+      let first = there_where (test one) (state.message origin) is.0 is.1 in
+      let second = there_where (test other) (state.message origin) also.0 also.1 in
       let same = same_message (state.message origin) is.0 also.0 first.0 second.0 in
-      same_holder one other (is.0).place first.1
-      (subst (λ (m : Message). is_held_by other m.place ≡ true) (sym same) second.1)
-
-  queued_apart : (one other origin : ℕ) → IsQueuedOn one origin → IsQueuedOn other origin → one ≡ other
-  queued_apart one other origin is also =
-      let first = there_where (is_queued_on one) (state.message origin) is.0 is.1 in
-      let second = there_where (is_queued_on other) (state.message origin) also.0 also.1 in
-      let same = same_message (state.message origin) is.0 also.0 first.0 second.0 in
-      same_queue one other (is.0).place first.1
-      (subst (λ (m : Message). is_queued_on other m.place ≡ true) (sym same) second.1)
+      same_place one other (is.0).place first.1
+      (subst (λ (m : Message). test other m.place ≡ true) (sym same) second.1)
 
   held_size : (slots : List (Option Server)) → length (flat (map held_origins slots)) ≡ all_held slots
   held_size [] = refl
@@ -396,24 +354,18 @@ module _ (setting : Setting) (state : ChainState) (order : IsOrderly setting sta
     held_all : AreOrigins (AtSome IsHeldAt 0 (0 + length (map held_origins network.servers.items)))
         (flat (map held_origins network.servers.items))
     held_all =
-        let size = ap (λ (ring : RingShape). ring.servers) is.ring in
-        all_at IsHeldAt held_apart 0 (map held_origins network.servers.items)
-        (held_of_slots 0 network.servers.items
-        (λ number below.
-        let same : number ≡ 0 + number = omega arith in
-        subst (λ (n : ℕ). IsSlot setting state n (server_in network.servers.items number)) same
-        (is.servers_are number (omega (arith, below, size, network.each_server)))))
+        all_of IsHeldAt (one_place is_held_by same_holder) held_origins None network.servers.items (servers setting)
+        (network.each_server ∙ ap (λ (ring : RingShape). ring.servers) is.ring)
+        (λ number below. held_of_slot number (server_in network.servers.items number) (is.servers_are number below))
 
     queued_all : AreOrigins (AtSome IsQueuedOn 0 (0 + length (map queued_origins network.links.items)))
         (flat (map queued_origins network.links.items))
     queued_all =
-        let size = ap (λ (ring : RingShape). ring.servers) is.ring in
-        all_at IsQueuedOn queued_apart 0 (map queued_origins network.links.items)
-        (queued_on_links 0 network.links.items
-        (λ number below.
-        let same : number ≡ 0 + number = omega arith in
-        subst (λ (n : ℕ). IsLink setting state n (link_in network.links.items number)) same
-        (is.links_are number (omega (arith, below, size, network.each_link)))))
+        all_of IsQueuedOn (one_place is_queued_on same_queue) queued_origins
+        (record { from = 0; messages = []; gap = false }) network.links.items (servers setting)
+        (network.each_link ∙ ap (λ (ring : RingShape). ring.servers) is.ring)
+        (λ number below. arrived_origins _ _ _ _ (link_in network.links.items number).messages
+        (is.links_are number below).queued)
 
     in_all : (origin : ℕ) (message : Message) (place : Where) → state.message origin ≡ Some message →
         message.place ≡ place →
@@ -424,7 +376,7 @@ module _ (setting : Setting) (state : ChainState) (order : IsOrderly setting sta
         let held : IsHeldAt server origin =
         (message, where_there (is_held_by server) (state.message origin) message there test) in
         let below = order.inside server (up_where_held server origin held) in
-        in_one (flat (map held_origins network.servers.items)) (flat (map queued_origins network.links.items)) origin
+        any_one _ (flat (map held_origins network.servers.items)) (flat (map queued_origins network.links.items))
         ((held_all.each origin).1 (
           server,
           omega arith,
@@ -435,7 +387,7 @@ module _ (setting : Setting) (state : ChainState) (order : IsOrderly setting sta
         let size = ap (λ (ring : RingShape). ring.servers) is.ring in
         let test = ap (is_queued_on link) at ∙ eq-eqb link link refl in
         let below = order.links origin link message there at in
-        in_other (flat (map held_origins network.servers.items)) (flat (map queued_origins network.links.items)) origin
+        any_other _ (flat (map held_origins network.servers.items)) (flat (map queued_origins network.links.items))
         ((queued_all.each origin).1 (
           link,
           omega arith,
@@ -451,7 +403,7 @@ module _ (setting : Setting) (state : ChainState) (order : IsOrderly setting sta
         record {
           origins = held ++ queued;
           each = λ origin. (
-            (λ there. elim (in_either held queued origin there) [
+            (λ there. elim (any_either _ held queued there) [
               | inl one ↦
                   let at = (held_all.each origin).0 one in
                   ((at.3).0, (there_where (is_held_by at.0) (state.message origin) (at.3).0 (at.3).1).0)

@@ -1,42 +1,18 @@
 -- Lists of jobs that are legal and that no slot runs, one behind another.
-use Rattle.std.proofs.Common.{◌≡◌, ◌≢◌, ◌↔◌, Option, Some, None, ◌∙◌, ◌++◌, ◌⊎◌, ◌+◌, ◌<◌, ℕ}
+use Rattle.std.proofs.Common.{◌≡◌, ◌↔◌, Option, Some, None, ◌∙◌, ◌++◌, ◌⊎◌, ◌+◌, ◌<◌, ℕ}
 use Rattle.std.proofs.Common.{zero, suc, Bool, true, false, List, [], ◌∷◌, inl, inr, refl, sym, ap, subst, arith}
 use Rattle.std.proofs.Common.{append_assoc, append-nil, if◌then◌else◌, length, take, drop, get_or}
-use Rattle.std.specs.List.{AllByRecursion}
 use Rattle.std.proofs.lemmas.Bool.{cases_eq}
 use Rattle.std.proofs.lemmas.Option.{none-some, same_Some}
 use Rattle.ftc_journal.specs.declared.job.Job.{Job}
-use Rattle.ftc_serial.specs.Words.{AnyOf, EachLater}
+use Rattle.ftc_serial.specs.Words.{AnyOf}
 use Rattle.ftc_protocol.specs.Jobs.{IsLegalJob}
 use Rattle.ftc_protocol.specs.Setting.{Setting}
 use Rattle.ftc_protocol.specs.State.{ChainState}
-use Rattle.ftc_standing.proofs.Arriving.{all_both}
 use Rattle.ftc_jobs.specs.All.{HasJobsOf, IsUntaken}
+use Rattle.ftc_jobs.proofs.Joined.{any_either, any_one, any_other, once_both}
 
 -- ---- lists
-
-pub any_one : {A : Type 0} (P : A → Type 0) (one other : List A) → AnyOf P one → AnyOf P (one ++ other)
-any_one P [] other any = absurd any
-any_one P (x ∷ one) other (inl here) = inl here
-any_one P (x ∷ one) other (inr there) = inr (any_one P one other there)
-
-pub any_other : {A : Type 0} (P : A → Type 0) (one other : List A) → AnyOf P other → AnyOf P (one ++ other)
-any_other P [] other any = any
-any_other P (x ∷ one) other any = inr (any_other P one other any)
-
-pub any_either : {A : Type 0} (P : A → Type 0) (one other : List A) → AnyOf P (one ++ other) →
-    AnyOf P one ⊎ AnyOf P other
-any_either P [] other any = inr any
-any_either P (x ∷ one) other (inl here) = inl (inl here)
-any_either P (x ∷ one) other (inr there) = elim (any_either P one other there) [
-  | inl any ↦ inl (inr any)
-  | inr any ↦ inr any
-]
-
-pub any_mapped : {A : Type 0} (P Q : A → Type 0) → ((x : A) → P x → Q x) → (xs : List A) → AnyOf P xs → AnyOf Q xs
-any_mapped P Q from [] any = any
-any_mapped P Q from (x ∷ xs) (inl here) = inl (from x here)
-any_mapped P Q from (x ∷ xs) (inr there) = inr (any_mapped P Q from xs there)
 
 -- the item of which it is so, with those before it and behind it
 pub record IsSome (A : Type 0) (P : A → Type 0) (items : List A) : Type 0 where
@@ -91,22 +67,6 @@ module _ (runs : ℕ → ℕ → Bool) (setting : Setting) (state : ChainState) 
 
   abbrev IsIn : List Job → Job → Type 0
   IsIn jobs job = AnyOf (λ (other : Job). other ≡ job) jobs
-
-  abbrev AreOnce : List Job → Type 0
-  AreOnce jobs = EachLater (λ (one other : Job). one ≢ other) jobs
-
-  not_in : (job : Job) (jobs : List Job) → (IsIn jobs job → ⊥) → AllByRecursion (λ (other : Job). job ≢ other) jobs
-  not_in job [] isnt = tt
-  not_in job (first ∷ jobs) isnt =
-      ((λ same. isnt (inl (sym same))), not_in job jobs (λ later. isnt (inr later)))
-
-  once_both : (one other : List Job) → AreOnce one → AreOnce other → ((job : Job) → IsIn one job → IsIn other job → ⊥) →
-      AreOnce (one ++ other)
-  once_both [] other first second apart = second
-  once_both (job ∷ one) other first second apart = (
-    all_both (λ (j : Job). job ≢ j) one other first.0 (not_in job other (apart job (inl refl))),
-    once_both one other first.1 second (λ j is. apart j (inr is)),
-  )
 
   -- nothing is added
   pub adds_none : (Of : Job → Type 0) (old new : List Job) → new ≡ old → ((job : Job) → Of job → Legal job → ⊥) →

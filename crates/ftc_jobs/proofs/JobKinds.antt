@@ -15,17 +15,18 @@ use Rattle.ftc_message.specs.Ordered.{is_log_of}
 use Rattle.ftc_serial.specs.Words.{AnyOf, EachLater}
 use Rattle.ftc_protocol.specs.Jobs.{IsLegalJob}
 use Rattle.ftc_protocol.specs.Legal.{IsHeld}
+use Rattle.ftc_protocol.proofs.TraceLemmas.{any_map}
 use Rattle.ftc_protocol.specs.Setting.{Setting}
 use Rattle.ftc_protocol.specs.State.{Message, ChainState}
 use Rattle.ftc_server.specs.declared.held.HeldMessage.{HeldMessage}
 use Rattle.ftc_server.specs.declared.server.Server.{Server}
 use Rattle.ftc_server.specs.Holding.{found, is_of}
 use Rattle.ftc_server.specs.Looks.{message_in}
-use Rattle.ftc_standing.proofs.Arriving.{all_mapped, in_front}
+use Rattle.ftc_standing.proofs.Arriving.{all_back, all_mapped, in_front}
 use Rattle.ftc_jobs.specs.Applies.{may_apply_now}
 use Rattle.ftc_jobs.specs.All.{AreJobs, HasJobsOf, IsOfLink, IsOfLinks, IsOfLogs, IsOfMessage, IsOfMessages, IsOfServer}
 use Rattle.ftc_jobs.specs.All.{IsOfServers, IsEnter, IsPropagate}
-use Rattle.ftc_jobs.proofs.AllJobs.{adds_as, adds_if, adds_item, adds_then, any_mapped, items_around, some_of}
+use Rattle.ftc_jobs.proofs.AllJobs.{adds_as, adds_if, adds_item, adds_then, items_around, some_of}
 use Rattle.ftc_jobs.proofs.ApplyNow.{applicable}
 
 -- ---- logs that rise
@@ -82,18 +83,13 @@ none_before logs before after log rise parts any =
     (subst (EachLater (λ (one other : Logged). IsBehind one.origin one.group other)) parts
     (each_behind None logs rise)) in
     let order_there = subst (AllByRecursion (λ (one : Logged). IsBehind one.origin one.group log)) some.parts order in
-    not_behind some.item log some.is.0 some.is.1 (at_item some.before some.item some.after order_there)
+    not_behind some.item log some.is.0 some.is.1
+    (all_back (λ (one : Logged). IsBehind one.origin one.group log) some.before (some.item ∷ some.after) order_there).0
   where
     not_behind : (one log : Logged) → one.origin ≡ log.origin → one.group ≡ log.group →
         IsBehind one.origin one.group log → ⊥
     not_behind one log origin group (inl less) = omega (arith, origin, less)
     not_behind one log origin group (inr same) = let less = same.1 in omega (arith, group, less)
-
-    at_item : (before : List Logged) (item : Logged) (after : List Logged) →
-        AllByRecursion (λ (one : Logged). IsBehind one.origin one.group log) (before ++ item ∷ after) →
-        IsBehind item.origin item.group log
-    at_item [] item after all = all.0
-    at_item (first ∷ before) item after all = at_item before item after all.1
 
 -- applies of two logs that are the same
 pub same_apply : (server origin : ℕ) (one other : Logged) →
@@ -317,7 +313,7 @@ pub apply_of_message : (old : Server) (server origin group packet : ℕ) (messag
 apply_of_message old server origin group packet message there may =
     let is = applicable old origin group packet may in
     let same = same_sent (found origin old.held.items) is.held message is.there there in
-    any_mapped (λ (other : Logged). (other.origin ≡ packet) × (other.group ≡ group))
+    any_map (λ (other : Logged). (other.origin ≡ packet) × (other.group ≡ group))
     (λ (other : Logged). Apply server origin group packet ≡ Apply server origin other.group other.origin)
     (λ other names. ap (λ (g : ℕ). Apply server origin g packet) (sym names.1)
     ∙ ap (λ (p : ℕ). Apply server origin other.group p) (sym names.0)) message.logs
@@ -447,7 +443,7 @@ module _ (runs : ℕ → ℕ → Bool) (setting : Setting) (state : ChainState) 
       adds_item runs setting state (λ (other : Logged) (job : Job). job ≡ Apply server origin other.group other.origin)
       logs place log old mid new below is (λ job of same.
       none_before logs (take place logs) (drop (suc place) logs) log rise (items_around logs place log below is)
-      (any_mapped (λ (other : Logged). job ≡ Apply server origin other.group other.origin)
+      (any_map (λ (other : Logged). job ≡ Apply server origin other.group other.origin)
       (λ (other : Logged). (other.origin ≡ log.origin) × (other.group ≡ log.group))
       (λ other also. same_apply server origin other log (sym also ∙ same)) (take place logs) of)) first second
 
@@ -463,7 +459,7 @@ module _ (runs : ℕ → ℕ → Bool) (setting : Setting) (state : ChainState) 
       adds_item runs setting state (λ (other : HeldMessage) (job : Job). IsOfMessage server other.message.origin job)
       items place held old mid new below is (λ job of own.
       apart (take place items) (drop (suc place) items) (items_around items place held below is)
-      (any_mapped (λ (other : HeldMessage). IsOfMessage server other.message.origin job)
+      (any_map (λ (other : HeldMessage). IsOfMessage server other.message.origin job)
       (λ (other : HeldMessage). other.message.origin ≡ held.message.origin)
       (λ other also. (same_origin server server other.message.origin held.message.origin job also own).1)
       (take place items) of)) first second
@@ -481,7 +477,7 @@ module _ (runs : ℕ → ℕ → Bool) (setting : Setting) (state : ChainState) 
       (λ job legal of.
       let where_it = held_where setting state server of.0 job of.1 legal.0 in
       let held = there of.0 where_it.0 where_it.1 in
-      any_mapped (λ (item : HeldMessage). item.message.origin ≡ of.0)
+      any_map (λ (item : HeldMessage). item.message.origin ≡ of.0)
       (λ (item : HeldMessage). IsOfMessage server item.message.origin job)
       (λ item same. subst (λ (o : ℕ). IsOfMessage server o job) (sym same) of.1) items
       (found_any of.0 items held.0 held.1))

@@ -5,6 +5,7 @@ mod Below
 mod Chosen
 mod FirstWork
 mod JobKinds
+pub mod Joined
 mod LinesInOrder
 mod NextLine
 mod RunVisit
