@@ -1,13 +1,9 @@
 -- Words of printed lines, and the bytes that don't stand in them.
-use Rattle.std.proofs.Common.{◌≡◌, ◌≤◌, ◌<◌, ℕ, zero, suc, Bool, true, false, List, [], ◌∷◌, ◌++◌, length, get_or, ◌⊎◌}
-use Rattle.std.proofs.Common.{if◌then◌else◌, refl, sym, ap, ◌∙◌, arith, rules, Ok, Err, Option, Some, None, Result}
-use Rattle.std.specs.Prelude.{◌==◌, ◌&&◌, nat_le, nat_lt, not, decimal}
-use Rattle.std.specs.List.{AllByRecursion, list_all, join_with_byte, onto_first}
+use Rattle.std.proofs.Common.{◌≡◌, ◌≤◌, ◌<◌, ℕ, true, false, List}
+use Rattle.std.proofs.Common.{if◌then◌else◌, refl, ap, ◌∙◌, arith, Ok, Err, Option, Some, None, Result}
+use Rattle.std.specs.Prelude.{nat_lt, decimal}
 use Rattle.std.proofs.lemmas.Bool.Decides.{nat_tests}
-use Rattle.std.proofs.lemmas.Fmt.{digits_decimal, decimal_digit, first_decimal, decimal_nonempty, decimal-digits_value}
-use Rattle.std.proofs.lemmas.Str.Parse.{IsNumeralModel, numerals_by_fold}
-use Rattle.ftc_base.specs.Endpoint.{parts_of}
-use Rattle.ftc_base.specs.Number.{number_of, is_numeral, is_digit, decimal_from}
+use Rattle.ftc_base.specs.Number.{number_of}
 use Rattle.ftc_base.specs.declared.lexer.Lexical.{Lexical}
 use Rattle.ftc_base.specs.declared.lexer.Lexical.TheVariants.{NotNumber, TooLarge, NotAddress}
 use Rattle.ftc_base.proofs.Decimals.{number_of-decimal, number_spelled}

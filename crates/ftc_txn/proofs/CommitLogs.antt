@@ -1,7 +1,6 @@
 -- The log of a commit: when it may be applied, what it does to the vector, and that it marks something.
 use Rattle.std.proofs.Common.{◌≡◌, ◌≢◌, ◌<◌, ◌≤◌, ℕ, Bool, true, false, List, [], ◌∷◌, Option, Some, None, refl, sym}
 use Rattle.std.proofs.Common.{ap, subst, ◌∙◌, arith, if◌then◌else◌}
-use Rattle.std.specs.Prelude.{◌||◌, ◌==◌, IsSome}
 use Rattle.std.proofs.lemmas.Bool.{eq-eqb}
 use Rattle.ftc_base.specs.declared.ask.Answer.{Answer}
 use Rattle.ftc_base.specs.declared.ask.Write.{Write}
@@ -13,7 +12,7 @@ use Rattle.ftc_vector.proofs.Partitions.{get_or-by_partition}
 use Rattle.ftc_vector.proofs.Needs.{applied_covered}
 use Rattle.ftc_message.specs.Bounds.{MarksSome}
 use Rattle.ftc_message.specs.Logged.{Logged}
-use Rattle.ftc_txn.specs.Touched.{is_touched, is_changed, vector_after, numbers_before}
+use Rattle.ftc_txn.specs.Touched.{is_touched, vector_after, numbers_before}
 use Rattle.ftc_txn.specs.Logs.{IsLogOf}
 use Rattle.ftc_txn.proofs.TouchedLists.{raised_is_after}
 

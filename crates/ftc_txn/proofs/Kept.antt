@@ -1,5 +1,5 @@
 -- What every call keeps of a head.
-use Rattle.std.proofs.Common.{◌≡◌, ◌≢◌, ◌<◌, ◌≤◌, ◌++◌, ℕ, Bool, true, false, List, [], ◌∷◌, length, Option, Some, None}
+use Rattle.std.proofs.Common.{◌≡◌, ◌≢◌, ◌<◌, ◌≤◌, ℕ, Bool, true, false, List, [], ◌∷◌, length, Option, Some, None}
 use Rattle.std.proofs.Common.{refl, sym, ap, subst, ◌∙◌, inl, inr, ⊎_elim, get_or-set_other, get_or-set_same}
 use Rattle.std.specs.Prelude.{◌⊎◌, slice_set, is_some}
 use Rattle.std.specs.List.{AllByRecursion}

@@ -1,5 +1,5 @@
 -- What is said of files and taps where nothing was put, and after a row of calls of which the last was refused.
-use Rattle.std.proofs.Common.{◌≡◌, ◌∷◌, [], List, ℕ, sym, subst, inr, refl, Result, Ok, Err, OnOk, OnErr}
+use Rattle.std.proofs.Common.{◌≡◌, [], List, ℕ, sym, subst, refl, Result, Ok, Err, OnOk, OnErr}
 use Rattle.std.proofs.lemmas.List.Elements.{All-nil}
 use Rattle.std.specs.Prelude.{IsErrOf}
 use Rattle.ftc_base.specs.declared.released.Released.{Released}

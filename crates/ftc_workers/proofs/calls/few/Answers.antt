@@ -1,5 +1,4 @@
-use Rattle.std.proofs.Common.{◌≡◌, ◌≤◌, length, ap, arith}
-use Rattle.ftc_workers.specs.Visits.{visits}
+use Rattle.std.proofs.Common.{length, ap, arith}
 use Rattle.ftc_workers.proofs.Counts.{visits_within}
 use Rattle.ftc_workers.proofs.calls.few.Goals as goal
 
