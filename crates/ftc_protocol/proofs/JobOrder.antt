@@ -49,19 +49,6 @@ compared (x ∷ xs) (y ∷ ys) same = elim (cases_lt x y) [
 
 -- ---- jobs
 
-pub all_seven : (s : ChainState) (j : Job) → length (place_of s j) ≡ 7
-all_seven s (Enter p) = refl
-all_seven s (Take l p) = refl
-all_seven s (Apply k p j q) = refl
-all_seven s (Visit k p) = refl
-all_seven s (Pass k p) = refl
-all_seven s (Lose k p) = refl
-all_seven s (Carry p) = refl
-all_seven s (Crash k) = refl
-all_seven s (Recover k) = refl
-all_seven s (Pull l) = refl
-all_seven s (Propagate p) = refl
-
 -- the job that has a place, read back
 abbrev work_at : ℕ → ℕ → ℕ → ℕ → ℕ → Job
 work_at k zero q j p = Carry p
@@ -88,25 +75,26 @@ abbrev job_at : List ℕ → Job
 job_at (a ∷ k ∷ since ∷ what ∷ q ∷ j ∷ p ∷ rest) = job_with a k what q j p
 job_at other = Enter 0
 
-read_back : (s : ChainState) (j : Job) → job_at (place_of s j) ≡ j
-read_back s (Enter p) = refl
-read_back s (Take l p) = refl
-read_back s (Apply k p j q) = refl
-read_back s (Visit k p) = refl
-read_back s (Pass k p) = refl
-read_back s (Lose k p) = refl
-read_back s (Carry p) = refl
-read_back s (Crash k) = refl
-read_back s (Recover k) = refl
-read_back s (Pull l) = refl
-read_back s (Propagate p) = refl
+-- the place of a job has seven numbers, from which the job is read back
+place_tells : (s : ChainState) (j : Job) → (length (place_of s j) ≡ 7) × (job_at (place_of s j) ≡ j)
+place_tells s (Enter p) = (refl, refl)
+place_tells s (Take l p) = (refl, refl)
+place_tells s (Apply k p j q) = (refl, refl)
+place_tells s (Visit k p) = (refl, refl)
+place_tells s (Pass k p) = (refl, refl)
+place_tells s (Lose k p) = (refl, refl)
+place_tells s (Carry p) = (refl, refl)
+place_tells s (Crash k) = (refl, refl)
+place_tells s (Recover k) = (refl, refl)
+place_tells s (Pull l) = (refl, refl)
+place_tells s (Propagate p) = (refl, refl)
 
 pub same_job : (s : ChainState) (a b : Job) → place_of s a ≡ place_of s b → a ≡ b
-same_job s a b same = sym (read_back s a) ∙ (ap job_at same ∙ read_back s b)
+same_job s a b same = sym (place_tells s a).1 ∙ (ap job_at same ∙ (place_tells s b).1)
 
 -- of two jobs one is earlier, or they are one
 pub ordered : (s : ChainState) (a b : Job) → IsEarlier s a b ⊎ ((a ≡ b) ⊎ IsEarlier s b a)
-ordered s a b = elim (compared (place_of s a) (place_of s b) (all_seven s a ∙ sym (all_seven s b))) [
+ordered s a b = elim (compared (place_of s a) (place_of s b) ((place_tells s a).0 ∙ sym (place_tells s b).0)) [
   | inl below ↦ inl below
   | inr rest ↦ elim rest [ inl same ↦ inr (inl (same_job s a b same)) | inr above ↦ inr (inr above) ]
 ]
