@@ -4,6 +4,7 @@ pub mod Lasting
 pub mod Movements
 pub mod Gaining
 pub mod Leaving
+pub mod LeavingEvents
 pub mod Events
 pub mod Visiting
 pub mod Buffering
