@@ -1,19 +1,18 @@
 -- A server that a message or a packet left.
-use Rattle.std.proofs.Common.{◌≡◌, ◌∙◌, ◌+◌, ◌==◌, ◌++◌, ℕ, Bool, true, false, List, [], Some, None, ap, cond}
+use Rattle.std.proofs.Common.{◌≡◌, ◌∙◌, ◌+◌, ◌==◌, ◌++◌, ℕ, true, false, List, [], Some, None, ap, cond}
 use Rattle.ftc_edge.specs.declared.buffer.Withheld.{Withheld}
+use Rattle.ftc_edge.specs.Due.{WithheldPackets}
 use Rattle.ftc_message.specs.Logged.{Logged}
 use Rattle.ftc_ring.specs.Ring.{RingShape}
 use Rattle.ftc_protocol.specs.Setting.{Setting, servers, shape}
-use Rattle.ftc_protocol.specs.State.{ChainState, Message}
-use Rattle.ftc_protocol.specs.Legal.{IsLegal, MayLeave}
+use Rattle.ftc_protocol.specs.State.{ChainState}
 use Rattle.ftc_server.specs.declared.held.HeldMessage.{HeldMessage}
 use Rattle.ftc_server.specs.declared.server.Server.{Server}
-use Rattle.ftc_server.specs.Holding.{found}
+use Rattle.ftc_server.specs.Holding.{Holding, found}
 use Rattle.ftc_server.specs.Looks.{replica_or_own}
 use Rattle.ftc_server.specs.Standing.{is_last}
-use Rattle.ftc_server.specs.State.{ServerState}
-use Rattle.ftc_server.specs.Steps.{HasPassed, HasCarried, HasReleased, withheld_of}
-use Rattle.ftc_standing.specs.View.{leaving}
+use Rattle.ftc_server.specs.State.{ServerState, fields_of}
+use Rattle.ftc_server.specs.Steps.{HasPassed, withheld_of}
 use Rattle.ftc_standing.specs.Stand.{HeldItem, IsServer, ServerContents}
 use Rattle.ftc_refinement.specs.Contents.{items_of, contents_of, IsServerAt}
 use Rattle.ftc_refinement.proofs.Fields.{IsSameServer, same_contents, same_own, stands_with}
@@ -42,64 +41,23 @@ leaves setting before after number old new held withheld forwarded was same hold
     (items_of new.held.items) held new.buffer.items withheld new.forwarder forwarded
     (same_own new old same.head same.own) same.others same.known holds withholds forwards)
 
-pub beside_pass : (old new : Server) (origin : ℕ) → HasPassed old new origin → HasSameReplicas new old
-beside_pass old new origin done = record {
+pub same_replicas : (old new : Server) (held : Holding) (buffer : WithheldPackets) (forwarder : List Logged) →
+    fields_of new ≡ record (fields_of old) { held = held; buffer = buffer; forwarder = forwarder } →
+    HasSameReplicas new old
+same_replicas old new held buffer forwarder rest = record {
   server = record {
-    ring = ap (λ (s : ServerState). s.ring) done.rest;
-    number = ap (λ (s : ServerState). s.id) done.rest;
-    rule = ap (λ (s : ServerState). s.rule) done.rest;
-    partitions = ap (λ (s : ServerState). s.partitions) done.rest;
+    ring = ap (λ (s : ServerState). s.ring) rest;
+    number = ap (λ (s : ServerState). s.id) rest;
+    rule = ap (λ (s : ServerState). s.rule) rest;
+    partitions = ap (λ (s : ServerState). s.partitions) rest;
   };
-  head = ap (λ (s : ServerState). s.head) done.rest;
-  own = ap (λ (s : ServerState). s.own.items) done.rest;
-  others = ap (λ (s : ServerState). s.others) done.rest;
-  known = ap (λ (s : ServerState). s.known) done.rest;
+  head = ap (λ (s : ServerState). s.head) rest;
+  own = ap (λ (s : ServerState). s.own.items) rest;
+  others = ap (λ (s : ServerState). s.others) rest;
+  known = ap (λ (s : ServerState). s.known) rest;
 }
 
-pub beside_carry : (old new : Server) (origin : ℕ) → HasCarried old new origin →
-    HasSameReplicas new old × (new.buffer.items ≡ old.buffer.items)
-beside_carry old new origin done = (
-  record {
-    server = record {
-      ring = ap (λ (s : ServerState). s.ring) done.rest;
-      number = ap (λ (s : ServerState). s.id) done.rest;
-      rule = ap (λ (s : ServerState). s.rule) done.rest;
-      partitions = ap (λ (s : ServerState). s.partitions) done.rest;
-    };
-    head = ap (λ (s : ServerState). s.head) done.rest;
-    own = ap (λ (s : ServerState). s.own.items) done.rest;
-    others = ap (λ (s : ServerState). s.others) done.rest;
-    known = ap (λ (s : ServerState). s.known) done.rest;
-  },
-  ap (λ (s : ServerState). s.buffer.items) done.rest,
-)
-
-pub beside_release : (old new : Server) → HasReleased old new →
-    HasSameReplicas new old × (new.held.items ≡ old.held.items) × (new.forwarder ≡ old.forwarder)
-beside_release old new done = (
-  record {
-    server = record {
-      ring = ap (λ (s : ServerState). s.ring) done.rest;
-      number = ap (λ (s : ServerState). s.id) done.rest;
-      rule = ap (λ (s : ServerState). s.rule) done.rest;
-      partitions = ap (λ (s : ServerState). s.partitions) done.rest;
-    };
-    head = ap (λ (s : ServerState). s.head) done.rest;
-    own = ap (λ (s : ServerState). s.own.items) done.rest;
-    others = ap (λ (s : ServerState). s.others) done.rest;
-    known = ap (λ (s : ServerState). s.known) done.rest;
-  },
-  ap (λ (s : ServerState). s.held.items) done.rest,
-  ap (λ (s : ServerState). s.forwarder) done.rest,
-)
-
 -- ---- a message that leaves
-
-pub may_leave : (setting : Setting) (state : ChainState) (lost : Bool) (server origin : ℕ) →
-    IsLegal setting state (leaving lost server origin) →
-    (message : Message) × MayLeave setting state server origin message
-may_leave setting state false server origin legal = (legal.0.0, legal.0.1)
-may_leave setting state true server origin legal = (legal.0.0, legal.0.1)
 
 -- the forwarder behind it
 pub forwards : (old new : Server) (origin server : ℕ) → HasPassed old new origin → old.id ≡ server →

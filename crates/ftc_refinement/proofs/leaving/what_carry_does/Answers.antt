@@ -10,8 +10,9 @@ use Rattle.ftc_ties.specs.Messages.{onward as onward_of}
 use Rattle.ftc_server.specs.declared.held.HeldMessage.{HeldMessage}
 use Rattle.ftc_server.specs.Holding.{found}
 use Rattle.ftc_server.specs.Standing.{onward}
+use Rattle.ftc_server.specs.State.{ServerState}
 use Rattle.ftc_refinement.specs.Contents.{items_of, item_of_held, contents_of}
-use Rattle.ftc_refinement.proofs.MessageCalls.{leaves, beside_carry}
+use Rattle.ftc_refinement.proofs.MessageCalls.{leaves, same_replicas}
 use Rattle.ftc_refinement.proofs.Messages.{found_as, one_found, among, items_among, items_apart}
 use Rattle.ftc_refinement.proofs.Ring.{goes_on, groups_exist}
 use Rattle.ftc_refinement.proofs.leaving.what_carry_does.Goals as goal
@@ -27,7 +28,7 @@ returns c setting state origin old new run legal is done =
     let split = among origin old.held.items held there_as.there in
     let items = ap items_of split.parts ∙ items_among split.before split.after held in
     let holds = ap items_of (done.held ∙ split.others) ∙ items_apart split.before split.after in
-    let same = beside_carry old new origin done in
+    let same = same_replicas old new new.held old.buffer new.forwarder done.rest in
     let inside = order.inside 0
     (subst (λ (p : Where). state.up (aim (servers setting) p) ≡ true) place (order.awake origin message there)) in
     let logs = held.message.logs in
@@ -37,7 +38,8 @@ returns c setting state origin old new run legal is done =
     let carried = one_found (found origin old.held.items) done.carried held done.there there_as.there in
     leaves setting state (next setting state (event.Carry origin)) 0 old new
     (items_of split.before ++ items_of split.after) old.buffer.items
-    (with_items is_earlier (onward_of setting 0 logs) old.forwarder) is same.0 holds same.1
+    (with_items is_earlier (onward_of setting 0 logs) old.forwarder) is same holds
+    (ap (λ (s : ServerState). s.buffer.items) done.rest)
     (done.forwarder
     ∙ (ap (λ (h : HeldMessage). with_items is_earlier (onward old.ring old.id h.message.logs) old.forwarder) carried
     ∙ (ap (λ (r : RingShape). with_items is_earlier (onward r old.id logs) old.forwarder) is.ring

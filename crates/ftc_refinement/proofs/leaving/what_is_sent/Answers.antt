@@ -3,8 +3,8 @@ use Rattle.ftc_protocol.specs.Setting.{servers}
 use Rattle.ftc_protocol.specs.State.{Where}
 use Rattle.ftc_protocol.specs.Orderly.{aim}
 use Rattle.ftc_standing.specs.Stand.{IsSentOn}
+use Rattle.ftc_standing.proofs.LeavingEvents.{may_leave}
 use Rattle.ftc_refinement.specs.Contents.{items_of, item_of_held, contents_of}
-use Rattle.ftc_refinement.proofs.MessageCalls.{may_leave}
 use Rattle.ftc_refinement.proofs.Messages.{found_as, among, items_among}
 use Rattle.ftc_refinement.proofs.Ring.{goes_on, groups_exist}
 use Rattle.ftc_refinement.proofs.SentMessages.{sent_is, sent_on, nothing_sent}

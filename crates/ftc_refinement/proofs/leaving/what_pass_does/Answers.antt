@@ -7,8 +7,9 @@ use Rattle.ftc_protocol.specs.Setting.{servers}
 use Rattle.ftc_protocol.specs.Next.{next}
 use Rattle.ftc_server.specs.Steps.{withheld_with}
 use Rattle.ftc_standing.specs.View.{leaving}
+use Rattle.ftc_standing.proofs.LeavingEvents.{may_leave}
 use Rattle.ftc_refinement.specs.Contents.{items_of, item_of_held, contents_of, IsServerAt}
-use Rattle.ftc_refinement.proofs.MessageCalls.{leaves, beside_pass, may_leave, forwards, withholds_others, withholds_it}
+use Rattle.ftc_refinement.proofs.MessageCalls.{leaves, same_replicas, forwards, withholds_others, withholds_it}
 use Rattle.ftc_refinement.proofs.Messages.{found_as, among, items_among, items_apart}
 use Rattle.ftc_refinement.proofs.leaving.what_pass_does.Goals as goal
 
@@ -27,7 +28,7 @@ returns c setting state lost server origin old new run legal is done =
     let items = ap items_of split.parts ∙ items_among split.before split.after held in
     let holds = ap items_of (done.held ∙ split.others) ∙ items_apart split.before split.after in
     let rest = items_of split.before ++ items_of split.after in
-    let same = beside_pass old new origin done in
+    let same = same_replicas old new new.held new.buffer new.forwarder done.rest in
     let forwarding = forwards old new origin server done is.number_is in
     let forwarded = cond (server == 0) [] old.forwarder in
     elim (server + 1 == servers setting) as (λ b. (server + 1 == servers setting) ≡ b →

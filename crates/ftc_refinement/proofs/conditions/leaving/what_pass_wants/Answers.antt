@@ -4,8 +4,8 @@ use Rattle.ftc_base.specs.declared.limits.TheConstants.{MOST_CAPTURED}
 use Rattle.ftc_message.specs.declared.message.Message.{Message as SentMessage}
 use Rattle.ftc_message.specs.WellFormed.{IsWellFormed}
 use Rattle.ftc_server.specs.Looks.{are_apart, are_apart_from, attached_in, onward_in}
+use Rattle.ftc_standing.proofs.LeavingEvents.{may_leave}
 use Rattle.ftc_refinement.proofs.LogsApart.{forwarder_apart}
-use Rattle.ftc_refinement.proofs.MessageCalls.{may_leave}
 use Rattle.ftc_refinement.proofs.Messages.{found_as}
 use Rattle.ftc_refinement.proofs.MessagesFormed.{sent_formed}
 use Rattle.ftc_refinement.proofs.SentMessages.{attached, sent_is}
