@@ -7,7 +7,7 @@ use Rattle.std.proofs.lemmas.Bool.{eqb-true}
 use Rattle.std.proofs.lemmas.Bool.Decides.{nat_tests}
 use Rattle.ftc_server.specs.declared.tickets.Ticket.{Ticket}
 use Rattle.ftc_server.specs.Holding.{rests}
-use Rattle.ftc_server.specs.Tickets.{AreRising, AreDistinct, AreTickets, awake_numbers, is_among, is_same}
+use Rattle.ftc_server.specs.Tickets.{Ticketing, AreRising, AreDistinct, AreTickets, awake_numbers, is_among, is_same}
 use Rattle.ftc_server.specs.Tickets.{number_of, resting_origins, ticket_numbers, ticket_origins, with_number}
 use Rattle.ftc_server.specs.Tickets.{without_number}
 use Rattle.ftc_server.proofs.Ascending.{few_awake, among_at}
@@ -313,6 +313,13 @@ now_rests origins place origin there =
 pub and_true : (b : Bool) → b ≡ b && true
 and_true true = refl
 and_true false = refl
+
+-- an origin that is found among those seen of tickets is found among theirs
+pub found_there : (origin : ℕ) {view seen : Ticketing} {place : ℕ} {found : Option ℕ} → view ≡ seen →
+    found ≡ position (is_same origin) seen.origins → found ≡ Some place →
+    position (is_same origin) view.origins ≡ Some place
+found_there origin view_is found_is is =
+    ap (λ (view : Ticketing). position (is_same origin) view.origins) view_is ∙ sym found_is ∙ is
 
 pub place_within : (tickets : List Ticket) (place origin : ℕ)
     → position (is_same origin) (ticket_origins tickets) ≡ Some place → place < length tickets

@@ -1,13 +1,12 @@
 use Rattle.std.proofs.Common.{◌∙◌, ◌&&◌, ◌||◌, sym, ap, refl, ℕ, Bool, true, arith}
 use Rattle.std.specs.Prelude.{◌==◌, nat_eq}
 use Rattle.std.specs.Map.{lookup}
-use Rattle.std.specs.List.{position}
 use Rattle.ftc_server.specs.declared.tickets.Ticket.{Ticket}
 use Rattle.ftc_server.specs.Holding.{rests}
-use Rattle.ftc_server.specs.Tickets.{Ticketing, is_same}
+use Rattle.ftc_server.specs.Tickets.{Ticketing}
 use Rattle.ftc_server.proofs.Ticketing.{rising_awake, position_none}
 use Rattle.ftc_server.proofs.Resting.{rested_tickets, origins_set, rests_rested, none_rested, place_within, changed_of}
-use Rattle.ftc_server.proofs.Resting.{now_rests, and_true}
+use Rattle.ftc_server.proofs.Resting.{now_rests, and_true, found_there}
 use Rattle.ftc_server.proofs.tickets.Tickets.rest.Goals as goal
 
 pub returns-in_default-clause-resting : goal.returns-in_default-clause-resting
@@ -18,15 +17,13 @@ returns-in_default-clause-resting c = λ other.
 
 pub index-requires : goal.index-requires
 index-requires c =
-    let there = ap (λ (view : Ticketing). position (is_same c.args.origin) view.origins) c.self.view_is
-    ∙ sym c.place_of.ensures.place ∙ c.in-Some.is in
+    let there = found_there c.args.origin c.self.view_is c.place_of.ensures.place c.in-Some.is in
     let within = place_within c.self.inside.list.items c.in-Some.place c.args.origin there in
     omega (arith, c.self.inside.list.ok)
 
 pub index_mut-requires : goal.index_mut-requires
 index_mut-requires c =
-    let there = ap (λ (view : Ticketing). position (is_same c.args.origin) view.origins) c.self.view_is
-    ∙ sym c.place_of.ensures.place ∙ c.in-Some.is in
+    let there = found_there c.args.origin c.self.view_is c.place_of.ensures.place c.in-Some.is in
     let within = place_within c.self.inside.list.items c.in-Some.place c.args.origin there in
     omega (arith, c.self.inside.list.ok)
 
@@ -37,8 +34,7 @@ pub invariant_of-self : goal.invariant_of-self
 invariant_of-self c =
     let tickets = c.self.inside.list.items in
     let lent = c.index_mut.result.now in
-    let there = ap (λ (view : Ticketing). position (is_same c.args.origin) view.origins) c.self.view_is
-    ∙ sym c.place_of.ensures.place ∙ c.in-Some.is in
+    let there = found_there c.args.origin c.self.view_is c.place_of.ensures.place c.in-Some.is in
     let changed = changed_of tickets c.in-Some.place c.index.result.now lent c.args.origin there c.index.ensures
     c.index_mut.ensures.value in (
       rw (c.take_number.ensures.items, ← ap (λ (t : Ticket). t.number) changed.same)
@@ -59,8 +55,7 @@ pub returns-clause-origins : goal.returns-clause-origins
 returns-clause-origins c =
     let tickets = c.self.inside.list.items in
     let lent = c.index_mut.result.now in
-    let there = ap (λ (view : Ticketing). position (is_same c.args.origin) view.origins) c.self.view_is
-    ∙ sym c.place_of.ensures.place ∙ c.in-Some.is in
+    let there = found_there c.args.origin c.self.view_is c.place_of.ensures.place c.in-Some.is in
     origins_set tickets c.in-Some.place lent (record lent { rests = true })
     (place_within tickets c.in-Some.place c.args.origin there) c.index_mut.ensures.value
     (record { number = refl; origin = refl })
@@ -70,8 +65,7 @@ pub returns-clause-resting : goal.returns-clause-resting
 returns-clause-resting c = λ other.
     let tickets = c.self.inside.list.items in
     let lent = c.index_mut.result.now in
-    let there = ap (λ (view : Ticketing). position (is_same c.args.origin) view.origins) c.self.view_is
-    ∙ sym c.place_of.ensures.place ∙ c.in-Some.is in
+    let there = found_there c.args.origin c.self.view_is c.place_of.ensures.place c.in-Some.is in
     let changed = changed_of tickets c.in-Some.place c.index.result.now lent c.args.origin there c.index.ensures
     c.index_mut.ensures.value in
     let old = c.args.self.now in

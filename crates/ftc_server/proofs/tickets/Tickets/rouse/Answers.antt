@@ -2,13 +2,12 @@ use Rattle.std.proofs.Common.{◌∙◌, ◌&&◌, not, sym, ap, refl, ℕ, fals
 use Rattle.std.proofs.lemmas.Bool.{not-true, not-false}
 use Rattle.std.specs.Prelude.{◌==◌, nat_eq}
 use Rattle.std.specs.Map.{lookup}
-use Rattle.std.specs.List.{position}
 use Rattle.ftc_server.specs.declared.tickets.Ticket.{Ticket}
 use Rattle.ftc_server.specs.Holding.{rests}
-use Rattle.ftc_server.specs.Tickets.{Ticketing, is_same, is_among, resting_origins}
+use Rattle.ftc_server.specs.Tickets.{Ticketing, is_among, resting_origins}
 use Rattle.ftc_server.proofs.Ticketing.{agree, none_resting, rising_awake, position_none}
 use Rattle.ftc_server.proofs.Resting.{roused_tickets, origins_set, rests_roused, none_roused, place_within, changed_of}
-use Rattle.ftc_server.proofs.Resting.{agrees_at, ticket_of, not_awake, fewer_awake}
+use Rattle.ftc_server.proofs.Resting.{agrees_at, ticket_of, not_awake, fewer_awake, found_there}
 use Rattle.ftc_server.proofs.tickets.Tickets.rouse.Goals as goal
 
 pub returns-in_default-clause-resting : goal.returns-in_default-clause-resting
@@ -22,8 +21,7 @@ returns-in_default-clause-resting c = λ other.
 
 pub index-ticket-requires : goal.index-ticket-requires
 index-ticket-requires c =
-    let there = ap (λ (view : Ticketing). position (is_same c.args.origin) view.origins) c.self.view_is
-    ∙ sym c.place_of.ensures.place ∙ c.in-Some.is in
+    let there = found_there c.args.origin c.self.view_is c.place_of.ensures.place c.in-Some.is in
     let within = place_within c.self.inside.list.items c.in-Some.place c.args.origin there in
     omega (arith, c.self.inside.list.ok)
 
@@ -32,8 +30,7 @@ returns-then-not-ticket-clause-resting c = λ other.
     let tickets = c.self.inside.list.items in
     let origin = c.args.origin in
     let ticket = c.index-ticket.result.now in
-    let there = ap (λ (view : Ticketing). position (is_same origin) view.origins) c.self.view_is
-    ∙ sym c.place_of.ensures.place ∙ c.in-Some.is in
+    let there = found_there c.args.origin c.self.view_is c.place_of.ensures.place c.in-Some.is in
     let of = ticket_of tickets c.in-Some.place ticket origin there c.index-ticket.ensures in
     none_roused c.args.self.now.resting origin other
     (sym (ap (λ (view : Ticketing). rests origin view.resting) c.self.view_is)
@@ -44,8 +41,7 @@ returns-then-not-ticket-clause-resting c = λ other.
 
 pub index_mut-requires : goal.index_mut-requires
 index_mut-requires c =
-    let there = ap (λ (view : Ticketing). position (is_same c.args.origin) view.origins) c.self.view_is
-    ∙ sym c.place_of.ensures.place ∙ c.in-Some.is in
+    let there = found_there c.args.origin c.self.view_is c.place_of.ensures.place c.in-Some.is in
     let within = place_within c.self.inside.list.items c.in-Some.place c.args.origin there in
     omega (arith, c.self.inside.list.ok)
 
@@ -57,8 +53,7 @@ pub put_number-requires-clause-new : goal.put_number-requires-clause-new
 put_number-requires-clause-new c =
     let tickets = c.self.inside.list.items in
     let ticket = c.index-ticket.result.now in
-    let there = ap (λ (view : Ticketing). position (is_same c.args.origin) view.origins) c.self.view_is
-    ∙ sym c.place_of.ensures.place ∙ c.in-Some.is in
+    let there = found_there c.args.origin c.self.view_is c.place_of.ensures.place c.in-Some.is in
     let within = place_within tickets c.in-Some.place c.args.origin there in
     ap (is_among ticket.number) c.self.invariant.0.awake
     ∙ not_awake 0 tickets c.in-Some.place ticket c.self.invariant.0.rising within c.index-ticket.ensures
@@ -68,8 +63,7 @@ pub put_number-requires-clause-room : goal.put_number-requires-clause-room
 put_number-requires-clause-room c =
     let tickets = c.self.inside.list.items in
     let ticket = c.index-ticket.result.now in
-    let there = ap (λ (view : Ticketing). position (is_same c.args.origin) view.origins) c.self.view_is
-    ∙ sym c.place_of.ensures.place ∙ c.in-Some.is in
+    let there = found_there c.args.origin c.self.view_is c.place_of.ensures.place c.in-Some.is in
     let within = place_within tickets c.in-Some.place c.args.origin there in
     let fewer = fewer_awake tickets c.in-Some.place ticket within c.index-ticket.ensures
     (not-false ticket.rests c.if-not-ticket.false) in
@@ -86,8 +80,7 @@ pub invariant_of-self : goal.invariant_of-self
 invariant_of-self c =
     let tickets = c.self.inside.list.items in
     let lent = c.index_mut.result.now in
-    let there = ap (λ (view : Ticketing). position (is_same c.args.origin) view.origins) c.self.view_is
-    ∙ sym c.place_of.ensures.place ∙ c.in-Some.is in
+    let there = found_there c.args.origin c.self.view_is c.place_of.ensures.place c.in-Some.is in
     let changed = changed_of tickets c.in-Some.place c.index-ticket.result.now lent c.args.origin there
     c.index-ticket.ensures c.index_mut.ensures.value in (
       rw (c.put_number.ensures.items, ← ap (λ (t : Ticket). t.number) changed.same)
@@ -109,8 +102,7 @@ pub returns-clause-origins : goal.returns-clause-origins
 returns-clause-origins c =
     let tickets = c.self.inside.list.items in
     let lent = c.index_mut.result.now in
-    let there = ap (λ (view : Ticketing). position (is_same c.args.origin) view.origins) c.self.view_is
-    ∙ sym c.place_of.ensures.place ∙ c.in-Some.is in
+    let there = found_there c.args.origin c.self.view_is c.place_of.ensures.place c.in-Some.is in
     origins_set tickets c.in-Some.place lent (record lent { rests = false })
     (place_within tickets c.in-Some.place c.args.origin there) c.index_mut.ensures.value
     (record { number = refl; origin = refl })
@@ -120,8 +112,7 @@ pub returns-clause-resting : goal.returns-clause-resting
 returns-clause-resting c = λ other.
     let tickets = c.self.inside.list.items in
     let lent = c.index_mut.result.now in
-    let there = ap (λ (view : Ticketing). position (is_same c.args.origin) view.origins) c.self.view_is
-    ∙ sym c.place_of.ensures.place ∙ c.in-Some.is in
+    let there = found_there c.args.origin c.self.view_is c.place_of.ensures.place c.in-Some.is in
     let changed = changed_of tickets c.in-Some.place c.index-ticket.result.now lent c.args.origin there
     c.index-ticket.ensures c.index_mut.ensures.value in
     rests_roused tickets c.in-Some.place lent (record lent { rests = false }) other c.self.invariant.0.distinct
