@@ -57,19 +57,25 @@ idle_ready server idle = record {
   within = λ worker running runs. let none : None ≡ Some running = sym (idle worker) ∙ runs in absurd cc;
 }
 
+-- the server of a slot that is up stands for a later state where it stays up, stands there and is ready as it was
+pub slot_follows : {slot : Option Server} {old new : Server} {setting : Setting} {before after : ChainState}
+    {number : ℕ} → slot ≡ Some old → after.up number ≡ before.up number →
+    (IsServerAt setting before number old → IsServerAt setting after number new) →
+    (IsServerAt setting before number old → IsServerAt setting after number new → AreReady old → AreReady new) →
+    IsSlot setting before number slot → IsUp setting after number new
+slot_follows {old = old} {setting = setting} {before = before} {number = number} same same_up stands stays is =
+    let up : IsUp setting before number old = subst (IsSlot setting before number) same is in
+    let at = stands up.at in
+    record { up = same_up ∙ up.up; at = at; ready = stays up.at at up.ready }
+
 -- a server that is as it was, but for what doesn't show in a state
 pub slot_still : (slot : Option Server) (old new : Server) → slot ≡ Some old →
     ((setting : Setting) (state : ChainState) (number : ℕ) → IsServerAt setting state number old →
     IsServerAt setting state number new) →
     ready_by (fields_of new) ≡ ready_by (fields_of old) → RunNothingElse old new →
     (number : ℕ) → SlotStandsStill number slot (Some new)
-slot_still slot old new same stands ready only number setting state is =
-    let up : IsUp setting state number old = subst (IsSlot setting state number) same is in
-    record {
-      up = up.up;
-      at = stands setting state number up.at;
-      ready = still_ready old new ready only up.ready;
-    }
+slot_still slot old new same stands ready only number setting state =
+    slot_follows same refl (stands setting state number) (λ at after. still_ready old new ready only)
 
 -- the same where all fields are as they were
 pub same_still : (slot : Option Server) (old new : Server) → slot ≡ Some old → fields_of new ≡ fields_of old →

@@ -1,13 +1,12 @@
-use Rattle.std.proofs.Common.{true, ap, sym, subst, ◌∙◌, ◌≡◌}
+use Rattle.std.proofs.Common.{true, refl, ap, sym, ◌∙◌, ◌≡◌}
 use Rattle.ftc_journal.specs.declared.event.Event.{Event}
 use Rattle.ftc_journal.specs.declared.event.Event.TheVariants as event
 use Rattle.ftc_server.specs.Looks.{may_apply_in}
 use Rattle.ftc_server.specs.Replicas.{replica_at, may_rise_in}
 use Rattle.ftc_server.specs.State.{ServerState}
 use Rattle.ftc_network.specs.Parts.{buffer_of}
-use Rattle.ftc_network.specs.Stand.{IsSlot, IsUp}
 use Rattle.ftc_network.proofs.Allowed.{at_up}
-use Rattle.ftc_network.proofs.ReadySlots.{same_runs, same_still}
+use Rattle.ftc_network.proofs.ReadySlots.{same_runs, same_still, slot_follows}
 use Rattle.ftc_network.proofs.Results.{on_ok, on_err}
 use Rattle.ftc_network.proofs.Heads.{same_head, either_way}
 use Rattle.ftc_network.proofs.applying.apply_at.Goals as goal
@@ -34,18 +33,12 @@ pub returns-in-Some-clause-ok : goal.returns-in-Some-clause-ok
 returns-in-Some-clause-ok c =
     let old = c.in-Some.live in
     let new = c.apply.new.self in
-    on_ok c.apply.result _ _ (λ done setting state run legal is.
-    let up : IsUp setting state c.args.server old = subst (IsSlot setting state c.args.server) c.in-Some.is is in
-    let at = c.what_apply_does.ensures setting state c.args.server c.args.origin c.args.group c.args.packet old new run
-    legal
-    up.at done in
-    record {
-      up = up.up;
-      at = at;
-      ready = c.slots_stay_ready.ensures setting state
-          (event.Apply c.args.server c.args.origin c.args.group c.args.packet) c.args.server old new run legal up.at at
-          (same_runs old new (ap (λ (s : ServerState). s.head) done.rest)) up.ready;
-    }) c.apply.ensures.ok
+    on_ok c.apply.result _ _ (λ done setting state run legal. slot_follows c.in-Some.is refl
+    (λ at. c.what_apply_does.ensures setting state c.args.server c.args.origin c.args.group c.args.packet old new run
+    legal at done)
+    (λ at after. c.slots_stay_ready.ensures setting state
+    (event.Apply c.args.server c.args.origin c.args.group c.args.packet) c.args.server old new run legal at after
+    (same_runs old new (ap (λ (s : ServerState). s.head) done.rest)))) c.apply.ensures.ok
 
 pub returns-in-Some-clause-buffer : goal.returns-in-Some-clause-buffer
 returns-in-Some-clause-buffer c = on_ok c.apply.result _ _ (λ done.

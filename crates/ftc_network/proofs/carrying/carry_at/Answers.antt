@@ -1,4 +1,4 @@
-use Rattle.std.proofs.Common.{◌≡◌, ◌∙◌, Bool, true, false, Option, Some, None, refl, ap, sym, subst}
+use Rattle.std.proofs.Common.{◌≡◌, ◌∙◌, Bool, true, false, Option, Some, None, refl, ap, sym}
 use Rattle.ftc_journal.specs.declared.event.Event.TheVariants as event
 use Rattle.ftc_server.specs.declared.work.Work.{Work}
 use Rattle.ftc_server.specs.declared.work.Work.TheVariants.{Apply, Visit, Send, Carry}
@@ -6,9 +6,8 @@ use Rattle.ftc_server.specs.Holding.{found}
 use Rattle.ftc_server.specs.Looks.{work_in, onward_apart}
 use Rattle.ftc_server.specs.State.{ServerState}
 use Rattle.ftc_network.specs.Parts.{buffer_of}
-use Rattle.ftc_network.specs.Stand.{IsSlot, IsUp}
 use Rattle.ftc_network.proofs.Allowed.{at_up}
-use Rattle.ftc_network.proofs.ReadySlots.{same_runs, same_still}
+use Rattle.ftc_network.proofs.ReadySlots.{same_runs, same_still, slot_follows}
 use Rattle.ftc_network.proofs.Results.{on_ok, on_err}
 use Rattle.ftc_network.proofs.Heads.{same_head, either_way}
 use Rattle.ftc_network.proofs.carrying.carry_at.Goals as goal
@@ -53,15 +52,10 @@ pub returns-in-Some-clause-ok : goal.returns-in-Some-clause-ok
 returns-in-Some-clause-ok c =
     let old = c.in-Some.server in
     let new = c.carry.new.self in
-    on_ok c.carry.result _ _ (λ done setting state run legal is.
-    let up : IsUp setting state 0 old = subst (IsSlot setting state 0) c.in-Some.is is in
-    let at = c.what_carry_does.ensures setting state c.args.origin old new run legal up.at done in
-    record {
-      up = up.up;
-      at = at;
-      ready = c.slots_stay_ready.ensures setting state (event.Carry c.args.origin) 0 old new run legal up.at at
-          (same_runs old new (ap (λ (s : ServerState). s.head) done.rest)) up.ready;
-    }) c.carry.ensures.ok
+    on_ok c.carry.result _ _ (λ done setting state run legal. slot_follows c.in-Some.is refl
+    (λ at. c.what_carry_does.ensures setting state c.args.origin old new run legal at done)
+    (λ at after. c.slots_stay_ready.ensures setting state (event.Carry c.args.origin) 0 old new run legal at after
+    (same_runs old new (ap (λ (s : ServerState). s.head) done.rest)))) c.carry.ensures.ok
 
 pub returns-in-Some-clause-buffer : goal.returns-in-Some-clause-buffer
 returns-in-Some-clause-buffer c = on_ok c.carry.result _ _ (λ done.
