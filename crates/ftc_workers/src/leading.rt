@@ -182,9 +182,9 @@ impl<'a, 'b, L: Run, R: Wait, G: Gate> Worker<'a, 'b, L, R, G> {
         self.follow(rules, found, hand, mine)
     }
 
-    /// There was nothing to do, for so many turns in turn: it looks again, and after a while at what is blocked too; then
-    /// it makes the visit that is ready itself, unless another is blocked, for which nobody else would look; then it
-    /// sleeps.
+    /// There was nothing to do, for so many turns in a row: it looks again, and after a while at what is blocked too.
+    /// Then it makes the visit that is ready itself, unless another is blocked, for which nobody else would look; or
+    /// else it sleeps.
     fn wait(&self, hand: &mut Hand, turns: u32) -> Led {
         if turns >= PATIENCE || self.shared.office.present() < 3 {
             if hand.ready.is_some() && hand.blocked() == 0 {

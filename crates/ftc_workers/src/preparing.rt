@@ -64,8 +64,8 @@ impl<'a, 'b, L: Run, R: Wait, G: Gate> Worker<'a, 'b, L, R, G> {
         }
     }
 
-    /// Prepares a visit by the rule of its server, and has it at hand then. False where there was no memory, or there is
-    /// no such rule: then it is given up.
+    /// Prepares a visit by the rule of its server, and has it at hand then. False where there was no memory, or there
+    /// is no such rule: then it is given up.
     pub fn prepare_by(&self, rules: &Rules, begun: Begun, hand: &mut Hand) -> bool {
         let slot = begun.slot;
         let prepared = match rule_of(rules, &begun) {

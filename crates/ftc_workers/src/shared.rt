@@ -4,8 +4,8 @@
 //! a gate that may hold a visit it prepares visits for the others: it begins one, reads for it, makes the plan, and has
 //! it ready for the next worker that waits, on whose desk it puts it. The worker passes the gate and puts it back, and
 //! the leader commits it. So what lies under the latch stays near one processor, and mostly nobody but the leader wants
-//! it. Where the leader is held itself, by a gate or by an older transaction, it leads no more, and the next worker that
-//! is awake does. So wherever a job can be done a worker is awake that looks for it, or comes to.
+//! it. Where the leader is held itself, by a gate or by an older transaction, it leads no more, and the next worker
+//! that is awake does. So wherever a job can be done a worker is awake that looks for it, or comes to.
 
 ghost use Rattle.std.specs.Prelude.{◌≡◌, ◌<◌, ◌+◌};
 
