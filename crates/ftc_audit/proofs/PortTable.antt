@@ -18,7 +18,7 @@ use Rattle.ftc_packet.specs.Layout.{AreBytes}
 use Rattle.ftc_nat.specs.declared.rule.NatRule.{NatRule}
 use Rattle.ftc_nat.specs.Bounds.{IsNatRule}
 use Rattle.ftc_store.specs.Store.{Content}
-use Rattle.ftc_store.specs.Pairs.{entry_of}
+use Rattle.ftc_store.specs.Pairs.{key_value}
 use Rattle.ftc_store.specs.declared.pairs.Pair.{Pair}
 use Rattle.ftc_mbox.specs.Bounds.{IsRule}
 use Rattle.ftc_mbox.specs.declared.rule.Rule.{Rule}
@@ -136,7 +136,7 @@ module _ (rules : List Rule) (packets : List (List ℕ)) (steps : List Step) (se
       (serial_opening packets) steps (starts_holding rule) gave
 
   -- the lines of the listed pairs
-  module _ (pairs : List Pair) (listed : map entry_of pairs ≡ entries content_then) where
+  module _ (pairs : List Pair) (listed : map key_value pairs ≡ entries content_then) where
     abbrev Known : Pair → Type 0
     Known pair = get content_then pair.key ≡ Some pair.value
 
@@ -191,7 +191,7 @@ module _ (rules : List Rule) (packets : List (List ℕ)) (steps : List Step) (se
         ] refl
 
     differ_all : (pair : Pair) (line : PortLine) → line_in pair ≡ Some line → Known pair → (others : List Pair)
-        → T (below_all (slice_cmp nat_cmp) pair.key (map entry_of others)) → AllByRecursion Known others
+        → T (below_all (slice_cmp nat_cmp) pair.key (map key_value others)) → AllByRecursion Known others
         → AllByRecursion (λ n. (line.outside == n) ≡ false) (map outside (filter_map line_in others))
     differ_all pair line is has [] below knows = tt
     differ_all pair line is has (other ∷ others) below knows =
@@ -202,7 +202,7 @@ module _ (rules : List Rule) (packets : List (List ℕ)) (steps : List Step) (se
           | Some also ↦ λ too. (differ pair other line also is too has knows.0 (front _ _ below), more)
         ] refl
 
-    distinct : (others : List Pair) → T (is_sorted (slice_cmp nat_cmp) (map entry_of others))
+    distinct : (others : List Pair) → T (is_sorted (slice_cmp nat_cmp) (map key_value others))
         → AllByRecursion Known others → IsDistinct (λ x y. x == y) (map outside (filter_map line_in others))
     distinct [] sorted knows = nil_distinct
     distinct (pair ∷ others) sorted knows =
@@ -290,15 +290,15 @@ pub read : (rules : List Rule) (packets : List (List ℕ)) (steps : List Step) (
     (content : Content) (items pairs : List Pair) (lines : List PortLine) → AllByRecursion IsRule rules
     → AllByRecursion AreBytes packets → HasNat rules server
     → serial_run rules (serial_opening packets) steps ≡ Some end → content ≡ end.maps server
-    → map entry_of pairs ≡ entries content → items ≡ pairs → IsPermutation (filter_map line_in items) lines
+    → map key_value pairs ≡ entries content → items ≡ pairs → IsPermutation (filter_map line_in items) lines
     → IsNonDecreasingBy outside lines → IsRead rules packets steps server lines
 read rules packets steps server end content items pairs lines all bytes (rule, known) ran is listed same moved sorted =
     let there : end_of rules (serial_opening packets) steps ≡ end =
     ends_there rules (serial_opening packets) steps end ran in
     let now : content ≡ content_then rules packets steps server rule all bytes known =
     is ∙ sym (ap (λ (state : State). state.maps server) there) in
-    let whole : map entry_of items ≡ entries (content_then rules packets steps server rule all bytes known) =
-    ap (map entry_of) same ∙ (listed ∙ ap entries now) in
+    let whole : map key_value items ≡ entries (content_then rules packets steps server rule all bytes known) =
+    ap (map key_value) same ∙ (listed ∙ ap entries now) in
     record {
       table = record {
         rule = rule;

@@ -4,18 +4,18 @@ use Rattle.std.specs.Prelude.{nat_le, nat_lt, not}
 use Rattle.std.proofs.lemmas.Bool.Decides.{nat_tests}
 use Rattle.ftc_base.specs.declared.released.Released.{Released}
 use Rattle.ftc_audit.specs.declared.endpoint.Endpoint.{Endpoint}
-use Rattle.ftc_audit.specs.Sources.{source_of, with_source, with_sources, sources_of}
+use Rattle.ftc_audit.specs.Sources.{source_of, with_one_source, with_sources, sources_of}
 
 with_one_more : (sources : List Endpoint) (told : List Released) (one : Released) →
-    with_sources sources (told ++ one ∷ []) ≡ with_source (with_sources sources told) (source_of one.bytes)
+    with_sources sources (told ++ one ∷ []) ≡ with_one_source (with_sources sources told) (source_of one.bytes)
 with_one_more sources [] one = refl
-with_one_more sources (first ∷ told) one = with_one_more (with_source sources (source_of first.bytes)) told one
+with_one_more sources (first ∷ told) one = with_one_more (with_one_source sources (source_of first.bytes)) told one
 
 -- the sources of what was told, and the source of one record more
 pub sources_more : (old new : List Endpoint) (told : List Released) (one : Released) → old ≡ sources_of told →
-    new ≡ with_source old (source_of one.bytes) → new ≡ sources_of (told ++ one ∷ [])
+    new ≡ with_one_source old (source_of one.bytes) → new ≡ sources_of (told ++ one ∷ [])
 sources_more old new told one is added =
-    added ∙ ap (λ (sources : List Endpoint). with_source sources (source_of one.bytes)) is ∙ sym
+    added ∙ ap (λ (sources : List Endpoint). with_one_source sources (source_of one.bytes)) is ∙ sym
     (with_one_more [] told one)
 
 -- so many are no more than may be

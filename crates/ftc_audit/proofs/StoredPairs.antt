@@ -10,7 +10,7 @@ use Rattle.std.specs.FinMap.{entries, entries_sorted, find, get, get-entries, is
 use Rattle.std.specs.FinMap.Entries.{below_all}
 use Rattle.ftc_serial.specs.Words.{AnyOf}
 use Rattle.ftc_store.specs.Store.{Content}
-use Rattle.ftc_store.specs.Pairs.{entry_of}
+use Rattle.ftc_store.specs.Pairs.{key_value}
 use Rattle.ftc_store.specs.declared.pairs.Pair.{Pair}
 use Rattle.ftc_audit.proofs.Keys.{tied, tied_to_itself}
 
@@ -33,40 +33,40 @@ not_less Greater equal less = less
 pub below_itself : (key : List ℕ) → T (is_lt (slice_cmp nat_cmp key key)) → ⊥
 below_itself key less = not_less (slice_cmp nat_cmp key key) (tied_to_itself key) less
 
-below_any : (low key value : List ℕ) (pairs : List Pair) → T (below_all (slice_cmp nat_cmp) low (map entry_of pairs))
+below_any : (low key value : List ℕ) (pairs : List Pair) → T (below_all (slice_cmp nat_cmp) low (map key_value pairs))
     → AnyOf (IsAt key value) pairs → T (is_lt (slice_cmp nat_cmp low key))
 below_any low key value [] below any = absurd any
 below_any low key value (pair ∷ pairs) below (inl (at, has)) =
     subst (λ (k : List ℕ). T (is_lt (slice_cmp nat_cmp low k))) at (front _ _ below)
 below_any low key value (pair ∷ pairs) below (inr more) = below_any low key value pairs (behind _ _ below) more
 
-found_there : (pairs : List Pair) (key value : List ℕ) → T (is_sorted (slice_cmp nat_cmp) (map entry_of pairs))
-    → AnyOf (IsAt key value) pairs → find (slice_cmp nat_cmp) key (map entry_of pairs) ≡ Some value
+found_there : (pairs : List Pair) (key value : List ℕ) → T (is_sorted (slice_cmp nat_cmp) (map key_value pairs))
+    → AnyOf (IsAt key value) pairs → find (slice_cmp nat_cmp) key (map key_value pairs) ≡ Some value
 found_there [] key value sorted any = absurd any
 found_there (pair ∷ pairs) key value sorted (inl (at, has)) =
-    ap (λ (b : Bool). cond b (Some pair.value) (find (slice_cmp nat_cmp) key (map entry_of pairs)))
+    ap (λ (b : Bool). cond b (Some pair.value) (find (slice_cmp nat_cmp) key (map key_value pairs)))
     (ap (eq_by_cmp (slice_cmp nat_cmp) key) at ∙ tied_to_itself key) ∙ ap Some has
 found_there (pair ∷ pairs) key value sorted (inr more) =
     elim (eq_by_cmp (slice_cmp nat_cmp) key pair.key) as (λ b. eq_by_cmp (slice_cmp nat_cmp) key pair.key ≡ b
-    → cond b (Some pair.value) (find (slice_cmp nat_cmp) key (map entry_of pairs)) ≡ Some value) [
+    → cond b (Some pair.value) (find (slice_cmp nat_cmp) key (map key_value pairs)) ≡ Some value) [
       | true ↦ λ same. absurd (below_itself key (subst (λ (k : List ℕ). T (is_lt (slice_cmp nat_cmp k key)))
           (sym (tied key pair.key same)) (below_any pair.key key value pairs (front _ _ sorted) more)))
       | false ↦ λ _. found_there pairs key value (behind _ _ sorted) more
     ] refl
 
 there_found : (pairs : List Pair) (key value : List ℕ)
-    → find (slice_cmp nat_cmp) key (map entry_of pairs) ≡ Some value → AnyOf (IsAt key value) pairs
+    → find (slice_cmp nat_cmp) key (map key_value pairs) ≡ Some value → AnyOf (IsAt key value) pairs
 there_found [] key value found = absurd (cc)
 there_found (pair ∷ pairs) key value found =
     elim (eq_by_cmp (slice_cmp nat_cmp) key pair.key) as (λ b. eq_by_cmp (slice_cmp nat_cmp) key pair.key ≡ b
-    → cond b (Some pair.value) (find (slice_cmp nat_cmp) key (map entry_of pairs)) ≡ Some value
+    → cond b (Some pair.value) (find (slice_cmp nat_cmp) key (map key_value pairs)) ≡ Some value
     → AnyOf (IsAt key value) (pair ∷ pairs)) [
       | true ↦ λ same some. inl (sym (tied key pair.key same), cc)
       | false ↦ λ _ more. inr (there_found pairs key value more)
     ] refl found
 
-module _ (pairs : List Pair) (content : Content) (listed : map entry_of pairs ≡ entries content) where
-  pub in_order : T (is_sorted (slice_cmp nat_cmp) (map entry_of pairs))
+module _ (pairs : List Pair) (content : Content) (listed : map key_value pairs ≡ entries content) where
+  pub in_order : T (is_sorted (slice_cmp nat_cmp) (map key_value pairs))
   in_order = subst (λ (es : List (List ℕ × List ℕ)). T (is_sorted (slice_cmp nat_cmp) es)) (sym listed)
       (entries_sorted content)
 

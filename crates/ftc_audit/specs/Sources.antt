@@ -24,14 +24,14 @@ endpoint_cmp one other =
     (nat_cmp one.port other.port)
 
 -- the sources with one more, if it isn't there
-abbrev pub with_source : List Endpoint → Option Endpoint → List Endpoint
-with_source sources None = sources
-with_source sources (Some source) = insert_key endpoint_cmp sources source
+abbrev pub with_one_source : List Endpoint → Option Endpoint → List Endpoint
+with_one_source sources None = sources
+with_one_source sources (Some source) = insert_key endpoint_cmp sources source
 
 -- the different sources of the flow packets among these, besides some
 abbrev pub with_sources : List Endpoint → List Released → List Endpoint
 with_sources sources [] = sources
-with_sources sources (one ∷ more) = with_sources (with_source sources (source_of one.bytes)) more
+with_sources sources (one ∷ more) = with_sources (with_one_source sources (source_of one.bytes)) more
 
 abbrev pub sources_of : List Released → List Endpoint
 sources_of released = with_sources [] released

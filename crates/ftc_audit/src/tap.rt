@@ -2,7 +2,7 @@
 
 ghost use Rattle.std.specs.Prelude.{◌≡◌, ◌∷◌, [], IfOk, OnOk, OnErr};
 ghost use Rattle.std.specs.BTreeSet.{keys};
-ghost use Rattle.ftc_audit.specs.Sources.{audit_face, source_of, with_source};
+ghost use Rattle.ftc_audit.specs.Sources.{audit_face, source_of, with_one_source};
 
 use crate::endpoint::{Endpoint, source_of};
 use ftc_base::{Bytes, NoMemory, PacketNo, Released};
@@ -47,7 +47,7 @@ impl AuditTap {
 
 /// Adds where a packet comes from, if it is one of a flow.
 fn add_source(sources: &mut BTreeSet<Endpoint>, packet: &[u8]) -> Result<(), NoMemory>
-    ensures ok { OnOk result (keys sources.new ≡ with_source (keys sources.old) (source_of packet.now)) }
+    ensures ok { OnOk result (keys sources.new ≡ with_one_source (keys sources.old) (source_of packet.now)) }
     ensures err { OnErr result (keys sources.new ≡ keys sources.old) }
 {
     if let Some(source) = source_of(packet) {

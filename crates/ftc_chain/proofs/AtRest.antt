@@ -20,7 +20,7 @@ use Rattle.ftc_protocol.specs.Setting.{Setting, IsSetting}
 use Rattle.ftc_protocol.specs.State.{ChainState, opening}
 use Rattle.ftc_chain.specs.declared.course.Course.{Course}
 use Rattle.ftc_chain.specs.declared.given.Given.{Given}
-use Rattle.ftc_chain.specs.Course.{IsCourse, IsResting, state_by}
+use Rattle.ftc_chain.specs.Course.{IsCourse, IsCourseResting, state_by}
 use Rattle.ftc_chain.specs.Doing.{MayDo, setting_by}
 use Rattle.ftc_chain.proofs.Releases.{is_run_state}
 use Rattle.ftc_chain.proofs.Rooms.{bytes_count}
@@ -75,7 +75,7 @@ pub at_rest : (given : Given) (course : Course) (packets : ℕ) → packets ≡ 
     ((setting : Setting) → IsSetting setting → (journal : List Event) → IsRun setting journal →
     AreFew setting journal) →
     (length (bytes_of_packets given.packets.now) ≤ MOST_RECORDS → most_messages (setting_by given) < 2 ^ 32) →
-    IsResting (setting_by given) course →
+    IsCourseResting (setting_by given) course →
     IsAtRest (setting_by given)
     (state_by (setting_by given) course.journal.items) given.script.now packets course.network
 at_rest given course packets same short begun most is =

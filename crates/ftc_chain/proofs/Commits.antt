@@ -22,13 +22,14 @@ use Rattle.ftc_txn.specs.Head.{HeadState}
 use Rattle.ftc_txn.specs.Slots.{Running, packet_of}
 use Rattle.ftc_network.specs.declared.network.Network.{Network}
 use Rattle.ftc_network.specs.Parts.{server_in}
-use Rattle.ftc_network.specs.Slots.{head_of, head_at, runs_in, AreSameHeads, IsAtRest, SlotEndsVisit, FollowsCommit}
+use Rattle.ftc_network.specs.Slots.{head_of, head_at, runs_in, AreSameHeads, IsNetworkAtRest, SlotEndsVisit}
+use Rattle.ftc_network.specs.Slots.{FollowsCommit}
 use Rattle.ftc_network.specs.Events.{StandsStill}
 use Rattle.ftc_network.specs.Stand.{IsNetwork}
 use Rattle.ftc_chain.specs.declared.course.Course.{Course}
 use Rattle.ftc_chain.specs.declared.given.Given.{Given}
 use Rattle.ftc_chain.specs.ChainRun.{ChainRun}
-use Rattle.ftc_chain.specs.Course.{IsCourse, IsResting, RunsOnce, HasReleased, HasMade, state_by}
+use Rattle.ftc_chain.specs.Course.{IsCourse, IsCourseResting, RunsOnce, HasReleased, HasMade, state_by}
 use Rattle.ftc_chain.specs.Doing.{setting_by, HasDone}
 use Rattle.ftc_chain.specs.Slots.{HasCommittedAt, CommitsAt}
 use Rattle.ftc_chain.proofs.AtRest.{events_are}
@@ -40,7 +41,7 @@ use Rattle.ftc_chain.proofs.SlotCalls.{undone_at}
 
 -- a network between two calls is at rest
 pub at_rest_there : (setting : Setting) (course : Course) (network : Network) → network ≡ course.network →
-    length course.journal.items < 2 ^ 64 - 1 → IsResting setting course → IsAtRest network
+    length course.journal.items < 2 ^ 64 - 1 → IsCourseResting setting course → IsNetworkAtRest network
 at_rest_there setting course network same few is = record {
   setting = setting;
   state = state_by setting course.journal.items;
@@ -71,7 +72,7 @@ module _ (given : Given) (old : Course) (network mid : Network) (worker server p
         named both.1),
   )
 
-  pub visit_legal : IsResting (setting_by given) old →
+  pub visit_legal : IsCourseResting (setting_by given) old →
       ∥ IsLegalJob (setting_by given) (state_by (setting_by given) old.journal.items) (job.Visit server packet) ∥₁
   visit_legal is =
       let setting : Setting = setting_by given in
@@ -83,7 +84,7 @@ module _ (given : Given) (old : Course) (network mid : Network) (worker server p
 
 -- the visit is made, and the heads are as the commit left them
 pub done_at : (given : Given) (old : Course) (mid : Network) (new : Course) (worker server packet : ℕ)
-    (rests : IsResting (setting_by given) old) → server < servers (setting_by given) →
+    (rests : IsCourseResting (setting_by given) old) → server < servers (setting_by given) →
     ((other : ℕ) → other ≢ server → server_in mid.servers.items other ≡ server_in old.network.servers.items other) →
     AreSameHeads mid new.network → Asks →
     SlotEndsVisit (server_in old.network.servers.items server) (server_in mid.servers.items server) worker commit.Done →
@@ -127,7 +128,7 @@ done_at given old mid new worker server packet rests inside others stay asks end
 
 module _ (given : Given) (old room : Course) (mid : Network) (run : ChainRun) (worker server : ℕ)
     (answer : CommitAnswer)
-    (same : run_of given old ≡ run) (rests : ∥ IsResting (setting_by given) old ∥₁)
+    (same : run_of given old ≡ run) (rests : ∥ IsCourseResting (setting_by given) old ∥₁)
     (journal : room.journal.items ≡ old.journal.items) (roomed : room.network ≡ old.network)
     (waiting : room.outlet.waiting ≡ old.outlet.waiting) (drained : room.outlet.drained ≡ old.outlet.drained)
     (ends : SlotEndsVisit (server_in room.network.servers.items server)
@@ -137,7 +138,7 @@ module _ (given : Given) (old room : Course) (mid : Network) (run : ChainRun) (w
   abbrev new : Course
   new = record { journal = room.journal; network = mid; outlet = room.outlet }
 
-  pub undone_rests : StandsStill room.network mid → ∥ IsResting (setting_by given) new ∥₁
+  pub undone_rests : StandsStill room.network mid → ∥ IsCourseResting (setting_by given) new ∥₁
   undone_rests stands = ∥∥₁_map rests (still_rests (setting_by given) old new journal waiting drained
       (λ state is. stands (setting_by given) state (subst (IsNetwork (setting_by given) state) (sym roomed) is)))
 
@@ -168,7 +169,7 @@ where_ok (Ok value) Fact ok fact = fact
 where_ok (Err fault) Fact ok fact = absurd cc
 
 module _ (given : Given) (old room : Course) (mid : Network) (events : EventList) (new : Course)
-    (worker server packet : ℕ) (rests : ∥ IsResting (setting_by given) old ∥₁)
+    (worker server packet : ℕ) (rests : ∥ IsCourseResting (setting_by given) old ∥₁)
     (journal : room.journal.items ≡ old.journal.items) (roomed : room.network ≡ old.network)
     (waiting : room.outlet.waiting ≡ old.outlet.waiting) (drained : room.outlet.drained ≡ old.outlet.drained)
     (grown : events.items ≡ room.journal.items ++ event.Visit server packet worker ∷ [])
@@ -183,7 +184,7 @@ module _ (given : Given) (old room : Course) (mid : Network) (events : EventList
       IsLegalJob setting state (job.Visit server packet) ↔ IsLegal setting state (event.Visit server packet worker)) →
       ((setting : Setting) (state : ChainState) (events : List Event) → AreReleases setting state events →
       IsNoneDue setting (state_after setting state events)) →
-      ∥ IsResting (setting_by given) new
+      ∥ IsCourseResting (setting_by given) new
       × HasMade worker (job.Visit server packet) (run_of given old) (run_of given new) ∥₁
   visit_made follows slots ends =
       let live_is = live_of (server_in old.network.servers.items server) worker runs in

@@ -13,7 +13,7 @@ use Rattle.ftc_chain.specs.declared.chain.Chain.{the_code}
 use Rattle.ftc_chain.specs.declared.course.Course.{Course}
 use Rattle.ftc_chain.specs.declared.given.Given.{Given}
 use Rattle.ftc_chain.specs.ChainRun.{ChainRun, released_by}
-use Rattle.ftc_chain.specs.Course.{IsResting, state_by}
+use Rattle.ftc_chain.specs.Course.{IsCourseResting, state_by}
 use Rattle.ftc_chain.specs.Doing.{setting_by}
 use Rattle.ftc_chain.specs.Outlet.{Outgoing, IsOutlet}
 use Rattle.ftc_chain.proofs.Made.{run_of}
@@ -35,7 +35,7 @@ pub both_some : {A : Type 0} (One Two Fact : A → Type 0) (option : Option A) �
 both_some One Two Fact None from one two = tt
 both_some One Two Fact (Some item) from one two = from item one two
 
-module _ (given : Given) (course : Course) (is : ∥ IsResting (setting_by given) course ∥₁) where
+module _ (given : Given) (course : Course) (is : ∥ IsCourseResting (setting_by given) course ∥₁) where
   abbrev released : List Released
   released = released_in (state_by (setting_by given) course.journal.items).trace
 
@@ -54,7 +54,7 @@ module _ (given : Given) (course : Course) (is : ∥ IsResting (setting_by given
       (λ rest. eq-eqb _ _ (as_many released course.outlet rest.course_is.outlet)))
 
   pub rests_out : (outlet : Outgoing) → (IsOutlet released course.outlet → IsOutlet released outlet) →
-      ∥ IsResting (setting_by given) (with_outlet outlet) ∥₁
+      ∥ IsCourseResting (setting_by given) (with_outlet outlet) ∥₁
   rests_out outlet out = ∥∥₁_map is (λ rest. record {
     course_is = record {
       right = rest.course_is.right;
@@ -65,7 +65,7 @@ module _ (given : Given) (course : Course) (is : ∥ IsResting (setting_by given
     none_due = rest.none_due;
   })
 
-  same_runs : (one other : ChainRun) → (IsResting (setting_by given) course → one ≡ other) → one ≡ other
+  same_runs : (one other : ChainRun) → (IsCourseResting (setting_by given) course → one ≡ other) → one ≡ other
   same_runs one other from = ∥∥₁_elim is (Coded-set the_code one other) from
 
   -- the one that is taken out is the next of the records
@@ -86,7 +86,7 @@ module _ (given : Given) (course : Course) (is : ∥ IsResting (setting_by given
       ap (λ (run : ChainRun). run.drained) same
 
   -- no more was taken out than there are packets
-  pub few_taken : ((rest : IsResting (setting_by given) course) → length released ≤ count (setting_by given)) →
+  pub few_taken : ((rest : IsCourseResting (setting_by given) course) → length released ≤ count (setting_by given)) →
       length (run_of given course).drained ≤ length (run_of given course).packets
   few_taken fewer = ∥∥₁_elim is le_prop (λ rest.
       let few = few_drained released course.outlet rest.course_is.outlet in
@@ -96,7 +96,7 @@ module _ (given : Given) (course : Course) (is : ∥ IsResting (setting_by given
 
   -- and with one more that is taken out there are still no more
   pub few_with : (outlet : Outgoing) →
-      ((rest : IsResting (setting_by given) course) → length released ≤ count (setting_by given)) →
+      ((rest : IsCourseResting (setting_by given) course) → length released ≤ count (setting_by given)) →
       (IsOutlet released course.outlet → IsOutlet released outlet) →
       length (run_of given (with_outlet outlet)).drained ≤ length (run_of given course).packets
   few_with outlet fewer out = ∥∥₁_elim is le_prop (λ rest.

@@ -13,7 +13,7 @@ use Rattle.ftc_network.specs.Slots.{head_of, head_at, runs_in, AreSameHeads, Are
 use Rattle.ftc_chain.specs.declared.course.Course.{Course}
 use Rattle.ftc_chain.specs.declared.given.Given.{Given}
 use Rattle.ftc_chain.specs.ChainRun.{ChainRun}
-use Rattle.ftc_chain.specs.Course.{IsResting, state_by}
+use Rattle.ftc_chain.specs.Course.{IsCourseResting, state_by}
 use Rattle.ftc_chain.specs.Doing.{setting_by, HeadsDone}
 use Rattle.ftc_chain.specs.Slots.{head_in, IsIdle, IsButHeads, HeadsStay, OthersStay, HeadsAfter}
 use Rattle.ftc_chain.proofs.HeadsKept.{head_as, same_list, same_size, SlotsRunNoMore}
@@ -61,7 +61,7 @@ module _ (given : Given) (old new : Course) (run : ChainRun) (same : run_of give
 
   -- nothing differs
   pub as_it_was : new.journal.items ≡ old.journal.items → new.outlet.drained ≡ old.outlet.drained →
-      ∥ IsResting (setting_by given) old ∥₁ → ∥ IsResting (setting_by given) new ∥₁ →
+      ∥ IsCourseResting (setting_by given) old ∥₁ → ∥ IsCourseResting (setting_by given) new ∥₁ →
       AreSameHeads old.network new.network → run_of given new ≡ run
   as_it_was journal drained rested rests stay =
       let size : length new.network.servers.items ≡ length old.network.servers.items =

@@ -6,7 +6,7 @@ use Rattle.std.specs.Option.{option_map}
 use Rattle.std.proofs.lemmas.Option.{none-some, same_Some}
 use Rattle.std.proofs.Math.Bool.{Bool-set}
 use Rattle.std.proofs.Math.Logic.{∥∥₁_elim}
-use Rattle.ftc_jobs.specs.Rest.{IsResting as AtRest}
+use Rattle.ftc_jobs.specs.Rest.{IsResting}
 use Rattle.ftc_link.specs.Queue.{Queue, oldest_of}
 use Rattle.ftc_message.specs.declared.fault.FrameFault.{FrameFault}
 use Rattle.ftc_message.specs.declared.message.Message.{Message as SentMessage}
@@ -21,7 +21,7 @@ use Rattle.ftc_standing.specs.Arrivals.{AreArrived}
 use Rattle.ftc_standing.specs.Stand.{IsSentAs, IsLink, since_of, origin_of}
 use Rattle.ftc_standing.specs.View.{is_queued_on, queued_on}
 use Rattle.ftc_chain.specs.declared.course.Course.{Course}
-use Rattle.ftc_chain.specs.Course.{IsResting, state_by}
+use Rattle.ftc_chain.specs.Course.{IsCourseResting, state_by}
 use Rattle.ftc_chain.specs.Frames.{IsOldestFrame, IsFrameOf}
 use Rattle.ftc_chain.proofs.AtRest.{none_is}
 use Rattle.ftc_chain.proofs.Releases.{is_run_state}
@@ -42,8 +42,8 @@ told_once (Some other) number is = ap (λ (n : ℕ). Some n) (eqb-true other num
     (∥∥₁_elim is (Bool-set _ _) (λ same. eq-eqb other number (same_Some other number same))))
 
 -- between two calls jobs may be asked for
-pub rests : (setting : Setting) (course : Course) → IsResting setting course →
-    AtRest setting (state_by setting course.journal.items) course.network
+pub rests : (setting : Setting) (course : Course) → IsCourseResting setting course →
+    IsResting setting (state_by setting course.journal.items) course.network
 rests setting course is = record {
   run = is_run_state setting course is.course_is;
   none_due = is.none_due;

@@ -19,7 +19,7 @@ use Rattle.ftc_vector.specs.Commits.{vector_of}
 use Rattle.ftc_chain.specs.declared.course.Course.{Course}
 use Rattle.ftc_chain.specs.declared.given.Given.{Given}
 use Rattle.ftc_chain.specs.ChainRun.{ChainRun, setting_in, chain_state}
-use Rattle.ftc_chain.specs.Course.{IsResting, state_by}
+use Rattle.ftc_chain.specs.Course.{IsCourseResting, state_by}
 use Rattle.ftc_chain.specs.Doing.{setting_by}
 use Rattle.ftc_chain.specs.Members.{IsLiveMember, IsMemberIn, IsStoreAt, IsVectorAt}
 use Rattle.ftc_chain.proofs.AtRest.{none_is}
@@ -94,7 +94,7 @@ module _ (setting : Setting) (state : ChainState) (network : Network) (stands : 
 
 -- where no member of the network is found, a contract sees no live one
 pub none_live : (given : Given) (course : Course) (run : ChainRun) → run_of given course ≡ run →
-    ∥ IsResting (setting_by given) course ∥₁ → (server group : ℕ) →
+    ∥ IsCourseResting (setting_by given) course ∥₁ → (server group : ℕ) →
     ((member : Server) → IsMemberIn course.network server group member → ⊥) →
     IsLiveMember (setting_in run) (chain_state run) server group → ⊥
 none_live given course run same rests server group none live =

@@ -22,7 +22,7 @@ use Rattle.ftc_protocol.specs.State.{ChainState, opening}
 use Rattle.ftc_serial.specs.Packets.{bytes_of_packets}
 use Rattle.ftc_chain.specs.declared.course.Course.{Course}
 use Rattle.ftc_chain.specs.declared.given.Given.{Given}
-use Rattle.ftc_chain.specs.Course.{IsCourse, IsResting, HasReleased, HasMade, state_by}
+use Rattle.ftc_chain.specs.Course.{IsCourse, IsCourseResting, HasReleased, HasMade, state_by}
 use Rattle.ftc_chain.specs.Doing.{HasDone, setting_by}
 use Rattle.ftc_chain.specs.Outlet.{Outgoing, IsOutlet}
 use Rattle.ftc_chain.proofs.Outlets.{few_drained, released_kept, same_front, still_out}
@@ -82,7 +82,7 @@ pub record IsBetween (given : Given) (slot : ℕ) (job : Job) (old mid : Course)
   pub waiting : mid.outlet.waiting ≡ old.outlet.waiting
   pub drained : mid.outlet.drained ≡ old.outlet.drained
 
-module _ (given : Given) (slot : ℕ) (job : Job) (old mid new : Course) (is : IsResting (setting_by given) old)
+module _ (given : Given) (slot : ℕ) (job : Job) (old mid new : Course) (is : IsCourseResting (setting_by given) old)
     (between : IsBetween given slot job old mid)
     (released : IsCourse (setting_by given) mid → HasReleased (setting_by given) mid new) where
   mid_is : IsCourse (setting_by given) mid
@@ -96,7 +96,8 @@ module _ (given : Given) (slot : ℕ) (job : Job) (old mid new : Course) (is : I
       (still_out (released_in state.trace) old.outlet mid.outlet between.waiting between.drained is.course_is.outlet))
 
   pub rests : ((state : ChainState) (events : List Event) → AreReleases (setting_by given) state events →
-      IsNoneDue (setting_by given) (state_after (setting_by given) state events)) → IsResting (setting_by given) new
+      IsNoneDue (setting_by given) (state_after (setting_by given) state events)) →
+      IsCourseResting (setting_by given) new
   rests ends =
       let done = released mid_is in
       record {
@@ -135,8 +136,8 @@ module _ (given : Given) (slot : ℕ) (job : Job) (old mid new : Course) (is : I
 
 -- a chain before a job: it rests, and the job is legal
 pub before : (given : Given) (course : Course) (job : Job) (run : ChainRun) → run_of given course ≡ run →
-    ∥ IsResting (setting_by given) course ∥₁ → ∥ IsLegalJob (setting_in run) (chain_state run) job ∥₁ →
-    ∥ IsResting (setting_by given) course
+    ∥ IsCourseResting (setting_by given) course ∥₁ → ∥ IsLegalJob (setting_in run) (chain_state run) job ∥₁ →
+    ∥ IsCourseResting (setting_by given) course
     × IsLegalJob (setting_by given) (state_by (setting_by given) course.journal.items) job ∥₁
 before given course job run same resting legal =
     ∥∥₁_map₂ resting
@@ -145,7 +146,7 @@ before given course job run same resting legal =
 
 -- what a network did for a job stands between
 pub did_between : (given : Given) (slot : ℕ) (job : Job) (old room mid : Course) (event : Event) →
-    IsResting (setting_by given) old →
+    IsCourseResting (setting_by given) old →
     IsLegalJob (setting_by given) (state_by (setting_by given) old.journal.items) job →
     IsLegal (setting_by given) (state_by (setting_by given) old.journal.items)
     (event_of (setting_by given) (state_by (setting_by given) old.journal.items) slot job) →
@@ -170,7 +171,7 @@ did_between given slot job old room mid event is may legal same same_network wai
 
 -- a chain after a job, in whatever slot, and the releases that are due
 pub stepped : (given : Given) (slot : ℕ) (job : Job) (old room mid new : Course) (event : Event) (run : ChainRun) →
-    run_of given old ≡ run → ∥ IsResting (setting_by given) old ∥₁ →
+    run_of given old ≡ run → ∥ IsCourseResting (setting_by given) old ∥₁ →
     ∥ IsLegalJob (setting_in run) (chain_state run) job ∥₁ →
     ((setting : Setting) (state : ChainState) → IsLegalJob setting state job →
     IsLegal setting state (event_of setting state slot job)) →
@@ -181,7 +182,7 @@ pub stepped : (given : Given) (slot : ℕ) (job : Job) (old room mid new : Cours
     ((setting : Setting) → IsCourse setting mid → HasReleased setting mid new) →
     ((setting : Setting) (state : ChainState) (events : List Event) → AreReleases setting state events →
     IsNoneDue setting (state_after setting state events)) →
-    ∥ IsResting (setting_by given) new × HasMade slot job run (run_of given new) ∥₁
+    ∥ IsCourseResting (setting_by given) new × HasMade slot job run (run_of given new) ∥₁
 stepped given slot job old room mid new event run same resting legal in_slot same_journal same_network waiting drained
     same_outlet
     grown done released ends =
@@ -199,7 +200,7 @@ stepped given slot job old room mid new event run same resting legal in_slot sam
 pub still_rests : (setting : Setting) (old new : Course) → new.journal.items ≡ old.journal.items →
     new.outlet.waiting ≡ old.outlet.waiting → new.outlet.drained ≡ old.outlet.drained →
     ((state : ChainState) → IsNetwork setting state old.network → IsNetwork setting state new.network) →
-    IsResting setting old → IsResting setting new
+    IsCourseResting setting old → IsCourseResting setting new
 still_rests setting old new same waiting drained stands is = record {
   course_is = record {
     right = is.course_is.right;

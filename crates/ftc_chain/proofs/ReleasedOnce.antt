@@ -21,7 +21,7 @@ use Rattle.ftc_protocol.specs.State.{ChainState, opening}
 use Rattle.ftc_jobs.proofs.Joined.{any_either, once_both}
 use Rattle.ftc_chain.specs.declared.course.Course.{Course}
 use Rattle.ftc_chain.specs.declared.given.Given.{Given as GivenInputs}
-use Rattle.ftc_chain.specs.Course.{IsResting, state_by}
+use Rattle.ftc_chain.specs.Course.{IsCourseResting, state_by}
 use Rattle.ftc_chain.specs.Doing.{setting_by}
 use Rattle.ftc_chain.proofs.Outlets.{released_kept}
 use Rattle.ftc_chain.proofs.Releases.{is_run_state}
@@ -128,7 +128,7 @@ pub fewer_than_packets : (given : GivenInputs) (course : Course) →
     ((setting : Setting) → IsSetting setting → IsRunState setting (opening setting)) →
     ((setting : Setting) (state : ChainState) (event : Event) → IsRunState setting state → IsLegal setting state event →
     IsRunState setting (next setting state event)) →
-    IsResting (setting_by given) course →
+    IsCourseResting (setting_by given) course →
     length (released_in (state_by (setting_by given) course.journal.items).trace) ≤ count (setting_by given)
 fewer_than_packets given course fates order opens runs_on rest =
     let setting : Setting = setting_by given in

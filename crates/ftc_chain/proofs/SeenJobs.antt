@@ -13,7 +13,7 @@ use Rattle.ftc_protocol.specs.State.{ChainState}
 use Rattle.ftc_txn.specs.Head.{HeadState}
 use Rattle.ftc_network.specs.Slots.{is_running_in}
 use Rattle.ftc_chain.specs.ChainRun.{ChainRun, setting_in, chain_state}
-use Rattle.ftc_chain.specs.Course.{IsResting, state_by}
+use Rattle.ftc_chain.specs.Course.{IsCourseResting, state_by}
 use Rattle.ftc_chain.specs.Doing.{setting_by}
 use Rattle.ftc_chain.specs.declared.course.Course.{Course}
 use Rattle.ftc_chain.specs.declared.given.Given.{Given}
@@ -85,7 +85,7 @@ module _ (given : Given) (course : Course) where
         IsNoneWanted visits seen setting state
     seen_unwanted visits none done legal = wanted_as visits runs seen runs_as done ∙ none done legal
 
-  module _ (run : ChainRun) (is : run_of given course ≡ run) (rests : ∥ IsResting (setting_by given) course ∥₁)
+  module _ (run : ChainRun) (is : run_of given course ≡ run) (rests : ∥ IsCourseResting (setting_by given) course ∥₁)
       (visits : Bool)
     where
       abbrev setting : Setting
@@ -96,7 +96,7 @@ module _ (given : Given) (course : Course) where
 
       -- what was found at rest is wanted as a contract sees it
       pub wanted_found : (Fact : Job → Type 0) (found : Option Job) →
-          ((done : Job) → Fact done → IsResting setting course → IsWanted visits runs setting state done) →
+          ((done : Job) → Fact done → IsCourseResting setting course → IsWanted visits runs setting state done) →
           IfSome found Fact →
           IfSome found (λ done. ∥ IsWanted visits (is_running_at run) (setting_in run) (chain_state run) done ∥₁)
       wanted_found Fact found wanted =
@@ -106,7 +106,7 @@ module _ (given : Given) (course : Course) where
           seen_wanted setting state visits done (wanted done fact resting))))
 
       -- and where none is wanted at rest, none is
-      pub none_wanted : (IsResting setting course → IsNoneWanted visits runs setting state) →
+      pub none_wanted : (IsCourseResting setting course → IsNoneWanted visits runs setting state) →
           IsNoneWanted visits (is_running_at run) (setting_in run) (chain_state run)
       none_wanted none =
           subst (λ (r : ChainRun). IsNoneWanted visits (is_running_at r) (setting_in r) (chain_state r)) is

@@ -29,13 +29,13 @@ use Rattle.ftc_network.specs.Slots.{head_of, head_at, runs_in, AreOtherHeads, Ru
 use Rattle.ftc_network.specs.Slots.{SlotEndsVisit, bytes_run, bytes_run_at}
 use Rattle.ftc_network.specs.Stand.{IsSlot, IsUp}
 use Rattle.ftc_txn.specs.Slots.{wounded_by}
-use Rattle.ftc_txn.specs.Steps.{Reads as HeadReads}
+use Rattle.ftc_txn.specs.Steps.{HeadReads}
 use Rattle.ftc_base.specs.Partition.{partition_of}
 use Rattle.ftc_locks.specs.Locks.{conflicts}
 use Rattle.ftc_chain.specs.declared.course.Course.{Course}
 use Rattle.ftc_chain.specs.declared.given.Given.{Given}
 use Rattle.ftc_chain.specs.ChainRun.{ChainRun}
-use Rattle.ftc_chain.specs.Course.{IsResting, RunsOnce, state_by}
+use Rattle.ftc_chain.specs.Course.{IsCourseResting, RunsOnce, state_by}
 use Rattle.ftc_chain.specs.Doing.{setting_by}
 use Rattle.ftc_chain.specs.Slots.{head_in, runs_at, ask_at, IsIdle, Looks, OthersStay, IsAt, HasRead, ReadsAt, IsAsking}
 use Rattle.ftc_chain.specs.Slots.{CommitsAt, QuitsIn, HasQuitAt}
@@ -274,7 +274,7 @@ Asks = (setting : Setting) (state : ChainState) (number worker : ℕ) (server : 
     ask_in server worker ≡ Some
     (ask (rule_at setting number) (message_bytes (state.message running.packet)) running.answers)
 
-module _ (given : Given) (old : Course) (worker server : ℕ) (rests : IsResting (setting_by given) old)
+module _ (given : Given) (old : Course) (worker server : ℕ) (rests : IsCourseResting (setting_by given) old)
     (inside : server < servers (setting_by given)) (asks : Asks)
     (live_is : IsLive (server_in old.network.servers.items server) worker) where
   -- what a slot that runs something is asked
@@ -293,12 +293,12 @@ module _ (given : Given) (old : Course) (worker server : ℕ) (rests : IsResting
   asked_as running says there asked =
       some_same (ask_at (run_of given old) server running) says (sym (asks_there running there) ∙ asked)
 
-module _ (given : Given) (old new : Course) (worker server : ℕ) (rests : IsResting (setting_by given) old)
+module _ (given : Given) (old new : Course) (worker server : ℕ) (rests : IsCourseResting (setting_by given) old)
     (inside : server < servers (setting_by given)) (runs : runs_in (head_at old.network server) worker ≢ None)
     (others : (other : ℕ) → other ≢ server →
     server_in new.network.servers.items other ≡ server_in old.network.servers.items other)
     (journal : new.journal.items ≡ old.journal.items) (drained : new.outlet.drained ≡ old.outlet.drained)
-    (rested : ∥ IsResting (setting_by given) new ∥₁) (asks : Asks) where
+    (rested : ∥ IsCourseResting (setting_by given) new ∥₁) (asks : Asks) where
   abbrev before : ChainRun
   before = run_of given old
 
@@ -447,7 +447,7 @@ module _ (given : Given) (old new : Course) (worker server : ℕ) (rests : IsRes
 -- ---- what is read off
 
 -- a server of the network is one of the chain
-pub inside_of : (given : Given) (course : Course) (server : ℕ) → IsResting (setting_by given) course →
+pub inside_of : (given : Given) (course : Course) (server : ℕ) → IsCourseResting (setting_by given) course →
     server < course.network.ring.servers → server < servers (setting_by given)
 inside_of given course server is below =
     subst (λ (ring : RingShape). server < ring.servers) is.course_is.stands.ring below
@@ -471,7 +471,7 @@ Carries = (setting : Setting) (state : ChainState) (number worker : ℕ) (server
     bytes_run server (Some running) ≡ Some (message_bytes (state.message running.packet))
 
 pub looks_at : (given : Given) (course : Course) (worker server : ℕ) (bytes : Option (List ℕ)) →
-    IsResting (setting_by given) course → server < servers (setting_by given) →
+    IsCourseResting (setting_by given) course → server < servers (setting_by given) →
     runs_in (head_at course.network server) worker ≢ None → Carries →
     bytes ≡ bytes_run_at (server_in course.network.servers.items server) worker →
     Looks (run_of given course) worker bytes

@@ -28,7 +28,7 @@ pub record IsCourse (setting : Setting) (course : Course) : Type 0 where
   pub outlet : IsOutlet (released_in (state_by setting course.journal.items).trace) course.outlet
 
 -- between two calls no release is due
-pub record IsResting (setting : Setting) (course : Course) : Type 0 where
+pub record IsCourseResting (setting : Setting) (course : Course) : Type 0 where
   pub course_is : IsCourse setting course
   pub none_due : IsNoneDue setting (state_by setting course.journal.items)
 

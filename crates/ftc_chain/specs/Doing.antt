@@ -19,7 +19,7 @@ abbrev pub setting_by : Given → Setting
 setting_by given = setting_of given.spec.now (bytes_of_packets given.packets.now) given.script.now
 
 -- the script was accepted for the ring of the chain and for as many packets
-pub record IsGiven (given : Given) : Type 0 where
+pub record ScriptFits (given : Given) : Type 0 where
   pub ring : given.script.now.ring
       ≡ record { servers = length given.spec.now.rules; failures = given.spec.now.failures }
   pub packets : given.script.now.packets ≡ length given.packets.now

@@ -15,7 +15,7 @@ use Rattle.ftc_server.specs.declared.answers.CommitAnswer.{CommitAnswer}
 use Rattle.ftc_server.specs.declared.answers.CommitAnswer.TheVariants as commit
 use Rattle.ftc_txn.specs.Head.{HeadState}
 use Rattle.ftc_txn.specs.Slots.{Running}
-use Rattle.ftc_txn.specs.Steps.{Reads as HeadReads, HasCommitted, HasQuit, restarts}
+use Rattle.ftc_txn.specs.Steps.{HeadReads, HasCommitted, HasHeadQuit, restarts}
 use Rattle.ftc_txn.specs.declared.answers.ReadAnswer.{ReadAnswer}
 use Rattle.ftc_txn.specs.declared.answers.ReadAnswer.TheVariants as read
 use Rattle.ftc_network.specs.Slots.{runs_in, ages_left_in, is_running_in, IsIdleHead}
@@ -171,7 +171,7 @@ CommitsAt old new worker commit.NoMemory = (end : Finish) × IsAsking old worker
 
 -- where the slot ran something, its head has given that up; every other head is as it was
 abbrev pub QuitsIn : Option HeadState → Option HeadState → ℕ → Type 0
-QuitsIn (Some old) (Some new) worker = HasQuit old new worker
+QuitsIn (Some old) (Some new) worker = HasHeadQuit old new worker
 QuitsIn (Some old) None worker = ⊥
 QuitsIn None new worker = ⊥
 

@@ -43,8 +43,8 @@ impl<'a> Model for Chain<'a> {
     ghost use Rattle.ftc_txn.specs.Head.{head_code};
     ghost use Rattle.ftc_network.specs.Slots.{head_of};
     ghost use Rattle.ftc_chain.specs.ChainRun.{ChainRun};
-    ghost use Rattle.ftc_chain.specs.Course.{IsResting, RunsOnce, state_by};
-    ghost use Rattle.ftc_chain.specs.Doing.{IsGiven, setting_by};
+    ghost use Rattle.ftc_chain.specs.Course.{IsCourseResting, RunsOnce, state_by};
+    ghost use Rattle.ftc_chain.specs.Doing.{ScriptFits, setting_by};
 
     ghost Value = { ChainRun };
 
@@ -60,7 +60,7 @@ impl<'a> Model for Chain<'a> {
       heads = map head_of chain.course.network.servers.items;
     } };
 
-    ghost invariant = { λ chain. IsGiven chain.given × ∥ IsResting (setting_by chain.given) chain.course ∥₁
+    ghost invariant = { λ chain. ScriptFits chain.given × ∥ IsCourseResting (setting_by chain.given) chain.course ∥₁
         × RunsOnce chain.course.network };
 }
 

@@ -13,7 +13,7 @@ use Rattle.ftc_message.specs.Ordered.{is_log_of}
 use Rattle.ftc_replica.specs.Held.{Held as Replicated, pruned_by}
 use Rattle.ftc_serial.specs.Take.{Outcome}
 use Rattle.ftc_vector.specs.Commits.{vector_of}
-use Rattle.ftc_vector.specs.Order.{is_ready as is_ready_at}
+use Rattle.ftc_vector.specs.Order.{is_log_ready}
 use Rattle.ftc_protocol.specs.Changes.{is_changing}
 use Rattle.ftc_protocol.specs.Known.{ServerHas}
 use Rattle.ftc_protocol.specs.Legal.{MayHappen}
@@ -117,7 +117,7 @@ where_had true false had is = refl
 where_had false b had is = refl
 
 taker : (o : Option Replicated) (log : Logged) → may_apply_to o log ≡ true →
-    (replica : Replicated) × (o ≡ Some replica) × (is_ready_at replica.vector log.before log.changed ≡ true)
+    (replica : Replicated) × (o ≡ Some replica) × (is_log_ready replica.vector log.before log.changed ≡ true)
 taker None log is = absurd cc
 taker (Some replica) log is = (replica, refl, is)
 

@@ -8,7 +8,7 @@ use Rattle.ftc_protocol.specs.Setting.{Setting, servers, count}
 use Rattle.ftc_protocol.specs.State.{ChainState}
 use Rattle.ftc_server.specs.declared.held.HeldMessage.{HeldMessage}
 use Rattle.ftc_server.specs.declared.server.Server.{Server}
-use Rattle.ftc_refinement.specs.Slots.{AreSlots, AreStalled, IsServerSlot, IsToPropagate}
+use Rattle.ftc_refinement.specs.Slots.{AreRepresented, AreStalled, IsServerSlot, IsToPropagate}
 use Rattle.ftc_network.specs.declared.network.Network.{Network}
 use Rattle.ftc_network.specs.Parts.{buffer_of, link_in, server_in, withheld_in}
 use Rattle.ftc_network.specs.Stand.{IsSlot}
@@ -61,7 +61,7 @@ module _ (setting : Setting) (state : ChainState) (network : Network) (rest : Is
   abbrev queues : ℕ → Queue
   queues link = link_in network.links.items link
 
-  pub slots_stand : AreSlots setting state slots queues
+  pub slots_stand : AreRepresented setting state slots queues
   slots_stand = record {
     servers_are = λ number below. slot_stands setting state number (slots number)
         (rest.stands.servers_are number below);

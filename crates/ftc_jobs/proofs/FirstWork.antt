@@ -10,7 +10,7 @@ use Rattle.ftc_serial.specs.Words.{AnyOf}
 use Rattle.ftc_server.specs.declared.held.HeldMessage.{HeldMessage}
 use Rattle.ftc_server.specs.declared.work.Work.{Work}
 use Rattle.ftc_server.specs.Holding.{found, is_of}
-use Rattle.ftc_server.specs.Looks.{origin_of}
+use Rattle.ftc_server.specs.Looks.{held_origin}
 use Rattle.ftc_server.specs.Work.{work_for, has_work, first_with_work}
 use Rattle.ftc_jobs.specs.Turn.{IsRising}
 
@@ -94,11 +94,11 @@ found_before P origin (item ∷ items) rest all any =
 
 -- ---- the origin of the first
 
-pub no_first : (o : Option HeldMessage) → option_map origin_of o ≡ None → o ≡ None
+pub no_first : (o : Option HeldMessage) → option_map held_origin o ≡ None → o ≡ None
 no_first None is = refl
 no_first (Some held) is = absurd cc
 
-pub some_first : (o : Option HeldMessage) (origin : ℕ) → option_map origin_of o ≡ Some origin →
+pub some_first : (o : Option HeldMessage) (origin : ℕ) → option_map held_origin o ≡ Some origin →
     (held : HeldMessage) × (o ≡ Some held) × (held.message.origin ≡ origin)
 some_first None origin is = absurd cc
 some_first (Some held) origin is = (held, refl, same_Some held.message.origin origin is)

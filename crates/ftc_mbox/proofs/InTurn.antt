@@ -25,7 +25,7 @@ use Rattle.ftc_mbox.specs.declared.rule.Rule.TheVariants.{Pass, Monitor, Nat, Fi
 use Rattle.ftc_mbox.specs.Ask.{ask, ask_of, ask_of_flow}
 use Rattle.ftc_mbox.specs.Monitor.{monitor_ask}
 use Rattle.ftc_mbox.specs.Visit.{WritesAt, ReadsAndWrites}
-use Rattle.ftc_mbox.specs.InTurn.{Asks, AreInTurn, InTurn, IsLent, ComesNext}
+use Rattle.ftc_mbox.specs.InTurn.{Asks, AllInTurn, InTurn, IsLent, ComesNext}
 use Rattle.ftc_mbox.proofs.Visits.{rules_are_bounded}
 
 -- ---- writes rise
@@ -228,7 +228,7 @@ one_more left read leave asks answer answers key change (Finish end) asked same 
     (λ write may. may_write leave asks answer answers key change write.key asked may) holds
 
 next_from : (left : ℕ) (read leave : List (List ℕ)) (asks : List Answer → Ask) (answers : List Answer)
-    → ReadsAndWrites left read leave asks → AreInTurn asks answers → Next left read leave asks answers (asks answers)
+    → ReadsAndWrites left read leave asks → AllInTurn asks answers → Next left read leave asks answers (asks answers)
 next_from zero read leave asks [] bounded turn = last_next leave read asks (asks []) bounded
 next_from (suc left) read leave asks [] bounded turn = first_next left leave read asks (asks []) bounded
 next_from zero read leave asks (answer ∷ answers) bounded turn =

@@ -16,12 +16,12 @@ Asks key (Read asked change) = asked ≡ key
 Asks key (Finish end) = ⊥
 
 -- each answer's key is the one that is asked for after the earlier answers
-abbrev pub AreInTurn : (List Answer → Ask) → List Answer → Type 0
-AreInTurn asks [] = Unit {0}
-AreInTurn asks (answer ∷ answers) = Asks answer.key (asks []) × AreInTurn (λ more. asks (answer ∷ more)) answers
+abbrev pub AllInTurn : (List Answer → Ask) → List Answer → Type 0
+AllInTurn asks [] = Unit {0}
+AllInTurn asks (answer ∷ answers) = Asks answer.key (asks []) × AllInTurn (λ more. asks (answer ∷ more)) answers
 
 abbrev pub InTurn : Rule → List ℕ → List Answer → Type 0
-InTurn rule packet answers = AreInTurn (ask rule packet) answers
+InTurn rule packet answers = AllInTurn (ask rule packet) answers
 
 -- the key was asked for before the last of these answers, with leave to write there
 pub record IsLent (asks : List Answer → Ask) (answers : List Answer) (key : List ℕ) : Type 0 where

@@ -12,7 +12,7 @@ use Rattle.ftc_message.specs.declared.fault.FrameCause.TheVariants.{Cut, Range}
 use Rattle.ftc_message.specs.declared.fault.FieldFault.{FieldFault}
 use Rattle.ftc_message.specs.Numbers.{number_bytes, number_of}
 use Rattle.ftc_base.specs.Reading.{◌>>=◌, ◌>>◌, unless}
-use Rattle.ftc_message.specs.Fields.{fault_of, byte_at, within_at, taken_at, number_at, group_at}
+use Rattle.ftc_message.specs.Fields.{fault_of, byte_at, within_at, taken_at, integer_at, group_at}
 use Rattle.ftc_message.specs.Reading.{times}
 
 abbrev pub IsBytes : List ℕ → Type 0
@@ -164,8 +164,8 @@ wide_8 = record {
 }
 
 pub number_takes : (count limit : ℕ) → IsWide count limit → (bytes : List ℕ) (x : ℕ × List ℕ) → IsBytes bytes →
-    number_at count bytes ≡ Ok x → Takes bytes (number_bytes count x.0) x.1 × (x.0 < limit)
-unfolding number_at
+    integer_at count bytes ≡ Ok x → Takes bytes (number_bytes count x.0) x.1 × (x.0 < limit)
+unfolding integer_at
 number_takes count limit wide bytes x fits is =
     let front = bind_ok (taken_at count bytes) (λ front. Ok (number_of count front.0, front.1)) x is in
     let taken = taken_takes count bytes front.0 fits front.1 in
@@ -180,7 +180,7 @@ number_takes count limit wide bytes x fits is =
     )
 
 pub number_again : (count limit : ℕ) → IsWide count limit → (number : ℕ) (rest : List ℕ) → number < limit →
-    number_at count (number_bytes count number ++ rest) ≡ Ok (number, rest)
-unfolding number_at
+    integer_at count (number_bytes count number ++ rest) ≡ Ok (number, rest)
+unfolding integer_at
 number_again count limit wide number rest small =
     rw (taken_again count (number_bytes count number) rest (wide.size number), wide.again number small) refl

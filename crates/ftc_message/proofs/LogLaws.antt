@@ -12,7 +12,7 @@ use Rattle.ftc_message.specs.Bounds.{IsLog, MarksSome}
 use Rattle.ftc_message.specs.Numbers.{number_bytes}
 use Rattle.ftc_message.specs.Spelling.{marked, parts_bytes, writes_bytes, log_bytes, logs_bytes}
 use Rattle.ftc_base.specs.Reading.{◌>>=◌, ◌>>◌, unless}
-use Rattle.ftc_message.specs.Fields.{fault_of, number_at, group_at}
+use Rattle.ftc_message.specs.Fields.{fault_of, integer_at, group_at}
 use Rattle.ftc_message.specs.Reading.{parts_at, writes_at, head_at, log_at, logs_at}
 use Rattle.ftc_message.proofs.Fields.{IsBytes, Takes, Takes-then, bind_ok, test_ok, ok_is, group_takes, group_again}
 use Rattle.ftc_message.proofs.Fields.{number_takes, number_again, wide_4}
@@ -90,9 +90,9 @@ head_takes : (last : Option (ℕ × ℕ)) (bytes : List ℕ) (x : (ℕ × ℕ) �
     head_at last bytes ≡ Ok x → HeadRead last bytes x
 unfolding head_at
 head_takes last bytes x fits is =
-    let group = bind_ok (group_at bytes) (λ group. number_at 4 group.1 >>= λ origin.
+    let group = bind_ok (group_at bytes) (λ group. integer_at 4 group.1 >>= λ origin.
     unless (log_follows last origin.0 group.0) (fault_of bytes Order) >> Ok ((origin.0, group.0), origin.1)) x is in
-    let origin = bind_ok (number_at 4 group.0.1)
+    let origin = bind_ok (integer_at 4 group.0.1)
     (λ origin. unless (log_follows last origin.0 group.0.0) (fault_of bytes Order) >> Ok (
       (origin.0, group.0.0),
       origin.1,
@@ -241,7 +241,7 @@ pub logs_at_takes : (bytes : List ℕ) (x : List Logged × List ℕ) → IsBytes
     Takes bytes (logs_bytes x.0) x.1 × AreLogsSpelled x.0
 unfolding logs_at
 logs_at_takes bytes x fits is =
-    let read = counted_read logs None (number_bytes 4) (λ n. n < 2 ^ 32) (number_at 4) bytes x
+    let read = counted_read logs None (number_bytes 4) (λ n. n < 2 ^ 32) (integer_at 4) bytes x
     (λ count. number_takes 4 (2 ^ 32) wide_4 bytes count fits) is in
     (read.takes, record { few = read.few; each = read.each; rising = sym (in_order_is None x.0) ∙ read.rising })
 

@@ -11,8 +11,8 @@ use Rattle.ftc_message.specs.declared.fault.FrameCause.TheVariants.{Range, Order
 use Rattle.ftc_message.specs.Numbers.{number_bytes}
 use Rattle.ftc_message.specs.Spelling.{marked, marks_from, marks_bytes}
 use Rattle.ftc_base.specs.Reading.{◌>>=◌, ◌>>◌, unless}
-use Rattle.ftc_message.specs.Fields.{fault_of, within_at, number_at}
-use Rattle.ftc_message.specs.Reading.{times, partition_at, least_at, mark_at, with_mark, no_marks, marks_at}
+use Rattle.ftc_message.specs.Fields.{fault_of, within_at, integer_at}
+use Rattle.ftc_message.specs.Reading.{times, partition_at, least_at, need_mark_at, with_mark, no_marks, marks_at}
 use Rattle.ftc_message.proofs.Fields.{IsBytes, Takes, Takes-then, bind_ok, test_ok, ok_is, times_ok, within_takes}
 use Rattle.ftc_message.proofs.Fields.{within_again, number_takes, number_again, wide_8}
 use Rattle.ftc_message.proofs.Blanks.{blanks, put_behind, length_behind, fill, length_filled, all_blanks, all_behind}
@@ -40,7 +40,7 @@ least_takes : (least : ℕ) (bytes : List ℕ) (x : ℕ × List ℕ) → IsBytes
     Takes bytes (number_bytes 8 x.0) x.1 × (least ≤ x.0) × (x.0 < 2 ^ 64)
 unfolding least_at
 least_takes least bytes x fits is =
-    let number = bind_ok (number_at 8 bytes)
+    let number = bind_ok (integer_at 8 bytes)
     (λ number. unless (leb least number.0) (fault_of bytes Range) >> Ok number) x is in
     let passed = test_ok (leb least number.0.0) bytes Range (Ok number.0) x number.2 in
     let taken = number_takes 8 (2 ^ 64) wide_8 bytes number.0 fits number.1 in
@@ -61,8 +61,8 @@ record MarkRead (least from : ℕ) (bytes : List ℕ) (x : (ℕ × ℕ) × List 
   pub most : x.0.1 < 2 ^ 64
 
 mark_takes : (least from : ℕ) (bytes : List ℕ) (x : (ℕ × ℕ) × List ℕ) → IsBytes bytes →
-    mark_at least from bytes ≡ Ok x → MarkRead least from bytes x
-unfolding mark_at
+    need_mark_at least from bytes ≡ Ok x → MarkRead least from bytes x
+unfolding need_mark_at
 mark_takes least from bytes x fits is =
     let partition = bind_ok (partition_at from bytes) (λ partition. least_at least partition.1 >>= λ number.
     Ok ((partition.0, number.0), number.1)) x is in
@@ -83,8 +83,8 @@ mark_takes least from bytes x fits is =
 
 mark_again : (least from partition number : ℕ) (rest : List ℕ) → from ≤ partition → partition < MOST_PARTITIONS →
     least ≤ number → number < 2 ^ 64 →
-    mark_at least from (partition ∷ (number_bytes 8 number ++ rest)) ≡ Ok ((partition, number), rest)
-unfolding mark_at
+    need_mark_at least from (partition ∷ (number_bytes 8 number ++ rest)) ≡ Ok ((partition, number), rest)
+unfolding need_mark_at
 mark_again least from partition number rest low high least_low most =
     rw (
       partition_again from partition (number_bytes 8 number ++ rest) low high,
@@ -204,7 +204,7 @@ marks_read : (least count from k : ℕ) (front : List (Option ℕ)) (bytes : Lis
 marks_read least zero from k front bytes x size within fits is = none_read least from k front bytes x fits is
 marks_read least (suc count) from k front bytes x size within fits is =
     let next = times_ok (with_mark least) count (from, front ++ blanks k) bytes x is in
-    let mark = bind_ok (mark_at least from bytes)
+    let mark = bind_ok (need_mark_at least from bytes)
     (λ mark. Ok ((mark.0.0 + 1, slice_set (front ++ blanks k) mark.0.0 (Some mark.0.1)), mark.1)) next.0 next.1 in
     let same = ok_is (
       (mark.0.0.0 + 1, slice_set (front ++ blanks k) mark.0.0.0 (Some mark.0.0.1)),

@@ -20,7 +20,7 @@ use Rattle.ftc_message.specs.WellFormed.{IsTyped, IsWellFormed}
 use Rattle.ftc_message.specs.Numbers.{number_bytes}
 use Rattle.ftc_message.specs.Spelling.{kind, magic, packet_bytes, logs_bytes, needs_bytes, commits_bytes, spelling}
 use Rattle.ftc_base.specs.Reading.{◌>>=◌, ◌>>◌, unless}
-use Rattle.ftc_message.specs.Fields.{fault_of, within_at, taken_at, number_at}
+use Rattle.ftc_message.specs.Fields.{fault_of, within_at, taken_at, integer_at}
 use Rattle.ftc_message.specs.Reading.{magic_at, packet_at, front_at, most_needs, logs_at, needs_at, commits_at}
 use Rattle.ftc_message.specs.Reading.{message_at, whole_of, message_of}
 use Rattle.ftc_message.proofs.Fields.{IsBytes, Takes, Takes-then, bind_ok, test_ok, ok_is, within_takes, within_again}
@@ -84,7 +84,7 @@ packet_takes : (is_there : Bool) (bytes : List ℕ) (x : Option (List ℕ) × Li
 unfolding packet_at
 packet_takes is_there bytes x fits is =
     let most = (if is_there then MOST_CAPTURED else 0) in
-    let size = bind_ok (number_at 4 bytes)
+    let size = bind_ok (integer_at 4 bytes)
     (λ size. unless (leb size.0 most) (fault_of bytes Range) >> (taken_at size.0 size.1 >>= λ packet.
     Ok ((if is_there then Some packet.0 else None), packet.1))) x is in
     let passed = test_ok (leb size.0.0 most) bytes Range (taken_at size.0.0 size.0.1 >>= λ packet.
@@ -205,11 +205,11 @@ front_takes : (bytes : List ℕ) (x : (ℕ × Option (List ℕ)) × List ℕ) �
     FrontRead bytes x
 unfolding front_at
 front_takes bytes x fits is =
-    let one = bind_ok (magic_at bytes) (λ rest. within_at 0 1 rest >>= λ k. number_at 4 k.1 >>= λ origin.
+    let one = bind_ok (magic_at bytes) (λ rest. within_at 0 1 rest >>= λ k. integer_at 4 k.1 >>= λ origin.
     packet_at (k.0 == 0) origin.1 >>= λ packet. Ok ((origin.0, packet.0), packet.1)) x is in
-    let k = bind_ok (within_at 0 1 one.0) (λ k. number_at 4 k.1 >>= λ origin.
+    let k = bind_ok (within_at 0 1 one.0) (λ k. integer_at 4 k.1 >>= λ origin.
     packet_at (k.0 == 0) origin.1 >>= λ packet. Ok ((origin.0, packet.0), packet.1)) x one.2 in
-    let origin = bind_ok (number_at 4 k.0.1) (λ origin. packet_at (k.0.0 == 0) origin.1 >>= λ packet.
+    let origin = bind_ok (integer_at 4 k.0.1) (λ origin. packet_at (k.0.0 == 0) origin.1 >>= λ packet.
     Ok ((origin.0, packet.0), packet.1)) x k.2 in
     let packet = bind_ok (packet_at (k.0.0 == 0) origin.0.1) (λ packet. Ok (
       (origin.0.0, packet.0),

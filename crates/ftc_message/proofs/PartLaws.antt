@@ -15,7 +15,7 @@ use Rattle.ftc_message.specs.declared.parts.Parts.{Parts}
 use Rattle.ftc_message.specs.Numbers.{number_bytes}
 use Rattle.ftc_message.specs.Spelling.{marked, flag, parts_from, parts_bytes}
 use Rattle.ftc_base.specs.Reading.{◌>>=◌}
-use Rattle.ftc_message.specs.Fields.{within_at, number_at}
+use Rattle.ftc_message.specs.Fields.{within_at, integer_at}
 use Rattle.ftc_message.specs.Reading.{times, partition_at, part_at, changed_by, plus_part, with_part, no_marks}
 use Rattle.ftc_message.specs.Reading.{no_parts, parts_at}
 use Rattle.ftc_message.proofs.Fields.{IsBytes, Takes, Takes-then, bind_ok, ok_is, times_ok, within_takes, within_again}
@@ -51,14 +51,14 @@ part_takes : (from : ℕ) (bytes : List ℕ) (x : Part × List ℕ) → IsBytes 
 unfolding part_at
 part_takes from bytes x fits is =
     let partition = bind_ok (partition_at from bytes)
-    (λ partition. within_at 0 1 partition.1 >>= λ flag'. number_at 8 flag'.1 >>= λ number.
+    (λ partition. within_at 0 1 partition.1 >>= λ flag'. integer_at 8 flag'.1 >>= λ number.
     Ok (record { partition = partition.0; is_changed = flag'.0 == 1; number = number.0 }, number.1)) x is in
-    let byte = bind_ok (within_at 0 1 partition.0.1) (λ flag'. number_at 8 flag'.1 >>= λ number.
+    let byte = bind_ok (within_at 0 1 partition.0.1) (λ flag'. integer_at 8 flag'.1 >>= λ number.
     Ok (
       record { partition = partition.0.0; is_changed = flag'.0 == 1; number = number.0 },
       number.1,
     )) x partition.2 in
-    let number = bind_ok (number_at 8 byte.0.1)
+    let number = bind_ok (integer_at 8 byte.0.1)
     (λ number. Ok (
       record { partition = partition.0.0; is_changed = byte.0.0 == 1; number = number.0 },
       number.1,

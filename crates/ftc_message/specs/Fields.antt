@@ -34,8 +34,8 @@ taken_at count bytes = if nat_lt (length bytes) count then fault_at bytes Cut
     else Ok (take count bytes, drop count bytes)
 
 -- a number of so many bytes
-unfoldable pub number_at : ℕ → List ℕ → Result (ℕ × List ℕ) FieldFault
-number_at count bytes = do
+unfoldable pub integer_at : ℕ → List ℕ → Result (ℕ × List ℕ) FieldFault
+integer_at count bytes = do
   front ← taken_at count bytes
   Ok (number_of count front.0, front.1)
 

@@ -18,7 +18,7 @@ use Rattle.ftc_message.specs.declared.message.Message.{Message}
 use Rattle.ftc_message.specs.Logged.{Logged, key_follows, log_follows}
 use Rattle.ftc_message.specs.Spelling.{magic}
 use Rattle.ftc_base.specs.Reading.{◌>>=◌, ◌>>◌, unless}
-use Rattle.ftc_message.specs.Fields.{fault_of, within_at, taken_at, number_at, group_at}
+use Rattle.ftc_message.specs.Fields.{fault_of, within_at, taken_at, integer_at, group_at}
 
 -- so many steps, each of which reads from the front and adds to what was read so far
 unfoldable pub times : {S : Type 0} → (S → List ℕ → Result (S × List ℕ) FieldFault) → ℕ → S → List ℕ →
@@ -40,13 +40,13 @@ partition_at from bytes = do
 -- a number of 8 bytes, which is at least `least`
 unfoldable pub least_at : ℕ → List ℕ → Result (ℕ × List ℕ) FieldFault
 least_at least bytes = do
-  number ← number_at 8 bytes
+  number ← integer_at 8 bytes
   unless (nat_le least number.0) (fault_of bytes Range)
   Ok number
 
 -- a partition of a need, and its number
-unfoldable pub mark_at : ℕ → ℕ → List ℕ → Result ((ℕ × ℕ) × List ℕ) FieldFault
-mark_at least from bytes = do
+unfoldable pub need_mark_at : ℕ → ℕ → List ℕ → Result ((ℕ × ℕ) × List ℕ) FieldFault
+need_mark_at least from bytes = do
   partition ← partition_at from bytes
   number ← least_at least partition.1
   Ok ((partition.0, number.0), number.1)
@@ -54,7 +54,7 @@ mark_at least from bytes = do
 -- the partition from which on the next one may be, and the marks so far
 abbrev pub with_mark : ℕ → ℕ × List (Option ℕ) → List ℕ → Result ((ℕ × List (Option ℕ)) × List ℕ) FieldFault
 with_mark least so_far bytes = do
-  mark ← mark_at least so_far.0 bytes
+  mark ← need_mark_at least so_far.0 bytes
   Ok ((mark.0.0 + 1, slice_set so_far.1 mark.0.0 (Some mark.0.1)), mark.1)
 
 -- no partition has a number
@@ -72,7 +72,7 @@ unfoldable pub part_at : ℕ → List ℕ → Result (Part × List ℕ) FieldFau
 part_at from bytes = do
   partition ← partition_at from bytes
   flag ← within_at 0 1 partition.1
-  number ← number_at 8 flag.1
+  number ← integer_at 8 flag.1
   Ok (record { partition = partition.0; is_changed = flag.0 == 1; number = number.0 }, number.1)
 
 -- with one more member, where it is changed
@@ -147,7 +147,7 @@ writes_at bytes = do
 unfoldable pub head_at : Option (ℕ × ℕ) → List ℕ → Result ((ℕ × ℕ) × List ℕ) FieldFault
 head_at last bytes = do
   group ← group_at bytes
-  origin ← number_at 4 group.1
+  origin ← integer_at 4 group.1
   unless (log_follows last origin.0 group.0) (fault_of bytes Order)
   Ok ((origin.0, group.0), origin.1)
 
@@ -176,7 +176,7 @@ with_log so_far bytes = do
 
 unfoldable pub logs_at : List ℕ → Result (List Logged × List ℕ) FieldFault
 logs_at bytes = do
-  count ← number_at 4 bytes
+  count ← integer_at 4 bytes
   logs ← times with_log count.0 (None, []) count.1
   Ok (logs.0.1, logs.1)
 
@@ -246,7 +246,7 @@ magic_at bytes = do
 -- the packet of a frame of kind 0, and none of kind 1, whose length is 0
 unfoldable pub packet_at : Bool → List ℕ → Result (Option (List ℕ) × List ℕ) FieldFault
 packet_at is_there bytes = do
-  size ← number_at 4 bytes
+  size ← integer_at 4 bytes
   unless (nat_le size.0 (if is_there then MOST_CAPTURED else 0)) (fault_of bytes Range)
   packet ← taken_at size.0 size.1
   Ok ((if is_there then Some packet.0 else None), packet.1)
@@ -256,7 +256,7 @@ unfoldable pub front_at : List ℕ → Result ((ℕ × Option (List ℕ)) × Lis
 front_at bytes = do
   rest ← magic_at bytes
   kind ← within_at 0 1 rest
-  origin ← number_at 4 kind.1
+  origin ← integer_at 4 kind.1
   packet ← packet_at (kind.0 == 0) origin.1
   Ok ((origin.0, packet.0), packet.1)
 

@@ -1,7 +1,7 @@
 //! Reading one field from the front of bytes: its value, and the bytes behind it.
 
 ghost use Rattle.std.specs.Prelude.{◌≡◌, ◌≤◌, length, IfOk};
-ghost use Rattle.ftc_message.specs.Fields.{byte_at, within_at, taken_at, number_at, group_at};
+ghost use Rattle.ftc_message.specs.Fields.{byte_at, within_at, taken_at, integer_at, group_at};
 ghost use Rattle.ftc_message.specs.Front.{IsField, IsTaken};
 
 use crate::bytes::{number_of, word_of};
@@ -68,9 +68,9 @@ pub fn taken_at(count: usize, bytes: &[u8]) -> Result<(&[u8], &[u8]), FieldFault
 }
 
 /// A number of four bytes.
-#[tactic(auto, unfolding(crate::specs::Fields::number_at, crate::specs::Fields::taken_at))]
+#[tactic(auto, unfolding(crate::specs::Fields::integer_at, crate::specs::Fields::taken_at))]
 pub fn word_at(bytes: &[u8]) -> Result<(u32, &[u8]), FieldFault>
-    ensures { IsField result (number_at 4 bytes.now) }
+    ensures { IsField result (integer_at 4 bytes.now) }
 {
     if bytes.len() < 4 {
         return Err(fault_at(bytes, FrameCause::Cut));
@@ -80,9 +80,9 @@ pub fn word_at(bytes: &[u8]) -> Result<(u32, &[u8]), FieldFault>
 }
 
 /// A number of eight bytes.
-#[tactic(auto, unfolding(crate::specs::Fields::number_at, crate::specs::Fields::taken_at))]
-pub fn number_at(bytes: &[u8]) -> Result<(u64, &[u8]), FieldFault>
-    ensures { IsField result (number_at 8 bytes.now) }
+#[tactic(auto, unfolding(crate::specs::Fields::integer_at, crate::specs::Fields::taken_at))]
+pub fn integer_at(bytes: &[u8]) -> Result<(u64, &[u8]), FieldFault>
+    ensures { IsField result (integer_at 8 bytes.now) }
 {
     if bytes.len() < 8 {
         return Err(fault_at(bytes, FrameCause::Cut));

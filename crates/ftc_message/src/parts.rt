@@ -2,12 +2,12 @@
 
 ghost use Rattle.std.specs.Prelude.{◌≡◌, ◌<◌, ◌≤◌, IfOk};
 ghost use Rattle.ftc_vector.specs.Vector.{by_partition};
-ghost use Rattle.ftc_message.specs.Reading.{partition_at, least_at, mark_at, no_marks, marks_at, known_at};
+ghost use Rattle.ftc_message.specs.Reading.{partition_at, least_at, need_mark_at, no_marks, marks_at, known_at};
 ghost use Rattle.ftc_message.specs.Reading.{part_at, no_parts, plus_part, parts_at};
 ghost use Rattle.ftc_message.specs.Front.{IsField, IsPlaced};
 
 use crate::fault::{FieldFault, FrameCause};
-use crate::field::{fault_at, number_at, within_at};
+use crate::field::{fault_at, integer_at, within_at};
 use ftc_base::PartSet;
 use ftc_base::limits::MOST_PARTITIONS;
 use ftc_vector::{Marks, Vector};
@@ -69,7 +69,7 @@ fn least_at(least: u64, bytes: &[u8]) -> Result<(u64, &[u8]), FieldFault>
     ensures value { IsField result (least_at least bytes.now) }
     ensures enough { IfOk result (λ found. least ≤ found.0) }
 {
-    let (number, rest) = number_at(bytes)?;
+    let (number, rest) = integer_at(bytes)?;
     if number < least {
         return Err(fault_at(bytes, FrameCause::Range));
     }
@@ -77,9 +77,9 @@ fn least_at(least: u64, bytes: &[u8]) -> Result<(u64, &[u8]), FieldFault>
 }
 
 /// A partition of a need, and its number.
-#[tactic(auto, unfolding(crate::specs::Reading::mark_at))]
-fn mark_at(least: u64, from: u8, bytes: &[u8]) -> Result<((u8, u64), &[u8]), FieldFault>
-    ensures value { IsField result (mark_at least from bytes.now) }
+#[tactic(auto, unfolding(crate::specs::Reading::need_mark_at))]
+fn need_mark_at(least: u64, from: u8, bytes: &[u8]) -> Result<((u8, u64), &[u8]), FieldFault>
+    ensures value { IsField result (need_mark_at least from bytes.now) }
     ensures within { IfOk result (λ found. found.0.0 < MOST_PARTITIONS) }
     ensures enough { IfOk result (λ found. least ≤ found.0.1) }
 {
@@ -99,7 +99,7 @@ pub fn marks_at<'a>(least: u64, bytes: &'a [u8], marks: &mut Marks) -> Result<&'
     let mut rest = after;
     let mut from = 0;
     for _ in 0..count {
-        let ((partition, number), behind) = mark_at(least, from, rest)?;
+        let ((partition, number), behind) = need_mark_at(least, from, rest)?;
         marks.set(partition, number);
         from = partition + 1;
         rest = behind;
@@ -117,7 +117,7 @@ pub fn known_at<'a>(bytes: &'a [u8], vector: &mut Vector) -> Result<&'a [u8], Fi
     let mut rest = after;
     let mut from = 0;
     for _ in 0..count {
-        let ((partition, number), behind) = mark_at(1, from, rest)?;
+        let ((partition, number), behind) = need_mark_at(1, from, rest)?;
         vector.set(partition, number);
         from = partition + 1;
         rest = behind;
@@ -133,7 +133,7 @@ fn part_at(from: u8, bytes: &[u8]) -> Result<(Part, &[u8]), FieldFault>
 {
     let (partition, rest) = partition_at(from, bytes)?;
     let (flag, rest) = within_at(0, 1, rest)?;
-    let (number, rest) = number_at(rest)?;
+    let (number, rest) = integer_at(rest)?;
     let part = Part {
         partition,
         is_changed: flag == 1,

@@ -15,7 +15,7 @@ use Rattle.ftc_network.specs.declared.network.Network.{Network}
 use Rattle.ftc_network.specs.Committing.{IsAtRestAt}
 use Rattle.ftc_network.specs.Events.{IsAllowed, IsAllowedAt}
 use Rattle.ftc_network.specs.Parts.{server_in}
-use Rattle.ftc_network.specs.Slots.{IsAtRest, IsLegalIn}
+use Rattle.ftc_network.specs.Slots.{IsNetworkAtRest, IsLegalIn}
 use Rattle.ftc_network.specs.Stand.{IsSlot, IsUp}
 use Rattle.ftc_network.proofs.Untold.{is_below}
 
@@ -81,7 +81,7 @@ slot_allowed event network number slot below same allowed = ∥∥₁_map allowe
 
 -- where a network is at rest, each of its servers is
 pub slot_rests : (network : Network) (number : ℕ) (slot : Option Server) → number < network.ring.servers →
-    slot ≡ server_in network.servers.items number → ∥ IsAtRest network ∥₁ → ∥ IsAtRestAt number slot ∥₁
+    slot ≡ server_in network.servers.items number → ∥ IsNetworkAtRest network ∥₁ → ∥ IsAtRestAt number slot ∥₁
 slot_rests network number slot below same rests = ∥∥₁_map rests (λ given. record {
   setting = given.setting;
   state = given.state;

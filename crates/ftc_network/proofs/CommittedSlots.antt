@@ -6,7 +6,7 @@ use Rattle.std.specs.Prelude.{OnErr, IfErr}
 use Rattle.ftc_protocol.specs.Run.{IsRunState}
 use Rattle.ftc_server.specs.Replicas.{may_rise}
 use Rattle.ftc_visits.specs.declared.visit.MadeVisit.{MadeVisit}
-use Rattle.ftc_network.specs.Committing.{IsAtRestAt, answer_of}
+use Rattle.ftc_network.specs.Committing.{IsAtRestAt, commit_answer}
 use Rattle.ftc_server.specs.declared.answers.CommitAnswer.{CommitAnswer}
 use Rattle.ftc_server.specs.declared.answers.CommitAnswer.TheVariants.{Done, Wounded, Idle, Unfinished, NoMemory}
 use Rattle.ftc_server.specs.declared.server.Server.{Server}
@@ -71,7 +71,7 @@ may_rise_at slot live number same wants rests = ∥∥₁_elim rests (Bool-set _
 -- what is so of each answer by which no visit is made is so where none is
 pub where_undone : (old new : Server) (worker : ℕ) (result : Result MadeVisit CommitAnswer) (Fact : Type 0) →
     ((answer : CommitAnswer) → answer ≢ Done → EndsVisit old new worker answer → Fact) →
-    EndsVisit old new worker (answer_of result) → IfErr result (λ answer. answer ≢ Done) → OnErr result Fact
+    EndsVisit old new worker (commit_answer result) → IfErr result (λ answer. answer ≢ Done) → OnErr result Fact
 where_undone old new worker (Ok visit) Fact from ends not = tt
 where_undone old new worker (Err answer) Fact from ends not = from answer not ends
 

@@ -7,7 +7,7 @@ use Rattle.ftc_server.specs.declared.held.HeldMessage.{HeldMessage}
 use Rattle.ftc_server.specs.declared.server.Server.{Server}
 use Rattle.ftc_server.specs.Holding.{found}
 use Rattle.ftc_server.specs.Looks.{ask_in, ask_of_slot}
-use Rattle.ftc_server.specs.Slots.{AreSlots, ask_of}
+use Rattle.ftc_server.specs.Slots.{AreSlots, ask_of_held}
 use Rattle.ftc_mbox.specs.Ask.{ask}
 use Rattle.ftc_protocol.specs.Next.{message_bytes, bytes_in}
 use Rattle.ftc_protocol.specs.Setting.{Setting}
@@ -58,7 +58,7 @@ pub asks_of_bytes : (server : Server) (worker : ℕ) (running : Running)
     (runs : slot_at server.head.slots worker ≡ Some running) (has : HasBytes (found running.packet server.held.items)) →
     ask_in server worker ≡ Some (ask server.rule has.bytes running.answers)
 asks_of_bytes server worker running runs has =
-    ap (ask_of_slot server) runs ∙ (ap (ask_of server.rule running) has.there
+    ap (ask_of_slot server) runs ∙ (ap (ask_of_held server.rule running) has.there
     ∙ ap (option_map (λ bytes. ask server.rule bytes running.answers)) has.with_bytes)
 
 -- the packet of the message in the state is that of the held one

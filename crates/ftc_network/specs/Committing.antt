@@ -30,9 +30,9 @@ pub record IsAtRestAt (number : ℕ) (slot : Option Server) : Type 0 where
   pub stands : IsSlot setting state number slot
 
 -- the answer to a commit of which a visit came, or else this answer
-abbrev pub answer_of : Result MadeVisit CommitAnswer → CommitAnswer
-answer_of (Ok visit) = Done
-answer_of (Err answer) = answer
+abbrev pub commit_answer : Result MadeVisit CommitAnswer → CommitAnswer
+commit_answer (Ok visit) = Done
+commit_answer (Err answer) = answer
 
 -- The visit of what the slot ran is made, and it is this one.
 pub record HasMade (old new : Server) (worker : ℕ) (visit : MadeVisit) : Type 0 where

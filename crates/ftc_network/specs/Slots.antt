@@ -124,7 +124,7 @@ SlotEndsVisit (Some old) None worker answer = ⊥
 SlotEndsVisit (Some old) (Some new) worker answer = EndsVisit old new worker answer
 
 -- A run of few events leads to a state in which no release is due, and for which the network stands.
-pub record IsAtRest (network : Network) : Type 0 where
+pub record IsNetworkAtRest (network : Network) : Type 0 where
   pub setting : Setting
   pub state : ChainState
   pub run : IsRunState setting state

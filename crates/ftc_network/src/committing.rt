@@ -5,10 +5,10 @@ ghost use Rattle.ftc_server.specs.declared.answers.CommitAnswer.TheVariants as c
 ghost use Rattle.ftc_server.specs.Replicas.{may_rise};
 ghost use Rattle.ftc_server.specs.Steps.{EndsVisit};
 ghost use Rattle.ftc_txn.specs.Slots.{wounded_at};
-ghost use Rattle.ftc_network.specs.Committing.{IsAtRestAt, HasMade, SlotFollowsCommit, answer_of};
+ghost use Rattle.ftc_network.specs.Committing.{IsAtRestAt, HasMade, SlotFollowsCommit, commit_answer};
 ghost use Rattle.ftc_network.specs.Events.{StandsStill, SlotStandsStill};
 ghost use Rattle.ftc_network.specs.Parts.{server_in, withheld_in};
-ghost use Rattle.ftc_network.specs.Slots.{IsAtRest, SlotEndsVisit, FollowsCommit};
+ghost use Rattle.ftc_network.specs.Slots.{IsNetworkAtRest, SlotEndsVisit, FollowsCommit};
 
 use crate::laws::{servers_beside, slots_stay_ready, what_runs_may_be_visited};
 use crate::network::Network;
@@ -24,7 +24,7 @@ use ftc_visits::{MadeVisit, a_made_visit_is_added, made};
 /// What a slot runs at a server is committed. Where the visit is made, the answer is that visit with what it needs.
 fn commit_there(live: &mut Server, worker: WorkerId, plan: &Plan) -> Result<MadeVisit, CommitAnswer>
     requires { may_rise live.old.head.vector ≡ true }
-    ensures ends { EndsVisit live.old live.new worker (answer_of result) }
+    ensures ends { EndsVisit live.old live.new worker (commit_answer result) }
     ensures made { IfOk result (HasMade live.old live.new worker) }
     ensures undone { IfErr result (λ answer. answer ≢ commit.Done) }
 {
@@ -55,7 +55,7 @@ fn commit_at(
     plan: &Plan,
 ) -> Result<MadeVisit, CommitAnswer>
     requires { ∥ IsAtRestAt server slot.old ∥₁ }
-    ensures ends { SlotEndsVisit slot.old slot.new worker (answer_of result) }
+    ensures ends { SlotEndsVisit slot.old slot.new worker (commit_answer result) }
     ensures follows { IfOk result (SlotFollowsCommit worker server slot.old slot.new) }
     ensures undone { IfErr result (λ answer. answer ≢ commit.Done) }
     ensures stands { OnErr result ((number : ℕ) → SlotStandsStill number slot.old slot.new) }
@@ -120,7 +120,7 @@ impl Network {
     /// rule is asked.
     pub fn commit(&mut self, worker: WorkerId, server: ServerId, plan: &Plan) -> CommitAnswer
         requires inside { server < self.old.ring.servers }
-        requires rests { ∥ IsAtRest self.old ∥₁ }
+        requires rests { ∥ IsNetworkAtRest self.old ∥₁ }
         ensures ends { SlotEndsVisit (server_in self.old.servers.items server) (server_in self.new.servers.items server)
             worker result }
         ensures follows { result ≡ commit.Done → FollowsCommit worker server self.old self.new }

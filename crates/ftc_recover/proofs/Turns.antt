@@ -5,14 +5,14 @@ use Rattle.ftc_base.specs.declared.ask.Write.{Write}
 use Rattle.ftc_base.specs.declared.limits.TheConstants.{MOST_PARTITIONS}
 use Rattle.ftc_store.specs.Store.{Content, written, changed}
 use Rattle.ftc_vector.specs.Vector.{number_at, raised}
-use Rattle.ftc_vector.specs.Order.{IsReady}
+use Rattle.ftc_vector.specs.Order.{IsLogReady}
 use Rattle.ftc_message.specs.Logged.{Logged}
 use Rattle.ftc_replica.specs.Held.{Held, applied}
 use Rattle.ftc_recover.specs.Pulled.{applied_all, writes_of, AreReadyInTurn}
 
 -- the log may be applied to a replica with that vector
 pub record MayFollow (most : ℕ) (vector : List ℕ) (log : Logged) : Type 0 where
-  pub ready : IsReady vector log.before log.changed
+  pub ready : IsLogReady vector log.before log.changed
   pub bound : (partition : ℕ) → partition < MOST_PARTITIONS → number_at vector partition ≤ most
 
 pub turn_at : (most : ℕ) (logs : List Logged) (held : Held) (place : ℕ) (d : Logged) → place < length logs

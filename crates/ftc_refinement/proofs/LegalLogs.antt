@@ -10,7 +10,7 @@ use Rattle.ftc_replica.specs.Held.{Held as Replicated, pruned_by}
 use Rattle.ftc_serial.specs.Take.{Outcome}
 use Rattle.ftc_serial.specs.Words.{AnyOf}
 use Rattle.ftc_vector.specs.Commits.{vector_of}
-use Rattle.ftc_vector.specs.Order.{IsReady, is_ready as is_ready_at}
+use Rattle.ftc_vector.specs.Order.{IsLogReady, is_log_ready}
 use Rattle.ftc_protocol.specs.Setting.{Setting}
 use Rattle.ftc_protocol.specs.State.{ChainState, Message, Held}
 use Rattle.ftc_protocol.specs.Visits.{In}
@@ -45,13 +45,13 @@ abbrev pub ReadySays : Setting → ChainState → ℕ → Type 0
 ReadySays setting state server = (log : Logged) (held : Replicated) → IsLogIn setting.partitions state.trace log →
     IsReplicaAt setting state server log.group held →
     IsChanging setting.partitions state.trace log.group log.origin →
-    IsReady held.vector log.before log.changed
+    IsLogReady held.vector log.before log.changed
     ↔ ((state.lists server log.group log.origin ≡ false)
     × HasBefore setting.partitions state.trace log.group (state.lists server log.group) log.origin)
 
 abbrev pub TestsSay : Type 0
 TestsSay = (vector : List ℕ) (before : List (Option ℕ)) (changed : ℕ) →
-    (is_ready_at vector before changed ≡ true) ↔ IsReady vector before changed
+    (is_log_ready vector before changed ≡ true) ↔ IsLogReady vector before changed
 
 writes_some : (writes : List Write) → (writes ≡ [] → ⊥) → not (length writes == 0) ≡ true
 writes_some [] some = absurd (some refl)

@@ -23,7 +23,7 @@ use Rattle.ftc_standing.specs.Stand.{IsWithheldAs, time_of, packet_of}
 use Rattle.ftc_standing.proofs.Arriving.{none_there, there_here}
 use Rattle.ftc_standing.proofs.Lasting.{of_last}
 use Rattle.ftc_refinement.specs.Contents.{IsServerAt}
-use Rattle.ftc_refinement.specs.Slots.{IsServerSlot, AreSlots, AreStalled, IsToPropagate}
+use Rattle.ftc_refinement.specs.Slots.{IsServerSlot, AreRepresented, AreStalled, IsToPropagate}
 use Rattle.ftc_refinement.proofs.HeldInTurn.{there_in_state}
 use Rattle.ftc_refinement.proofs.InTurn.{all_placed}
 use Rattle.ftc_refinement.proofs.Messages.{found_as, found_is}
@@ -119,7 +119,8 @@ module _ (setting : Setting) (state : ChainState) (logs : List Logged)
 -- ---- the whole chain
 
 module _ (setting : Setting) (state : ChainState) (slots : ℕ → Option Server) (queues : ℕ → Queue)
-    (some : 1 ≤ servers setting) (order : IsOrderly setting state) (are : AreSlots setting state slots queues) where
+    (some : 1 ≤ servers setting) (order : IsOrderly setting state)
+    (are : AreRepresented setting state slots queues) where
   slot_up : (number : ℕ) → number < servers setting → state.up number ≡ true →
       (server : Server) × (slots number ≡ Some server)
   slot_up number below up = by_slot (slots number) refl (are.servers_are number below)

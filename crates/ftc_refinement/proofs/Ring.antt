@@ -9,8 +9,8 @@ use Rattle.ftc_vector.specs.Commits.{group_raised}
 use Rattle.ftc_protocol.specs.Setting.{Setting, servers, shape, is_tail}
 use Rattle.ftc_protocol.specs.State.{ChainState}
 use Rattle.ftc_protocol.specs.Visits.{Visits, In, no_visits}
-use Rattle.ftc_ties.specs.Messages.{AreLogsOf, names_log, onward as onward_of}
-use Rattle.ftc_server.specs.Standing.{group_ending_at, onward, with_own}
+use Rattle.ftc_ties.specs.Messages.{AreLogsOf, names_log, onward}
+use Rattle.ftc_server.specs.Standing.{group_ending_at, going_on, with_own}
 use Rattle.ftc_standing.proofs.Arriving.{all_mapped}
 
 abbrev pub EndsAsSaid : Type 0
@@ -30,10 +30,10 @@ knows_own ends setting server group vector known ring below inside =
 -- one list of logs without those of the group whose tail the server is
 pub goes_on : EndsAsSaid → (setting : Setting) (server : ℕ) (logs : List Logged) → IsRing (shape setting) →
     server < servers setting → AllByRecursion (λ (log : Logged). log.group < servers setting) logs →
-    onward (shape setting) server logs ≡ onward_of setting server logs
+    going_on (shape setting) server logs ≡ onward setting server logs
 goes_on ends setting server [] ring inside below = refl
 goes_on ends setting server (log ∷ logs) ring inside below =
-    ap (λ b. cond (not b) (log ∷ onward (shape setting) server logs) (onward (shape setting) server logs))
+    ap (λ b. cond (not b) (log ∷ going_on (shape setting) server logs) (going_on (shape setting) server logs))
     (ends (shape setting) log.group server ring below.0 inside)
     ∙ ap (λ rest. cond (not (is_tail setting log.group server)) (log ∷ rest) rest)
     (goes_on ends setting server logs ring inside below.1)

@@ -12,12 +12,12 @@ use Rattle.ftc_protocol.specs.Setting.{Setting, servers, shape}
 use Rattle.ftc_protocol.specs.State.{ChainState}
 use Rattle.ftc_protocol.specs.Visits.{no_visits}
 use Rattle.ftc_protocol.specs.Legal.{is_sent}
-use Rattle.ftc_ties.specs.Messages.{AreLogsOf, onward as onward_of}
+use Rattle.ftc_ties.specs.Messages.{AreLogsOf, onward}
 use Rattle.ftc_server.specs.declared.held.HeldMessage.{HeldMessage}
 use Rattle.ftc_server.specs.declared.server.Server.{Server}
 use Rattle.ftc_server.specs.Holding.{found}
 use Rattle.ftc_server.specs.Looks.{sent, sent_in, attached_in, onward_in}
-use Rattle.ftc_server.specs.Standing.{is_last, onward}
+use Rattle.ftc_server.specs.Standing.{is_last, going_on}
 use Rattle.ftc_standing.specs.Stand.{AreForwarded, IsSentOn}
 use Rattle.ftc_refinement.specs.Contents.{IsServerAt}
 use Rattle.ftc_refinement.proofs.Ring.{no_logs}
@@ -76,7 +76,7 @@ attached setting state server old is =
 -- what goes on stands for what is sent on
 pub sent_on : (setting : Setting) (state : ChainState) (server : ℕ) (old : Server) (held : HeldMessage) →
     IsServerAt setting state server old →
-    onward (shape setting) server held.message.logs ≡ onward_of setting server held.message.logs →
+    going_on (shape setting) server held.message.logs ≡ onward setting server held.message.logs →
     IsSentOn setting server old.forwarder old.known held.message (sent old held)
 sent_on setting state server old held is going = record {
   origin_is = refl;
@@ -90,6 +90,6 @@ sent_on setting state server old held is going = record {
     last : is_last old.ring old.id ≡ (server + 1 == servers setting)
     last = ap (λ r. is_last r old.id) is.ring ∙ ap (is_last (shape setting)) is.number_is
 
-    onwards : onward old.ring old.id held.message.logs ≡ onward (shape setting) server held.message.logs
-    onwards = ap (λ r. onward r old.id held.message.logs) is.ring
-        ∙ ap (λ n. onward (shape setting) n held.message.logs) is.number_is
+    onwards : going_on old.ring old.id held.message.logs ≡ going_on (shape setting) server held.message.logs
+    onwards = ap (λ r. going_on r old.id held.message.logs) is.ring
+        ∙ ap (λ n. going_on (shape setting) n held.message.logs) is.number_is

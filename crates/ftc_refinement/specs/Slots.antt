@@ -15,7 +15,7 @@ IsServerSlot setting state number None = state.up number ≡ false
 IsServerSlot setting state number (Some server) = (state.up number ≡ true) × IsServerAt setting state number server
 
 -- each server and each link of the chain
-pub record AreSlots (setting : Setting) (state : ChainState) (slots : ℕ → Option Server) (queues : ℕ → Queue) :
+pub record AreRepresented (setting : Setting) (state : ChainState) (slots : ℕ → Option Server) (queues : ℕ → Queue) :
     Type 0 where
   pub servers_are : (number : ℕ) → number < servers setting → IsServerSlot setting state number (slots number)
   pub links_are : (link : ℕ) → link < servers setting → IsLink setting state link (queues link)

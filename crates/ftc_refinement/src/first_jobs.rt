@@ -18,7 +18,7 @@ ghost use Rattle.ftc_server.specs.declared.server.Server.{Server};
 ghost use Rattle.ftc_server.specs.Holding.{found};
 ghost use Rattle.ftc_standing.specs.Stand.{IsLink};
 ghost use Rattle.ftc_refinement.specs.Contents.{IsServerAt};
-ghost use Rattle.ftc_refinement.specs.Slots.{AreSlots, IsToPropagate};
+ghost use Rattle.ftc_refinement.specs.Slots.{AreRepresented, IsToPropagate};
 
 use ftc_protocol::order_of_a_state;
 
@@ -89,7 +89,7 @@ pub fn what_enters()
 /// When a message may begin without a packet, by what the servers and links have.
 pub fn what_propagates()
     ensures { (setting : Setting) (state : ChainState) (origin : ℕ) (slots : ℕ → Option Server) (queues : ℕ → AQueue) →
-        IsRunState setting state → IsNoneDue setting state → AreSlots setting state slots queues →
+        IsRunState setting state → IsNoneDue setting state → AreRepresented setting state slots queues →
         IsLegalJob setting state (job.Propagate origin) ↔ IsToPropagate setting state slots queues origin }
 {
     order_of_a_state();

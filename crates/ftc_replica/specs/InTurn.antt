@@ -2,7 +2,7 @@
 use Rattle.std.specs.Prelude.{ℕ, ◌<◌, ◌≤◌, List, [], ◌∷◌}
 use Rattle.ftc_base.specs.declared.limits.TheConstants.{MOST_PARTITIONS}
 use Rattle.ftc_vector.specs.Vector.{number_at, raised}
-use Rattle.ftc_vector.specs.Order.{IsReady}
+use Rattle.ftc_vector.specs.Order.{IsLogReady}
 use Rattle.ftc_message.specs.Logged.{Logged}
 use Rattle.ftc_replica.specs.Held.{Held, applied}
 
@@ -15,6 +15,6 @@ applied_all (log ∷ logs) held = applied_all logs (applied log held)
 abbrev pub AreReadyInTurn : ℕ → List ℕ → List Logged → Type 0
 AreReadyInTurn most vector [] = Unit {0}
 AreReadyInTurn most vector (log ∷ logs) =
-    IsReady vector log.before log.changed
+    IsLogReady vector log.before log.changed
     × ((partition : ℕ) → partition < MOST_PARTITIONS → number_at vector partition ≤ most)
     × AreReadyInTurn most (raised vector log.changed) logs

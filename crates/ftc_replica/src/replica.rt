@@ -4,7 +4,7 @@ ghost use Rattle.std.specs.Prelude.{◌≡◌, ◌≤◌, ◌<◌, ◌↔◌, �
 ghost use Rattle.std.specs.FinMap as map;
 ghost use Rattle.ftc_base.specs.Sets.{has};
 ghost use Rattle.ftc_vector.specs.Vector.{by_partition, number_at, need_of};
-ghost use Rattle.ftc_vector.specs.Order.{IsReady, IsCovered};
+ghost use Rattle.ftc_vector.specs.Order.{IsLogReady, IsCovered};
 ghost use Rattle.ftc_replica.specs.Kept.{missing};
 ghost use Rattle.ftc_replica.specs.Held.{applied};
 
@@ -110,7 +110,7 @@ impl Replica {
 
     /// Whether a log may be applied now.
     pub fn ready(&self, log: &Log) -> bool
-        ensures { IsTrue result ↔ IsReady self.now.vector log.now.before log.now.changed }
+        ensures { IsTrue result ↔ IsLogReady self.now.vector log.now.before log.now.changed }
     {
         ready(&self.vector, log.before(), log.changed())
     }
@@ -124,7 +124,7 @@ impl Replica {
 
     /// Applies a log that is ready, and keeps it.
     pub fn apply(&mut self, log: &Log) -> Result<(), NoMemory>
-        requires ready { IsReady self.old.vector log.now.before log.now.changed }
+        requires ready { IsLogReady self.old.vector log.now.before log.now.changed }
         requires numbers { (partition : ℕ) → partition < MOST_PARTITIONS → has log.now.changed partition ≡ true →
             number_at self.old.vector partition < u64.MAX }
         ensures applied { OnOk result (self.new ≡ applied log.now self.old) }

@@ -4,7 +4,7 @@ ghost use Rattle.std.specs.Prelude.{◌≡◌, ◌++◌, OnOk, IfOk, length, str
 ghost use Rattle.std.specs.Prelude.{map as map_list};
 ghost use Rattle.std.specs.List.{flat_map, enumerate_from};
 ghost use Rattle.hex.specs.Hex.{encode_lower};
-ghost use Rattle.ftc_store.specs.Pairs.{entry_of};
+ghost use Rattle.ftc_store.specs.Pairs.{key_value};
 ghost use Rattle.ftc_serial.specs.Held.{rules_of, serial_state};
 ghost use Rattle.ftc_report.specs.Text.{value_text, key_line, store_lines};
 ghost use Rattle.ftc_report.specs.Contents.{contents};
@@ -35,7 +35,7 @@ pub(crate) fn value_text(alloc: Global, value: &Value) -> Result<String, AllocEr
 /// The line of a key.
 #[tactic(auto, unfolding(crate::specs::Text::key_line))]
 fn key_line(alloc: Global, pair: &Pair) -> Result<String, AllocError>
-    ensures { IfOk result (λ line. string_bytes line ≡ key_line (entry_of pair.now)) }
+    ensures { IfOk result (λ line. string_bytes line ≡ key_line (key_value pair.now)) }
 {
     let key = hex_text(alloc, pair.key.as_slice())?;
     let value = value_text(alloc, &pair.value)?;
@@ -44,7 +44,7 @@ fn key_line(alloc: Global, pair: &Pair) -> Result<String, AllocError>
 
 /// Adds the line of each key.
 fn append_keys(alloc: Global, pairs: &[Pair], out: &mut Bytes) -> Result<(), NoMemory>
-    ensures { OnOk result (out.new ≡ out.old ++ flat_map key_line (map_list entry_of pairs.now)) }
+    ensures { OnOk result (out.new ≡ out.old ++ flat_map key_line (map_list key_value pairs.now)) }
 {
     for pair in pairs {
         let line = key_line(alloc, pair)?;

@@ -12,7 +12,7 @@ use Rattle.ftc_base.specs.declared.ask.Ask.TheVariants.{Read, Finish}
 use Rattle.ftc_base.specs.declared.ask.Finish.{Finish as End}
 use Rattle.ftc_mbox.specs.declared.rule.Rule.{Rule}
 use Rattle.ftc_mbox.specs.Ask.{ask}
-use Rattle.ftc_mbox.specs.InTurn.{Asks, AreInTurn, InTurn, ComesNext}
+use Rattle.ftc_mbox.specs.InTurn.{Asks, AllInTurn, InTurn, ComesNext}
 use Rattle.ftc_mbox.proofs.InTurn.{in_turn}
 use Rattle.ftc_store.specs.Store.{Content}
 use Rattle.ftc_serial.specs.declared.visit.Asked.{Asked}
@@ -29,8 +29,8 @@ read_of key (Read other change) same = (change, ap (λ (k : List ℕ). Read k ch
 read_of key (Finish end) none = absurd none
 
 -- one more answer in turn
-one_more : (asks : List Answer → Ask) (answers : List Answer) (answer : Answer) → AreInTurn asks answers
-    → Asks answer.key (asks answers) → AreInTurn asks (answers ++ answer ∷ [])
+one_more : (asks : List Answer → Ask) (answers : List Answer) (answer : Answer) → AllInTurn asks answers
+    → Asks answer.key (asks answers) → AllInTurn asks (answers ++ answer ∷ [])
 one_more asks [] answer turn asked = (asked, tt)
 one_more asks (first ∷ answers) answer turn asked =
     (turn.0, one_more (λ more. asks (first ∷ more)) answers answer turn.1 asked)
@@ -44,7 +44,7 @@ fewer rule packet answers key change turn reads =
 
 -- the other answers, after those so far
 abbrev pub AreLater : Rule → List ℕ → List Answer → List Answer → Type 0
-AreLater rule packet so_far rest = AreInTurn (λ more. ask rule packet (so_far ++ more)) rest
+AreLater rule packet so_far rest = AllInTurn (λ more. ask rule packet (so_far ++ more)) rest
 
 pub next_asked : (rule : Rule) (packet : List ℕ) (so_far : List Answer) (answer : Answer) (rest : List Answer)
     → AreLater rule packet so_far (answer ∷ rest) → Asks answer.key (ask rule packet so_far)
@@ -54,7 +54,7 @@ next_asked rule packet so_far answer rest later =
 pub later_still : (rule : Rule) (packet : List ℕ) (so_far : List Answer) (answer : Answer) (rest : List Answer)
     → AreLater rule packet so_far (answer ∷ rest) → AreLater rule packet (so_far ++ answer ∷ []) rest
 later_still rule packet so_far answer rest later =
-    subst (λ (asks : List Answer → Ask). AreInTurn asks rest)
+    subst (λ (asks : List Answer → Ask). AllInTurn asks rest)
     (λ i more. ask rule packet (sym (append_assoc so_far (answer ∷ []) more) i)) later.1
 
 -- how the rule goes on where it is asked after the answers so far

@@ -21,7 +21,7 @@ use Rattle.ftc_base.specs.Sets.{has}
 use Rattle.ftc_locks.specs.Locks.{holds_exclusively}
 use Rattle.ftc_mbox.specs.declared.rule.Rule.{Rule}
 use Rattle.ftc_mbox.specs.Ask.{ask}
-use Rattle.ftc_mbox.specs.InTurn.{Asks, AreInTurn, IsLent, ComesNext}
+use Rattle.ftc_mbox.specs.InTurn.{Asks, AllInTurn, IsLent, ComesNext}
 use Rattle.ftc_mbox.proofs.InTurn.{in_turn}
 use Rattle.ftc_message.specs.declared.need.Need.{Need}
 use Rattle.ftc_message.specs.Logged.{Logged}
@@ -37,7 +37,7 @@ use Rattle.std.specs.Prelude.{MatchOption, option_map}
 use Rattle.ftc_packet.specs.declared.flow.Flow.{Flow}
 use Rattle.ftc_packet.specs.Flow.{IsFlow, flow_found, flow_in}
 use Rattle.ftc_packet.specs.Laws.{FlowsAreFound}
-use Rattle.ftc_mbox.specs.Ask.{ask_of as ask_by}
+use Rattle.ftc_mbox.specs.Ask.{ask_of}
 use Rattle.ftc_mbox.specs.Change.{CanEnd, CanFollow}
 use Rattle.ftc_mbox.proofs.Following.{can_follow}
 use Rattle.ftc_server.specs.declared.server.Server.{Server}
@@ -45,7 +45,7 @@ use Rattle.ftc_server.specs.Looks.{ask_in}
 use Rattle.ftc_server.specs.declared.held.HeldMessage.{HeldMessage}
 use Rattle.ftc_server.specs.Holding.{is_of, found}
 use Rattle.ftc_server.specs.Replicas.{may_rise}
-use Rattle.ftc_server.specs.Slots.{AreSlots, IsSlot, ask_of, is_open, is_without}
+use Rattle.ftc_server.specs.Slots.{AreSlots, IsSlot, ask_of_held, is_open, is_without}
 use Rattle.ftc_message.specs.Added.{need_of_log}
 use Rattle.ftc_server.proofs.Finding.{both, and_both, test_of_found}
 use Rattle.ftc_server.proofs.Slotting.{asked_there, asked_of}
@@ -93,7 +93,7 @@ any_there (first ∷ earlier) later answer key same =
     (any_there earlier later answer key same)
 
 turn_at : (asks : List Answer → Ask) (earlier later : List Answer) (answer : Answer) →
-    AreInTurn asks (earlier ++ answer ∷ later)
+    AllInTurn asks (earlier ++ answer ∷ later)
     → Asks answer.key (asks earlier)
 turn_at asks [] later answer turn = turn.0
 turn_at asks (first ∷ earlier) later answer turn = turn_at (λ more. asks (first ∷ more)) earlier later answer turn.1
@@ -119,8 +119,8 @@ lent_write : (rule : Rule) (head : HeadState) (items : List HeldMessage) (worker
     → IsLent (ask rule slot.packet) running.answers write.key → is_lent head worker running.answers write ≡ true
 lent_write rule head items worker running slot unwounded write lent =
     let asks = ask rule slot.packet in
-    let turn : AreInTurn asks (lent.earlier ++ lent.answer ∷ lent.later) =
-    subst (AreInTurn asks) lent.whole slot.turn in
+    let turn : AllInTurn asks (lent.earlier ++ lent.answer ∷ lent.later) =
+    subst (AllInTurn asks) lent.whole slot.turn in
     let same : lent.answer.key ≡ write.key =
     asks_key (asks lent.earlier) write.key lent.answer.key lent.lent
     (turn_at asks lent.earlier lent.later lent.answer turn) in
@@ -141,7 +141,7 @@ all_lent {A} P test (x ∷ xs) each all =
 
 writes_lent : (rule : Rule) (head : HeadState) (items : List HeldMessage) (worker : ℕ) (running : Running) (end : End)
     → AreSlots rule head items → RunsUnwounded head worker running
-    → ask_of rule running (found running.packet items) ≡ Some (Finish end)
+    → ask_of_held rule running (found running.packet items) ≡ Some (Finish end)
     → are_lent head worker running.answers end.writes.items ≡ true
 writes_lent rule head items worker running end slots runs asked =
     let slot = slots.each worker running runs.slot in
@@ -172,7 +172,7 @@ each_of {A} P test (x ∷ xs) each all =
 pub its_writes : (rule : Rule) (head : HeadState) (items : List HeldMessage) (worker : ℕ) (running : Running)
     (end : End)
     → ∥ AreSlots rule head items ∥₁ → RunsUnwounded head worker running
-    → ask_of rule running (found running.packet items) ≡ Some (Finish end)
+    → ask_of_held rule running (found running.packet items) ≡ Some (Finish end)
     → AreItsWrites head worker running end.writes.items
 its_writes rule head items worker running end slots runs asked =
     let lent : are_lent head worker running.answers end.writes.items ≡ true =
@@ -199,7 +199,7 @@ its_writes rule head items worker running end slots runs asked =
 reads_few : (rule : Rule) (head : HeadState) (items : List HeldMessage) (worker : ℕ) (running : Running) (key : List ℕ)
     (change : Bool)
     → AreSlots rule head items → RunsUnwounded head worker running
-    → ask_of rule running (found running.packet items) ≡ Some (Read key change)
+    → ask_of_held rule running (found running.packet items) ≡ Some (Read key change)
     → nat_lt (length running.answers) MOST_READS ≡ true
 reads_few rule head items worker running key change slots runs asked =
     let slot = slots.each worker running runs.slot in
@@ -212,7 +212,7 @@ reads_few rule head items worker running key change slots runs asked =
 pub few_answers : (rule : Rule) (head : HeadState) (items : List HeldMessage) (worker : ℕ) (running : Running)
     (key : List ℕ)
     (change : Bool) → ∥ AreSlots rule head items ∥₁ → RunsUnwounded head worker running
-    → ask_of rule running (found running.packet items) ≡ Some (Read key change)
+    → ask_of_held rule running (found running.packet items) ≡ Some (Read key change)
     → length running.answers < MOST_READS
 few_answers rule head items worker running key change slots runs asked =
     below_is (length running.answers) MOST_READS
@@ -289,7 +289,7 @@ pub record IsEnding (server : Server) (worker : ℕ) (end : End) (held : HeldMes
   pub runs : RunsUnwounded server.head worker running
   pub there : found running.packet server.held.items ≡ Some held
   pub with_packet : held.message.packet ≡ Some bytes
-  pub asked : ask_of server.rule running (found running.packet server.held.items) ≡ Some (Finish end)
+  pub asked : ask_of_held server.rule running (found running.packet server.held.items) ≡ Some (Finish end)
 
 slot_of : (slot : Option Running) (packet : ℕ) → packet_of slot ≡ Some packet → wounded_of slot ≡ None
     → (running : Running) × (slot ≡ Some running) × (running.packet ≡ packet) × (running.wounded ≡ None)
@@ -317,9 +317,9 @@ unfolding ask
 follows rule packet answers flows =
     elim (flow_found packet) as (λ (f : Option Flow). MatchOption f (¬ IsFlow packet) (λ flow. IsFlow packet
     × (flow ≡ flow_in packet))
-    → CanFollow packet (ask_by rule f answers)) [
+    → CanFollow packet (ask_of rule f answers)) [
       | None ↦ λ isnt. tt
-      | Some flow ↦ λ is. can_follow packet (ask_by rule (Some flow) answers) is.0
+      | Some flow ↦ λ is. can_follow packet (ask_of rule (Some flow) answers) is.0
     ] (flows packet)
 
 pub may_change : (server : Server) (worker : ℕ) (end : End) (held : HeldMessage) (bytes : List ℕ)
@@ -327,7 +327,7 @@ pub may_change : (server : Server) (worker : ℕ) (end : End) (held : HeldMessag
 may_change server worker end held bytes is flows =
     let asks : ask server.rule bytes is.running.answers ≡ Finish end =
     same_Some (ask server.rule bytes is.running.answers) (Finish end)
-    (sym (ap (λ (f : Option HeldMessage). ask_of server.rule is.running f) is.there
+    (sym (ap (λ (f : Option HeldMessage). ask_of_held server.rule is.running f) is.there
     ∙ ap (option_map (λ (b : List ℕ). ask server.rule b is.running.answers)) is.with_packet) ∙ is.asked) in
     subst (CanFollow bytes) asks (follows server.rule bytes is.running.answers flows)
 

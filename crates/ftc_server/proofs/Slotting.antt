@@ -13,11 +13,11 @@ use Rattle.ftc_base.specs.Partition.{partition_of}
 use Rattle.ftc_locks.specs.Locks.{holds_exclusively, conflicts, SameHoldings}
 use Rattle.ftc_mbox.specs.declared.rule.Rule.{Rule}
 use Rattle.ftc_mbox.specs.Ask.{ask}
-use Rattle.ftc_mbox.specs.InTurn.{Asks, AreInTurn}
+use Rattle.ftc_mbox.specs.InTurn.{Asks, AllInTurn}
 use Rattle.ftc_txn.specs.Slots.{Running, slot_at, begun, restarted, answered, wounded_by, wounded_at, wounded_of}
 use Rattle.ftc_txn.specs.Slots.{packet_of, packet_at}
 use Rattle.ftc_txn.specs.Head.{HeadState, RunsUnwounded, next_age}
-use Rattle.ftc_txn.specs.Steps.{begins, restarts, HasRead, HasQuit, HasCommitted, Reads, Commits}
+use Rattle.ftc_txn.specs.Steps.{begins, restarts, HasHeadRead, HasHeadQuit, HasCommitted, HeadReads, Commits}
 use Rattle.ftc_txn.specs.declared.answers.HeadCommit.{HeadCommit}
 use Rattle.ftc_txn.specs.declared.answers.HeadCommit.TheVariants.{Done, Wounded as WoundedCommit, Idle as IdleCommit}
 use Rattle.ftc_txn.specs.declared.answers.HeadCommit.TheVariants.{NoMemory}
@@ -37,7 +37,7 @@ use Rattle.ftc_server.specs.declared.server.Server.{Server}
 use Rattle.ftc_server.specs.Looks.{ask_in, ask_of_slot}
 use Rattle.ftc_server.proofs.Working.{is_waiting_so}
 use Rattle.ftc_server.proofs.Finding.{found_changed, found_kept, found_without, true_false, both}
-use Rattle.ftc_server.specs.Slots.{IsSlot, AreSlots, ask_of, runs_packet, is_running, is_ready_one, slot_is_ready}
+use Rattle.ftc_server.specs.Slots.{IsSlot, AreSlots, ask_of_held, runs_packet, is_running, is_ready_one, slot_is_ready}
 use Rattle.ftc_server.specs.Slots.{slots_are_ready}
 
 abbrev Items : Type 0
@@ -137,8 +137,8 @@ begun_slot rule head items worker packet age held bytes there unvisited with_pac
   lent = λ _. record { each = λ earlier later answer whole asked. absurd (no_front earlier later answer whole) };
 }
 
-pub turn_more : (asks : List Answer → Ask) (answers : List Answer) (answer : Answer) → AreInTurn asks answers
-    → Asks answer.key (asks answers) → AreInTurn asks (answers ++ answer ∷ [])
+pub turn_more : (asks : List Answer → Ask) (answers : List Answer) (answer : Answer) → AllInTurn asks answers
+    → Asks answer.key (asks answers) → AllInTurn asks (answers ++ answer ∷ [])
 turn_more asks [] answer turn next = (next, tt)
 turn_more asks (first ∷ answers) answer turn next =
     (turn.0, turn_more (λ more. asks (first ∷ more)) answers answer turn.1 next)
@@ -217,7 +217,7 @@ slots_idle rule old new items after worker slots written partitions same there =
     })
     (cases_eq other worker))
 
-pub slots_quit : (rule : Rule) (old new : HeadState) (items : Items) (worker : ℕ) → HasQuit old new worker
+pub slots_quit : (rule : Rule) (old new : HeadState) (items : Items) (worker : ℕ) → HasHeadQuit old new worker
     → AreSlots rule old items → AreSlots rule new items
 slots_quit rule old new items worker has slots =
     slots_idle rule old new items items worker slots has.slots
@@ -343,7 +343,7 @@ same_leave one other change leave same = cc
 answered_slot : (rule : Rule) (old new : HeadState) (items : Items) (worker : ℕ) (running : Running) (key : List ℕ)
     (change : Bool)
     (value : Option (List ℕ)) (slot : IsSlot rule old items worker running) → running.wounded ≡ None
-    → ask rule slot.packet running.answers ≡ Read key change → HasRead old new worker running key change value
+    → ask rule slot.packet running.answers ≡ Read key change → HasHeadRead old new worker running key change value
     → IsSlot rule new items worker (answered running (record { key = key; value = value }))
 answered_slot rule old new items worker running key change value slot unwounded asks read =
     let partitions : new.partitions ≡ old.partitions = ap (λ (h : HeadState). h.partitions) read.rest in
@@ -367,7 +367,7 @@ answered_slot rule old new items worker running key change value slot unwounded 
             let leave : change ≡ true = same_leave key answer.key change true same in
             let lent : holds_exclusively new.locks worker (partition_of new.partitions key) ≡ true =
             changed old new worker running key value
-            (subst (λ (b : Bool). HasRead old new worker running key b value) leave read) in
+            (subst (λ (b : Bool). HasHeadRead old new worker running key b value) leave read) in
             subst (λ (k : List ℕ). holds_exclusively new.locks worker (partition_of new.partitions k) ≡ true)
             (same_key key answer.key change true same) lent)
             (cut running.answers (record { key = key; value = value }) earlier answer later whole);
@@ -376,18 +376,18 @@ answered_slot rule old new items worker running key change value slot unwounded 
 
 -- what the rule asks of what a slot runs
 pub asked_there : (rule : Rule) (head : HeadState) (items : Items) (worker : ℕ) (running : Running) (asked : Ask)
-    (slot : IsSlot rule head items worker running) → ask_of rule running (found running.packet items) ≡ Some asked
+    (slot : IsSlot rule head items worker running) → ask_of_held rule running (found running.packet items) ≡ Some asked
     → ask rule slot.packet running.answers ≡ asked
 asked_there rule head items worker running asked slot is =
     same_Some (ask rule slot.packet running.answers) asked
-    (sym (ap (λ (f : Option HeldMessage). ask_of rule running f) slot.there
+    (sym (ap (λ (f : Option HeldMessage). ask_of_held rule running f) slot.there
     ∙ ap (option_map (λ (bytes : List ℕ). ask rule bytes running.answers)) slot.with_packet) ∙ is)
 
 pub slots_read : (rule : Rule) (old new : HeadState) (items : Items) (worker : ℕ) (key : List ℕ) (change : Bool)
     (answer : ReadAnswer)
-    → Reads old new worker key change answer
+    → HeadReads old new worker key change answer
     → ((running : Running) → RunsUnwounded old worker running →
-    ask_of rule running (found running.packet items) ≡ Some (Read key change))
+    ask_of_held rule running (found running.packet items) ≡ Some (Read key change))
     → AreSlots rule old items → AreSlots rule new items
 slots_read rule old new items worker key change (Value value) reads asked slots =
     let running = reads.0 in
@@ -533,7 +533,7 @@ slots_without rule head items origin held there waiting slots =
 pub asked_of : (server : Server) (worker : ℕ) (running : Running) (asked : Ask) →
     RunsUnwounded server.head worker running
     → ask_in server worker ≡ Some asked
-    → ask_of server.rule running (found running.packet server.held.items) ≡ Some asked
+    → ask_of_held server.rule running (found running.packet server.held.items) ≡ Some asked
 asked_of server worker running asked runs is = ap (ask_of_slot server) (sym runs.slot) ∙ is
 
 -- what a slot runs is asked something
@@ -543,11 +543,11 @@ asked_slot : (server : Server) (worker : ℕ) (slot : Option Running) → slot_a
 asked_slot server worker None is slots some none = absurd cc
 asked_slot server worker (Some running) is slots some none =
     let slot = slots.each worker running is in
-    let asks : ask_of server.rule running (found running.packet server.held.items)
+    let asks : ask_of_held server.rule running (found running.packet server.held.items)
     ≡ Some (ask server.rule slot.packet running.answers) =
-    ap (λ (f : Option HeldMessage). ask_of server.rule running f) slot.there
+    ap (λ (f : Option HeldMessage). ask_of_held server.rule running f) slot.there
     ∙ ap (option_map (λ (bytes : List ℕ). ask server.rule bytes running.answers)) slot.with_packet in
-    none_or_some (ask_of server.rule running (found running.packet server.held.items))
+    none_or_some (ask_of_held server.rule running (found running.packet server.held.items))
     (ask server.rule slot.packet running.answers) none asks
 
 pub asked_somewhat : (server : Server) (worker : ℕ) → is_some (packet_at server.head.slots worker) ≡ true →

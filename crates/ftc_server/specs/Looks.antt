@@ -16,21 +16,21 @@ use Rattle.ftc_server.specs.declared.work.Work.{Work}
 pub use Rattle.ftc_server.specs.Holding.{log_of}
 use Rattle.ftc_server.specs.Holding.{found}
 use Rattle.ftc_server.specs.Replicas.{replica_at, may_apply_to}
-use Rattle.ftc_server.specs.Standing.{is_last, onward}
+use Rattle.ftc_server.specs.Standing.{is_last, going_on}
 use Rattle.ftc_server.specs.Work.{work_for_found, first_with_work}
-use Rattle.ftc_server.specs.Slots.{ask_of}
+use Rattle.ftc_server.specs.Slots.{ask_of_held}
 
 -- the work of the held message of that origin
 abbrev pub work_in : Server → ℕ → Option Work
 work_in server origin = work_for_found server.others.items (found origin server.held.items)
 
 -- the origin of a held message
-abbrev pub origin_of : HeldMessage → ℕ
-origin_of held = held.message.origin
+abbrev pub held_origin : HeldMessage → ℕ
+held_origin held = held.message.origin
 
 -- the first held message, in the order of taking, that has work
 abbrev pub first_work_in : Server → Option ℕ
-first_work_in server = option_map origin_of (first_with_work server.others.items server.held.items)
+first_work_in server = option_map held_origin (first_with_work server.others.items server.held.items)
 
 abbrev pub log_in : Server → ℕ → ℕ → ℕ → Option Logged
 log_in server origin group packet = log_of group packet (found origin server.held.items)
@@ -38,7 +38,7 @@ log_in server origin group packet = log_of group packet (found origin server.hel
 -- what the rule asks of what a slot runs, where it runs something
 abbrev pub ask_of_slot : Server → Option Running → Option Ask
 ask_of_slot server None = None
-ask_of_slot server (Some running) = ask_of server.rule running (found running.packet server.held.items)
+ask_of_slot server (Some running) = ask_of_held server.rule running (found running.packet server.held.items)
 
 abbrev pub ask_in : Server → ℕ → Option Ask
 ask_in server worker = ask_of_slot server (slot_at server.head.slots worker)
@@ -49,7 +49,7 @@ attached_in server = if server.id == 0 then server.forwarder else []
 
 -- the logs of a held message that go on
 abbrev pub onward_in : Server → HeldMessage → List Logged
-onward_in server held = onward server.ring server.id held.message.logs
+onward_in server held = going_on server.ring server.id held.message.logs
 
 -- what goes on of a held message
 abbrev pub sent : Server → HeldMessage → Message

@@ -2,7 +2,7 @@
 use Rattle.std.specs.Prelude.{ℕ, ◌≡◌, ◌-◌, ◌^◌, ◌==◌, ◌&&◌, Bool, true, false, not, nat_lt, List, length, Option, Some}
 use Rattle.std.specs.Prelude.{None, is_some, slice_index_or, slice_set, option_map, take}
 use Rattle.std.specs.List.{list_all}
-use Rattle.ftc_vector.specs.Order.{is_ready as is_ready_at}
+use Rattle.ftc_vector.specs.Order.{is_log_ready}
 use Rattle.ftc_vector.specs.Commits.{vector_of}
 use Rattle.ftc_message.specs.Logged.{Logged}
 use Rattle.ftc_replica.specs.Held.{Held, applied, pruned_by}
@@ -29,7 +29,7 @@ has_first replicas count logs = list_all (is_had replicas) (take count logs)
 -- the log may be applied to the replica
 abbrev pub may_apply_to : Option Held → Logged → Bool
 may_apply_to None log = false
-may_apply_to (Some held) log = is_ready_at held.vector log.before log.changed
+may_apply_to (Some held) log = is_log_ready held.vector log.before log.changed
 
 -- the log writes something, and may be applied to the replica of its group
 abbrev pub may_apply : List (Option Held) → Logged → Bool

@@ -20,9 +20,9 @@ use Rattle.ftc_server.specs.Holding.{found}
 use Rattle.ftc_server.specs.Replicas.{is_ready}
 
 -- what the rule asks of a packet after what was read for it, where there is a packet
-abbrev pub ask_of : Rule → Running → Option HeldMessage → Option Ask
-ask_of rule running None = None
-ask_of rule running (Some held) = option_map (λ bytes. ask rule bytes running.answers) held.message.packet
+abbrev pub ask_of_held : Rule → Running → Option HeldMessage → Option Ask
+ask_of_held rule running None = None
+ask_of_held rule running (Some held) = option_map (λ bytes. ask rule bytes running.answers) held.message.packet
 
 -- what a slot runs holds the partition of each key exclusively that the rule asked for with leave to write there
 pub record HoldsLent (rule : Rule) (packet : List ℕ) (head : HeadState) (worker : ℕ)

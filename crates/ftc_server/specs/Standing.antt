@@ -11,8 +11,8 @@ abbrev pub is_last : RingShape → ℕ → Bool
 is_last ring server = server + 1 == ring.servers
 
 -- the logs that go on from a server: not those of the group whose last member it is
-abbrev pub onward : RingShape → ℕ → List Logged → List Logged
-onward ring server logs = filter (λ (log : Logged). not (log.group == group_ending_at ring server)) logs
+abbrev pub going_on : RingShape → ℕ → List Logged → List Logged
+going_on ring server logs = filter (λ (log : Logged). not (log.group == group_ending_at ring server)) logs
 
 -- what a server knows of the tails where it has this vector of a group: at the group's tail it knows it too
 abbrev pub with_own : RingShape → ℕ → ℕ → List ℕ → List (List ℕ) → List (List ℕ)

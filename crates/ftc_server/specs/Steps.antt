@@ -13,7 +13,7 @@ use Rattle.ftc_message.specs.Ordered.{with_items, is_earlier}
 use Rattle.ftc_replica.specs.Held.{Held, applied}
 use Rattle.ftc_txn.specs.Slots.{Running, slot_at}
 use Rattle.ftc_txn.specs.Head.{RunsUnwounded, RunsWounded}
-use Rattle.ftc_txn.specs.Steps.{Reads as HeadReads, HasCommitted, HasQuit as HasHeadQuit, begins, restarts}
+use Rattle.ftc_txn.specs.Steps.{HeadReads, HasCommitted, HasHeadQuit, begins, restarts}
 use Rattle.ftc_txn.specs.declared.answers.ReadAnswer.{ReadAnswer}
 use Rattle.ftc_txn.specs.declared.answers.ReadAnswer.TheVariants.{Value, Blocked, Wounded as WoundedRead}
 use Rattle.ftc_txn.specs.declared.answers.ReadAnswer.TheVariants.{Idle as IdleRead, NotAsked}

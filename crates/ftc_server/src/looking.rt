@@ -6,7 +6,7 @@ ghost use Rattle.std.specs.Option.{option_copied};
 ghost use Rattle.ftc_txn.specs.Slots.{slot_at, packet_at, wounded_at};
 ghost use Rattle.ftc_txn.specs.Head.{ages_left};
 ghost use Rattle.ftc_server.specs.Holding.{found};
-ghost use Rattle.ftc_server.specs.Looks.{origin_of, message_in, came_by_ring, replica_in};
+ghost use Rattle.ftc_server.specs.Looks.{held_origin, message_in, came_by_ring, replica_in};
 
 use crate::replicas::replica_of;
 use crate::server::Server;
@@ -27,7 +27,7 @@ impl Server {
     /// The origin of the held message at a place, in the order of taking.
     pub fn held_at(&self, place: usize) -> PacketNo
         requires { place < length self.now.held.items }
-        ensures { option_map origin_of (slice_get self.now.held.items place) ≡ Some result }
+        ensures { option_map held_origin (slice_get self.now.held.items place) ≡ Some result }
     {
         self.held.at(place).message.origin
     }

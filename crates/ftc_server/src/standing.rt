@@ -1,7 +1,7 @@
 //! Where a server stands in the ring.
 
 ghost use Rattle.std.specs.Prelude.{◌≡◌, ◌<◌, IfOk};
-ghost use Rattle.ftc_server.specs.Standing.{is_last, onward, with_own};
+ghost use Rattle.ftc_server.specs.Standing.{is_last, going_on, with_own};
 
 use ftc_base::{NoMemory, ServerId, ServerSet};
 use ftc_message::Logs;
@@ -19,7 +19,7 @@ pub fn is_last(ring: &Ring, server: ServerId) -> bool
 /// A copy of the logs that go on from a server.
 pub fn onward(alloc: Global, ring: &Ring, server: ServerId, logs: &Logs) -> Result<Logs, NoMemory>
     requires { server < ring.now.servers }
-    ensures { IfOk result (λ left. left ≡ onward ring.now server logs.now) }
+    ensures { IfOk result (λ left. left ≡ going_on ring.now server logs.now) }
 {
     let ending = ring.group_ending_at(server);
     let mut left = logs.copy(alloc)?;

@@ -22,7 +22,7 @@ use Rattle.std.proofs.lemmas.Map.Keys.{sorted_from_all_adjacent, sorted_head, so
 use Rattle.std.proofs.lemmas.Map.Made.{is_some-lookup}
 use Rattle.std.proofs.lemmas.Slice.Eq.{slice_eq-Decides}
 use Rattle.std.proofs.lemmas.Option.{slice_get_within, slice_get_read, get_or_from_slice_get}
-use Rattle.ftc_store.specs.Pairs.{pair_of, entry_of}
+use Rattle.ftc_store.specs.Pairs.{pair_of, key_value}
 use Rattle.ftc_store.specs.declared.pairs.Pair.{Pair}
 use Rattle.ftc_store.proofs.Lookups.{Pairs, same_test, content_of, found, find_pair}
 
@@ -140,24 +140,24 @@ len_distinct (e ∷ es) distinct =
     ∙ omega (arith, len_distinct es (IsDistinct-tail (pointwise nat_eq) e.0 (keys_of es) distinct))
 
 -- the same of the store's own pairs
-entries_again : (es : Pairs) → map entry_of (map pair_of es) ≡ es
+entries_again : (es : Pairs) → map key_value (map pair_of es) ≡ es
 entries_again [] = refl
 entries_again (e ∷ es) = ap (λ (rest : Pairs). e ∷ rest) (entries_again es)
 
 entries_sorted : (pairs : List Pair) → IsSortedByKey (λ (pair : Pair). pair.key) (slice_cmp nat_cmp) pairs →
-    IsSortedByKey (λ (e : List ℕ × List ℕ). e.0) (slice_cmp nat_cmp) (map entry_of pairs)
+    IsSortedByKey (λ (e : List ℕ × List ℕ). e.0) (slice_cmp nat_cmp) (map key_value pairs)
 entries_sorted pairs sorted k d low within =
-    let long : length (map entry_of pairs) ≡ length pairs = length-map pairs entry_of in
+    let long : length (map key_value pairs) ≡ length pairs = length-map pairs key_value in
     rw (
-      get_or-map entry_of pairs k (pair_of d) d (omega arith),
-      get_or-map entry_of pairs (k + 1) (pair_of d) d (omega arith),
+      get_or-map key_value pairs k (pair_of d) d (omega arith),
+      get_or-map key_value pairs (k + 1) (pair_of d) d (omega arith),
     ) (sorted k (pair_of d) low (omega arith))
 
 pub listed_pairs : (es : Pairs) (made moved : List Pair) → IsDistinct (pointwise nat_eq) (keys_of es) →
     made ≡ map pair_of es → IsPermutation made moved →
-    IsSortedByKey (λ (pair : Pair). pair.key) (slice_cmp nat_cmp) moved → map entry_of moved ≡ entries (content_of es)
+    IsSortedByKey (λ (pair : Pair). pair.key) (slice_cmp nat_cmp) moved → map key_value moved ≡ entries (content_of es)
 listed_pairs es made moved distinct made-is other sorted =
-    let same : map entry_of made ≡ es = ap (map entry_of) made-is ∙ entries_again es in
-    listed es (map entry_of moved) distinct
-    (subst (λ (from : Pairs). IsPermutation from (map entry_of moved)) same
-    (IsPermutation-map entry_of made moved other)) (entries_sorted moved sorted)
+    let same : map key_value made ≡ es = ap (map key_value) made-is ∙ entries_again es in
+    listed es (map key_value moved) distinct
+    (subst (λ (from : Pairs). IsPermutation from (map key_value moved)) same
+    (IsPermutation-map key_value made moved other)) (entries_sorted moved sorted)

@@ -4,7 +4,7 @@ ghost use Rattle.std.specs.Prelude.{◌≡◌, ◌≤◌, ◌+◌, ◌↔◌, le
 ghost use Rattle.std.specs.Prelude.{map as map_list};
 ghost use Rattle.std.specs.FinMap as map;
 ghost use Rattle.ftc_store.specs.Store.{written, changed};
-ghost use Rattle.ftc_store.specs.Pairs.{entry_of};
+ghost use Rattle.ftc_store.specs.Pairs.{key_value};
 
 use crate::pairs::{Answers2, copy_of, pairs_of, sort_pairs};
 use ftc_base::limits::MOST_PARTITIONS;
@@ -80,7 +80,7 @@ impl Store {
 
     /// All pairs, by rising key bytes.
     pub fn list(&self, alloc: Global) -> Result<Answers2, NoMemory>
-        ensures { IfOk result (λ list. map_list entry_of list ≡ map.entries self.now.content) }
+        ensures { IfOk result (λ list. map_list key_value list ≡ map.entries self.now.content) }
     {
         let mut pairs = pairs_of(alloc, &self.held)?;
         sort_pairs(&mut pairs)?;

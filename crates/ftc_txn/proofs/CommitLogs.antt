@@ -7,7 +7,7 @@ use Rattle.ftc_base.specs.declared.ask.Write.{Write}
 use Rattle.ftc_base.specs.Partition.{partition_of}
 use Rattle.ftc_base.specs.declared.limits.TheConstants.{MOST_PARTITIONS}
 use Rattle.ftc_vector.specs.Vector.{number_at, mark_at, raised, need_of}
-use Rattle.ftc_vector.specs.Order.{IsReady, IsCovered}
+use Rattle.ftc_vector.specs.Order.{IsLogReady, IsCovered}
 use Rattle.ftc_vector.proofs.Partitions.{get_or-by_partition}
 use Rattle.ftc_vector.proofs.Needs.{applied_covered}
 use Rattle.ftc_message.specs.Bounds.{MarksSome}
@@ -36,7 +36,7 @@ module _ (group partitions : ℕ) (vector : List ℕ) (packet : ℕ) (answers : 
       (sym (mark_of partitions answers vector p within) ∙ ap (λ (marks : List (Option ℕ)). mark_at marks p)
       (sym of.before) ∙ marked)
 
-  pub log_ready : IsReady vector log.before log.changed
+  pub log_ready : IsLogReady vector log.before log.changed
   log_ready = record {
     changed_equal = λ p carried within marked _. has_number p carried within marked;
     others_reached = λ p carried within marked _. omega (arith, has_number p carried within marked);

@@ -19,7 +19,7 @@ use Rattle.ftc_txn.specs.Slots.{Running, slot_at, begun, restarted, answered, Is
 use Rattle.ftc_txn.specs.declared.turn.Turn.TheVariants.{Wounded}
 use Rattle.ftc_txn.specs.Head.{HeadState, RunsUnwounded, RunsWounded, IsCurrent, IsRunning, IsHead, AreItsWrites}
 use Rattle.ftc_txn.specs.Head.{next_age}
-use Rattle.ftc_txn.specs.Steps.{begins, restarts, IsGranted, IsFreed, HasRead, HasQuit}
+use Rattle.ftc_txn.specs.Steps.{begins, restarts, IsGranted, IsFreed, HasHeadRead, HasHeadQuit}
 use Rattle.ftc_base.proofs.EachOf.{all_push}
 use Rattle.ftc_txn.proofs.Kept.{all_kept, not_both, none_or_some, slot_within, some_run_at, slot_set, slot_other}
 use Rattle.ftc_txn.proofs.Kept.{same_holdings, Stays, WasWounded, keeps}
@@ -109,8 +109,8 @@ freed_keeps old new worker within valid partitions last slots freed content =
     (λ r is. absurd (none_or_some (slot_at new.slots worker) r here is))
     (λ r another other _ is. absurd (none_or_some (slot_at new.slots worker) r here is))
 
-pub quit_keeps : (old new : HeadState) (worker : ℕ) → worker < length old.slots → IsHead old → HasQuit old new worker →
-    IsHead new
+pub quit_keeps : (old new : HeadState) (worker : ℕ) → worker < length old.slots → IsHead old →
+    HasHeadQuit old new worker → IsHead new
 quit_keeps old new worker within valid quit =
     freed_keeps old new worker within valid (ap (λ (h : HeadState). h.partitions) quit.rest)
     (ap (λ (h : HeadState). h.last) quit.rest) quit.slots quit.locks
@@ -126,7 +126,7 @@ still_held old new worker age partition change p granted held =
 
 pub read_keeps : (old new : HeadState) (worker : ℕ) (running : Running) (key : List ℕ) (change : Bool)
     (value : Option (List ℕ)) → IsHead old → RunsUnwounded old worker running →
-    HasRead old new worker running key change value → IsHead new
+    HasHeadRead old new worker running key change value → IsHead new
 read_keeps old new worker running key change value valid runs read =
     let was : IsRunning old worker running = valid.running worker running runs.slot in
     let content : new.content ≡ old.content = ap (λ (h : HeadState). h.content) read.rest in

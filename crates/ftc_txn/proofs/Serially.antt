@@ -14,7 +14,7 @@ use Rattle.ftc_locks.specs.Locks.{conflicts}
 use Rattle.ftc_message.specs.Logged.{Logged}
 use Rattle.ftc_txn.specs.Touched.{vector_after}
 use Rattle.ftc_txn.specs.Logs.{IsLogOf}
-use Rattle.ftc_txn.specs.Steps.{restarts, HasRead}
+use Rattle.ftc_txn.specs.Steps.{restarts, HasHeadRead}
 use Rattle.ftc_txn.specs.Head.{HeadState, next_age}
 use Rattle.ftc_txn.specs.Runs.{Call, Begin, Read, Commit, Quit, Run, Visit, with_visit, read_on, read_anew, IsSerial}
 use Rattle.ftc_txn.specs.Runs.{CommitsNow, visit_of, visits_of}
@@ -75,7 +75,7 @@ visit_wounded by (Some running) = refl
 
 read_visits : (old new : HeadState) (worker : ℕ) (running : Running) (key : List ℕ) (change : Bool)
     (value : Option (List ℕ)) → slot_at old.slots worker ≡ Some running →
-    HasRead old new worker running key change value →
+    HasHeadRead old new worker running key change value →
     visits_of new.slots ≡ with_visit (visits_of old.slots) worker (read_on key value (visits_of old.slots worker))
 read_visits old new worker running key change value runs read =
     visits_after (visits_of old.slots) (visits_of new.slots) worker (read_on key value (visits_of old.slots worker))

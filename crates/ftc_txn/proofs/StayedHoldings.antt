@@ -6,7 +6,7 @@ use Rattle.ftc_base.specs.Partition.{partition_of}
 use Rattle.ftc_locks.specs.Locks.{holds_exclusively, conflicts, SameHoldings}
 use Rattle.ftc_txn.specs.Slots.{Running, slot_at, begun, restarted}
 use Rattle.ftc_txn.specs.Head.{HeadState, RunsUnwounded, next_age}
-use Rattle.ftc_txn.specs.Steps.{HasRead}
+use Rattle.ftc_txn.specs.Steps.{HasHeadRead}
 use Rattle.ftc_txn.specs.Runs.{Call, Begin, Read, Commit, Quit, caller, Step}
 use Rattle.ftc_txn.specs.declared.answers.ReadAnswer.TheVariants.{Value, Blocked, Wounded as WoundedRead}
 use Rattle.ftc_txn.specs.declared.answers.ReadAnswer.TheVariants.{Idle as IdleRead, NotAsked}
@@ -49,7 +49,7 @@ set_alone old new other worker slot running slots locks differs runs =
     set_one old new other worker slot running slots differs (rw locks (same_holdings old.locks worker)) runs
 
 read_by : (old new : HeadState) (other worker : ℕ) (before running : Running) (key : List ℕ) (change : Bool)
-    (value : Option (List ℕ)) → HasRead old new other before key change value → worker ≢ other →
+    (value : Option (List ℕ)) → HasHeadRead old new other before key change value → worker ≢ other →
     RunsUnwounded new worker running → Stayed old new worker running
 read_by old new other worker before running key change value read differs runs =
     ⊎_elim (λ is.
@@ -98,7 +98,7 @@ pub stay : (old new : HeadState) (call : Call) (worker : ℕ) (running : Running
 stay old new call worker running step differs runs = (stayed old new call worker running step differs runs).holdings
 
 pub own : (old new : HeadState) (worker partition : ℕ) (running : Running) (key : List ℕ) (change : Bool)
-    (value : Option (List ℕ)) → HasRead old new worker running key change value →
+    (value : Option (List ℕ)) → HasHeadRead old new worker running key change value →
     holds_exclusively old.locks worker partition ≡ true → holds_exclusively new.locks worker partition ≡ true
 own old new worker partition running key change value read held =
     ⊎_elim (λ same. rw same (read.locks.exclusive ∙ or_right change
@@ -107,7 +107,8 @@ own old new worker partition running key change value read held =
     (cases_eq partition (partition_of old.partitions key))
 
 pub changed : (old new : HeadState) (worker : ℕ) (running : Running) (key : List ℕ) (value : Option (List ℕ)) →
-    HasRead old new worker running key true value → holds_exclusively new.locks worker (partition_of new.partitions key)
+    HasHeadRead old new worker running key true value →
+    holds_exclusively new.locks worker (partition_of new.partitions key)
     ≡ true
 changed old new worker running key value read =
     let partitions : new.partitions ≡ old.partitions = ap (λ (h : HeadState). h.partitions) read.rest in

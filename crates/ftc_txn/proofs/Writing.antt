@@ -9,13 +9,13 @@ use Rattle.ftc_base.specs.Partition.{partition_of}
 use Rattle.ftc_txn.specs.Slots.{Running, slot_at, answered}
 use Rattle.ftc_txn.specs.Touched.{is_changed}
 use Rattle.ftc_txn.specs.Head.{HeadState, RunsUnwounded, AreItsWrites}
-use Rattle.ftc_txn.specs.Steps.{HasRead}
+use Rattle.ftc_txn.specs.Steps.{HasHeadRead}
 use Rattle.ftc_txn.proofs.Kept.{not_both}
 use Rattle.ftc_txn.proofs.KeptByCalls.{some_of}
 use Rattle.ftc_txn.proofs.TouchedLists.{changed_none, changed_cases}
 
 pub may_write : (old new : HeadState) (worker : ℕ) (before running : Running) (key : List ℕ)
-    (value written : Option (List ℕ)) → HasRead old new worker before key true value →
+    (value written : Option (List ℕ)) → HasHeadRead old new worker before key true value →
     RunsUnwounded new worker running → AreItsWrites new worker running ((record { key = key; value = written }) ∷ [])
 may_write old new worker before running key value written read runs =
     let answer : Answer = record { key = key; value = value } in

@@ -11,7 +11,7 @@ use Rattle.ftc_txn.specs.Slots.{Running, slot_at}
 use Rattle.ftc_txn.specs.Touched.{vector_after}
 use Rattle.ftc_txn.specs.Logs.{IsLogOf}
 use Rattle.ftc_txn.specs.Head.{HeadState}
-use Rattle.ftc_txn.specs.Steps.{begins, Reads, Commits, HasQuit}
+use Rattle.ftc_txn.specs.Steps.{begins, HeadReads, Commits, HasHeadQuit}
 use Rattle.ftc_txn.specs.declared.answers.ReadAnswer.{ReadAnswer}
 use Rattle.ftc_txn.specs.declared.answers.ReadAnswer.TheVariants.{Value, Wounded as WoundedRead}
 use Rattle.ftc_txn.specs.declared.answers.HeadCommit.{HeadCommit}
@@ -35,9 +35,9 @@ caller (Quit worker) = worker
 abbrev pub Step : HeadState → Call → HeadState → Type 0
 Step old (Begin worker packet) new = (worker < length old.slots) × (slot_at old.slots worker ≡ None)
     × (new ≡ begins old worker packet)
-Step old (Read worker key change answer) new = Reads old new worker key change answer
+Step old (Read worker key change answer) new = HeadReads old new worker key change answer
 Step old (Commit worker writes answer) new = Commits old new worker writes answer
-Step old (Quit worker) new = HasQuit old new worker
+Step old (Quit worker) new = HasHeadQuit old new worker
 
 -- one call after another
 abbrev pub Run : HeadState → List Call → HeadState → Type 0

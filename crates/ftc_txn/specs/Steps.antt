@@ -50,7 +50,7 @@ pub record IsFreed (old new : Locks) (worker : ℕ) : Type 0 where
 
 -- a read is answered with what the content has: the slot holds the key's partition and has one more answer, and those
 -- that were in its way are wounded
-pub record HasRead (old new : HeadState) (worker : ℕ) (running : Running) (key : List ℕ) (change : Bool)
+pub record HasHeadRead (old new : HeadState) (worker : ℕ) (running : Running) (key : List ℕ) (change : Bool)
     (value : Option (List ℕ)) : Type 0 where
   pub read : value ≡ get old.content key
   pub locks : IsGranted old.locks new.locks worker running.age (partition_of old.partitions key) change
@@ -83,24 +83,24 @@ pub record WouldLog (head : HeadState) (worker : ℕ) (writes : List Write) (log
   pub wounded : (running : Running) (by : ℕ) → RunsWounded head worker running by → log ≡ None
 
 -- the slot is idle and has no lock, and nothing else differs
-pub record HasQuit (old new : HeadState) (worker : ℕ) : Type 0 where
+pub record HasHeadQuit (old new : HeadState) (worker : ℕ) : Type 0 where
   pub locks : IsFreed old.locks new.locks worker
   pub slots : new.slots ≡ slice_set old.slots worker None
   pub rest : new ≡ record old { locks = new.locks; slots = new.slots }
 
 -- each answer to a read: when it comes, and what it leaves
-abbrev pub Reads : HeadState → HeadState → ℕ → List ℕ → Bool → ReadAnswer → Type 0
-Reads old new worker key change (Value value) =
-    (running : Running) × RunsUnwounded old worker running × HasRead old new worker running key change value
+abbrev pub HeadReads : HeadState → HeadState → ℕ → List ℕ → Bool → ReadAnswer → Type 0
+HeadReads old new worker key change (Value value) =
+    (running : Running) × RunsUnwounded old worker running × HasHeadRead old new worker running key change value
 -- an older one is in the way
-Reads old new worker key change (Blocked holder) =
+HeadReads old new worker key change (Blocked holder) =
     (running : Running) × RunsUnwounded old worker running
     × IsOldestInTheWay old.locks worker running.age (partition_of old.partitions key) change holder × (new ≡ old)
-Reads old new worker key change (WoundedRead by) =
+HeadReads old new worker key change (WoundedRead by) =
     (running : Running) × RunsWounded old worker running by × (new ≡ restarts old worker running)
-Reads old new worker key change IdleRead = (slot_at old.slots worker ≡ None) × (new ≡ old)
+HeadReads old new worker key change IdleRead = (slot_at old.slots worker ≡ None) × (new ≡ old)
 -- who asks without the rule of a middlebox is never told that the rule doesn't ask
-Reads old new worker key change NotAsked = ⊥
+HeadReads old new worker key change NotAsked = ⊥
 
 -- each answer to a commit: when it comes, and what it leaves
 abbrev pub Commits : HeadState → HeadState → ℕ → List Write → HeadCommit → Type 0

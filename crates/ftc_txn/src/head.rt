@@ -9,7 +9,7 @@ ghost use Rattle.ftc_txn.specs.Slots.{Running, slot_at, packet_at, wounded_at};
 ghost use Rattle.ftc_txn.specs.Touched.{is_changed};
 ghost use Rattle.ftc_txn.specs.Head.{ages_left, next_age, RunsUnwounded, AreItsWrites, IsHead};
 ghost use Rattle.ftc_txn.specs.declared.answers.HeadCommit.TheVariants.{Done};
-ghost use Rattle.ftc_txn.specs.Steps.{begins, Reads, Commits, HasQuit, WouldLog};
+ghost use Rattle.ftc_txn.specs.Steps.{begins, HeadReads, Commits, HasHeadQuit, WouldLog};
 
 use crate::answers::{HeadCommit, ReadAnswer};
 use crate::logged::{log_of, raise};
@@ -180,7 +180,7 @@ impl Head {
 
     /// A slot gives up what it runs, with its locks.
     pub fn quit(&mut self, worker: WorkerId)
-        ensures { HasQuit self.old self.new worker }
+        ensures { HasHeadQuit self.old self.new worker }
     {
         self.locks.free_all(worker);
         self.slots.free(worker);
@@ -189,7 +189,7 @@ impl Head {
     /// What a slot runs reads a key. `change` says whether it may write there.
     pub fn read(&mut self, worker: WorkerId, key: &Key, change: bool) -> ReadAnswer
         requires { (running : Running) → RunsUnwounded self.old worker running → length running.answers < MOST_READS }
-        ensures { Reads self.old self.new worker key.now change result }
+        ensures { HeadReads self.old self.new worker key.now change result }
     {
         match self.slots.turn(worker) {
             Turn::Idle => ReadAnswer::Idle,
@@ -205,7 +205,7 @@ impl Head {
     fn read_unwounded(&mut self, worker: WorkerId, age: u64, key: &Key, change: bool) -> ReadAnswer
         requires { (running : Running) × RunsUnwounded self.old worker running × (running.age ≡ age)
             × (length running.answers < MOST_READS) }
-        ensures { Reads self.old self.new worker key.now change result }
+        ensures { HeadReads self.old self.new worker key.now change result }
     {
         let partition = partition_of(key, self.partitions);
         match self.locks.acquire(worker, age, partition, change) {

@@ -5,7 +5,7 @@ ghost use Rattle.ftc_base.specs.declared.ask.Answer.{Answer};
 ghost use Rattle.ftc_base.specs.declared.ask.Write.{Write};
 ghost use Rattle.ftc_base.specs.Partition.{partition_of};
 ghost use Rattle.ftc_vector.specs.Vector.{raised, need_of};
-ghost use Rattle.ftc_vector.specs.Order.{IsReady, IsCovered};
+ghost use Rattle.ftc_vector.specs.Order.{IsLogReady, IsCovered};
 ghost use Rattle.ftc_locks.specs.Locks.{holds_exclusively, SameHoldings};
 ghost use Rattle.ftc_message.specs.Logged.{Logged};
 ghost use Rattle.ftc_message.specs.Bounds.{MarksSome};
@@ -13,7 +13,7 @@ ghost use Rattle.ftc_txn.specs.Slots.{Running};
 ghost use Rattle.ftc_txn.specs.Touched.{vector_after};
 ghost use Rattle.ftc_txn.specs.Head.{HeadState, RunsUnwounded};
 ghost use Rattle.ftc_txn.specs.Logs.{IsLogOf};
-ghost use Rattle.ftc_txn.specs.Steps.{HasRead, Commits, WouldLog};
+ghost use Rattle.ftc_txn.specs.Steps.{HasHeadRead, Commits, WouldLog};
 ghost use Rattle.ftc_txn.specs.declared.answers.HeadCommit.TheVariants.{Done};
 ghost use Rattle.ftc_txn.specs.Runs.{Call, caller, Step, Run, IsSerial, visits_of};
 
@@ -29,10 +29,10 @@ pub fn holdings()
         SameHoldings old.locks new.locks worker }
     ensures own { (old new : HeadState) (worker partition : ℕ) (running : Running) (key : List ℕ) (change : Bool)
         (value : Option (List ℕ)) →
-        HasRead old new worker running key change value →
+        HasHeadRead old new worker running key change value →
         holds_exclusively old.locks worker partition ≡ true → holds_exclusively new.locks worker partition ≡ true }
     ensures changed { (old new : HeadState) (worker : ℕ) (running : Running) (key : List ℕ) (value : Option (List ℕ)) →
-        HasRead old new worker running key true value →
+        HasHeadRead old new worker running key true value →
         holds_exclusively new.locks worker (partition_of new.partitions key) ≡ true }
 {}
 
@@ -49,7 +49,7 @@ pub fn transactions()
 pub fn logs()
     ensures ready { (group partitions : ℕ) (vector : List ℕ) (packet : ℕ) (answers : List Answer) (writes : List Write)
         (log : Logged) →
-        IsLogOf group partitions vector packet answers writes log → IsReady vector log.before log.changed }
+        IsLogOf group partitions vector packet answers writes log → IsLogReady vector log.before log.changed }
     ensures raised { (group partitions : ℕ) (vector : List ℕ) (packet : ℕ) (answers : List Answer) (writes : List Write)
         (log : Logged) →
         IsLogOf group partitions vector packet answers writes log →

@@ -4,7 +4,7 @@ use Rattle.std.proofs.Common.{if◌then◌else◌}
 use Rattle.ftc_base.specs.Sets.{has}
 use Rattle.ftc_base.specs.declared.limits.TheConstants.{MOST_PARTITIONS}
 use Rattle.ftc_vector.specs.Vector.{number_at, mark_at, raised, marks_of, need_at, need_of}
-use Rattle.ftc_vector.specs.Order.{IsReady, IsCovered, IsBelow}
+use Rattle.ftc_vector.specs.Order.{IsLogReady, IsCovered, IsBelow}
 use Rattle.ftc_vector.proofs.Partitions.{get_or-by_partition}
 
 pub number_at-raised : (a : List ℕ) (changed p : ℕ) → p < MOST_PARTITIONS →
@@ -44,7 +44,7 @@ carried_is : (b : Bool) (n carried : ℕ) → (if b then Some n else None) ≡ S
 carried_is true n carried is = cc
 carried_is false n carried is = cc
 
-pub own_ready : (a : List ℕ) (touched changed : ℕ) → IsReady a (marks_of a touched) changed
+pub own_ready : (a : List ℕ) (touched changed : ℕ) → IsLogReady a (marks_of a touched) changed
 own_ready a touched changed =
     let is : (p carried : ℕ) → p < MOST_PARTITIONS → mark_at (marks_of a touched) p ≡ Some carried →
     number_at a p ≡ carried =
@@ -68,7 +68,7 @@ applied_at (Some carried) false n least equal reached needed =
     let is : carried ≡ least = cc in
     omega (arith, reached carried refl refl)
 
-pub applied_covered : (a : List ℕ) (before : List (Option ℕ)) (changed : ℕ) → IsReady a before changed →
+pub applied_covered : (a : List ℕ) (before : List (Option ℕ)) (changed : ℕ) → IsLogReady a before changed →
     IsCovered (raised a changed) (need_of before changed)
 applied_covered a before changed ready = record {
   reached = λ p least within marked.
@@ -80,7 +80,7 @@ applied_covered a before changed ready = record {
 
 pub covered_once : (a : List ℕ) (before : List (Option ℕ)) (changed p carried : ℕ) → p < MOST_PARTITIONS →
     mark_at before p ≡ Some carried → has changed p ≡ true → IsCovered a (need_of before changed) →
-    ¬ IsReady a before changed
+    ¬ IsLogReady a before changed
 covered_once a before changed p carried within marked is covered ready =
     let needed : mark_at (need_of before changed) p ≡ Some (carried + 1) =
     mark_at-need_of before changed p within ∙ rw (marked, is) refl in

@@ -8,7 +8,7 @@ use Rattle.std.proofs.lemmas.Bool.{false_from_ne_true}
 use Rattle.ftc_base.specs.Sets.{has}
 use Rattle.ftc_base.specs.declared.limits.TheConstants.{MOST_PARTITIONS}
 use Rattle.ftc_vector.specs.Vector.{number_at, mark_at, need_at, need_of}
-use Rattle.ftc_vector.specs.Order.{IsReady, IsCovered, allows, is_ready, reaches, covers}
+use Rattle.ftc_vector.specs.Order.{IsLogReady, IsCovered, allows, is_log_ready, reaches, covers}
 use Rattle.ftc_vector.proofs.Needs.{mark_at-need_of}
 
 all_in : (p : ℕ → Bool) (from count : ℕ) → list_all p (range_with_len from count) ≡ true → (k : ℕ) → from ≤ k →
@@ -100,8 +100,8 @@ allows_all number (Some carried) true equal reached = eq-eqb number carried (equ
 allows_all number (Some carried) false equal reached = le-leb carried number (reached carried refl refl)
 
 pub ready : (vector : List ℕ) (before : List (Option ℕ)) (changed : ℕ)
-    → (is_ready vector before changed ≡ true) ↔ IsReady vector before changed
-unfolding is_ready
+    → (is_log_ready vector before changed ≡ true) ↔ IsLogReady vector before changed
+unfolding is_log_ready
 ready vector before changed =
     let test : ℕ → Bool = λ p. allows (number_at vector p) (mark_at before p) (has changed p) in (
       λ all. record {

@@ -8,7 +8,7 @@ use Rattle.ftc_vector.specs.Vector.{number_at, mark_at}
 
 -- a log that carries the numbers before may be applied to the vector: the vector has the carried number in each
 -- changed partition, and at least the carried one in each other partition that the log marks
-pub record IsReady (vector : List ℕ) (before : List (Option ℕ)) (changed : ℕ) : Type 0 where
+pub record IsLogReady (vector : List ℕ) (before : List (Option ℕ)) (changed : ℕ) : Type 0 where
   pub changed_equal : (partition carried : ℕ) → partition < MOST_PARTITIONS → mark_at before partition ≡ Some carried →
       has changed partition ≡ true → number_at vector partition ≡ carried
   pub others_reached : (partition carried : ℕ) → partition < MOST_PARTITIONS → mark_at before partition ≡ Some carried →
@@ -31,8 +31,8 @@ allows number None changed = true
 allows number (Some carried) changed = if changed then number == carried else nat_le carried number
 
 -- the log may be applied to the vector
-unfoldable pub is_ready : List ℕ → List (Option ℕ) → ℕ → Bool
-is_ready vector before changed =
+unfoldable pub is_log_ready : List ℕ → List (Option ℕ) → ℕ → Bool
+is_log_ready vector before changed =
     list_all (λ partition. allows (number_at vector partition) (mark_at before partition) (has changed partition))
     (range_with_len 0 MOST_PARTITIONS)
 

@@ -4,7 +4,7 @@ ghost use Rattle.std.specs.Prelude.{◌≡◌, ◌≢◌, ◌<◌, ◌+◌, ◌�
 ghost use Rattle.std.specs.Prelude.{if◌then◌else◌};
 ghost use Rattle.ftc_base.specs.Sets.{has};
 ghost use Rattle.ftc_vector.specs.Vector.{by_partition, number_at, mark_at, merged, raised, marks_of, need_at, need_of};
-ghost use Rattle.ftc_vector.specs.Order.{IsReady, IsCovered, IsBelow, is_ready, covers};
+ghost use Rattle.ftc_vector.specs.Order.{IsLogReady, IsCovered, IsBelow, is_log_ready, covers};
 ghost use Rattle.ftc_vector.specs.Commits.{vector_of, all_merged, group_raised};
 
 use ftc_base::limits::{MOST_PARTITIONS, MOST_SERVERS};
@@ -37,12 +37,12 @@ pub fn merging()
 /// A log that a commit writes is ready at the vector before it. A ready log that is applied is covered
 /// from then on, and a log that is covered and changes a partition isn't ready.
 pub fn applying()
-    ensures own { (a : List ℕ) (touched changed : ℕ) → IsReady a (marks_of a touched) changed }
+    ensures own { (a : List ℕ) (touched changed : ℕ) → IsLogReady a (marks_of a touched) changed }
     ensures applied { (a : List ℕ) (before : List (Option ℕ)) (changed : ℕ) →
-        IsReady a before changed → IsCovered (raised a changed) (need_of before changed) }
+        IsLogReady a before changed → IsCovered (raised a changed) (need_of before changed) }
     ensures once { (a : List ℕ) (before : List (Option ℕ)) (changed p carried : ℕ) → p < MOST_PARTITIONS →
         mark_at before p ≡ Some carried → has changed p ≡ true →
-        IsCovered a (need_of before changed) → ¬ IsReady a before changed }
+        IsCovered a (need_of before changed) → ¬ IsLogReady a before changed }
 {}
 
 /// What is covered stays covered when the vector is merged with another, and when it is raised.
@@ -56,7 +56,7 @@ pub fn covering()
 /// The tests of order say what the relations do.
 pub fn order_tests()
     ensures ready { (a : List ℕ) (before : List (Option ℕ)) (changed : ℕ) →
-        (is_ready a before changed ≡ true) ↔ IsReady a before changed }
+        (is_log_ready a before changed ≡ true) ↔ IsLogReady a before changed }
     ensures covers { (a : List ℕ) (need : List (Option ℕ)) → (covers a need ≡ true) ↔ IsCovered a need }
 {}
 

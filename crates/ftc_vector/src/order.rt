@@ -1,7 +1,7 @@
 //! Which log may be applied, and which log is there.
 
 ghost use Rattle.std.specs.Prelude.{◌↔◌, IsTrue, ◌≡◌, ◌≤◌, ◌<◌};
-ghost use Rattle.ftc_vector.specs.Order.{IsReady, IsCovered};
+ghost use Rattle.ftc_vector.specs.Order.{IsLogReady, IsCovered};
 
 use crate::marks::Marks;
 use crate::vector::Vector;
@@ -11,7 +11,7 @@ use ftc_base::PartSet;
 /// vector is: the vector's number is the carried one in each changed partition, and at least the
 /// carried one in each other partition that the log marks.
 pub fn ready(vector: &Vector, before: &Marks, changed: PartSet) -> bool
-    ensures { IsTrue result ↔ IsReady vector.now before.now changed }
+    ensures { IsTrue result ↔ IsLogReady vector.now before.now changed }
 {
     for partition in 0..before.end() {
         if let Some(carried) = before.at(partition) {

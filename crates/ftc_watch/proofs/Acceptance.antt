@@ -18,7 +18,7 @@ use Rattle.ftc_watch.specs.declared.fault.BeatsCause.TheVariants.{Header, Word, 
 use Rattle.ftc_watch.specs.declared.fault.BeatsFault.{BeatsFault}
 use Rattle.ftc_watch.specs.Members.{are_below, rises_from, set_of}
 use Rattle.ftc_watch.specs.Beats.{BeatsShape, IsTick, AreTicks, IsBeats}
-use Rattle.ftc_watch.specs.Grammar.{header, numbers_from, tick_in, tick_of, last_of, room, with_line, ended, placed}
+use Rattle.ftc_watch.specs.Grammar.{header, numbers_from, tick_in, tick_of, latest_of, room, with_line, ended, placed}
 use Rattle.ftc_watch.specs.Grammar.{ticks_from, ticks_in, ticks_of, beats_of}
 use Rattle.ftc_watch.proofs.Sets.{members_below}
 use Rattle.ftc_watch.proofs.Ticks.{ticks_push}
@@ -76,11 +76,11 @@ line_accepts : (servers packets : ℕ) (ticks : List Tick) (line : List ℕ) (ne
     → AreTicks servers packets 0 ticks → with_line servers packets ticks line ≡ Ok next
     → AreTicks servers packets 0 next × (length next ≤ MOST_BEATS)
 line_accepts servers packets ticks line next small are e =
-    let one = both (room ticks >> tick_of servers packets (last_of 0 ticks) (parts_of 32 line))
+    let one = both (room ticks >> tick_of servers packets (latest_of 0 ticks) (parts_of 32 line))
     (λ tick. Ok (ticks ++ tick ∷ [])) next e in
-    let two = both_of (room ticks) (tick_of servers packets (last_of 0 ticks) (parts_of 32 line)) one.0 one.1 in
+    let two = both_of (room ticks) (tick_of servers packets (latest_of 0 ticks) (parts_of 32 line)) one.0 one.1 in
     let few : nat_lt (length ticks) MOST_BEATS ≡ true = passed (nat_lt (length ticks) MOST_BEATS) TooMany two.0 two.1 in
-    let is = tick_of_accepts servers packets (last_of 0 ticks) (parts_of 32 line) one.0 small two.2 in
+    let is = tick_of_accepts servers packets (latest_of 0 ticks) (parts_of 32 line) one.0 small two.2 in
     let same : ticks ++ one.0 ∷ [] ≡ next = cc one.2 in
     let more = length-append ticks (one.0 ∷ []) in
     let size : length (ticks ++ one.0 ∷ []) ≤ MOST_BEATS = grind (arith, nat_tests) in

@@ -19,7 +19,7 @@ use Rattle.ftc_watch.specs.declared.fault.BeatsCause.TheVariants.{TooMany}
 use Rattle.ftc_watch.specs.Members.{are_below, rises_from, with_member, with_members, set_of}
 use Rattle.ftc_watch.specs.Beats.{BeatsShape, IsTick, AreTicks, IsBeats}
 use Rattle.ftc_watch.specs.Plain.{members_of, tick_words, ticks_text, beats_text}
-use Rattle.ftc_watch.specs.Grammar.{header, number_word, numbers_from, tick_in, tick_of, last_of, room, with_line}
+use Rattle.ftc_watch.specs.Grammar.{header, number_word, numbers_from, tick_in, tick_of, latest_of, room, with_line}
 use Rattle.ftc_watch.specs.Grammar.{placed, ticks_from, ticks_in, ticks_of, beats_of}
 use Rattle.ftc_watch.proofs.Sets.{has-with_member}
 use Rattle.ftc_watch.proofs.Reading.{one_line, begun}
@@ -145,11 +145,11 @@ said_again servers packets last tick small at is =
     ∙ tick_again servers packets last tick small is
 
 line_again : (servers packets : ℕ) (ticks : List Tick) (tick : Tick) → servers ≤ MOST_SERVERS → packets ≤ 4294967295
-    → length ticks < MOST_BEATS → IsTick servers packets (last_of 0 ticks) tick
+    → length ticks < MOST_BEATS → IsTick servers packets (latest_of 0 ticks) tick
     → with_line servers packets ticks (join_with_byte 32 (tick_words servers tick)) ≡ Ok (ticks ++ tick ∷ [])
 line_again servers packets ticks tick small few fits is =
     let entered = is.entered in
-    let last = last_of 0 ticks in
+    let last = latest_of 0 ticks in
     let words = parts_of-join 32 (codes "tick") (decimal tick.at ∷ map decimal (members_of servers tick.servers)) refl
     (words_without_space servers tick small (omega arith)) in
     let roomy : nat_lt (length ticks) MOST_BEATS ≡ true = search rules in
@@ -159,12 +159,12 @@ line_again servers packets ticks tick small few fits is =
     ∙ ap (λ (r : Result Tick BeatsCause). r >>= λ t. Ok (ticks ++ t ∷ []))
     (said_again servers packets last tick small (omega arith) is)
 
-last_push : (last : ℕ) (ticks : List Tick) (tick : Tick) → last_of last (ticks ++ tick ∷ []) ≡ tick.at
+last_push : (last : ℕ) (ticks : List Tick) (tick : Tick) → latest_of last (ticks ++ tick ∷ []) ≡ tick.at
 last_push last [] tick = refl
 last_push last (first ∷ ticks) tick = last_push first.at ticks tick
 
 lines_again : (servers packets : ℕ) (held ticks : List Tick) → servers ≤ MOST_SERVERS → packets ≤ 4294967295
-    → length held + length ticks ≤ MOST_BEATS → AreTicks servers packets (last_of 0 held) ticks
+    → length held + length ticks ≤ MOST_BEATS → AreTicks servers packets (latest_of 0 held) ticks
     → ticks_from servers packets (Ok held) (parts_of 10 (ticks_text servers ticks)) ≡ Ok (held ++ ticks)
 lines_again servers packets held [] small few fits are = ap Ok (sym (append-nil held))
 lines_again servers packets held (tick ∷ ticks) small few fits are =

@@ -2,10 +2,10 @@
 use Rattle.std.proofs.Common.{◌≡◌, ℕ, zero, suc, ◌+◌, List, [], ◌∷◌, ◌++◌, length, get_or, ap, arith}
 use Rattle.ftc_watch.specs.declared.tick.Tick.{Tick}
 use Rattle.ftc_watch.specs.Beats.{IsTick, AreTicks}
-use Rattle.ftc_watch.specs.Grammar.{last_of}
+use Rattle.ftc_watch.specs.Grammar.{latest_of}
 
 last_at : (last : ℕ) (ticks : List Tick) (i : ℕ) (tick spare : Tick) → i + 1 ≡ length ticks
-    → tick ≡ get_or ticks i spare → tick.at ≡ last_of last ticks
+    → tick ≡ get_or ticks i spare → tick.at ≡ latest_of last ticks
 last_at last [] i tick spare size is = absurd (omega arith)
 last_at last (first ∷ []) zero tick spare size is = ap (λ (t : Tick). t.at) is
 last_at last (first ∷ []) (suc i) tick spare size is = absurd (omega arith)
@@ -14,11 +14,11 @@ last_at last (first ∷ second ∷ ticks) (suc i) tick spare size is = last_at f
     (omega arith) is
 
 pub last_is : (last : ℕ) (ticks : List Tick) (i : ℕ) (tick : Tick) → i + 1 ≡ length ticks → tick ≡ get_or ticks i tick
-    → tick.at ≡ last_of last ticks
+    → tick.at ≡ latest_of last ticks
 last_is last ticks i tick size is = last_at last ticks i tick tick size is
 
 pub ticks_push : (servers packets last : ℕ) (ticks : List Tick) (tick : Tick) → AreTicks servers packets last ticks
-    → IsTick servers packets (last_of last ticks) tick → AreTicks servers packets last (ticks ++ tick ∷ [])
+    → IsTick servers packets (latest_of last ticks) tick → AreTicks servers packets last (ticks ++ tick ∷ [])
 ticks_push servers packets last [] tick are is = (is, tt)
 ticks_push servers packets last (first ∷ ticks) tick are is =
     (are.0, ticks_push servers packets first.at ticks tick are.1 is)

@@ -48,9 +48,9 @@ tick_of servers packets last (first ∷ words) =
     >>= λ numbers. tick_in servers packets last numbers
 
 -- the number of the last tick, or the one given where there is none
-abbrev pub last_of : ℕ → List Tick → ℕ
-last_of last [] = last
-last_of last (tick ∷ ticks) = last_of tick.at ticks
+abbrev pub latest_of : ℕ → List Tick → ℕ
+latest_of last [] = last
+latest_of last (tick ∷ ticks) = latest_of tick.at ticks
 
 -- one more line is not too many
 abbrev pub room : List Tick → Result (Unit {0}) BeatsCause
@@ -59,7 +59,7 @@ room ticks = unless (nat_lt (length ticks) MOST_BEATS) TooMany
 -- the ticks with that of one more line
 abbrev pub with_line : ℕ → ℕ → List Tick → List ℕ → Result (List Tick) BeatsCause
 with_line servers packets ticks line =
-    room ticks >> tick_of servers packets (last_of 0 ticks) (parts_of 32 line) >>= λ tick. Ok (ticks ++ tick ∷ [])
+    room ticks >> tick_of servers packets (latest_of 0 ticks) (parts_of 32 line) >>= λ tick. Ok (ticks ++ tick ∷ [])
 
 -- a last line that isn't empty has no line feed
 abbrev pub ended : List Tick → List ℕ → Result (List Tick) BeatsCause

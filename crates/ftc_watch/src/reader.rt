@@ -5,7 +5,7 @@ ghost use Rattle.ftc_base.specs.declared.refusal.Refuse.TheVariants as refuse;
 ghost use Rattle.ftc_base.specs.Refused.{IsReading};
 ghost use Rattle.ftc_base.specs.declared.limits.TheConstants.{MOST_SERVERS};
 ghost use Rattle.ftc_watch.specs.declared.limits.TheConstants.{MOST_BEATS};
-ghost use Rattle.ftc_watch.specs.Grammar.{last_of, with_line, ended, placed, beats_of};
+ghost use Rattle.ftc_watch.specs.Grammar.{latest_of, with_line, ended, placed, beats_of};
 
 use crate::beats::Beats;
 use crate::fault::{BeatsCause, BeatsFault};
@@ -41,7 +41,7 @@ fn with_line(
         return Err(fault_at(place, BeatsCause::TooMany));
     }
     let mut ticks = ticks;
-    match tick_of(alloc, servers, packets, last_of(ticks.as_slice()), line) {
+    match tick_of(alloc, servers, packets, latest_of(ticks.as_slice()), line) {
         Ok(tick) => {
             ticks.push(tick)?;
             Ok(ticks)
@@ -52,8 +52,8 @@ fn with_line(
 }
 
 /// The number of the last tick, and 0 before the first.
-fn last_of(ticks: &[Tick]) -> PacketNo
-    ensures { result ≡ last_of 0 ticks.now }
+fn latest_of(ticks: &[Tick]) -> PacketNo
+    ensures { result ≡ latest_of 0 ticks.now }
 {
     match ticks {
         [.., tick] => tick.at,

@@ -8,7 +8,7 @@ use Rattle.ftc_server.specs.declared.server.Server.{Server}
 use Rattle.ftc_server.specs.State.{ServerState}
 use Rattle.ftc_txn.specs.Slots.{Running, slot_at}
 use Rattle.ftc_visits.specs.Made.{AreMade, IsMadeBy, mark_of}
-use Rattle.ftc_network.specs.Committing.{HasMade, SlotFollowsCommit, answer_of}
+use Rattle.ftc_network.specs.Committing.{HasMade, SlotFollowsCommit, commit_answer}
 use Rattle.ftc_network.specs.Slots.{head_of, runs_in, SlotEndsVisit}
 use Rattle.ftc_network.specs.Stand.{IsSlot, IsUp}
 use Rattle.ftc_network.proofs.CommittedSlots.{may_rise_at, undone_still, where_undone}
@@ -28,7 +28,7 @@ commit_there-requires c =
 pub returns-in-Some-clause-ends : goal.returns-in-Some-clause-ends
 returns-in-Some-clause-ends c =
     subst (λ (o : Option Server). SlotEndsVisit o (Some c.commit_there.new.live) c.args.worker
-    (answer_of c.commit_there.result)) (sym c.in-Some.is) c.commit_there.ensures.ends
+    (commit_answer c.commit_there.result)) (sym c.in-Some.is) c.commit_there.ensures.ends
 
 pub returns-in-None-clause-ends : goal.returns-in-None-clause-ends
 returns-in-None-clause-ends c =

@@ -6,10 +6,10 @@ use Rattle.ftc_protocol.specs.State.{Where}
 use Rattle.ftc_protocol.specs.Orderly.{aim}
 use Rattle.ftc_protocol.specs.Next.{next}
 use Rattle.ftc_ring.specs.Ring.{RingShape}
-use Rattle.ftc_ties.specs.Messages.{onward as onward_of}
+use Rattle.ftc_ties.specs.Messages.{onward}
 use Rattle.ftc_server.specs.declared.held.HeldMessage.{HeldMessage}
 use Rattle.ftc_server.specs.Holding.{found}
-use Rattle.ftc_server.specs.Standing.{onward}
+use Rattle.ftc_server.specs.Standing.{going_on}
 use Rattle.ftc_server.specs.State.{ServerState}
 use Rattle.ftc_refinement.specs.Contents.{items_of, item_of_held, contents_of}
 use Rattle.ftc_refinement.proofs.MessageCalls.{leaves, same_replicas}
@@ -38,12 +38,12 @@ returns c setting state origin old new run legal is done =
     let carried = one_found (found origin old.held.items) done.carried held done.there there_as.there in
     leaves setting state (next setting state (event.Carry origin)) 0 old new
     (items_of split.before ++ items_of split.after) old.buffer.items
-    (with_items is_earlier (onward_of setting 0 logs) old.forwarder) is same holds
+    (with_items is_earlier (onward setting 0 logs) old.forwarder) is same holds
     (ap (λ (s : ServerState). s.buffer.items) done.rest)
     (done.forwarder
-    ∙ (ap (λ (h : HeldMessage). with_items is_earlier (onward old.ring old.id h.message.logs) old.forwarder) carried
-    ∙ (ap (λ (r : RingShape). with_items is_earlier (onward r old.id logs) old.forwarder) is.ring
-    ∙ (ap (λ n. with_items is_earlier (onward (shape setting) n logs) old.forwarder) is.number_is
+    ∙ (ap (λ (h : HeldMessage). with_items is_earlier (going_on old.ring old.id h.message.logs) old.forwarder) carried
+    ∙ (ap (λ (r : RingShape). with_items is_earlier (going_on r old.id logs) old.forwarder) is.ring
+    ∙ (ap (λ n. with_items is_earlier (going_on (shape setting) n logs) old.forwarder) is.number_is
     ∙ ap (λ x. with_items is_earlier x old.forwarder) going))))
     (c.a_message_is_carried.ensures setting state origin (contents_of old) (items_of split.before) (item_of_held held)
     (items_of split.after) run legal items split.origin_is is.stands)

@@ -14,7 +14,7 @@ use Rattle.ftc_base.specs.declared.ask.Write.{Write}
 use Rattle.ftc_journal.specs.declared.event.Event.TheVariants as event
 use Rattle.ftc_message.specs.Logged.{Logged}
 use Rattle.ftc_replica.specs.Held.{Held as Replicated, pruned_by}
-use Rattle.ftc_vector.specs.Order.{is_ready as is_ready_at}
+use Rattle.ftc_vector.specs.Order.{is_log_ready}
 use Rattle.ftc_vector.specs.Commits.{vector_of}
 use Rattle.ftc_serial.specs.Take.{Outcome}
 use Rattle.ftc_protocol.specs.Visits.{In}
@@ -122,7 +122,7 @@ returns-clause-carry c setting state origin old run is works =
 
 -- the replica to which a log may be applied
 taker : (o : Option Replicated) (log : Logged) → may_apply_to o log ≡ true →
-    (held : Replicated) × (o ≡ Some held) × (is_ready_at held.vector log.before log.changed ≡ true)
+    (held : Replicated) × (o ≡ Some held) × (is_log_ready held.vector log.before log.changed ≡ true)
 taker None log is = absurd cc
 taker (Some held) log is = (held, refl, is)
 

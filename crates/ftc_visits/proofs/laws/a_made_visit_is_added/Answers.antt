@@ -23,7 +23,7 @@ use Rattle.ftc_vector.specs.Commits.{vector_of}
 use Rattle.ftc_replica.specs.Held.{pruned_by}
 use Rattle.ftc_server.specs.declared.held.HeldMessage.{HeldMessage}
 use Rattle.ftc_server.specs.Looks.{ask_of_slot, replica_or_own}
-use Rattle.ftc_server.specs.Slots.{ask_of, AreSlots}
+use Rattle.ftc_server.specs.Slots.{ask_of_held, AreSlots}
 use Rattle.ftc_server.specs.Holding.{found}
 use Rattle.ftc_refinement.proofs.Messages.{found_as, one_found}
 use Rattle.ftc_refinement.proofs.VisitCalls.{outcome_of}
@@ -55,7 +55,7 @@ returns c setting state server worker running end old new visits made run legal 
     ∙ done.with_packet)) in
     let turn = subst (λ (bytes : List ℕ). InTurn old.rule bytes running.answers) slot_bytes slot.turn in
     let ask_is = some_same (ask old.rule done.packet running.answers) (Finish end)
-    (sym (ap (ask_of_slot old) runs.slot ∙ (ap (ask_of old.rule running) done.there
+    (sym (ap (ask_of_slot old) runs.slot ∙ (ap (ask_of_held old.rule running) done.there
     ∙ ap (option_map (λ bytes. ask old.rule bytes running.answers)) done.with_packet)) ∙ asked) in
     let bytes_are = ap message_bytes there ∙ ap bytes_in (sym there_as.stands.as_sent.packet
     ∙ (ap (λ (h : HeldMessage). h.message.packet) (one_found at there_as.held done.before there_as.there done.there)

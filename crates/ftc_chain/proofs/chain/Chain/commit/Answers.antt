@@ -6,7 +6,7 @@ use Rattle.ftc_network.specs.declared.network.Network.{Network}
 use Rattle.ftc_network.specs.Parts.{server_in}
 use Rattle.ftc_network.specs.Slots.{SlotEndsVisit}
 use Rattle.ftc_chain.specs.ChainRun.{ChainRun}
-use Rattle.ftc_chain.specs.Course.{IsResting, HasMade}
+use Rattle.ftc_chain.specs.Course.{IsCourseResting, HasMade}
 use Rattle.ftc_chain.specs.Doing.{setting_by}
 use Rattle.ftc_chain.specs.Slots.{HasCommittedAt}
 use Rattle.ftc_chain.proofs.Commits.{at_rest_there, undone_rests, once_ended, undone, where_ok, visit_made, done_at}
@@ -82,7 +82,7 @@ returns-in_default-commit c =
     c.in-Some.ensures.some c.what_slots_ask.ensures.asks
 
 -- the visit was made
-made : (c : After-release_due) → ∥ IsResting (setting_by c.self.inside.given) c.release_due.new.course
+made : (c : After-release_due) → ∥ IsCourseResting (setting_by c.self.inside.given) c.release_due.new.course
     × HasMade c.args.worker (Visit c.in-Some.server c.in-Some-packet_run.packet)
     (run_of c.self.inside.given c.self.inside.course) (run_of c.self.inside.given c.release_due.new.course) ∥₁
 made c =

@@ -5,7 +5,7 @@ use Rattle.ftc_network.specs.declared.network.Network.{Network}
 use Rattle.ftc_network.specs.Slots.{head_at}
 use Rattle.ftc_network.specs.Stand.{IsNetwork}
 use Rattle.ftc_chain.specs.declared.course.Course.{Course}
-use Rattle.ftc_chain.specs.Course.{HasMade, IsResting}
+use Rattle.ftc_chain.specs.Course.{HasMade, IsCourseResting}
 use Rattle.ftc_chain.specs.Doing.{MayDo, setting_by}
 use Rattle.ftc_chain.proofs.AtRest.{may_do}
 use Rattle.ftc_chain.proofs.HeadsKept.{once_as, once_kept, once_after, same_no_more}
@@ -54,7 +54,7 @@ invariant_of-self-in_err-event c =
     )
 
 -- the job was made
-made : (c : After-release_due) → ∥ IsResting (setting_by c.self.inside.given) c.release_due.new.course
+made : (c : After-release_due) → ∥ IsCourseResting (setting_by c.self.inside.given) c.release_due.new.course
     × HasMade FINISHING_SLOT c.args.job.now c.args.self.now (run_of c.self.inside.given c.release_due.new.course) ∥₁
 made c =
     let given = c.self.inside.given in

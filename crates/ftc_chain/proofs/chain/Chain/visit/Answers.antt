@@ -5,7 +5,7 @@ use Rattle.ftc_journal.specs.declared.job.Job.TheVariants.{Visit}
 use Rattle.ftc_network.specs.declared.network.Network.{Network}
 use Rattle.ftc_network.specs.Slots.{head_at}
 use Rattle.ftc_network.specs.Stand.{IsNetwork}
-use Rattle.ftc_chain.specs.Course.{HasMade, IsResting}
+use Rattle.ftc_chain.specs.Course.{HasMade, IsCourseResting}
 use Rattle.ftc_chain.specs.Doing.{MayDo, setting_by}
 use Rattle.ftc_chain.proofs.AtRest.{may_do}
 use Rattle.ftc_chain.proofs.HeadsKept.{SlotsRunNoMore, once_as, once_kept, same_no_more, then_no_more, visited_no_more}
@@ -53,7 +53,7 @@ invariant_of-self-in_err-visit c =
     )
 
 -- the visit was made
-made : (c : After-release_due) → ∥ IsResting (setting_by c.self.inside.given) c.release_due.new.course
+made : (c : After-release_due) → ∥ IsCourseResting (setting_by c.self.inside.given) c.release_due.new.course
     × HasMade c.args.worker (Visit c.args.server c.args.packet) c.args.self.now
     (run_of c.self.inside.given c.release_due.new.course) ∥₁
 made c =

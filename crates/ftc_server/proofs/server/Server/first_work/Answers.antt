@@ -1,7 +1,7 @@
 use Rattle.std.proofs.Common.{◌≡◌, ◌∙◌, List, Option, Some, None, ap}
 use Rattle.std.specs.Prelude.{option_map}
 use Rattle.ftc_replica.specs.Held.{Held}
-use Rattle.ftc_server.specs.Looks.{origin_of}
+use Rattle.ftc_server.specs.Looks.{held_origin}
 use Rattle.ftc_server.specs.Work.{first_with_work, first_awake}
 use Rattle.ftc_server.proofs.EachHeld.{awake_first}
 use Rattle.ftc_server.proofs.server.Server.first_work.Goals as goal
@@ -15,7 +15,7 @@ returns-in-Some c =
     c.in-Some.ensures
     ∙ (ap (λ (replicas : List (Option Held)). first_awake server.held.resting replicas server.held.items)
     c.as_slice-replicas.ensures.value ∙ first) in
-    ap (option_map origin_of) there
+    ap (option_map held_origin) there
 
 pub returns-in-None : goal.returns-in-None
 returns-in-None c =
@@ -26,4 +26,4 @@ returns-in-None c =
     c.in-None.ensures
     ∙ (ap (λ (replicas : List (Option Held)). first_awake server.held.resting replicas server.held.items)
     c.as_slice-replicas.ensures.value ∙ first) in
-    ap (option_map origin_of) none
+    ap (option_map held_origin) none

@@ -4,7 +4,7 @@ use Rattle.ftc_base.specs.Partition.{partition_of}
 use Rattle.ftc_locks.specs.Locks.{conflicts}
 use Rattle.ftc_txn.specs.Slots.{Running}
 use Rattle.ftc_txn.specs.Head.{HeadState, RunsUnwounded}
-use Rattle.ftc_txn.specs.Steps.{IsGranted, HasRead}
+use Rattle.ftc_txn.specs.Steps.{IsGranted, HasHeadRead}
 use Rattle.ftc_txn.specs.contracts.head.Head.{the_view}
 use Rattle.ftc_txn.proofs.Kept.{ages_differ}
 use Rattle.ftc_txn.proofs.KeptByCalls.{read_keeps}
@@ -31,7 +31,8 @@ after c = record {
 }
 
 has_read : (c : goal.After-add) → (running : Running) × RunsUnwounded (the_view c.self.inside) c.args.worker running
-    × HasRead (the_view c.self.inside) (after c) c.args.worker running c.args.key.now c.args.change c.get-value.result
+    × HasHeadRead (the_view c.self.inside) (after c) c.args.worker running c.args.key.now c.args.change
+    c.get-value.result
 has_read c =
     let runs = rw (← c.self.view_is) at c.requires in
     let place : c.partition_of-partition.result ≡ partition_of c.self.inside.partitions c.args.key.now =
