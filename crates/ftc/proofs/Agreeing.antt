@@ -6,7 +6,9 @@ use Rattle.ftc_pcap.specs.Grammar.{Spells, IsFault}
 use Rattle.ftc_pcap.specs.declared.capture.Capture.{Capture}
 use Rattle.ftc_pcap.specs.declared.capture.CaptureFault.{CaptureFault}
 use Rattle.ftc_journal.specs.declared.event.Event.{Event}
-use Rattle.ftc_journal.specs.Reading.{journal_of}
+use Rattle.ftc_journal.specs.declared.fault.JournalFault.{JournalFault}
+use Rattle.ftc_journal.specs.Spelling.{IsSpelling}
+use Rattle.ftc_journal.specs.Faulty.{IsFirstFault}
 use Rattle.ftc_mbox.specs.Chain.{Chain}
 use Rattle.ftc_conf.specs.Grammar.{chain_of}
 use Rattle.ftc_ring.specs.Ring.{RingShape}
@@ -95,36 +97,6 @@ no_script ring packets text script right (status.Check verdict) wrong = wrong
 no_script ring packets text script right status.DeskFault wrong = wrong
 no_script ring packets text script right status.NoMemory wrong = wrong
 
-no_schedule : (text : List ℕ) (journal : List Event) → journal_of text ≡ Ok journal → (ending : Status) →
-    IsWrongSchedule text ending → ⊥
-no_schedule text journal right status.Done wrong = wrong
-no_schedule text journal right status.Usage wrong = wrong
-no_schedule text journal right (status.Chain line cause) wrong = wrong
-no_schedule text journal right (status.Capture at cause) wrong = wrong
-no_schedule text journal right (status.Script line cause) wrong = wrong
-no_schedule text journal right (status.Schedule line cause) wrong = not_both (journal_of text) journal _ right wrong
-no_schedule text journal right (status.Ports cause) wrong = wrong
-no_schedule text journal right (status.Journal line cause) wrong = wrong
-no_schedule text journal right (status.Beats line cause) wrong = wrong
-no_schedule text journal right (status.Check verdict) wrong = wrong
-no_schedule text journal right status.DeskFault wrong = wrong
-no_schedule text journal right status.NoMemory wrong = wrong
-
-pub no_journal : (text : List ℕ) (journal : List Event) → journal_of text ≡ Ok journal → (ending : Status) →
-    IsWrongJournal text ending → ⊥
-no_journal text journal right status.Done wrong = wrong
-no_journal text journal right status.Usage wrong = wrong
-no_journal text journal right (status.Chain line cause) wrong = wrong
-no_journal text journal right (status.Capture at cause) wrong = wrong
-no_journal text journal right (status.Script line cause) wrong = wrong
-no_journal text journal right (status.Schedule line cause) wrong = wrong
-no_journal text journal right (status.Ports cause) wrong = wrong
-no_journal text journal right (status.Journal line cause) wrong = not_both (journal_of text) journal _ right wrong
-no_journal text journal right (status.Beats line cause) wrong = wrong
-no_journal text journal right (status.Check verdict) wrong = wrong
-no_journal text journal right status.DeskFault wrong = wrong
-no_journal text journal right status.NoMemory wrong = wrong
-
 same_verdict : (other chain : Chain) (taken capture : Capture) (told script : ScriptShape) (some out : List ℕ)
     (events journal : List Event) (text report : List ℕ) (verdict : Checked)
     → other ≡ chain → taken ≡ capture → told ≡ script → some ≡ out → events ≡ journal → text ≡ report
@@ -139,6 +111,10 @@ pub record Laws : Type 0 where
   pub one_capture : (text : List ℕ) (one other : Capture) → Spells text one → Spells text other → one ≡ other
   pub no_fault : (text : List ℕ) (capture : Capture) (fault : CaptureFault) → Spells text capture → IsFault text fault →
       ⊥
+  pub one_journal : (text : List ℕ) (one other : List Event) → IsSpelling one text → IsSpelling other text →
+      one ≡ other
+  pub no_journal_fault : (text : List ℕ) (journal : List Event) (fault : JournalFault) → IsSpelling journal text →
+      IsFirstFault text fault → ⊥
   pub one_verdict : VerdictsAreOne
 
 pub no_capture : (laws : Laws) (text : List ℕ) (capture : Capture) → Spells text capture → (ending : Status) →
@@ -155,6 +131,36 @@ no_capture laws text capture right (status.Beats line cause) wrong = wrong
 no_capture laws text capture right (status.Check verdict) wrong = wrong
 no_capture laws text capture right status.DeskFault wrong = wrong
 no_capture laws text capture right status.NoMemory wrong = wrong
+
+no_schedule : (laws : Laws) (text : List ℕ) (journal : List Event) → IsSpelling journal text → (ending : Status) →
+    IsWrongSchedule text ending → ⊥
+no_schedule laws text journal right status.Done wrong = wrong
+no_schedule laws text journal right status.Usage wrong = wrong
+no_schedule laws text journal right (status.Chain line cause) wrong = wrong
+no_schedule laws text journal right (status.Capture at cause) wrong = wrong
+no_schedule laws text journal right (status.Script line cause) wrong = wrong
+no_schedule laws text journal right (status.Schedule line cause) wrong = laws.no_journal_fault text journal _ right wrong
+no_schedule laws text journal right (status.Ports cause) wrong = wrong
+no_schedule laws text journal right (status.Journal line cause) wrong = wrong
+no_schedule laws text journal right (status.Beats line cause) wrong = wrong
+no_schedule laws text journal right (status.Check verdict) wrong = wrong
+no_schedule laws text journal right status.DeskFault wrong = wrong
+no_schedule laws text journal right status.NoMemory wrong = wrong
+
+pub no_journal : (laws : Laws) (text : List ℕ) (journal : List Event) → IsSpelling journal text → (ending : Status) →
+    IsWrongJournal text ending → ⊥
+no_journal laws text journal right status.Done wrong = wrong
+no_journal laws text journal right status.Usage wrong = wrong
+no_journal laws text journal right (status.Chain line cause) wrong = wrong
+no_journal laws text journal right (status.Capture at cause) wrong = wrong
+no_journal laws text journal right (status.Script line cause) wrong = wrong
+no_journal laws text journal right (status.Schedule line cause) wrong = wrong
+no_journal laws text journal right (status.Ports cause) wrong = wrong
+no_journal laws text journal right (status.Journal line cause) wrong = laws.no_journal_fault text journal _ right wrong
+no_journal laws text journal right (status.Beats line cause) wrong = wrong
+no_journal laws text journal right (status.Check verdict) wrong = wrong
+no_journal laws text journal right status.DeskFault wrong = wrong
+no_journal laws text journal right status.NoMemory wrong = wrong
 
 module _ (laws : Laws) (names : Named) (files : Files) (chain : Chain) (capture : Capture) (script : ScriptShape)
     (inputs : AreInputs names files chain capture script) where
@@ -203,10 +209,10 @@ module _ (laws : Laws) (names : Named) (files : Files) (chain : Chain) (capture 
 module _ (laws : Laws) (names : Named) (files : Files) (chain : Chain) (capture : Capture) (script : ScriptShape)
     (out : List ℕ) (journal : List Event) (report : List ℕ)
     (checked : AreChecked names files chain capture script out journal report) where
-  journal_reads : (text : List ℕ) → files names.journal ≡ Some text → journal_of text ≡ Ok journal
+  journal_reads : (text : List ℕ) → files names.journal ≡ Some text → IsSpelling journal text
   journal_reads text file =
       let has = checked.journal_right in
-      subst (λ (t : List ℕ). journal_of t ≡ Ok journal) (some_once has.text text (sym has.file ∙ file)) has.right
+      subst (IsSpelling journal) (some_once has.text text (sym has.file ∙ file)) has.right
 
   -- none of the six is refused, but for the desk or for memory
   refused_once : (sound : Type 0) (ending : Status) → (ending ≡ status.DeskFault → ⊥) →
@@ -219,7 +225,7 @@ module _ (laws : Laws) (names : Named) (files : Files) (chain : Chain) (capture 
               (λ text file wrong. wrong) no-fault first
           | inr behind ↦ elim behind.2 [
             | inl first ↦ not_refused sound files names.journal IsWrongJournal ending
-                (λ text file. no_journal text journal (journal_reads text file) ending) no-fault first
+                (λ text file. no_journal laws text journal (journal_reads text file) ending) no-fault first
             | inr behind ↦ not_refused sound files names.report IsNeverWrong ending
                 (λ text file wrong. wrong) no-fault behind.2
           ]
@@ -269,7 +275,7 @@ module _ (laws : Laws) (names : Named) (files : Files) (chain : Chain) (capture 
       let of_out = some_once judged.out out (sym judged.checked.out_file ∙ checked.out_file) in
       let read = judged.checked.journal_right in
       let of_journal : judged.journal ≡ journal =
-      ok_once (journal_of read.text) judged.journal journal read.right (journal_reads read.text read.file) in
+      laws.one_journal read.text judged.journal journal read.right (journal_reads read.text read.file) in
       let of_report = some_once judged.report report (sym judged.checked.report_file ∙ checked.report_file) in
       laws.one_verdict (setting_of chain
       (bytes_of_packets capture.packets) script) capture out journal report verdict Yes
@@ -311,9 +317,8 @@ module _ (laws : Laws) (names : Named) (mode : Mode) (files : Files) (chain : Ch
   schedule_once sound (workers count) has ending no-fault refused = absurd refused
   schedule_once sound (alone name move) has ending no-fault refused =
       not_refused sound files name IsWrongSchedule ending
-      (λ text file. no_schedule text schedule
-      (subst (λ (t : List ℕ). journal_of t
-      ≡ Ok schedule) (some_once has.text text (sym has.file ∙ file)) has.right) ending)
+      (λ text file. no_schedule laws text schedule
+      (subst (IsSpelling schedule) (some_once has.text text (sym has.file ∙ file)) has.right) ending)
       no-fault refused
 
   run_refused_once : (sound : Type 0) (ending : Status) → (ending ≡ status.DeskFault → ⊥) →

@@ -1,7 +1,6 @@
 -- What the steps of a run leave is what it leaves at its end.
 use Rattle.std.proofs.Common.{◌≡◌, ◌≢◌, ◌∙◌, sym, refl, ℕ, Bool, true, false, if◌then◌else◌, List, Option, Some, inl}
 use Rattle.std.proofs.Common.{inr, ◌⊎◌, subst}
-use Rattle.std.specs.Prelude.{Ok}
 use Rattle.std.specs.Str.{bytes_eq}
 use Rattle.std.specs.List.{AllByRecursion}
 use Rattle.std.proofs.Math.Logic.{∥∥₁_map}
@@ -15,8 +14,7 @@ use Rattle.ftc_pcap.specs.declared.capture.Capture.{Capture}
 use Rattle.ftc_journal.specs.declared.event.Event.{Event}
 use Rattle.ftc_journal.specs.declared.form.Version.TheVariants as version
 use Rattle.ftc_journal.specs.Text.{spelling}
-use Rattle.ftc_journal.specs.Reading.{journal_of}
-use Rattle.ftc_journal.specs.Spelling.{IsEvent}
+use Rattle.ftc_journal.specs.Spelling.{IsEvent, IsSpelling}
 use Rattle.ftc_mbox.specs.Chain.{Chain}
 use Rattle.ftc_script.specs.Script.{ScriptShape}
 use Rattle.ftc_serial.specs.Serial.{State, serial_run, serial_opening}
@@ -62,7 +60,7 @@ put_other at bytes files name not =
 -- the laws of the crates below
 pub record EndLaws : Type 0 where
   pub printed : (events : List Event) → AllByRecursion (IsEvent version.Second) events →
-      journal_of (spelling events) ≡ Ok events
+      IsSpelling events (spelling events)
   pub right : WholeRunsAreRight
   pub moments : EveryMoment
   pub visited : RightRunsAreVisited

@@ -10,7 +10,7 @@ use Rattle.ftc_audit.specs.Text.{ports_text}
 use Rattle.ftc_base.specs.Refused.{IfBad}
 use Rattle.ftc_base.specs.declared.refusal.Refuse.{Refuse}
 use Rattle.ftc_base.specs.declared.refusal.Refuse.TheVariants as refuse
-use Rattle.ftc_journal.specs.Reading.{journal_of}
+use Rattle.ftc_journal.specs.Spelling.{IsSpelling}
 use Rattle.ftc_journal.specs.declared.event.Event.{Event}
 use Rattle.ftc_conf.specs.Grammar.{chain_of}
 use Rattle.ftc_mbox.specs.Chain.{Chain}
@@ -174,10 +174,10 @@ module _ (laws : Laws) (names : PortNamed) (server : ℕ) (files : Files) (lines
       let has = given.capture_right in
       subst (λ (t : List ℕ). Spells t given.capture) (some_once has.text text (sym has.file ∙ file)) has.right
 
-  text_of_journal : (text : List ℕ) → files names.journal ≡ Some text → journal_of text ≡ Ok given.journal
+  text_of_journal : (text : List ℕ) → files names.journal ≡ Some text → IsSpelling given.journal text
   text_of_journal text file =
       let has = given.journal_right in
-      subst (λ (t : List ℕ). journal_of t ≡ Ok given.journal) (some_once has.text text (sym has.file ∙ file)) has.right
+      subst (IsSpelling given.journal) (some_once has.text text (sym has.file ∙ file)) has.right
 
   one_chain : (other : Chain) → HasChain names.chain files other → other ≡ given.chain
   one_chain other has = ok_once (chain_of has.text) other given.chain has.right (text_of_chain has.text has.file)
@@ -186,7 +186,7 @@ module _ (laws : Laws) (names : PortNamed) (server : ℕ) (files : Files) (lines
   the_capture other has = laws.one_capture has.text other given.capture has.right (text_of_capture has.text has.file)
 
   the_journal : (other : List Event) → HasJournal names.journal files other → other ≡ given.journal
-  the_journal other has = ok_once (journal_of has.text) other given.journal has.right
+  the_journal other has = laws.one_journal has.text other given.journal has.right
       (text_of_journal has.text has.file)
 
   -- a server with a table has no cause for none
@@ -229,7 +229,7 @@ module _ (laws : Laws) (names : PortNamed) (server : ℕ) (files : Files) (lines
               (λ text file. no_capture laws text given.capture (text_of_capture text file) ending) no-fault first
           | inr behind ↦ let (taken, taken_right, refused) = behind in elim refused [
             | inl first ↦ not_refused sound files names.journal IsWrongJournal ending
-                (λ text file. no_journal text given.journal (text_of_journal text file) ending) no-fault first
+                (λ text file. no_journal laws text given.journal (text_of_journal text file) ending) no-fault first
             | inr behind ↦ let (read, read_right, none) = behind in
                 absurd (none_of other taken read ending (one_chain other other_right) (the_capture taken taken_right)
                 (the_journal read read_right) none)

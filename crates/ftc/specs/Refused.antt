@@ -8,7 +8,7 @@ use Rattle.ftc_pcap.specs.declared.capture.Capture.{Capture}
 use Rattle.ftc_ring.specs.Ring.{RingShape}
 use Rattle.ftc_script.specs.Grammar.{script_of}
 use Rattle.ftc_script.specs.Script.{ScriptShape}
-use Rattle.ftc_journal.specs.Reading.{journal_of}
+use Rattle.ftc_journal.specs.Faulty.{IsFirstFault}
 use Rattle.ftc_journal.specs.declared.event.Event.{Event}
 use Rattle.ftc_words.specs.Command.{Named, Mode, alone}
 use Rattle.ftc.specs.declared.status.Status.{Status}
@@ -40,11 +40,11 @@ IsWrongScript ring packets text other = ⊥
 
 -- a schedule is spelled as a journal is
 abbrev pub IsWrongSchedule : List ℕ → Status → Type 0
-IsWrongSchedule text (status.Schedule line cause) = journal_of text ≡ Err (record { line = line; cause = cause })
+IsWrongSchedule text (status.Schedule line cause) = IsFirstFault text (record { line = line; cause = cause })
 IsWrongSchedule text other = ⊥
 
 abbrev pub IsWrongJournal : List ℕ → Status → Type 0
-IsWrongJournal text (status.Journal line cause) = journal_of text ≡ Err (record { line = line; cause = cause })
+IsWrongJournal text (status.Journal line cause) = IsFirstFault text (record { line = line; cause = cause })
 IsWrongJournal text other = ⊥
 
 -- a file that is taken as it is

@@ -8,7 +8,7 @@ use Rattle.ftc_conf.specs.Grammar.{chain_of}
 pub use Rattle.ftc_protocol.specs.ChainRing.{ring_of}
 use Rattle.ftc_script.specs.Script.{ScriptShape}
 use Rattle.ftc_script.specs.Grammar.{script_of}
-use Rattle.ftc_journal.specs.Reading.{journal_of}
+use Rattle.ftc_journal.specs.Spelling.{IsSpelling}
 use Rattle.ftc_journal.specs.declared.event.Event.{Event}
 use Rattle.ftc_words.specs.Command.{Named, Mode, alone}
 
@@ -32,7 +32,7 @@ pub record HasScript (name : List ℕ) (files : Files) (chain : Chain) (packets 
 pub record HasJournal (name : List ℕ) (files : Files) (journal : List Event) : Type 0 where
   pub text : List ℕ
   pub file : files name ≡ Some text
-  pub right : journal_of text ≡ Ok journal
+  pub right : IsSpelling journal text
 
 -- A chain, a capture and a script that are right.
 pub record AreInputs (names : Named) (files : Files) (chain : Chain) (capture : Capture)

@@ -21,7 +21,7 @@ use crate::texts::read_texts;
 use crate::watching::{WatchNames, watch_beats};
 use ftc_base::{NoMemory, ServerId};
 use ftc_check::{one_verdict, right_files, right_runs};
-use ftc_journal::spellings;
+use ftc_journal::{faults, spellings};
 use ftc_outside::{Desk, Gate};
 use ftc_pcap::{one_fault, one_reading};
 use ftc_protocol::{every_moment, losses, what_a_run_released};
@@ -95,6 +95,8 @@ fn run_command<R: AllocGlobal + Threads + Wait + Sync, D: Desk, G: Gate>(
 {
     one_reading();
     one_fault();
+    spellings();
+    faults();
     one_verdict();
     let alloc = rt.alloc();
     match command {

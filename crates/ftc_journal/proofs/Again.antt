@@ -8,9 +8,9 @@ use Rattle.ftc_journal.specs.declared.event.Event.{Event}
 use Rattle.ftc_journal.specs.declared.fault.JournalFault.{JournalFault}
 use Rattle.ftc_journal.specs.declared.form.Version.{Version}
 use Rattle.ftc_journal.specs.declared.form.Version.TheVariants as version
-use Rattle.ftc_journal.specs.Text.{words_of, line_of, spelling}
-use Rattle.ftc_journal.specs.Reading.{header_of, version_of, event_of, events_from, journal_from, journal_of}
-use Rattle.ftc_journal.specs.Spelling.{IsEvent, IsSpelling, spelling_in}
+use Rattle.ftc_journal.specs.Text.{words_of, line_of}
+use Rattle.ftc_journal.specs.Reading.{version_of, event_of, events_from, journal_from, journal_of}
+use Rattle.ftc_journal.specs.Spelling.{IsEvent, IsSpelling, header_of, spelling_in}
 use Rattle.ftc_journal.proofs.Parts.{events_said, journal_said}
 use Rattle.ftc_journal.proofs.Words.{without_feed, words_found, event_again}
 
@@ -43,10 +43,6 @@ spelling_again v events all =
 
 pub reads : (text : List ℕ) (events : List Event) → IsSpelling events text → journal_of text ≡ Ok events
 reads text events is = ap journal_of is.spelled ∙ spelling_again is.version events is.bounds
-
-pub printed : (events : List Event) → AllByRecursion (IsEvent version.Second) events →
-    journal_of (spelling events) ≡ Ok events
-printed events all = spelling_again version.Second events all
 
 pub one : (text : List ℕ) (a b : List Event) → IsSpelling a text → IsSpelling b text → a ≡ b
 one text a b is other = let first = reads text a is in let second = reads text b other in cc

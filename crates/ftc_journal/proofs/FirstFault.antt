@@ -6,6 +6,9 @@ use Rattle.std.proofs.lemmas.Bool.{eqb-false, cases_Bool}
 use Rattle.std.proofs.lemmas.Bool.Decides.{nat_tests}
 use Rattle.std.proofs.lemmas.List.Splits.{join_with_byte-slice_split, slice_split-cons_yes, slice_split-cons_no}
 use Rattle.ftc_base.specs.Endpoint.{parts_of}
+use Rattle.ftc_base.specs.declared.refusal.Refuse.{Refuse}
+use Rattle.ftc_base.specs.declared.refusal.Refuse.TheVariants.{Bad, NoMemory}
+use Rattle.ftc_base.specs.Refused.{IfBad}
 use Rattle.ftc_base.proofs.Separated.{Without, parts_of-part, parts_of-last}
 use Rattle.ftc_journal.specs.declared.event.Event.{Event}
 use Rattle.ftc_journal.specs.declared.fault.JournalCause.{JournalCause}
@@ -14,14 +17,15 @@ use Rattle.ftc_journal.specs.declared.fault.JournalFault.{JournalFault}
 use Rattle.ftc_journal.specs.declared.form.Version.{Version}
 use Rattle.ftc_journal.specs.Text.{words_of, line_of}
 use Rattle.ftc_base.specs.Reading.{◌>>=◌}
-use Rattle.ftc_journal.specs.Reading.{header_of, version_of, event_of, placed, ended, events_from, lines_behind}
+use Rattle.ftc_journal.specs.Reading.{version_of, event_of, placed, ended, events_from, lines_behind}
 use Rattle.ftc_journal.specs.Reading.{journal_from, journal_of}
-use Rattle.ftc_journal.specs.Spelling.{IsEvent}
+use Rattle.ftc_journal.specs.Spelling.{IsEvent, IsSpelling, header_of}
 use Rattle.ftc_journal.specs.Faulty.{IsOneLine, IsCut, IsRefused, IsFaulty, IsFirstFault}
 use Rattle.ftc_journal.proofs.Parts.{some_parts, events_more, journal_more}
 use Rattle.ftc_journal.proofs.Words.{without_feed, words_found, event_again}
 use Rattle.ftc_journal.proofs.Again.{header_without_feed, header_known}
-use Rattle.ftc_journal.proofs.Spelled.{line_spelled, header_is}
+use Rattle.ftc_journal.proofs.Spelled.{accepted, line_spelled, placed_ok, header_is}
+use Rattle.ftc_journal.proofs.Forms.{line_refused, refused_again}
 
 -- bytes without a line feed, by each of the two words
 one_line : (bytes : List ℕ) → Without 10 bytes → IsOneLine bytes
@@ -84,10 +88,6 @@ placed_bad place (Ok e) fault told = absurd cc
 placed_bad place (Err cause) fault told = let same : record { line = place; cause = cause } ≡ fault =
     cc in (ap (λ (f : JournalFault). Err f.cause) same, ap (λ (f : JournalFault). f.line) (sym same))
 
-placed_good : (place : ℕ) (r : Result Event JournalCause) (e : Event) → placed place r ≡ Ok e → r ≡ Ok e
-placed_good place (Ok x) e told = let same : x ≡ e = cc in ap Ok same
-placed_good place (Err cause) e told = absurd cc
-
 one_more_line : (v : Version) (place : ℕ) (line text : List ℕ) (e : Event) (fault : JournalFault) →
     (line ≡ words_of e) × IsEvent v e → IsBadFrom v (place + 1) text fault → IsBadFrom v place (line ++ 10 ∷ text) fault
 one_more_line v place line text e fault is bad = record {
@@ -122,13 +122,13 @@ lines_bad v place (line ∷ next ∷ lines) fault all e =
               behind = join_with_byte 10 (next ∷ lines);
               spelled = refl;
               one_line = one_line line all.0;
-              refused = why.0;
+              refused = line_refused v line fault.cause why.0;
             });
           }
       | inr went ↦ elim (failed (events_from v (place + 1) (next ∷ lines)) (λ xs. Ok (went.0 ∷ xs)) fault went.2) [
         | inl later ↦
             one_more_line v place line (join_with_byte 10 (next ∷ lines)) went.0 fault
-            (line_spelled v line went.0 (placed_good place (event_of v (parts_of 32 line)) went.0 went.1))
+            (line_spelled v line went.0 (placed_ok place (event_of v (parts_of 32 line)) went.0 went.1))
             (lines_bad v (place + 1) (next ∷ lines) fault all.1 later)
         | inr never ↦ absurd (let no = never.2 in cc)
       ]
@@ -190,6 +190,12 @@ parts_bad text (header ∷ next ∷ lines) fault is e =
 pub fault_found : (text : List ℕ) (fault : JournalFault) → journal_of text ≡ Err fault → IsFirstFault text fault
 fault_found text fault e = parts_bad text (parts_of 10 text) fault refl e
 
+pub faults_found : {A : Type 0} (answer : Result A (Refuse JournalFault)) (text : List ℕ) →
+    IfBad answer (λ fault. journal_of text ≡ Err fault) → IfBad answer (λ fault. IsFirstFault text fault)
+faults_found (Ok value) text is = tt
+faults_found (Err (Bad fault)) text is = fault_found text fault is
+faults_found (Err NoMemory) text is = tt
+
 -- and the other way round
 cut_again : (v : Version) (place : ℕ) (rest : List ℕ) → rest ≢ [] →
     ended place rest ≡ Err (record { line = place; cause = Cut })
@@ -205,7 +211,7 @@ rest_again v place rest cause (inl cut) =
 rest_again v place rest cause (inr bad) =
     ap (λ (t : List ℕ). events_from v place (parts_of 10 t)) bad.spelled
     ∙ ap (events_from v place) (parts_of-part 10 bad.line bad.behind refl (without bad.line bad.one_line))
-    ∙ events_more v place bad.line bad.behind ∙ rw bad.refused refl
+    ∙ events_more v place bad.line bad.behind ∙ rw (refused_again v bad.line cause bad.refused) refl
 
 bad_again : (v : Version) (place line : ℕ) (events : List Event) (rest : List ℕ) (cause : JournalCause) →
     AllByRecursion (IsEvent v) events → line ≡ place + length events → IsCut rest cause ⊎ IsRefused v rest cause →
@@ -254,3 +260,8 @@ parts_headless text (header ∷ next ∷ lines) is other =
 pub fault_again : (text : List ℕ) (fault : JournalFault) → IsFirstFault text fault → journal_of text ≡ Err fault
 fault_again text fault (inl is) = parts_headless text (parts_of 10 text) refl is.other ∙ ap Err (sym is.told)
 fault_again text fault (inr is) = faulty_again text fault is
+
+pub each_text : (text : List ℕ) (read : Result (List Event) JournalFault) → journal_of text ≡ read →
+    ((events : List Event) × IsSpelling events text) ⊎ ((fault : JournalFault) × IsFirstFault text fault)
+each_text text (Ok events) e = inl (events, accepted text events e)
+each_text text (Err fault) e = inr (fault, fault_found text fault e)

@@ -5,4 +5,6 @@ pub mod Letters
 pub mod Words
 pub mod Again
 pub mod Spelled
+pub mod Fits
+pub mod Forms
 pub mod FirstFault

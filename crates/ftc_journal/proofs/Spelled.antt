@@ -24,17 +24,17 @@ use Rattle.ftc_journal.specs.declared.form.Form.{Form}
 use Rattle.ftc_journal.specs.declared.form.Form.TheVariants as form
 use Rattle.ftc_journal.specs.Text.{words_of, line_of}
 use Rattle.ftc_base.specs.Reading.{◌>>=◌}
-use Rattle.ftc_journal.specs.Reading.{header_of, servers_of, version_of, figure_of, figures_of, name_of, names_of}
+use Rattle.ftc_journal.specs.Reading.{version_of, figure_of, figures_of, name_of, names_of}
 use Rattle.ftc_journal.specs.Reading.{number_in, server_in, slot_in, name_in, undone_in, form_of, single_in}
 use Rattle.ftc_journal.specs.Reading.{double_event, single_of, double_of, visit_of, apply_of, recovery, recover_of}
 use Rattle.ftc_journal.specs.Reading.{said_in, said_by, event_of, placed, ended, events_from, lines_behind}
 use Rattle.ftc_journal.specs.Reading.{journal_from, journal_of}
-use Rattle.ftc_journal.specs.Spelling.{IsEvent, IsVisitName, IsSpelling}
+use Rattle.ftc_journal.specs.Spelling.{IsEvent, IsVisitName, IsSpelling, header_of, servers_of}
 use Rattle.ftc_journal.proofs.Letters.{number_word, below_word}
 use Rattle.ftc_journal.proofs.Words.{name_text, word_list, words_joined}
 
 -- where two readings went well, each did
-went : {A B F : Type 0} (first : Result A F) (next : A → Result B F) (b : B) → (first >>= next) ≡ Ok b →
+pub went : {A B F : Type 0} (first : Result A F) (next : A → Result B F) (b : B) → (first >>= next) ≡ Ok b →
     (a : A) × (first ≡ Ok a) × (next a ≡ Ok b)
 went (Ok a) next b e = (a, refl, e)
 went (Err cause) next b e = absurd cc
@@ -64,7 +64,7 @@ figures_some (word ∷ words) a more e =
     (word, words, refl, one.1 ∙ ap Ok first, two.1 ∙ ap Ok later)
 
 -- the word of a form
-abbrev form_word : Form → List ℕ
+abbrev pub form_word : Form → List ℕ
 form_word (form.Single single.Enter) = codes "enter"
 form_word (form.Single single.Carry) = codes "carry"
 form_word (form.Single single.Crash) = codes "crash"
@@ -342,7 +342,7 @@ known_or : (first : List ℕ) (a f : Form) (rest : Option Form) → (rest ≡ So
 known_or first a f rest later e =
     elim (tested first (form_word a) a f rest e) [ inl is ↦ is.0 ∙ ap form_word is.1 | inr other ↦ later other ]
 
-form_known : (first : List ℕ) (f : Form) → form_of first ≡ Some f → first ≡ form_word f
+pub form_known : (first : List ℕ) (f : Form) → form_of first ≡ Some f → first ≡ form_word f
 form_known first f =
     known_or first (form.Single single.Enter) f _ (
     known_or first (form.Double double.Take) f _ (
@@ -377,7 +377,7 @@ line_spelled v line e said =
     let is = event_spelled v (parts_of 32 line) e said in
     (sym (join_with_byte-slice_split 32 line) ∙ ap (join_with_byte 32) is.0 ∙ sym (words_joined e), is.1)
 
-placed_ok : (place : ℕ) (r : Result Event JournalCause) (e : Event) → placed place r ≡ Ok e → r ≡ Ok e
+pub placed_ok : (place : ℕ) (r : Result Event JournalCause) (e : Event) → placed place r ≡ Ok e → r ≡ Ok e
 placed_ok place (Ok x) e told = let same : x ≡ e = cc in ap Ok same
 placed_ok place (Err cause) e told = absurd cc
 

@@ -16,8 +16,8 @@ use Rattle.ftc_journal.specs.declared.figure.NameFigures.{NameFigures}
 use Rattle.ftc_journal.specs.declared.form.Version.{Version}
 use Rattle.ftc_journal.specs.declared.form.Version.TheVariants as version
 use Rattle.ftc_journal.specs.Text.{spaced, spaced_name, words_of}
-use Rattle.ftc_journal.specs.Reading.{servers_of, names_of, name_of, undone_in, event_of, below}
-use Rattle.ftc_journal.specs.Spelling.{IsEvent, IsVisitName}
+use Rattle.ftc_journal.specs.Reading.{names_of, name_of, undone_in, event_of, below}
+use Rattle.ftc_journal.specs.Spelling.{IsEvent, IsVisitName, servers_of}
 use Rattle.ftc_journal.proofs.Letters.{figure_of-decimal}
 
 abbrev pub name_text : VisitName → List ℕ

@@ -1,18 +1,19 @@
 -- The first fault of a text that is no journal.
-use Rattle.std.specs.Prelude.{◌≡◌, ◌≢◌, ◌⊎◌, ℕ, ◌+◌, List, [], ◌∷◌, ◌++◌, length, Err}
+use Rattle.std.specs.Prelude.{◌≡◌, ◌≢◌, ◌⊎◌, ℕ, ◌+◌, List, [], ◌∷◌, ◌++◌, length}
 use Rattle.std.specs.List.{AllByRecursion}
 use Rattle.ftc_base.specs.Endpoint.{parts_of}
 use Rattle.ftc_journal.specs.declared.event.Event.{Event}
 use Rattle.ftc_journal.specs.declared.fault.JournalCause.{JournalCause}
-use Rattle.ftc_journal.specs.declared.fault.JournalCause.TheVariants.{Header, Cut}
+use Rattle.ftc_journal.specs.declared.fault.JournalCause.TheVariants.{Header, Word, Range, Cut}
 use Rattle.ftc_journal.specs.declared.fault.JournalFault.{JournalFault}
 use Rattle.ftc_journal.specs.declared.form.Version.{Version}
-use Rattle.ftc_journal.specs.Reading.{header_of, event_of}
-use Rattle.ftc_journal.specs.Spelling.{IsEvent, spelling_in}
+use Rattle.ftc_journal.specs.Text.{words_of}
+use Rattle.ftc_journal.specs.Spelling.{IsEvent, header_of, spelling_in}
+use Rattle.ftc_journal.specs.Formed.{IsFormed}
 
 -- bytes without a line feed
 abbrev pub IsOneLine : List ℕ → Type 0
-IsOneLine bytes = AllByRecursion (λ b. b ≢ 10) bytes
+IsOneLine bytes = AllByRecursion (λ byte. byte ≢ 10) bytes
 
 -- the text doesn't begin with the line of a header
 pub record IsHeadless (text : List ℕ) (fault : JournalFault) : Type 0 where
@@ -25,13 +26,20 @@ pub record IsCut (rest : List ℕ) (cause : JournalCause) : Type 0 where
   pub some : rest ≢ []
   pub one_line : IsOneLine rest
 
+-- a line without a form is refused for its words, and one with a form for a bound, where it says no event in the bounds
+abbrev pub IsLineFault : Version → List ℕ → JournalCause → Type 0
+IsLineFault version line Word = ¬ IsFormed (parts_of 32 line)
+IsLineFault version line Range =
+    IsFormed (parts_of 32 line) × ((event : Event) → IsEvent version event → line ≢ words_of event)
+IsLineFault version line other = ⊥
+
 -- the first line is refused for its words or for a bound
 pub record IsRefused (version : Version) (rest : List ℕ) (cause : JournalCause) : Type 0 where
   pub line : List ℕ
   pub behind : List ℕ
   pub spelled : rest ≡ line ++ 10 ∷ behind
   pub one_line : IsOneLine line
-  pub refused : event_of version (parts_of 32 line) ≡ Err cause
+  pub refused : IsLineFault version line cause
 
 -- behind the lines of some events stands one that is refused
 pub record IsFaulty (text : List ℕ) (fault : JournalFault) : Type 0 where

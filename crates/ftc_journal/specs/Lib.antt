@@ -1,6 +1,7 @@
 pub mod Job
 pub mod EventList
 pub mod Text
-pub mod Reading
 pub mod Spelling
+pub mod Reading
+pub mod Formed
 pub mod Faulty

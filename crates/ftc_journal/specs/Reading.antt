@@ -6,8 +6,8 @@ use Rattle.ftc_base.specs.Number.{number_of}
 use Rattle.ftc_base.specs.Endpoint.{parts_of}
 use Rattle.ftc_base.specs.declared.lexer.Lexical.{Lexical}
 use Rattle.ftc_base.specs.declared.lexer.Lexical.TheVariants.{NotNumber, TooLarge, NotAddress}
-use Rattle.ftc_base.specs.declared.limits.TheConstants.{MOST_SERVERS, MOST_SLOTS}
-use Rattle.ftc_journal.specs.declared.limits.TheConstants.{MOST_NUMBER, FIRST_SERVERS}
+use Rattle.ftc_base.specs.declared.limits.TheConstants.{MOST_SLOTS}
+use Rattle.ftc_journal.specs.declared.limits.TheConstants.{MOST_NUMBER}
 use Rattle.ftc_journal.specs.declared.event.Event.{Event}
 use Rattle.ftc_journal.specs.declared.event.Event.TheVariants as event
 use Rattle.ftc_journal.specs.declared.event.VisitName.{VisitName}
@@ -23,16 +23,7 @@ use Rattle.ftc_journal.specs.declared.form.Double.TheVariants as double
 use Rattle.ftc_journal.specs.declared.form.Form.{Form}
 use Rattle.ftc_journal.specs.declared.form.Form.TheVariants as form
 use Rattle.ftc_journal.specs.declared.figure.NameFigures.{NameFigures}
-
--- the first line, without its line feed
-abbrev pub header_of : Version → List ℕ
-header_of version.First = codes "ftc-journal 1"
-header_of version.Second = codes "ftc-journal 2"
-
--- servers, groups and links are below this number
-abbrev pub servers_of : Version → ℕ
-servers_of version.First = FIRST_SERVERS
-servers_of version.Second = MOST_SERVERS
+use Rattle.ftc_journal.specs.Spelling.{servers_of}
 
 abbrev pub version_of : List ℕ → Option Version
 version_of header =

@@ -1,15 +1,25 @@
 -- The two spellings of a journal.
-use Rattle.std.specs.Prelude.{◌≡◌, ℕ, ◌≤◌, ◌<◌, List, ◌∷◌, ◌++◌}
+use Rattle.std.specs.Prelude.{◌≡◌, ℕ, ◌≤◌, ◌<◌, List, ◌∷◌, ◌++◌, codes}
 use Rattle.std.specs.List.{AllByRecursion, flat_map}
-use Rattle.ftc_base.specs.declared.limits.TheConstants.{MOST_SLOTS}
-use Rattle.ftc_journal.specs.declared.limits.TheConstants.{MOST_NUMBER}
+use Rattle.ftc_base.specs.declared.limits.TheConstants.{MOST_SERVERS, MOST_SLOTS}
+use Rattle.ftc_journal.specs.declared.limits.TheConstants.{MOST_NUMBER, FIRST_SERVERS}
 use Rattle.ftc_journal.specs.declared.event.Event.{Event}
 use Rattle.ftc_journal.specs.declared.event.Event.TheVariants.{Enter, Take, Apply, Visit, Pass, Lose, Carry, Crash}
 use Rattle.ftc_journal.specs.declared.event.Event.TheVariants.{Recover, Pull, Propagate, Release}
 use Rattle.ftc_journal.specs.declared.event.VisitName.{VisitName}
 use Rattle.ftc_journal.specs.declared.form.Version.{Version}
+use Rattle.ftc_journal.specs.declared.form.Version.TheVariants.{First, Second}
 use Rattle.ftc_journal.specs.Text.{line_of}
-use Rattle.ftc_journal.specs.Reading.{header_of, servers_of}
+
+-- the first line, without its line feed
+abbrev pub header_of : Version → List ℕ
+header_of First = codes "ftc-journal 1"
+header_of Second = codes "ftc-journal 2"
+
+-- servers, groups and links are below this number
+abbrev pub servers_of : Version → ℕ
+servers_of First = FIRST_SERVERS
+servers_of Second = MOST_SERVERS
 
 abbrev pub IsVisitName : Version → VisitName → Type 0
 IsVisitName version name = (name.server < servers_of version) × (name.packet ≤ MOST_NUMBER)

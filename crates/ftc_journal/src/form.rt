@@ -3,7 +3,8 @@
 ghost use Rattle.std.specs.Prelude.{◌≡◌, ◌≤◌};
 ghost use Rattle.std.specs.Str.{bytes_eq};
 ghost use Rattle.ftc_base.specs.declared.limits.TheConstants.{MOST_SERVERS};
-ghost use Rattle.ftc_journal.specs.Reading.{servers_of, version_of, form_of};
+ghost use Rattle.ftc_journal.specs.Reading.{version_of, form_of};
+ghost use Rattle.ftc_journal.specs.Spelling.{servers_of};
 
 use crate::limits::FIRST_SERVERS;
 use ftc_base::limits::MOST_SERVERS;

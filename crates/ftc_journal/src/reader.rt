@@ -1,10 +1,12 @@
 //! The journal of a text.
 
-ghost use Rattle.std.specs.Prelude.{◌≡◌, IfOk, Ok, Err};
+ghost use Rattle.std.specs.Prelude.{◌≡◌, IfOk};
 ghost use Rattle.ftc_base.specs.declared.refusal.Refuse.TheVariants as refuse;
 ghost use Rattle.ftc_base.specs.Refused.{IsReading, IfBad};
 ghost use Rattle.ftc_base.specs.Endpoint.{parts_of};
-ghost use Rattle.ftc_journal.specs.Reading.{event_of, placed, journal_of};
+ghost use Rattle.ftc_journal.specs.Reading.{event_of, placed};
+ghost use Rattle.ftc_journal.specs.Spelling.{IsSpelling};
+ghost use Rattle.ftc_journal.specs.Faulty.{IsFirstFault};
 
 use crate::event::Event;
 use crate::fault::{JournalCause, JournalFault};
@@ -37,11 +39,11 @@ fn event_at(
     }
 }
 
-/// Reads a journal's text, of either version. The first faulty line wins, and in it the cause that is
-/// tested first.
+/// Reads a journal's text, of either version. The first faulty line wins, and in it a fault of its words before
+/// one of a bound.
 pub fn read(alloc: Global, text: &[u8]) -> Result<Journal, Refuse<JournalFault>>
-    ensures ok { IfOk result (λ journal. journal_of text.now ≡ Ok journal.items) }
-    ensures bad { IfBad result (λ fault. journal_of text.now ≡ Err fault) }
+    ensures ok { IfOk result (λ journal. IsSpelling journal.items text.now) }
+    ensures bad { IfBad result (λ fault. IsFirstFault text.now fault) }
 {
     let Some((header, lines)) = split_part(text, b'\n') else {
         return Err(fault_at(1, JournalCause::Header));

@@ -32,6 +32,8 @@ returns-in-Run-clause-complete g c = λ tells texts still.
     let laws : Laws = record {
       one_capture = c.one_reading.ensures;
       no_fault = c.one_fault.ensures.none;
+      one_journal = c.spellings.ensures.one;
+      no_journal_fault = c.faults.ensures.none;
       one_verdict = c.one_verdict.ensures;
     } in
     let (chain, capture, script, schedule, are) =
@@ -45,6 +47,8 @@ returns-in-Check-clause-complete_check g c = λ tells files still.
     let laws : Laws = record {
       one_capture = c.one_reading.ensures;
       no_fault = c.one_fault.ensures.none;
+      one_journal = c.spellings.ensures.one;
+      no_journal_fault = c.faults.ensures.none;
       one_verdict = c.one_verdict.ensures;
     } in
     let are = subst (λ (command : Command). HasFiles (Some (shown command))
@@ -58,6 +62,8 @@ returns-in-Check-clause-exact g c = λ tells files.
     let laws : Laws = record {
       one_capture = c.one_reading.ensures;
       no_fault = c.one_fault.ensures.none;
+      one_journal = c.spellings.ensures.one;
+      no_journal_fault = c.faults.ensures.none;
       one_verdict = c.one_verdict.ensures;
     } in
     let right = subst (λ (command : Command). HasRightRun (Some (shown command))
@@ -69,6 +75,8 @@ returns-in-Check-clause-agrees g c = λ tells files.
     let laws : Laws = record {
       one_capture = c.one_reading.ensures;
       no_fault = c.one_fault.ensures.none;
+      one_journal = c.spellings.ensures.one;
+      no_journal_fault = c.faults.ensures.none;
       one_verdict = c.one_verdict.ensures;
     } in
     let left = subst (λ (command : Command). WasLeft (Some (shown command))
@@ -88,6 +96,8 @@ returns-in-Watch-clause-complete g c = λ tells texts still.
     let laws : Laws = record {
       one_capture = c.one_reading.ensures;
       no_fault = c.one_fault.ensures.none;
+      one_journal = c.spellings.ensures.one;
+      no_journal_fault = c.faults.ensures.none;
       one_verdict = c.one_verdict.ensures;
     } in
     let (beats, given) = subst
@@ -100,6 +110,8 @@ returns-in-Ports-clause-complete g c = λ tells texts still.
     let laws : Laws = record {
       one_capture = c.one_reading.ensures;
       no_fault = c.one_fault.ensures.none;
+      one_journal = c.spellings.ensures.one;
+      no_journal_fault = c.faults.ensures.none;
       one_verdict = c.one_verdict.ensures;
     } in
     let (lines, given) = subst

@@ -1,9 +1,11 @@
+use Rattle.std.proofs.Common.{refl}
+use Rattle.ftc_journal.specs.Reading.{journal_of}
 use Rattle.ftc_journal.proofs.Again.{no_fault}
-use Rattle.ftc_journal.proofs.FirstFault.{fault_found, fault_again}
+use Rattle.ftc_journal.proofs.FirstFault.{fault_again, each_text}
 use Rattle.ftc_journal.proofs.laws.faults.Goals as goal
 
-pub returns-clause-refused : goal.returns-clause-refused
-returns-clause-refused c text fault = (fault_found text fault, fault_again text fault)
+pub returns-clause-each : goal.returns-clause-each
+returns-clause-each c text = each_text text (journal_of text) refl
 
 pub returns-clause-one : goal.returns-clause-one
 returns-clause-one c text a b is other =
