@@ -1,7 +1,7 @@
 -- Printed numbers are read again, and a word that is read as a number is that number printed.
-use Rattle.std.proofs.Common.{◌≡◌, ◌≤◌, ◌<◌, ◌^◌, ℕ, zero, suc, Bool, true, false, List, [], ◌∷◌, length, get_or}
+use Rattle.std.proofs.Common.{◌≡◌, ◌≤◌, ◌<◌, ◌^◌, ℕ, zero, suc, true, false, List, [], ◌∷◌, length, get_or}
 use Rattle.std.proofs.Common.{if◌then◌else◌, ◌⊎◌, refl, sym, ap, ◌∙◌, arith, rules, Ok, Err}
-use Rattle.std.specs.Prelude.{◌==◌, ◌&&◌, nat_le, not, decimal}
+use Rattle.std.specs.Prelude.{◌==◌, nat_le, not, decimal}
 use Rattle.std.specs.List.{AllByRecursion, list_all}
 use Rattle.std.proofs.lemmas.Bool.Decides.{nat_tests}
 use Rattle.std.proofs.lemmas.Fmt.{digits_decimal, digits_value-decimal, decimal_digit, first_decimal, decimal_nonempty}

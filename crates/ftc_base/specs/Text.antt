@@ -1,12 +1,10 @@
 -- A text as lines, a line as words, and what a word says.
-use Rattle.std.specs.Prelude.{◌≡◌, ◌≢◌, ◌⊎◌, ◌≤◌, ◌<◌, ◌+◌, ◌*◌, ◌-◌, ℕ, suc, Bool, true, false, ◌||◌, ◌&&◌, ◌==◌, not}
-use Rattle.std.specs.Prelude.{nat_le, List, [], ◌∷◌, length, slice_get, slice_index, slice_range, All, Some, Result, Ok}
-use Rattle.std.specs.Prelude.{Err, if◌then◌else◌}
-use Rattle.std.specs.List.{list_all, onto_first}
+use Rattle.std.specs.Prelude.{◌≡◌, ◌≢◌, ◌⊎◌, ◌≤◌, ◌<◌, ◌+◌, ◌-◌, ℕ, suc, Bool, true, false, ◌||◌, ◌==◌}
+use Rattle.std.specs.Prelude.{List, [], ◌∷◌, length, slice_get, slice_index, slice_range, All, Some}
+use Rattle.std.specs.Prelude.{if◌then◌else◌}
+use Rattle.std.specs.List.{onto_first}
 use Rattle.ftc_base.specs.declared.lexer.Line.{Line}
 use Rattle.ftc_base.specs.declared.lexer.Word.{Word}
-use Rattle.ftc_base.specs.declared.lexer.Lexical.{Lexical}
-use Rattle.ftc_base.specs.declared.lexer.Lexical.TheVariants.{NotNumber, TooLarge}
 
 -- a line ends at a line feed or at the text's end, and a text that ends with a line feed has no further line
 abbrev pub lines_of : List ℕ → List (List ℕ)

@@ -1,11 +1,9 @@
 -- Texts of printed words: their lines, words and parts are found again.
-use Rattle.std.proofs.Common.{◌≡◌, ◌≤◌, ℕ, ◌+◌, true, false, List, [], ◌∷◌, ◌++◌, length, take, drop, refl, ap, ◌∙◌}
+use Rattle.std.proofs.Common.{◌≡◌, ℕ, ◌+◌, true, List, [], ◌∷◌, ◌++◌, length, take, drop, refl, ap}
 use Rattle.std.proofs.Common.{arith, add-one}
 use Rattle.std.specs.Prelude.{◌==◌}
-use Rattle.std.specs.List.{AllByRecursion, list_all, join_with_byte, onto_first, position_or_len}
+use Rattle.std.specs.List.{AllByRecursion, list_all, position_or_len}
 use Rattle.std.proofs.lemmas.Bool.Decides.{nat_tests}
-use Rattle.ftc_base.specs.Text.{is_blank, lines_of, words_of, begin_word}
-use Rattle.ftc_base.specs.Endpoint.{parts_of}
 use Rattle.ftc_base.proofs.Separated.{Without}
 use Rattle.ftc_base.proofs.PlainWords.{IsLineByte}
 use Rattle.ftc_conf.specs.Words.{is_text_byte, part_before, part_behind, has_byte}

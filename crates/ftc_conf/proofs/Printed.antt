@@ -1,8 +1,8 @@
 -- Printed lines read as what they print, each by its form.
 use Rattle.std.proofs.Common.{◌≡◌, ◌≤◌, ◌<◌, ℕ, ◌+◌, Bool, true, false, List, [], ◌∷◌, ◌++◌, length, refl, ap, ◌∙◌}
 use Rattle.std.proofs.Common.{arith, Ok, length-append, inl, inr}
-use Rattle.std.specs.Prelude.{◌==◌, ◌&&◌, nat_le, nat_lt, codes, decimal, map, Option, Some, None, ◌⊎◌}
-use Rattle.std.specs.List.{AllByRecursion, list_all, join_with_byte}
+use Rattle.std.specs.Prelude.{◌==◌, nat_le, codes, decimal, map, Option, Some, None, ◌⊎◌}
+use Rattle.std.specs.List.{AllByRecursion, join_with_byte}
 use Rattle.std.proofs.lemmas.List.{append_assoc, append-nil}
 use Rattle.std.proofs.lemmas.Bool.Decides.{nat_tests}
 use Rattle.ftc_base.specs.declared.limits.TheConstants.{MOST_BACKENDS}

@@ -1,15 +1,12 @@
 -- Printed numbers, addresses, nets and ports read as what they print.
-use Rattle.std.proofs.Common.{◌≡◌, ◌≤◌, ℕ, zero, suc, ◌+◌, ◌*◌, ◌/◌, ◌%◌, true, false, List, [], ◌∷◌, ◌++◌, length}
-use Rattle.std.proofs.Common.{get_or, refl, ap, ◌∙◌, arith, rules, Ok, length-append}
+use Rattle.std.proofs.Common.{◌≡◌, ◌≤◌, ℕ, ◌+◌, ◌*◌, ◌/◌, ◌%◌, true, false, List, [], ◌∷◌, ◌++◌, length}
+use Rattle.std.proofs.Common.{refl, ap, ◌∙◌, arith, rules, Ok, length-append}
 use Rattle.std.specs.Prelude.{◌==◌, nat_le, codes, decimal}
-use Rattle.std.specs.List.{AllByRecursion, list_all, join_with_byte}
+use Rattle.std.specs.List.{AllByRecursion, join_with_byte}
 use Rattle.std.specs.Str.{bytes_eq}
 use Rattle.std.proofs.Math.Nat.{div-div-eq-div-mul}
 use Rattle.std.proofs.lemmas.Bool.Decides.{nat_tests}
-use Rattle.std.proofs.lemmas.Fmt.{digits_decimal, decimal_digit, first_decimal, decimal_nonempty}
-use Rattle.std.proofs.lemmas.Str.Parse.{IsNumeralModel, numerals_by_fold}
 use Rattle.ftc_base.specs.declared.network.Net.{Net}
-use Rattle.ftc_base.specs.Number.{number_of, is_numeral, is_digit, decimal_from}
 use Rattle.ftc_base.specs.Endpoint.{parts_of, address_in, address_of, net_in, net_of, IsNet}
 use Rattle.ftc_base.proofs.EachOf.{all-append, all-weaker}
 use Rattle.ftc_base.proofs.Separated.{Without, parts_of-part, parts_of-last, parts_of-join}

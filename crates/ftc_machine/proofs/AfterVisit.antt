@@ -24,7 +24,7 @@ use Rattle.ftc_machine.specs.Represents.{Represents, IsMessageSlot, FollowsRun, 
 use Rattle.ftc_machine.specs.FootprintMaking.{IsFootprintMade}
 use Rattle.ftc_machine.specs.FootprintMarks.{marked_at}
 use Rattle.ftc_protocol.specs.Next.{outcome_at}
-use Rattle.ftc_machine.specs.Frontier.{Footprints, AreRising, AreFootprints, IsFootprint, IsFrontier, AreFrontiers}
+use Rattle.ftc_machine.specs.Frontier.{AreRising, AreFootprints, IsFootprint, AreFrontiers}
 use Rattle.ftc_machine.specs.Frontier.{numbers_of, frontier_at}
 use Rattle.ftc_protocol.specs.Setting.{Setting, servers}
 use Rattle.ftc_machine.specs.Slots.{slot_at}

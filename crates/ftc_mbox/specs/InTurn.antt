@@ -1,5 +1,5 @@
 -- A rule that is asked in turn, with an answer for each key that it asks for.
-use Rattle.std.specs.Prelude.{ℕ, ◌≡◌, ◌≢◌, ◌<◌, ◌++◌, Bool, true, List, [], ◌∷◌, length, None}
+use Rattle.std.specs.Prelude.{ℕ, ◌≡◌, ◌≢◌, ◌<◌, ◌++◌, true, List, [], ◌∷◌, length, None}
 use Rattle.std.specs.List.{AllByRecursion}
 use Rattle.ftc_base.specs.declared.limits.TheConstants.{MOST_READS}
 use Rattle.ftc_base.specs.declared.ask.Answer.{Answer}

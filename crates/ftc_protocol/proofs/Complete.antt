@@ -14,7 +14,7 @@ use Rattle.ftc_protocol.specs.Setting.{Setting, servers, count, is_member, IsSet
 use Rattle.ftc_protocol.specs.Visits.{In}
 use Rattle.ftc_protocol.specs.Trace.{IsChanging}
 use Rattle.ftc_protocol.specs.State.{ChainState, Message, opening}
-use Rattle.ftc_protocol.specs.Legal.{IsLegal, MayHappen}
+use Rattle.ftc_protocol.specs.Legal.{MayHappen}
 use Rattle.ftc_protocol.specs.Recovery.{undone_visits}
 use Rattle.ftc_protocol.specs.Next.{next}
 use Rattle.ftc_protocol.specs.Run.{AreLegal, IsRun, IsFinished, state_after}

@@ -1,6 +1,6 @@
 -- Each released packet has no more bytes than a record may have.
-use Rattle.std.proofs.Common.{◌≡◌, ◌≢◌, ℕ, zero, suc, ◌+◌, ◌<◌, ◌≤◌, Bool, true, false, List, [], ◌∷◌, ◌++◌, length}
-use Rattle.std.proofs.Common.{map, Option, Some, None, refl, sym, ap, ◌∙◌, cond, arith, subst, get_or, eq-eqb}
+use Rattle.std.proofs.Common.{◌≡◌, ℕ, zero, suc, ◌+◌, ◌<◌, ◌≤◌, Bool, true, false, List, [], ◌∷◌, ◌++◌, length}
+use Rattle.std.proofs.Common.{Option, Some, None, refl, sym, cond, subst}
 use Rattle.std.specs.Prelude.{◌==◌, slice_get, option_map, option_and_then}
 use Rattle.std.specs.List.{AllByRecursion}
 use Rattle.std.proofs.lemmas.Bool.{eqb-true}
@@ -21,7 +21,7 @@ use Rattle.ftc_serial.specs.declared.position.Position.TheVariants as position
 use Rattle.ftc_serial.specs.declared.step.Step.{Step}
 use Rattle.ftc_serial.specs.declared.step.Step.TheVariants.{Visit, Release}
 use Rattle.ftc_serial.specs.Words.{with_at}
-use Rattle.ftc_serial.specs.Take.{Outcome, taken, asked}
+use Rattle.ftc_serial.specs.Take.{taken, asked}
 use Rattle.ftc_serial.specs.Packets.{bytes_of_packets}
 use Rattle.ftc_serial.specs.Serial.{State, serial_opening, Visited, Given, after, position_after, visit_at, release_at}
 use Rattle.ftc_serial.specs.Serial.{serial_step, serial_run}

@@ -1,5 +1,5 @@
 -- Crashes and recoveries in order, and which servers are live after them.
-use Rattle.std.specs.Prelude.{ℕ, ◌≤◌, ◌<◌, ◌==◌, Bool, true, false, List, [], ◌∷◌, if◌then◌else◌}
+use Rattle.std.specs.Prelude.{ℕ, ◌≤◌, ◌<◌, Bool, true, false, List, [], ◌∷◌}
 pub use Rattle.ftc_base.specs.Reading.{with_at}
 use Rattle.ftc_ring.specs.Ring.{RingShape}
 use Rattle.ftc_ring.specs.Live.{IsLive, IsDown, IsAdmissible}

@@ -16,7 +16,7 @@ use Rattle.ftc_mbox.specs.Ask.{ask}
 use Rattle.ftc_store.specs.Store.{Content, changed, written}
 use Rattle.ftc_serial.specs.declared.visit.Asked.{Asked}
 use Rattle.ftc_serial.specs.Words.{AnyOf}
-use Rattle.ftc_serial.specs.Take.{asked_from, asked, answer_at, stopped, ended, Outcome, taken}
+use Rattle.ftc_serial.specs.Take.{asked_from, asked, answer_at, stopped, ended, taken}
 
 -- the stores answer alike at this key
 abbrev pub SameAt : Content → Content → List ℕ → Type 0

@@ -1,11 +1,10 @@
 use Rattle.std.proofs.Common.{◌∙◌, rules, length, IfErr}
 use Rattle.std.proofs.lemmas.Result.{IfErr-weaker}
 use Rattle.ftc_outside.specs.Desk.{Files, SameFiles}
-use Rattle.ftc_words.specs.Shown.{named_of, shown_mode}
-use Rattle.ftc.specs.Texts.{ring_of, HasScript, AreInputs}
-use Rattle.ftc.specs.Refused.{IsTextRefused, IsWrongScript, IsScheduleRefused}
-use Rattle.ftc.proofs.Refusing.{refused_before, capture_before, script_before, script_refused, schedule_refused}
-use Rattle.ftc.proofs.Refusing.{schedule_refused_before, schedule_before}
+use Rattle.ftc_words.specs.Shown.{named_of}
+use Rattle.ftc.specs.Texts.{ring_of, HasScript}
+use Rattle.ftc.specs.Refused.{IsTextRefused, IsWrongScript}
+use Rattle.ftc.proofs.Refusing.{refused_before, capture_before, script_before, script_refused}
 use Rattle.ftc.proofs.texts.read_inputs.Goals as goal
 
 pub returns-in_err-script-clause-refused : goal.returns-in_err-script-clause-refused

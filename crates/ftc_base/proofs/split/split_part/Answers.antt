@@ -1,4 +1,4 @@
-use Rattle.std.proofs.Common.{◌≡◌, length, arith}
+use Rattle.std.proofs.Common.{length, arith}
 use Rattle.std.proofs.lemmas.Grind.{common_steps}
 use Rattle.ftc_base.proofs.Parts.{part_none, part_found}
 use Rattle.ftc_base.proofs.split.split_part.Goals as goal

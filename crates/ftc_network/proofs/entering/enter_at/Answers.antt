@@ -1,4 +1,4 @@
-use Rattle.std.proofs.Common.{◌∙◌, List, ℕ, false, Some, refl, ap, sym, subst, ◌≡◌}
+use Rattle.std.proofs.Common.{◌∙◌, List, ℕ, false, Some, refl, ap, subst}
 use Rattle.ftc_journal.specs.declared.event.Event.TheVariants as event
 use Rattle.ftc_message.specs.declared.message.Message.{Message as SentMessage}
 use Rattle.ftc_protocol.specs.Next.{next}
@@ -6,12 +6,10 @@ use Rattle.ftc_protocol.specs.Setting.{packet_at}
 use Rattle.ftc_server.specs.Holding.{is_held}
 use Rattle.ftc_server.specs.State.{ServerState}
 use Rattle.ftc_standing.specs.Stand.{IsBegun}
-use Rattle.ftc_network.specs.Parts.{buffer_of}
 use Rattle.ftc_network.specs.Stand.{IsSlot, IsUp}
 use Rattle.ftc_network.proofs.Allowed.{at_up}
 use Rattle.ftc_network.proofs.ReadySlots.{same_runs, roomed_still}
 use Rattle.ftc_network.proofs.Results.{as_err}
-use Rattle.ftc_network.proofs.Heads.{same_head, either_way}
 use Rattle.ftc_network.proofs.entering.enter_at.Goals as goal
 
 pub hold-requires-clause-new : goal.hold-requires-clause-new

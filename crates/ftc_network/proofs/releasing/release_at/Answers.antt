@@ -1,4 +1,4 @@
-use Rattle.std.proofs.Common.{◌≡◌, ◌∙◌, ◌+◌, ℕ, List, Some, None, length, sym, ap, subst}
+use Rattle.std.proofs.Common.{◌≡◌, ◌∙◌, ◌+◌, ℕ, List, length, sym, ap, subst}
 use Rattle.ftc_edge.specs.declared.buffer.Freed.{Freed}
 use Rattle.ftc_edge.specs.declared.buffer.Withheld.{Withheld}
 use Rattle.ftc_edge.specs.Due.{freed, first_due}

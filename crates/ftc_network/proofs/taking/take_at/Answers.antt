@@ -1,6 +1,5 @@
-use Rattle.std.proofs.Common.{◌≡◌, ◌∙◌, ◌+◌, ◌==◌, ◌∷◌, ℕ, Bool, true, false, Option, Some, Result, Ok, Err, ap, sym}
+use Rattle.std.proofs.Common.{◌≡◌, ◌∙◌, ◌+◌, ◌==◌, ◌∷◌, ℕ, Bool, true, false, Option, Some, ap, sym}
 use Rattle.std.proofs.Common.{subst}
-use Rattle.std.specs.Prelude.{OnErr}
 use Rattle.std.proofs.Math.Bool.{Bool-set}
 use Rattle.std.proofs.Math.Logic.{∥∥₁_elim}
 use Rattle.ftc_journal.specs.declared.event.Event.TheVariants as event

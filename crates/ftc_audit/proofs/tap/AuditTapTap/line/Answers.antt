@@ -1,4 +1,4 @@
-use Rattle.std.proofs.Common.{◌≡◌, ◌++◌, ℕ, length, refl, rules, sym, subst}
+use Rattle.std.proofs.Common.{◌≡◌, ◌++◌, ℕ, refl, rules, sym, subst}
 use Rattle.std.specs.Prelude.{codes, decimal}
 use Rattle.ftc_outside.specs.Tap.{HasNoFeed}
 use Rattle.ftc_outside.proofs.Plain.{plain_word, plain_together, plain_decimal}

@@ -1,4 +1,3 @@
-use Rattle.std.proofs.Common.{rules}
 use Rattle.ftc_base.proofs.Members.{has-bit}
 use Rattle.ftc_base.proofs.sets.NumberSet.has.Goals as goal
 
