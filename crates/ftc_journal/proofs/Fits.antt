@@ -4,7 +4,7 @@ use Rattle.ftc_base.specs.Reading.{◌>>=◌}
 use Rattle.ftc_base.specs.declared.limits.TheConstants.{MOST_SLOTS}
 use Rattle.ftc_journal.specs.declared.fault.JournalCause.{JournalCause}
 use Rattle.ftc_journal.specs.declared.fault.JournalCause.TheVariants.{Range}
-use Rattle.ftc_journal.specs.declared.figure.NameFigures.{NameFigures}
+use Rattle.ftc_journal.specs.declared.numerals.NameFigures.{NameFigures}
 use Rattle.ftc_journal.specs.declared.form.Version.{Version}
 use Rattle.ftc_journal.specs.declared.form.Single.{Single}
 use Rattle.ftc_journal.specs.declared.form.Single.TheVariants as single

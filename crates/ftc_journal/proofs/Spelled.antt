@@ -13,7 +13,7 @@ use Rattle.ftc_journal.specs.declared.event.Event.{Event}
 use Rattle.ftc_journal.specs.declared.event.Event.TheVariants as event
 use Rattle.ftc_journal.specs.declared.event.VisitName.{VisitName}
 use Rattle.ftc_journal.specs.declared.fault.JournalCause.{JournalCause}
-use Rattle.ftc_journal.specs.declared.figure.NameFigures.{NameFigures}
+use Rattle.ftc_journal.specs.declared.numerals.NameFigures.{NameFigures}
 use Rattle.ftc_journal.specs.declared.form.Version.{Version}
 use Rattle.ftc_journal.specs.declared.form.Version.TheVariants as version
 use Rattle.ftc_journal.specs.declared.form.Single.{Single}

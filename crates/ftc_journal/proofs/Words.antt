@@ -12,7 +12,7 @@ use Rattle.ftc_base.proofs.Decimals.{without_decimal}
 use Rattle.ftc_journal.specs.declared.event.Event.{Event}
 use Rattle.ftc_journal.specs.declared.event.Event.TheVariants as event
 use Rattle.ftc_journal.specs.declared.event.VisitName.{VisitName}
-use Rattle.ftc_journal.specs.declared.figure.NameFigures.{NameFigures}
+use Rattle.ftc_journal.specs.declared.numerals.NameFigures.{NameFigures}
 use Rattle.ftc_journal.specs.declared.form.Version.{Version}
 use Rattle.ftc_journal.specs.declared.form.Version.TheVariants as version
 use Rattle.ftc_journal.specs.Text.{spaced, spaced_name, words_of}

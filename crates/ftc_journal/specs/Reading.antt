@@ -22,7 +22,7 @@ use Rattle.ftc_journal.specs.declared.form.Double.{Double}
 use Rattle.ftc_journal.specs.declared.form.Double.TheVariants as double
 use Rattle.ftc_journal.specs.declared.form.Form.{Form}
 use Rattle.ftc_journal.specs.declared.form.Form.TheVariants as form
-use Rattle.ftc_journal.specs.declared.figure.NameFigures.{NameFigures}
+use Rattle.ftc_journal.specs.declared.numerals.NameFigures.{NameFigures}
 use Rattle.ftc_journal.specs.Spelling.{servers_of}
 
 abbrev pub version_of : List ℕ → Option Version

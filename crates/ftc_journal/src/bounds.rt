@@ -6,8 +6,8 @@ ghost use Rattle.ftc_journal.specs.Reading.{number_in, server_in, slot_in, name_
 
 use crate::event::{VisitName, VisitNames};
 use crate::fault::JournalCause;
-use crate::figure::NameFigures;
 use crate::form::{Version, servers_of};
+use crate::numerals::NameFigures;
 use ftc_base::limits::MOST_SLOTS;
 use ftc_base::{Refuse, ServerId, WorkerId};
 use std::alloc::Global;

@@ -4,16 +4,16 @@
 mod bounds;
 mod event;
 mod fault;
-mod figure;
 mod form;
 mod job;
 mod journal;
 mod laws;
 pub mod limits;
 mod line;
+mod numerals;
+mod parsing;
 mod printer;
 mod reader;
-mod saying;
 
 pub use event::{Event, VisitName, VisitNames};
 pub use fault::{JournalCause, JournalFault};

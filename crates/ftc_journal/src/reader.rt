@@ -12,7 +12,7 @@ use crate::event::Event;
 use crate::fault::{JournalCause, JournalFault};
 use crate::form::{Version, version_of};
 use crate::journal::Journal;
-use crate::saying::event_of;
+use crate::parsing::event_of;
 use ftc_base::{Refuse, split_part};
 use std::alloc::Global;
 

@@ -9,8 +9,8 @@ ghost use Rattle.ftc_journal.specs.Reading.{recovery, recover_of, said_in, event
 use crate::bounds::{number_in, server_in, slot_in, undone_in};
 use crate::event::Event;
 use crate::fault::JournalCause;
-use crate::figure::{NameFigures, figure_of, figures_of, names_of};
 use crate::form::{Double, Form, Single, Version, form_of};
+use crate::numerals::{NameFigures, figure_of, figures_of, names_of};
 use ftc_base::{Items, PacketNo, Refuse, ServerId, split_part};
 use std::alloc::Global;
 

@@ -3,7 +3,7 @@ use Rattle.std.proofs.Common.{◌≡◌, length}
 use Rattle.ftc_base.specs.Endpoint.{parts_of}
 use Rattle.ftc_journal.specs.Reading.{figures_of}
 use Rattle.ftc_journal.proofs.Joining.{joined}
-use Rattle.ftc_journal.proofs.figure.figures_of.Given as goal
+use Rattle.ftc_journal.proofs.numerals.figures_of.Given as goal
 
 abbrev pub invariant-loop-word : goal.invariant-loop-word
 invariant-loop-word l = joined l.held (figures_of (parts_of 32 l.rest)) ≡ figures_of (parts_of 32 l.words)

@@ -3,7 +3,7 @@ use Rattle.std.proofs.Common.{◌≡◌, length}
 use Rattle.ftc_base.specs.Endpoint.{parts_of}
 use Rattle.ftc_journal.specs.Reading.{names_of}
 use Rattle.ftc_journal.proofs.Joining.{joined}
-use Rattle.ftc_journal.proofs.figure.names_of.Given as goal
+use Rattle.ftc_journal.proofs.numerals.names_of.Given as goal
 
 abbrev pub invariant-loop-word : goal.invariant-loop-word
 invariant-loop-word l = joined l.held (names_of (parts_of 32 l.rest)) ≡ names_of (parts_of 32 l.words)
