@@ -51,6 +51,16 @@ pub others_on : (at : List ℕ) (first second third : Files) → SameButAt at fi
     SameButAt at first third
 others_on at first second third one other name not = other name not ∙ one name not
 
+-- a file whose front was written grew and was then completed, and no other file has changed
+pub completed : (at held grown bytes : List ℕ) (old begun mid whole : Files) → begun at ≡ Some held →
+    HasGrownBy at grown begun mid → (mid at ≡ Some (held ++ grown) → whole at ≡ Some bytes) →
+    SameButAt at old begun → SameButAt at begun mid → SameButAt at mid whole →
+    (whole at ≡ Some bytes) × SameButAt at old whole
+completed at held grown bytes old begun mid whole there grew written one two three = (
+  written (grown_file at held grown begun mid there grew),
+  others_on at old mid whole (others_on at old begun mid one two) three,
+)
+
 pub elsewhere : (at : List ℕ) (old new : Files) → SameButAt at old new → SameElsewhere (at ∷ []) old new
 elsewhere at old new others name not = others name not.0
 

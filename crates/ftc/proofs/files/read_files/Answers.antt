@@ -17,37 +17,28 @@ pub returns-in_err-out-clause-refused : goal.returns-in_err-out-clause-refused
 returns-in_err-out-clause-refused g c = λ t.
     let old : Files = g.D.Desk.file c.args.desk.now in
     let read : Files = g.D.Desk.file c.read_inputs.new.desk in
-    let t-read = c.read_inputs.ensures.served.tells_on t in
-    let to_read : SameFiles old read = c.read_inputs.ensures.files t in
     let refused : IfErr c.from_residual-in_err-out.result
     (IsTextRefused (g.D.Desk.sound c.read_inputs.new.desk) read c.args.names.out.now IsNeverWrong) =
     search (rules, c.fetch.ensures.absent) in
     IfErr-weaker c.from_residual-in_err-out.result _ _
-    (λ ending is. out_refused (g.D.Desk.sound c.args.desk.now) (named_of c.args.names) old c.in_ok-inputs.inputs.spec
-    c.in_ok-inputs.inputs.capture c.in_ok-inputs.inputs.script ending (c.in_ok-inputs.ensures.accepted t)
-    (refused_before (g.D.Desk.sound c.args.desk.now) (g.D.Desk.sound c.read_inputs.new.desk) old read
-    c.args.names.out.now IsNeverWrong ending c.read_inputs.ensures.served.sound_on to_read is)) refused
+    (λ ending is. out_refused _ (named_of c.args.names) old _ _ _ ending (c.in_ok-inputs.ensures.accepted t)
+    (refused_before _ _ old read c.args.names.out.now IsNeverWrong ending c.read_inputs.ensures.served.sound_on
+    (c.read_inputs.ensures.files t) is)) refused
 
 pub returns-in_err-journal-clause-refused : goal.returns-in_err-journal-clause-refused
 returns-in_err-journal-clause-refused g c = λ t.
     let old : Files = g.D.Desk.file c.args.desk.now in
-    let read : Files = g.D.Desk.file c.read_inputs.new.desk in
-    let t-read = c.read_inputs.ensures.served.tells_on t in
-    let to_read : SameFiles old read = c.read_inputs.ensures.files t in
     let fetched : Files = g.D.Desk.file c.fetch.new.self in
-    let t-fetched = c.fetch.ensures.served.tells_on t-read in
+    let t-read = c.read_inputs.ensures.served.tells_on t in
+    let to_read : SameFiles old (g.D.Desk.file c.read_inputs.new.desk) = c.read_inputs.ensures.files t in
     let to_fetched : SameFiles old fetched = λ name. c.fetch.ensures.files t-read name ∙ to_read name in
-    let out_file : old c.args.names.out.now ≡ Some c.in_ok-out.out =
-    sym (to_read c.args.names.out.now) ∙ c.in_ok-out.ensures.bytes t-read in
+    let out_file = sym (to_read c.args.names.out.now) ∙ c.in_ok-out.ensures.bytes t-read in
     let refused : IfErr c.from_residual-in_err-journal.result
     (IsTextRefused (g.D.Desk.sound c.fetch.new.self) fetched c.args.names.journal.now IsWrongJournal) =
-    search (rules, c.fetch_journal.ensures.refused t-fetched) in
+    search (rules, c.fetch_journal.ensures.refused (c.fetch.ensures.served.tells_on t-read)) in
     IfErr-weaker c.from_residual-in_err-journal.result _ _
-    (λ ending is. journal_refused (g.D.Desk.sound c.args.desk.now) (named_of c.args.names) old
-    c.in_ok-inputs.inputs.spec c.in_ok-inputs.inputs.capture c.in_ok-inputs.inputs.script c.in_ok-out.out ending
-    (c.in_ok-inputs.ensures.accepted t) out_file
-    (refused_before (g.D.Desk.sound c.args.desk.now) (g.D.Desk.sound c.fetch.new.self) old fetched
-    c.args.names.journal.now IsWrongJournal ending
+    (λ ending is. journal_refused _ (named_of c.args.names) old _ _ _ _ ending (c.in_ok-inputs.ensures.accepted t)
+    out_file (refused_before _ _ old fetched c.args.names.journal.now IsWrongJournal ending
     (λ s. c.fetch.ensures.served.sound_on (c.read_inputs.ensures.served.sound_on s)) to_fetched is)) refused
 
 pub returns-in_err-report-clause-refused : goal.returns-in_err-report-clause-refused
@@ -63,16 +54,12 @@ returns-in_err-report-clause-refused g c = λ t.
     sym (to_read c.args.names.out.now) ∙ c.in_ok-out.ensures.bytes t-read in
     let judged : Files = g.D.Desk.file c.fetch_journal.new.desk in
     let to_judged : SameFiles old judged = λ name. c.fetch_journal.ensures.files t-fetched name ∙ to_fetched name in
-    let journal_right = journal_before c.args.names.journal.now old fetched c.in_ok-journal.journal.items to_fetched
-    (c.in_ok-journal.ensures.accepted t-fetched) in
+    let journal_right = journal_before _ _ _ _ to_fetched (c.in_ok-journal.ensures.accepted t-fetched) in
     let refused : IfErr c.from_residual-in_err-report.result
     (IsTextRefused (g.D.Desk.sound c.fetch_journal.new.desk) judged c.args.names.report.now IsNeverWrong) =
     search (rules, c.fetch-2.ensures.absent) in
     IfErr-weaker c.from_residual-in_err-report.result _ _
-    (λ ending is. report_refused (g.D.Desk.sound c.args.desk.now) (named_of c.args.names) old
-    c.in_ok-inputs.inputs.spec c.in_ok-inputs.inputs.capture c.in_ok-inputs.inputs.script c.in_ok-out.out
-    c.in_ok-journal.journal.items ending (c.in_ok-inputs.ensures.accepted t) out_file journal_right
-    (refused_before (g.D.Desk.sound c.args.desk.now) (g.D.Desk.sound c.fetch_journal.new.desk) old judged
-    c.args.names.report.now IsNeverWrong ending
+    (λ ending is. report_refused _ (named_of c.args.names) old _ _ _ _ _ ending (c.in_ok-inputs.ensures.accepted t)
+    out_file journal_right (refused_before _ _ old judged c.args.names.report.now IsNeverWrong ending
     (λ s. c.fetch_journal.ensures.served.sound_on
     (c.fetch.ensures.served.sound_on (c.read_inputs.ensures.served.sound_on s))) to_judged is)) refused

@@ -10,7 +10,6 @@ use Rattle.ftc_serial.specs.Trace.{trace_of}
 use Rattle.ftc_serial.specs.declared.step.Step.{Step}
 use Rattle.ftc.specs.Porting.{ports_by}
 use Rattle.ftc.specs.Refused.{IsTextRefused, IsWrongJournal}
-use Rattle.ftc.specs.Texts.{HasChain, HasCapture, HasJournal}
 use Rattle.ftc.proofs.PortLemmas.{port_journal_refused, table_refused, cause_told}
 use Rattle.ftc.proofs.Refusing.{refused_before, capture_before, journal_before}
 use Rattle.ftc.proofs.porting.read_table.Goals as goal
@@ -24,20 +23,15 @@ returns-in_err-journal-clause-refused g c = λ t.
     let t-second = c.fetch_capture.ensures.served.tells_on t-first in
     let to_first : SameFiles old first = c.fetch_chain.ensures.files t in
     let to_second : SameFiles old second = λ name. c.fetch_capture.ensures.files t-first name ∙ to_first name in
-    let chain_right : HasChain c.args.names.chain.now old c.in_ok-spec.spec = c.in_ok-spec.ensures.accepted t in
-    let capture_right : HasCapture c.args.names.capture.now old c.in_ok-capture.capture =
-    capture_before c.args.names.capture.now old first c.in_ok-capture.capture to_first
-    (c.in_ok-capture.ensures.accepted t-first) in
+    let chain_right = c.in_ok-spec.ensures.accepted t in
+    let capture_right = capture_before _ _ _ _ to_first (c.in_ok-capture.ensures.accepted t-first) in
     let refused : IfErr c.from_residual-in_err-journal.result
     (IsTextRefused (g.D.Desk.sound c.fetch_capture.new.desk) second
     c.args.names.journal.now IsWrongJournal) = search (rules, c.fetch_journal.ensures.refused t-second) in
     IfErr-weaker c.from_residual-in_err-journal.result _ _
-    (λ ending is. port_journal_refused (g.D.Desk.sound c.args.desk.now)
-    (ports_by c.args.names) c.args.server old c.in_ok-spec.spec c.in_ok-capture.capture ending chain_right capture_right
-    (refused_before (g.D.Desk.sound c.args.desk.now)
-    (g.D.Desk.sound c.fetch_capture.new.desk) old second c.args.names.journal.now
-    IsWrongJournal ending (λ s. c.fetch_capture.ensures.served.sound_on
-    (c.fetch_chain.ensures.served.sound_on s)) to_second is)) refused
+    (λ ending is. port_journal_refused _ (ports_by c.args.names) c.args.server old _ _ ending chain_right capture_right
+    (refused_before _ _ old second c.args.names.journal.now IsWrongJournal ending
+    (λ s. c.fetch_capture.ensures.served.sound_on (c.fetch_chain.ensures.served.sound_on s)) to_second is)) refused
 
 pub returns-clause-refused : goal.returns-clause-refused
 returns-clause-refused g c = λ t.
@@ -48,13 +42,9 @@ returns-clause-refused g c = λ t.
     let t-second = c.fetch_capture.ensures.served.tells_on t-first in
     let to_first : SameFiles old first = c.fetch_chain.ensures.files t in
     let to_second : SameFiles old second = λ name. c.fetch_capture.ensures.files t-first name ∙ to_first name in
-    let chain_right : HasChain c.args.names.chain.now old c.in_ok-spec.spec = c.in_ok-spec.ensures.accepted t in
-    let capture_right : HasCapture c.args.names.capture.now old c.in_ok-capture.capture =
-    capture_before c.args.names.capture.now old first c.in_ok-capture.capture to_first
-    (c.in_ok-capture.ensures.accepted t-first) in
-    let journal_right : HasJournal c.args.names.journal.now old c.in_ok-journal.journal.items =
-    journal_before c.args.names.journal.now old second c.in_ok-journal.journal.items to_second
-    (c.in_ok-journal.ensures.accepted t-second) in
+    let chain_right = c.in_ok-spec.ensures.accepted t in
+    let capture_right = capture_before _ _ _ _ to_first (c.in_ok-capture.ensures.accepted t-first) in
+    let journal_right = journal_before _ _ _ _ to_second (c.in_ok-journal.ensures.accepted t-second) in
     let why : (cause : PortsCause) → c.in-Err.refusal ≡ refuse.Bad cause
     → IsCause c.in_ok-spec.spec.rules (bytes_of_packets c.in_ok-capture.capture.packets)
     (trace_of c.in_ok-journal.journal.items) c.args.server cause =
@@ -77,13 +67,9 @@ returns-in-Ok-clause-accepted g c = λ t.
     let t-second = c.fetch_capture.ensures.served.tells_on t-first in
     let to_first : SameFiles old first = c.fetch_chain.ensures.files t in
     let to_second : SameFiles old second = λ name. c.fetch_capture.ensures.files t-first name ∙ to_first name in
-    let chain_right : HasChain c.args.names.chain.now old c.in_ok-spec.spec = c.in_ok-spec.ensures.accepted t in
-    let capture_right : HasCapture c.args.names.capture.now old c.in_ok-capture.capture =
-    capture_before c.args.names.capture.now old first c.in_ok-capture.capture to_first
-    (c.in_ok-capture.ensures.accepted t-first) in
-    let journal_right : HasJournal c.args.names.journal.now old c.in_ok-journal.journal.items =
-    journal_before c.args.names.journal.now old second c.in_ok-journal.journal.items to_second
-    (c.in_ok-journal.ensures.accepted t-second) in
+    let chain_right = c.in_ok-spec.ensures.accepted t in
+    let capture_right = capture_before _ _ _ _ to_first (c.in_ok-capture.ensures.accepted t-first) in
+    let journal_right = journal_before _ _ _ _ to_second (c.in_ok-journal.ensures.accepted t-second) in
     record {
       chain = c.in_ok-spec.spec;
       capture = c.in_ok-capture.capture;

@@ -1,12 +1,11 @@
 use Rattle.std.proofs.Common.{inl, inr, map, rules}
 use Rattle.ftc_outside.specs.Desk.{Files}
-use Rattle.ftc_serial.specs.Held.{serial_state}
 use Rattle.ftc_stream.specs.Records.{records}
-use Rattle.ftc_words.specs.Shown.{named_of}
 use Rattle.ftc.specs.Done.{IsAny, AreToldAtLast}
 use Rattle.ftc.proofs.OutLemmas.{on_err}
 use Rattle.ftc.proofs.WriteLemmas.{on_err_more}
-use Rattle.ftc.proofs.RunLemmas.{on_ok_both, grown_file, not_absent, others_on, elsewhere, has_written, has_begun}
+use Rattle.ftc.proofs.RunLemmas.{on_ok_both, grown_file, not_absent, others_on, completed, elsewhere, has_written}
+use Rattle.ftc.proofs.RunLemmas.{has_begun}
 use Rattle.ftc.proofs.running.run_by_workers.Goals as goal
 
 pub returns-in_err-write_front-clause-refused : goal.returns-in_err-write_front-clause-refused
@@ -60,54 +59,28 @@ returns-in_err-complete-clause-safe g c = λ t s failed.
 
 pub returns-clause-done : goal.returns-clause-done
 returns-clause-done g c = λ t.
-    let out = c.args.names.out.now in
-    let texts = c.args.texts.now in
-    let driven = c.in_ok-worked.worked.driven in
-    let old : Files = g.D.Desk.file c.args.desk.now in
-    let begun : Files = g.D.Desk.file c.write_front.new.desk in
-    let mid : Files = g.D.Desk.file c.work.new.desk in
-    let whole : Files = g.D.Desk.file c.complete.new.desk in
     let taps = map (λ tap. (goal.Tap-dyn g (tap.vtable, tap.value)).face tap.value) c.args.taps.now.list.items in
     let left = map (λ tap. (goal.Tap-dyn g (tap.vtable, tap.value)).face tap.value) c.complete.new.taps.list.items in
     let first = c.write_front.ensures.served.tells_on t in
     let second = c.work.ensures.served.tells_on first in
-    let third = c.complete.ensures.served.tells_on second in
-    let put = records texts.capture c.in_ok-worked.worked.put in
-    let there = c.in_ok-complete.ensures.written second
-    (grown_file out texts.capture.header put begun mid (c.in_ok-write_front.ensures.written t)
-    (c.in_ok-worked.ensures.grown first)) in
-    let before = others_on out old mid whole
-    (others_on out old begun mid (c.write_front.ensures.others t) (c.work.ensures.others first))
+    let out = completed _ _ _ _ _ _ _ _ (c.in_ok-write_front.ensures.written t) (c.in_ok-worked.ensures.grown first)
+    (c.in_ok-complete.ensures.written second) (c.write_front.ensures.others t) (c.work.ensures.others first)
     (c.complete.ensures.others second) in
     on_ok_both c.write_texts.result _ _ _ (λ written plain.
-    has_written (named_of c.args.names) c.requires.apart.written texts.spec texts.capture texts.script IsAny
-    driven.chain.journal (serial_state driven.serial) c.in_ok-worked.ensures.finished tt c.released-released.result.now
-    c.released-released.ensures left old whole (g.D.Desk.file c.write_texts.new.desk) there before
-    (AreToldAtLast taps left) (c.in_ok-complete.ensures.told taps c.in_ok-worked.ensures.told) plain written)
-    (c.write_texts.ensures.written third) c.write_texts.ensures.plain
+    has_written _ c.requires.apart.written _ _ _ IsAny _ _ c.in_ok-worked.ensures.finished tt _
+    c.released-released.ensures left _ _ _ out.0 out.1 (AreToldAtLast taps left)
+    (c.in_ok-complete.ensures.told taps c.in_ok-worked.ensures.told) plain written)
+    (c.write_texts.ensures.written (c.complete.ensures.served.tells_on second)) c.write_texts.ensures.plain
 
 pub returns-clause-refused : goal.returns-clause-refused
 returns-clause-refused g c = λ t.
-    let out = c.args.names.out.now in
-    let texts = c.args.texts.now in
-    let driven = c.in_ok-worked.worked.driven in
-    let old : Files = g.D.Desk.file c.args.desk.now in
-    let begun : Files = g.D.Desk.file c.write_front.new.desk in
-    let mid : Files = g.D.Desk.file c.work.new.desk in
-    let whole : Files = g.D.Desk.file c.complete.new.desk in
     let left = map (λ tap. (goal.Tap-dyn g (tap.vtable, tap.value)).face tap.value) c.complete.new.taps.list.items in
     let first = c.write_front.ensures.served.tells_on t in
     let second = c.work.ensures.served.tells_on first in
-    let third = c.complete.ensures.served.tells_on second in
-    let put = records texts.capture c.in_ok-worked.worked.put in
-    let there = c.in_ok-complete.ensures.written second
-    (grown_file out texts.capture.header put begun mid (c.in_ok-write_front.ensures.written t)
-    (c.in_ok-worked.ensures.grown first)) in
-    let before = others_on out old mid whole
-    (others_on out old begun mid (c.write_front.ensures.others t) (c.work.ensures.others first))
+    let out = completed _ _ _ _ _ _ _ _ (c.in_ok-write_front.ensures.written t) (c.in_ok-worked.ensures.grown first)
+    (c.in_ok-complete.ensures.written second) (c.write_front.ensures.others t) (c.work.ensures.others first)
     (c.complete.ensures.others second) in
     on_err_more c.write_texts.result _ _ (λ cut. inr (
-    has_begun (named_of c.args.names) c.requires.apart.written texts.spec texts.capture texts.script IsAny
-    driven.chain.journal (serial_state driven.serial) c.in_ok-worked.ensures.finished tt c.released-released.result.now
-    c.released-released.ensures left old whole (g.D.Desk.file c.write_texts.new.desk) there before cut))
-    (c.write_texts.ensures.refused third)
+    has_begun _ c.requires.apart.written _ _ _ IsAny _ _ c.in_ok-worked.ensures.finished tt _
+    c.released-released.ensures left _ _ _ out.0 out.1 cut))
+    (c.write_texts.ensures.refused (c.complete.ensures.served.tells_on second))

@@ -13,38 +13,17 @@ use Rattle.ftc.proofs.writing.write_texts.Goals as goal
 
 pub returns-in_err-write_journal-clause-refused : goal.returns-in_err-write_journal-clause-refused
 returns-in_err-write_journal-clause-refused g c = λ t.
-    let texts = c.args.texts.now in
-    let events = c.args.driven.now.chain.journal in
-    let left = lines_of (map
-    (λ tap. (goal.Tap-dyn g (tap.vtable, tap.value)).face tap.value) c.args.taps.now.list.items) in
-    let setting = setting_of texts.spec (bytes_of_packets texts.capture.packets) texts.script in
-    on_err c.from_residual.result _
-    (journal_cut (named_of c.args.names) c.requires.apart (spelling events) (report_of setting events) left
-    (g.D.Desk.file c.args.desk.now) (g.D.Desk.file c.write_journal.new.desk)
+    on_err c.from_residual.result _ (journal_cut _ c.requires.apart _ _ _ _ _
     (rw c.journal.ensures.same at (c.in_err-write_journal.ensures.refused t)) (c.write_journal.ensures.others t))
 
 pub returns-in_err-lines-clause-refused : goal.returns-in_err-lines-clause-refused
 returns-in_err-lines-clause-refused g c = λ t.
-    let texts = c.args.texts.now in
-    let events = c.args.driven.now.chain.journal in
-    let left = lines_of (map
-    (λ tap. (goal.Tap-dyn g (tap.vtable, tap.value)).face tap.value) c.args.taps.now.list.items) in
-    let setting = setting_of texts.spec (bytes_of_packets texts.capture.packets) texts.script in
-    on_err c.from_residual-in_err-lines.result _
-    (journal_alone (named_of c.args.names) c.requires.apart (spelling events) (report_of setting events) left
-    (g.D.Desk.file c.args.desk.now) (g.D.Desk.file c.write_journal.new.desk)
+    on_err c.from_residual-in_err-lines.result _ (journal_alone _ c.requires.apart _ _ _ _ _
     (rw c.journal.ensures.same at (c.in_ok-write_journal.ensures.written t)) (c.write_journal.ensures.others t))
 
 pub returns-in_err-report-clause-refused : goal.returns-in_err-report-clause-refused
 returns-in_err-report-clause-refused g c = λ t.
-    let texts = c.args.texts.now in
-    let events = c.args.driven.now.chain.journal in
-    let left = lines_of (map
-    (λ tap. (goal.Tap-dyn g (tap.vtable, tap.value)).face tap.value) c.args.taps.now.list.items) in
-    let setting = setting_of texts.spec (bytes_of_packets texts.capture.packets) texts.script in
-    on_err c.from_residual-in_err-report.result _
-    (journal_alone (named_of c.args.names) c.requires.apart (spelling events) (report_of setting events) left
-    (g.D.Desk.file c.args.desk.now) (g.D.Desk.file c.write_journal.new.desk)
+    on_err c.from_residual-in_err-report.result _ (journal_alone _ c.requires.apart _ _ _ _ _
     (rw c.journal.ensures.same at (c.in_ok-write_journal.ensures.written t)) (c.write_journal.ensures.others t))
 
 pub returns-clause-refused : goal.returns-clause-refused
