@@ -10,6 +10,7 @@ numbered_words =
     ∷ (codes "release", 1) ∷ (codes "take", 2) ∷ (codes "pass", 2) ∷ (codes "lose", 2) ∷ (codes "visit", 3)
     ∷ (codes "apply", 4) ∷ []
 
+-- decimal digits without a leading zero, or 0
 abbrev pub IsNumeral : List ℕ → Type 0
 IsNumeral word = is_numeral word ≡ true
 
@@ -30,7 +31,7 @@ abbrev pub IsRecovery : List ℕ → List (List ℕ) → Type 0
 IsRecovery first [] = ⊥
 IsRecovery first (server ∷ names) = (first ≡ codes "recover") × IsNumeral server × AllByRecursion IsName names
 
--- the words of a line have the form of one
+-- the words of a line have a form
 abbrev pub IsFormed : List (List ℕ) → Type 0
 IsFormed [] = ⊥
 IsFormed (first ∷ words) = IsNumbered first words ⊎ IsRecovery first words
