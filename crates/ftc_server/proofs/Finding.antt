@@ -4,12 +4,9 @@ use Rattle.std.proofs.Common.{sym, ap, cond, get_or, set}
 use Rattle.std.specs.List.{find, list_all, filter, position}
 use Rattle.std.proofs.Common.{suc, zero, length, ◌<◌, arith}
 use Rattle.std.proofs.lemmas.Bool.{eqb-true}
-use Rattle.std.proofs.lemmas.Bool.Decides.{nat_tests}
-use Rattle.std.proofs.lemmas.List.Folds.{find_at}
 use Rattle.std.proofs.lemmas.List.Quantifiers.{position-Some}
-use Rattle.std.proofs.lemmas.Option.{slice_get_past}
-use Rattle.std.specs.List.{position_or_len, remove}
-use Rattle.std.specs.Prelude.{nat_lt, ◌==◌, IfSome, IsSome, OnSome}
+use Rattle.std.specs.List.{remove}
+use Rattle.std.specs.Prelude.{◌==◌, IfSome, IsSome, OnSome}
 use Rattle.ftc_server.specs.declared.held.HeldMessage.{HeldMessage}
 use Rattle.ftc_server.specs.Holding.{is_of, found, without, with_changed}
 
@@ -157,17 +154,6 @@ found_changed origin other change (x ∷ items) keeps differs =
     ] refl
 
 -- ---- by its place
-
-pub none_found : {A : Type 0} (test : A → Bool) (items : List A) → position test items ≡ None → find test items ≡ None
-none_found test [] none = refl
-none_found {A} test (item ∷ items) none =
-    let n = position_or_len test (item ∷ items) in
-    let size = length (item ∷ items) in
-    elim (nat_lt n size) as (λ t. nat_lt n size ≡ t → cond t (Some n) None ≡ None → find test (item ∷ items) ≡ None) [
-      | true ↦ λ within same. absurd cc
-      | false ↦ λ beyond same.
-          find_at test (item ∷ items) ∙ slice_get_past (item ∷ items) n (grind (arith, nat_tests, beyond))
-    ] refl none
 
 -- the place is the first at which the test passes
 pub record IsFirstAt {A : Type 0} (test : A → Bool) (items : List A) (place : ℕ) (d : A) : Type 0 where

@@ -1,9 +1,10 @@
 use Rattle.std.proofs.Common.{◌∙◌, sym, ap, Some}
 use Rattle.std.specs.Option.{option_copied}
 use Rattle.std.specs.List.{position}
+use Rattle.ftc_base.proofs.Firsts.{none_found}
 use Rattle.ftc_server.specs.declared.held.HeldMessage.{HeldMessage}
 use Rattle.ftc_server.specs.Holding.{Holding, is_of, found}
-use Rattle.ftc_server.proofs.Finding.{none_found, first_at, found_first}
+use Rattle.ftc_server.proofs.Finding.{first_at, found_first}
 use Rattle.ftc_server.proofs.held.HeldMessages.get.Goals as goal
 
 pub returns-in_err-place : goal.returns-in_err-place

@@ -1,9 +1,10 @@
 use Rattle.std.proofs.Common.{◌∙◌, ◌&&◌, not, refl, sym, ap, arith, ℕ, List}
 use Rattle.std.specs.Prelude.{◌==◌}
 use Rattle.std.specs.List.{position, remove}
+use Rattle.ftc_base.proofs.Firsts.{none_found}
 use Rattle.ftc_server.specs.Holding.{Holding, is_of, found, without, rests, origins_of}
 use Rattle.ftc_server.proofs.Ascending.{on_some}
-use Rattle.ftc_server.proofs.Finding.{none_found, none_out, taken_first, left_first}
+use Rattle.ftc_server.proofs.Finding.{none_out, taken_first, left_first}
 use Rattle.ftc_server.proofs.Resting.{none_roused}
 use Rattle.ftc_server.proofs.Ticketed.{held_within, origins_left, ticketed_at}
 use Rattle.ftc_server.proofs.held.HeldMessages.take_out.Goals as goal

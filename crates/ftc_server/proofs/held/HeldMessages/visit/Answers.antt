@@ -1,10 +1,11 @@
 use Rattle.std.proofs.Common.{◌∙◌, sym, ap, arith, refl}
 use Rattle.std.specs.Prelude.{slice_set}
 use Rattle.std.specs.List.{position}
+use Rattle.ftc_base.proofs.Firsts.{none_found}
 use Rattle.ftc_server.specs.declared.held.HeldMessage.{HeldMessage}
 use Rattle.ftc_server.specs.Holding.{Holding, is_of, with_changed, origins_of}
 use Rattle.ftc_server.specs.Visited.{visited_by}
-use Rattle.ftc_server.proofs.Finding.{none_found, none_changed, first_at, changed_first}
+use Rattle.ftc_server.proofs.Finding.{none_changed, first_at, changed_first}
 use Rattle.ftc_server.proofs.Ticketed.{held_within, origins_changed}
 use Rattle.ftc_server.proofs.held.HeldMessages.visit.Goals as goal
 
