@@ -7,8 +7,8 @@ use Rattle.std.proofs.lemmas.Bool.{eqb-true}
 use Rattle.std.proofs.lemmas.Bool.Decides.{nat_tests}
 use Rattle.ftc_server.specs.declared.tickets.Ticket.{Ticket}
 use Rattle.ftc_server.specs.Holding.{rests}
-use Rattle.ftc_server.specs.Tickets.{Ticketing, AreRising, AreDistinct, AreTickets, awake_numbers, is_among, is_same}
-use Rattle.ftc_server.specs.Tickets.{number_of, resting_origins, ticket_numbers, ticket_origins, with_number}
+use Rattle.ftc_server.specs.Tickets.{Ticketing, AreRising, AreDistinct, AreTickets, HasRoom, awake_numbers, is_among}
+use Rattle.ftc_server.specs.Tickets.{is_same, number_of, resting_origins, ticket_numbers, ticket_origins, with_number}
 use Rattle.ftc_server.specs.Tickets.{without_number}
 use Rattle.ftc_server.proofs.Ascending.{few_awake, among_at}
 use Rattle.ftc_server.proofs.Finding.{first_at}
@@ -16,70 +16,62 @@ use Rattle.ftc_server.proofs.Leaving.{above_at, apart_at, left_behind, left_here
 use Rattle.ftc_server.proofs.Leaving.{origin_at, count_origins, same_at}
 use Rattle.ftc_server.proofs.Ticketing.{Agrees, rising_awake, rising_later}
 
--- the same ticket, which may rest or not
-pub record IsSame (ticket other : Ticket) : Type 0 where
-  pub number : other.number ≡ ticket.number
-  pub origin : other.origin ≡ ticket.origin
+-- the same ticket, which rests now or doesn't
+abbrev pub turned : Bool → Ticket → Ticket
+turned now ticket = record ticket { rests = now }
 
-pub origins_set : (tickets : List Ticket) (place : ℕ) (ticket other : Ticket) → place < length tickets
-    → ticket ≡ get_or tickets place ticket → IsSame ticket other
-    → ticket_origins (set tickets place other) ≡ ticket_origins tickets
-origins_set [] place ticket other within is same = absurd (omega arith)
-origins_set (x ∷ tickets) zero ticket other within is same =
-    ap (λ (origin : ℕ). origin ∷ ticket_origins tickets) (same.origin ∙ ap (λ (t : Ticket). t.origin) is)
-origins_set (x ∷ tickets) (suc place) ticket other within is same =
-    ap (λ (rest : List ℕ). x.origin ∷ rest) (origins_set tickets place ticket other (omega arith) is same)
+origins_set : (now : Bool) (tickets : List Ticket) (place : ℕ) (ticket : Ticket) → place < length tickets
+    → ticket ≡ get_or tickets place ticket
+    → ticket_origins (set tickets place (turned now ticket)) ≡ ticket_origins tickets
+origins_set now [] place ticket within is = absurd (omega arith)
+origins_set now (x ∷ tickets) zero ticket within is = ap (λ (t : Ticket). t.origin ∷ ticket_origins tickets) is
+origins_set now (x ∷ tickets) (suc place) ticket within is =
+    ap (λ (rest : List ℕ). x.origin ∷ rest) (origins_set now tickets place ticket (omega arith) is)
 
-numbers_set : (tickets : List Ticket) (place : ℕ) (ticket other : Ticket) → place < length tickets
-    → ticket ≡ get_or tickets place ticket → IsSame ticket other
-    → ticket_numbers (set tickets place other) ≡ ticket_numbers tickets
-numbers_set [] place ticket other within is same = absurd (omega arith)
-numbers_set (x ∷ tickets) zero ticket other within is same =
-    ap (λ (number : ℕ). number ∷ ticket_numbers tickets) (same.number ∙ ap (λ (t : Ticket). t.number) is)
-numbers_set (x ∷ tickets) (suc place) ticket other within is same =
-    ap (λ (rest : List ℕ). x.number ∷ rest) (numbers_set tickets place ticket other (omega arith) is same)
+numbers_set : (now : Bool) (tickets : List Ticket) (place : ℕ) (ticket : Ticket) → place < length tickets
+    → ticket ≡ get_or tickets place ticket
+    → ticket_numbers (set tickets place (turned now ticket)) ≡ ticket_numbers tickets
+numbers_set now [] place ticket within is = absurd (omega arith)
+numbers_set now (x ∷ tickets) zero ticket within is = ap (λ (t : Ticket). t.number ∷ ticket_numbers tickets) is
+numbers_set now (x ∷ tickets) (suc place) ticket within is =
+    ap (λ (rest : List ℕ). x.number ∷ rest) (numbers_set now tickets place ticket (omega arith) is)
 
-number_set : (tickets : List Ticket) (place : ℕ) (ticket other : Ticket) (origin : ℕ) → place < length tickets
-    → ticket ≡ get_or tickets place ticket → IsSame ticket other
-    → number_of origin (set tickets place other) ≡ number_of origin tickets
-number_set [] place ticket other origin within is same = absurd (omega arith)
-number_set (x ∷ tickets) zero ticket other origin within is same =
-    ap (λ (o : ℕ). cond (o == origin) (Some other.number) (number_of origin tickets))
-    (same.origin ∙ ap (λ (t : Ticket). t.origin) is)
-    ∙ ap (λ (n : ℕ). cond (x.origin == origin) (Some n) (number_of origin tickets))
-    (same.number ∙ ap (λ (t : Ticket). t.number) is)
-number_set (x ∷ tickets) (suc place) ticket other origin within is same =
+number_set : (now : Bool) (tickets : List Ticket) (place : ℕ) (ticket : Ticket) (origin : ℕ) → place < length tickets
+    → ticket ≡ get_or tickets place ticket
+    → number_of origin (set tickets place (turned now ticket)) ≡ number_of origin tickets
+number_set now [] place ticket origin within is = absurd (omega arith)
+number_set now (x ∷ tickets) zero ticket origin within is =
+    ap (λ (t : Ticket). cond (t.origin == origin) (Some t.number) (number_of origin tickets)) is
+number_set now (x ∷ tickets) (suc place) ticket origin within is =
     ap (λ (rest : Option ℕ). cond (x.origin == origin) (Some x.number) rest)
-    (number_set tickets place ticket other origin (omega arith) is same)
+    (number_set now tickets place ticket origin (omega arith) is)
 
 -- ---- it rests
 
-awake_rested : (first : ℕ) (tickets : List Ticket) (place : ℕ) (ticket other : Ticket)
+awake_rested : (first : ℕ) (tickets : List Ticket) (place : ℕ) (ticket : Ticket)
     → AreRising first (ticket_numbers tickets) → place < length tickets → ticket ≡ get_or tickets place ticket
-    → other.rests ≡ true
-    → awake_numbers (set tickets place other) ≡ without_number ticket.number (awake_numbers tickets)
-awake_rested first [] place ticket other rising within is down = absurd (omega arith)
-awake_rested first (x ∷ tickets) zero ticket other rising within is down =
-    ap (λ (t : Bool). cond t (awake_numbers tickets) (other.number ∷ awake_numbers tickets)) down
-    ∙ left_here x (awake_numbers tickets) (rising_awake (x.number + 1) tickets rising.1)
+    → awake_numbers (set tickets place (turned true ticket)) ≡ without_number ticket.number (awake_numbers tickets)
+awake_rested first [] place ticket rising within is = absurd (omega arith)
+awake_rested first (x ∷ tickets) zero ticket rising within is =
+    left_here x (awake_numbers tickets) (rising_awake (x.number + 1) tickets rising.1)
     ∙ ap (λ (t : Ticket). without_number t.number (awake_numbers (x ∷ tickets))) (sym is)
-awake_rested first (x ∷ tickets) (suc place) ticket other rising within is down =
+awake_rested first (x ∷ tickets) (suc place) ticket rising within is =
     let above = above_at (x.number + 1) tickets place ticket rising.1 (omega arith) is in
     let differs : (x.number == ticket.number) ≡ false = grind (arith, nat_tests) in
-    left_behind x ticket.number (awake_numbers (set tickets place other)) (awake_numbers tickets) differs
-    (awake_rested (x.number + 1) tickets place ticket other rising.1 (omega arith) is down)
+    left_behind x ticket.number (awake_numbers (set tickets place (turned true ticket))) (awake_numbers tickets) differs
+    (awake_rested (x.number + 1) tickets place ticket rising.1 (omega arith) is)
 
-pub rested_tickets : (tickets : List Ticket) (place : ℕ) (ticket other : Ticket) (numbers : ℕ → Option ℕ)
+pub rested_tickets : (tickets : List Ticket) (place : ℕ) (ticket : Ticket) (numbers : ℕ → Option ℕ)
     (awake : List ℕ) (next : ℕ) → AreTickets tickets numbers awake next → place < length tickets
-    → ticket ≡ get_or tickets place ticket → IsSame ticket other → other.rests ≡ true
-    → AreTickets (set tickets place other) numbers (without_number ticket.number awake) next
-rested_tickets tickets place ticket other numbers awake next are within is same down = record {
-  rising = rw (numbers_set tickets place ticket other within is same) are.rising;
-  below = rw (numbers_set tickets place ticket other within is same) are.below;
-  distinct = rw (origins_set tickets place ticket other within is same) are.distinct;
-  numbers = λ origin. are.numbers origin ∙ sym (number_set tickets place ticket other origin within is same);
+    → ticket ≡ get_or tickets place ticket
+    → AreTickets (set tickets place (turned true ticket)) numbers (without_number ticket.number awake) next
+rested_tickets tickets place ticket numbers awake next are within is = record {
+  rising = rw (numbers_set true tickets place ticket within is) are.rising;
+  below = rw (numbers_set true tickets place ticket within is) are.below;
+  distinct = rw (origins_set true tickets place ticket within is) are.distinct;
+  numbers = λ origin. are.numbers origin ∙ sym (number_set true tickets place ticket origin within is);
   awake = ap (without_number ticket.number) are.awake
-      ∙ sym (awake_rested 0 tickets place ticket other are.rising within is down);
+      ∙ sym (awake_rested 0 tickets place ticket are.rising within is);
 }
 
 now_resting : (rested : Bool) (origin other : ℕ) (r : Bool)
@@ -90,29 +82,27 @@ still_resting : (a b r s : Bool) → r ≡ s || b → a || r ≡ (a || s) || b
 still_resting true b r s is = refl
 still_resting false b r s is = is
 
-pub rests_rested : (tickets : List Ticket) (place : ℕ) (ticket changed : Ticket) (other : ℕ) → place < length tickets
-    → ticket ≡ get_or tickets place ticket → IsSame ticket changed → changed.rests ≡ true
-    → rests other (resting_origins (set tickets place changed))
+rests_rested : (tickets : List Ticket) (place : ℕ) (ticket : Ticket) (other : ℕ) → place < length tickets
+    → ticket ≡ get_or tickets place ticket
+    → rests other (resting_origins (set tickets place (turned true ticket)))
     ≡ rests other (resting_origins tickets) || (other == ticket.origin)
-rests_rested [] place ticket changed other within is same down = absurd (omega arith)
-rests_rested (x ∷ tickets) zero ticket changed other within is same down =
+rests_rested [] place ticket other within is = absurd (omega arith)
+rests_rested (x ∷ tickets) zero ticket other within is =
     let r = rests other (resting_origins tickets) in
-    let origin : changed.origin ≡ x.origin = same.origin ∙ ap (λ (t : Ticket). t.origin) is in
-    ap (λ (t : Bool). rests other (cond t (changed.origin ∷ resting_origins tickets) (resting_origins tickets))) down
-    ∙ ap (λ (o : ℕ). (o == other) || r) origin
+    ap (λ (t : Ticket). (t.origin == other) || r) is
     ∙ (elim x.rests as (λ t. (x.origin == other) || r
     ≡ rests other (cond t (x.origin ∷ resting_origins tickets) (resting_origins tickets)) || (other == x.origin)) [
       | true ↦ now_resting true x.origin other r
       | false ↦ now_resting false x.origin other r
     ])
     ∙ ap (λ (t : Ticket). rests other (resting_origins (x ∷ tickets)) || (other == t.origin)) (sym is)
-rests_rested (x ∷ tickets) (suc place) ticket changed other within is same down =
-    let later = rests_rested tickets place ticket changed other (omega arith) is same down in
-    elim x.rests as (λ t. rests other (cond t (x.origin ∷ resting_origins (set tickets place changed))
-    (resting_origins (set tickets place changed)))
+rests_rested (x ∷ tickets) (suc place) ticket other within is =
+    let after = resting_origins (set tickets place (turned true ticket)) in
+    let later = rests_rested tickets place ticket other (omega arith) is in
+    elim x.rests as (λ t. rests other (cond t (x.origin ∷ after) after)
     ≡ rests other (cond t (x.origin ∷ resting_origins tickets) (resting_origins tickets)) || (other == ticket.origin)) [
-      | true ↦ still_resting (x.origin == other) (other == ticket.origin)
-          (rests other (resting_origins (set tickets place changed))) (rests other (resting_origins tickets)) later
+      | true ↦ still_resting (x.origin == other) (other == ticket.origin) (rests other after)
+          (rests other (resting_origins tickets)) later
       | false ↦ later
     ]
 
@@ -136,36 +126,35 @@ up_behind x number more awake order later =
           ∙ ap (λ (t : Bool). cond t (number ∷ x.number ∷ awake) (x.number ∷ with_number number awake)) (sym order)
     ]
 
-awake_roused : (first : ℕ) (tickets : List Ticket) (place : ℕ) (ticket other : Ticket)
+awake_roused : (first : ℕ) (tickets : List Ticket) (place : ℕ) (ticket : Ticket)
     → AreRising first (ticket_numbers tickets) → place < length tickets → ticket ≡ get_or tickets place ticket
-    → IsSame ticket other → ticket.rests ≡ true → other.rests ≡ false
-    → awake_numbers (set tickets place other) ≡ with_number ticket.number (awake_numbers tickets)
-awake_roused first [] place ticket other rising within is same down up = absurd (omega arith)
-awake_roused first (x ∷ tickets) zero ticket other rising within is same down up =
+    → ticket.rests ≡ true
+    → awake_numbers (set tickets place (turned false ticket)) ≡ with_number ticket.number (awake_numbers tickets)
+awake_roused first [] place ticket rising within is down = absurd (omega arith)
+awake_roused first (x ∷ tickets) zero ticket rising within is down =
     let awake = awake_numbers tickets in
     let was : x.rests ≡ true = sym (ap (λ (t : Ticket). t.rests) is) ∙ down in
-    ap (λ (t : Bool). cond t awake (other.number ∷ awake)) up
-    ∙ ap (λ (n : ℕ). n ∷ awake) (same.number ∙ ap (λ (t : Ticket). t.number) is)
+    ap (λ (t : Ticket). t.number ∷ awake) is
     ∙ first_of_all x.number awake (rising_awake (x.number + 1) tickets rising.1)
     ∙ ap (λ (t : Bool). with_number x.number (cond t awake (x.number ∷ awake))) (sym was)
     ∙ ap (λ (t : Ticket). with_number t.number (awake_numbers (x ∷ tickets))) (sym is)
-awake_roused first (x ∷ tickets) (suc place) ticket other rising within is same down up =
+awake_roused first (x ∷ tickets) (suc place) ticket rising within is down =
     let above = above_at (x.number + 1) tickets place ticket rising.1 (omega arith) is in
     let order : nat_lt ticket.number x.number ≡ false = grind (arith, nat_tests) in
-    up_behind x ticket.number (awake_numbers (set tickets place other)) (awake_numbers tickets) order
-    (awake_roused (x.number + 1) tickets place ticket other rising.1 (omega arith) is same down up)
+    up_behind x ticket.number (awake_numbers (set tickets place (turned false ticket))) (awake_numbers tickets) order
+    (awake_roused (x.number + 1) tickets place ticket rising.1 (omega arith) is down)
 
-pub roused_tickets : (tickets : List Ticket) (place : ℕ) (ticket other : Ticket) (numbers : ℕ → Option ℕ)
+pub roused_tickets : (tickets : List Ticket) (place : ℕ) (ticket : Ticket) (numbers : ℕ → Option ℕ)
     (awake : List ℕ) (next : ℕ) → AreTickets tickets numbers awake next → place < length tickets
-    → ticket ≡ get_or tickets place ticket → IsSame ticket other → ticket.rests ≡ true → other.rests ≡ false
-    → AreTickets (set tickets place other) numbers (with_number ticket.number awake) next
-roused_tickets tickets place ticket other numbers awake next are within is same down up = record {
-  rising = rw (numbers_set tickets place ticket other within is same) are.rising;
-  below = rw (numbers_set tickets place ticket other within is same) are.below;
-  distinct = rw (origins_set tickets place ticket other within is same) are.distinct;
-  numbers = λ origin. are.numbers origin ∙ sym (number_set tickets place ticket other origin within is same);
+    → ticket ≡ get_or tickets place ticket → ticket.rests ≡ true
+    → AreTickets (set tickets place (turned false ticket)) numbers (with_number ticket.number awake) next
+roused_tickets tickets place ticket numbers awake next are within is down = record {
+  rising = rw (numbers_set false tickets place ticket within is) are.rising;
+  below = rw (numbers_set false tickets place ticket within is) are.below;
+  distinct = rw (origins_set false tickets place ticket within is) are.distinct;
+  numbers = λ origin. are.numbers origin ∙ sym (number_set false tickets place ticket origin within is);
   awake = ap (with_number ticket.number) are.awake
-      ∙ sym (awake_roused 0 tickets place ticket other are.rising within is same down up);
+      ∙ sym (awake_roused 0 tickets place ticket are.rising within is down);
 }
 
 -- the number of one that rests is not among those of the others, and there are fewer of these
@@ -215,25 +204,24 @@ fewer_awake (x ∷ tickets) (suc place) ticket within is down =
       | false ↦ omega arith
     ]
 
-pub rests_roused : (tickets : List Ticket) (place : ℕ) (ticket changed : Ticket) (other : ℕ)
+rests_roused : (tickets : List Ticket) (place : ℕ) (ticket : Ticket) (other : ℕ)
     → AreDistinct (ticket_origins tickets) → place < length tickets → ticket ≡ get_or tickets place ticket
-    → ticket.rests ≡ true → changed.rests ≡ false
-    → rests other (resting_origins (set tickets place changed))
+    → ticket.rests ≡ true
+    → rests other (resting_origins (set tickets place (turned false ticket)))
     ≡ rests other (resting_origins tickets) && not (other == ticket.origin)
-rests_roused [] place ticket changed other distinct within is down up = absurd (omega arith)
-rests_roused (x ∷ tickets) zero ticket changed other distinct within is down up =
+rests_roused [] place ticket other distinct within is down = absurd (omega arith)
+rests_roused (x ∷ tickets) zero ticket other distinct within is down =
     let r = rests other (resting_origins tickets) in
     let was : x.rests ≡ true = sym (ap (λ (t : Ticket). t.rests) is) ∙ down in
-    ap (λ (t : Bool). rests other (cond t (changed.origin ∷ resting_origins tickets) (resting_origins tickets))) up
-    ∙ left_resting x.origin other r (none_behind x tickets other distinct.0)
+    left_resting x.origin other r (none_behind x tickets other distinct.0)
     ∙ ap (λ (t : Bool). rests other (cond t (x.origin ∷ resting_origins tickets) (resting_origins tickets))
     && not (other == x.origin)) (sym was)
     ∙ ap (λ (t : Ticket). rests other (resting_origins (x ∷ tickets)) && not (other == t.origin)) (sym is)
-rests_roused (x ∷ tickets) (suc place) ticket changed other distinct within is down up =
+rests_roused (x ∷ tickets) (suc place) ticket other distinct within is down =
+    let after = resting_origins (set tickets place (turned false ticket)) in
     let differs = apart_at tickets place ticket x.origin distinct.0 (omega arith) is in
-    let later = rests_roused tickets place ticket changed other distinct.1 (omega arith) is down up in
-    elim x.rests as (λ t. rests other (cond t (x.origin ∷ resting_origins (set tickets place changed))
-    (resting_origins (set tickets place changed)))
+    let later = rests_roused tickets place ticket other distinct.1 (omega arith) is down in
+    elim x.rests as (λ t. rests other (cond t (x.origin ∷ after) after)
     ≡ rests other (cond t (x.origin ∷ resting_origins tickets) (resting_origins tickets))
     && not (other == ticket.origin)) [
       | true ↦ ap (λ (r : Bool). (x.origin == other) || r) later
@@ -326,3 +314,37 @@ pub place_within : (tickets : List Ticket) (place origin : ℕ)
 place_within tickets place origin there =
     let within = (first_at (is_same origin) (ticket_origins tickets) place 0 there).within in
     omega (arith, count_origins tickets)
+
+-- a ticket that is found and lent may rest or not: the origins are as they were
+pub origins_stay : (now : Bool) (tickets : List Ticket) (place origin : ℕ) (lent : Ticket)
+    → position (is_same origin) (ticket_origins tickets) ≡ Some place → lent ≡ get_or tickets place lent
+    → ticket_origins (set tickets place (turned now lent)) ≡ ticket_origins tickets
+origins_stay now tickets place origin lent there =
+    origins_set now tickets place lent (place_within tickets place origin there)
+
+-- it rests from then on, or no more
+pub rested_there : (tickets : List Ticket) (place origin other : ℕ) (lent : Ticket)
+    → position (is_same origin) (ticket_origins tickets) ≡ Some place → lent ≡ get_or tickets place lent
+    → rests other (resting_origins (set tickets place (turned true lent)))
+    ≡ rests other (resting_origins tickets) || (other == origin)
+rested_there tickets place origin other lent there is =
+    let of = ticket_of tickets place lent origin there is in
+    rests_rested tickets place lent other of.within is
+    ∙ ap (λ (o : ℕ). rests other (resting_origins tickets) || (other == o)) of.same
+
+pub roused_there : (tickets : List Ticket) (place origin other : ℕ) (lent : Ticket)
+    → position (is_same origin) (ticket_origins tickets) ≡ Some place → lent ≡ get_or tickets place lent
+    → AreDistinct (ticket_origins tickets) → lent.rests ≡ true
+    → rests other (resting_origins (set tickets place (turned false lent)))
+    ≡ rests other (resting_origins tickets) && not (other == origin)
+roused_there tickets place origin other lent there is distinct down =
+    let of = ticket_of tickets place lent origin there is in
+    rests_roused tickets place lent other distinct of.within is down
+    ∙ ap (λ (o : ℕ). rests other (resting_origins tickets) && not (other == o)) of.same
+
+-- there is the room that there was, where that for the numbers of those awake is no less
+pub still_room : {spare count most awake_most more map_spare left_numbers : ℕ}
+    → HasRoom spare count most awake_most map_spare left_numbers → awake_most ≤ more
+    → HasRoom spare count most more map_spare left_numbers
+still_room room no_less =
+    record { list = room.list; awake = omega (arith, room.awake, no_less); map = room.map; left = room.left }

@@ -1,12 +1,12 @@
-use Rattle.std.proofs.Common.{◌∙◌, ◌&&◌, ◌||◌, sym, ap, refl, ℕ, Bool, true, arith}
+use Rattle.std.proofs.Common.{◌∙◌, ◌&&◌, ◌||◌, sym, ap, Bool, true, arith}
 use Rattle.std.specs.Prelude.{◌==◌, nat_eq}
 use Rattle.std.specs.Map.{lookup}
 use Rattle.ftc_server.specs.declared.tickets.Ticket.{Ticket}
 use Rattle.ftc_server.specs.Holding.{rests}
 use Rattle.ftc_server.specs.Tickets.{Ticketing}
 use Rattle.ftc_server.proofs.Ticketing.{rising_awake, position_none}
-use Rattle.ftc_server.proofs.Resting.{rested_tickets, origins_set, rests_rested, none_rested, place_within, changed_of}
-use Rattle.ftc_server.proofs.Resting.{now_rests, and_true, found_there}
+use Rattle.ftc_server.proofs.Resting.{rested_tickets, rested_there, none_rested, origins_stay, still_room, place_within}
+use Rattle.ftc_server.proofs.Resting.{changed_of, now_rests, and_true, found_there}
 use Rattle.ftc_server.proofs.tickets.Tickets.rest.Goals as goal
 
 pub returns-in_default-clause-resting : goal.returns-in_default-clause-resting
@@ -38,42 +38,25 @@ invariant_of-self c =
     let changed = changed_of tickets c.in-Some.place c.index.result.now lent c.args.origin there c.index.ensures
     c.index_mut.ensures.value in (
       rw (c.take_number.ensures.items, ← ap (λ (t : Ticket). t.number) changed.same)
-          (rested_tickets tickets c.in-Some.place lent (record lent { rests = true })
+          (rested_tickets tickets c.in-Some.place lent
           (λ origin. lookup (nat_eq origin) c.self.inside.by_origin.entries)
           c.self.inside.awake.items c.self.inside.next
-          c.self.invariant.0 changed.of.within c.index_mut.ensures.value
-          (record { number = refl; origin = refl }) refl),
-      record {
-        list = c.self.invariant.1.list;
-        awake = omega (arith, c.self.invariant.1.awake, c.take_number.ensures.capacity);
-        map = c.self.invariant.1.map;
-        left = c.self.invariant.1.left;
-      },
+          c.self.invariant.0 changed.of.within c.index_mut.ensures.value),
+      still_room c.self.invariant.1 (omega (arith, c.take_number.ensures.capacity)),
     )
 
 pub returns-clause-origins : goal.returns-clause-origins
 returns-clause-origins c =
-    let tickets = c.self.inside.list.items in
-    let lent = c.index_mut.result.now in
-    let there = found_there c.args.origin c.self.view_is c.place_of.ensures.place c.in-Some.is in
-    origins_set tickets c.in-Some.place lent (record lent { rests = true })
-    (place_within tickets c.in-Some.place c.args.origin there) c.index_mut.ensures.value
-    (record { number = refl; origin = refl })
+    origins_stay true c.self.inside.list.items c.in-Some.place c.args.origin c.index_mut.result.now
+    (found_there c.args.origin c.self.view_is c.place_of.ensures.place c.in-Some.is) c.index_mut.ensures.value
     ∙ ap (λ (view : Ticketing). view.origins) c.self.view_is
 
 pub returns-clause-resting : goal.returns-clause-resting
 returns-clause-resting c = λ other.
-    let tickets = c.self.inside.list.items in
-    let lent = c.index_mut.result.now in
-    let there = found_there c.args.origin c.self.view_is c.place_of.ensures.place c.in-Some.is in
-    let changed = changed_of tickets c.in-Some.place c.index.result.now lent c.args.origin there c.index.ensures
-    c.index_mut.ensures.value in
     let old = c.args.self.now in
-    rests_rested tickets c.in-Some.place lent (record lent { rests = true }) other changed.of.within
-    c.index_mut.ensures.value (record { number = refl; origin = refl }) refl
-    ∙ ap (λ (view : Ticketing). rests other view.resting || (other == lent.origin)) c.self.view_is
-    ∙ ap (λ (origin : ℕ). rests other old.resting || (other == origin))
-    (ap (λ (t : Ticket). t.origin) changed.same ∙ changed.of.same)
+    rested_there c.self.inside.list.items c.in-Some.place c.args.origin other c.index_mut.result.now
+    (found_there c.args.origin c.self.view_is c.place_of.ensures.place c.in-Some.is) c.index_mut.ensures.value
+    ∙ ap (λ (view : Ticketing). rests other view.resting || (other == c.args.origin)) c.self.view_is
     ∙ ap (λ (t : Bool). rests other old.resting || t) (and_true (other == c.args.origin))
     ∙ ap (λ (t : Bool). rests other old.resting || ((other == c.args.origin) && t))
     (sym (now_rests old.origins c.in-Some.place c.args.origin (sym c.place_of.ensures.place ∙ c.in-Some.is)))

@@ -1,4 +1,4 @@
-use Rattle.std.proofs.Common.{◌∙◌, ◌&&◌, not, sym, ap, refl, ℕ, false, length, arith}
+use Rattle.std.proofs.Common.{◌∙◌, ◌&&◌, not, sym, ap, ℕ, false, length, arith}
 use Rattle.std.proofs.lemmas.Bool.{not-true, not-false}
 use Rattle.std.specs.Prelude.{◌==◌, nat_eq}
 use Rattle.std.specs.Map.{lookup}
@@ -6,8 +6,8 @@ use Rattle.ftc_server.specs.declared.tickets.Ticket.{Ticket}
 use Rattle.ftc_server.specs.Holding.{rests}
 use Rattle.ftc_server.specs.Tickets.{Ticketing, is_among, resting_origins}
 use Rattle.ftc_server.proofs.Ticketing.{agree, none_resting, rising_awake, position_none}
-use Rattle.ftc_server.proofs.Resting.{roused_tickets, origins_set, rests_roused, none_roused, place_within, changed_of}
-use Rattle.ftc_server.proofs.Resting.{agrees_at, ticket_of, not_awake, fewer_awake, found_there}
+use Rattle.ftc_server.proofs.Resting.{roused_tickets, roused_there, none_roused, origins_stay, still_room, place_within}
+use Rattle.ftc_server.proofs.Resting.{changed_of, agrees_at, ticket_of, not_awake, fewer_awake, found_there}
 use Rattle.ftc_server.proofs.tickets.Tickets.rouse.Goals as goal
 
 pub returns-in_default-clause-resting : goal.returns-in_default-clause-resting
@@ -84,28 +84,19 @@ invariant_of-self c =
     let changed = changed_of tickets c.in-Some.place c.index-ticket.result.now lent c.args.origin there
     c.index-ticket.ensures c.index_mut.ensures.value in (
       rw (c.put_number.ensures.items, ← ap (λ (t : Ticket). t.number) changed.same)
-          (roused_tickets tickets c.in-Some.place lent (record lent { rests = false })
+          (roused_tickets tickets c.in-Some.place lent
           (λ origin. lookup (nat_eq origin) c.self.inside.by_origin.entries)
           c.self.inside.awake.items c.self.inside.next
-          c.self.invariant.0 changed.of.within c.index_mut.ensures.value (record { number = refl; origin = refl })
+          c.self.invariant.0 changed.of.within c.index_mut.ensures.value
           (ap (λ (t : Ticket). t.rests) changed.same
-          ∙ not-false c.index-ticket.result.now.rests c.if-not-ticket.false) refl),
-      record {
-        list = c.self.invariant.1.list;
-        awake = omega (arith, c.self.invariant.1.awake, c.put_number.ensures.capacity);
-        map = c.self.invariant.1.map;
-        left = c.self.invariant.1.left;
-      },
+          ∙ not-false c.index-ticket.result.now.rests c.if-not-ticket.false)),
+      still_room c.self.invariant.1 c.put_number.ensures.capacity,
     )
 
 pub returns-clause-origins : goal.returns-clause-origins
 returns-clause-origins c =
-    let tickets = c.self.inside.list.items in
-    let lent = c.index_mut.result.now in
-    let there = found_there c.args.origin c.self.view_is c.place_of.ensures.place c.in-Some.is in
-    origins_set tickets c.in-Some.place lent (record lent { rests = false })
-    (place_within tickets c.in-Some.place c.args.origin there) c.index_mut.ensures.value
-    (record { number = refl; origin = refl })
+    origins_stay false c.self.inside.list.items c.in-Some.place c.args.origin c.index_mut.result.now
+    (found_there c.args.origin c.self.view_is c.place_of.ensures.place c.in-Some.is) c.index_mut.ensures.value
     ∙ ap (λ (view : Ticketing). view.origins) c.self.view_is
 
 pub returns-clause-resting : goal.returns-clause-resting
@@ -115,9 +106,7 @@ returns-clause-resting c = λ other.
     let there = found_there c.args.origin c.self.view_is c.place_of.ensures.place c.in-Some.is in
     let changed = changed_of tickets c.in-Some.place c.index-ticket.result.now lent c.args.origin there
     c.index-ticket.ensures c.index_mut.ensures.value in
-    rests_roused tickets c.in-Some.place lent (record lent { rests = false }) other c.self.invariant.0.distinct
-    changed.of.within c.index_mut.ensures.value
-    (ap (λ (t : Ticket). t.rests) changed.same ∙ not-false c.index-ticket.result.now.rests c.if-not-ticket.false) refl
-    ∙ ap (λ (view : Ticketing). rests other view.resting && not (other == lent.origin)) c.self.view_is
-    ∙ ap (λ (origin : ℕ). rests other c.args.self.now.resting && not (other == origin))
-    (ap (λ (t : Ticket). t.origin) changed.same ∙ changed.of.same)
+    roused_there tickets c.in-Some.place c.args.origin other lent there c.index_mut.ensures.value
+    c.self.invariant.0.distinct
+    (ap (λ (t : Ticket). t.rests) changed.same ∙ not-false c.index-ticket.result.now.rests c.if-not-ticket.false)
+    ∙ ap (λ (view : Ticketing). rests other view.resting && not (other == c.args.origin)) c.self.view_is
