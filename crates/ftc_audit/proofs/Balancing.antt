@@ -45,6 +45,11 @@ key_of flow = client_key flow.protocol flow.source flow.source_port
 abbrev pub HasBackend : Content → ClientLine → Type 0
 HasBackend content line = backend_at content (client_key line.protocol line.address line.port) ≡ Some line.backend
 
+-- the line of a client of this flow that has this backend
+abbrev line_with : Flow → ℕ → ClientLine
+line_with flow backend =
+    record { backend = backend; protocol = flow.protocol; address = flow.source; port = flow.source_port }
+
 -- of a balancer's store nothing else is asked
 abbrev pub Holds : Content → Type 0
 Holds content = Unit {0}
@@ -88,8 +93,7 @@ module _ (rule : BalanceRule) where
       pub within : IsBalanceRule rule → backend ≤ 4294967295
       pub writes : outcome.writes ≡ put (key_of flow) (to_be_bytes w32 backend) ∷ put turn_key turn ∷ []
       pub gave : (server : ℕ) (line : ClientLine) → client_line_of rule (seen server) ≡ Some line
-          → record { backend = backend; protocol = flow.protocol; address = flow.source; port = flow.source_port }
-          ≡ line
+          → line_with flow backend ≡ line
 
     no_line : (server : ℕ) (line : ClientLine) → flow_found packet ≡ None →
         client_line_of rule (seen server) ≡ Some line → ⊥
@@ -104,21 +108,11 @@ module _ (rule : BalanceRule) where
     line_is : (server : ℕ) (line : ClientLine) (flow : Flow) (backend : ℕ) → flow_found packet ≡ Some flow
         → comes flow ≡ true
         → outcome.packet ≡ Some (with_destination packet backend flow.destination_port)
-        → client_line_of rule (seen server) ≡ Some line
-        → record { backend = backend; protocol = flow.protocol; address = flow.source; port = flow.source_port } ≡ line
+        → client_line_of rule (seen server) ≡ Some line → line_with flow backend ≡ line
     line_is server line flow backend found goes is told =
-        let same : Some (record {
-          backend = destination (flow_found (with_destination packet backend flow.destination_port));
-          protocol = flow.protocol;
-          address = flow.source;
-          port = flow.source_port;
-        }) ≡ Some line = rw (found, is, goes) at told in
-        let here : Some (record {
-          backend = backend;
-          protocol = flow.protocol;
-          address = flow.source;
-          port = flow.source_port;
-        }) ≡ Some line =
+        let after = flow_found (with_destination packet backend flow.destination_port) in
+        let same : Some (line_with flow (destination after)) ≡ Some line = rw (found, is, goes) at told in
+        let here : Some (line_with flow backend) ≡ Some line =
         rw (shown packet flow backend flow.destination_port found) at same in
         cc
 
@@ -136,22 +130,9 @@ module _ (rule : BalanceRule) where
     of_known : (flow : Flow) (backend : ℕ) → flow_found packet ≡ Some flow → comes flow ≡ true
         → backend_at content (key_of flow) ≡ Some backend → IsQuiet
     of_known flow backend found goes has =
-        let end : End = record {
-          writes = record { items = [] };
-          verdict = Forward
-              (Destination backend flow.destination_port);
-        } in
-        let first = answer_at content (key_of flow) in
-        let reads : balance_ask rule flow [] ≡ Read (key_of flow) true = rw goes refl in
-        let ends : balance_ask rule flow (first ∷ []) ≡ Finish end = rw (goes, has) refl in
-        let told = ends_after_one (Balance rule) packet content (key_of flow) true end (asks flow found []
-        ∙ reads) (asks flow found (first ∷ []) ∙ ends) in
-        record {
-          nothing = writes_told _ _ _ _ told;
-          had = λ server line is.
-              let same = line_is server line flow backend found goes (packet_told _ _ _ _ told) is in
-              subst (λ (l : ClientLine). HasBackend content l) same has;
-        }
+        quiet.read_once (Balance rule) (client_line_of rule) HasBackend packet content flow (key_of flow)
+        (Forward (Destination backend flow.destination_port)) found (rw goes refl) (rw (goes, has) refl)
+        (λ server line is told. subst (HasBackend content) (line_is server line flow backend found goes is told) has)
 
     of_new : (flow : Flow) → flow_found packet ≡ Some flow → comes flow ≡ true
         → backend_at content (key_of flow) ≡ None → IsNew

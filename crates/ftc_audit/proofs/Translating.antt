@@ -52,6 +52,11 @@ key_of flow = outside_port_key flow.protocol flow.source flow.source_port
 abbrev pub HasPort : Content → PortLine → Type 0
 HasPort content line = port_at content (outside_port_key line.protocol line.address line.port) ≡ Some line.outside
 
+-- the line of an endpoint of this flow that has this port
+abbrev line_with : Flow → ℕ → PortLine
+line_with flow port =
+    record { outside = port; protocol = flow.protocol; address = flow.source; port = flow.source_port }
+
 -- a key doesn't begin by two numbers
 other_key : (a b : ℕ) (key xs ys : List ℕ) → key ≡ a ∷ xs → key ≡ b ∷ ys → a ≢ b → ⊥
 other_key a b key xs ys one other differs = differs (cc)
@@ -106,18 +111,8 @@ module _ (rule : NatRule) where
           ∷ put (inside_key flow.protocol (next_of content)) (endpoint flow.source flow.source_port)
           ∷ []
       pub drawn : (server : ℕ) (line : PortLine) → port_line_of rule (seen server) ≡ Some line
-          → record {
-            outside = next_of content;
-            protocol = flow.protocol;
-            address = flow.source;
-            port = flow.source_port;
-          } ≡ line
-      pub gave : (server : ℕ) → port_line_of rule (seen server) ≡ Some (record {
-        outside = next_of content;
-        protocol = flow.protocol;
-        address = flow.source;
-        port = flow.source_port;
-      })
+          → line_with flow (next_of content) ≡ line
+      pub gave : (server : ℕ) → port_line_of rule (seen server) ≡ Some (line_with flow (next_of content))
 
     no_line : (server : ℕ) (line : PortLine) → flow_found packet ≡ None → port_line_of rule (seen server) ≡ Some line →
         ⊥
@@ -133,36 +128,18 @@ module _ (rule : NatRule) where
     inside server line flow found stays (Some after) is told = let same : None ≡ Some line = rw
         (found, is, stays) at told in cc
 
+    line_was : (server : ℕ) (flow : Flow) (port : ℕ) → flow_found packet ≡ Some flow → leaves rule flow ≡ true
+        → outcome.packet ≡ Some (with_source packet rule.outside port)
+        → port_line_of rule (seen server) ≡ Some (line_with flow port)
+    line_was server flow port found goes is =
+        rw (found, is, goes) (rw (shown packet flow rule.outside port found) refl)
+
     line_is : (server : ℕ) (line : PortLine) (flow : Flow) (port : ℕ) → flow_found packet ≡ Some flow
         → leaves rule flow ≡ true
         → outcome.packet ≡ Some (with_source packet rule.outside port) → port_line_of rule (seen server) ≡ Some line
-        → record { outside = port; protocol = flow.protocol; address = flow.source; port = flow.source_port } ≡ line
+        → line_with flow port ≡ line
     line_is server line flow port found goes is told =
-        let same : Some (record {
-          outside = source_port (flow_found (with_source packet rule.outside port));
-          protocol = flow.protocol;
-          address = flow.source;
-          port = flow.source_port;
-        }) ≡ Some line = rw (found, is, goes) at told in
-        let here : Some (record {
-          outside = port;
-          protocol = flow.protocol;
-          address = flow.source;
-          port = flow.source_port;
-        }) ≡ Some line =
-        rw (shown packet flow rule.outside port found) at same in
-        cc
-
-    line_was : (server : ℕ) (flow : Flow) (port : ℕ) → flow_found packet ≡ Some flow → leaves rule flow ≡ true
-        → outcome.packet ≡ Some (with_source packet rule.outside port)
-        → port_line_of rule (seen server) ≡ Some (record {
-          outside = port;
-          protocol = flow.protocol;
-          address = flow.source;
-          port = flow.source_port;
-        })
-    line_was server flow port found goes is =
-        rw (found, is, goes) (rw (shown packet flow rule.outside port found) refl)
+        let both : Some (line_with flow port) ≡ Some line = sym (line_was server flow port found goes is) ∙ told in cc
 
     asks : (flow : Flow) → flow_found packet ≡ Some flow → (answers : List Answer)
         → ask (Nat rule) packet answers ≡ nat_ask rule flow answers
@@ -178,18 +155,9 @@ module _ (rule : NatRule) where
     of_known : (flow : Flow) (port : ℕ) → flow_found packet ≡ Some flow → leaves rule flow ≡ true
         → port_at content (key_of flow) ≡ Some port → IsQuiet
     of_known flow port found goes has =
-        let end : End = record { writes = record { items = [] }; verdict = Forward (Source rule.outside port) } in
-        let first = answer_at content (key_of flow) in
-        let reads : nat_ask rule flow [] ≡ Read (key_of flow) true = rw goes refl in
-        let ends : nat_ask rule flow (first ∷ []) ≡ Finish end = rw (goes, has) refl in
-        let told = ends_after_one (Nat rule) packet content (key_of flow) true end (asks flow found []
-        ∙ reads) (asks flow found (first ∷ []) ∙ ends) in
-        record {
-          nothing = writes_told _ _ _ _ told;
-          had = λ server line is.
-              let same = line_is server line flow port found goes (packet_told _ _ _ _ told) is in
-              subst (λ (l : PortLine). HasPort content l) same has;
-        }
+        quiet.read_once (Nat rule) (port_line_of rule) HasPort packet content flow (key_of flow)
+        (Forward (Source rule.outside port)) found (rw goes refl) (rw (goes, has) refl)
+        (λ server line is told. subst (HasPort content) (line_is server line flow port found goes is told) has)
 
     -- where all ports are drawn, the packet is dropped
     of_full : (flow : Flow) → flow_found packet ≡ Some flow → leaves rule flow ≡ true
@@ -442,12 +410,7 @@ module _ (rule : NatRule) where
         (written_is packet content few drawn) has in
         elim (own_or_same packet content few drawn key begins) [
           | inl same ↦ inr (record {
-            line = record {
-              outside = next_of content;
-              protocol = drawn.flow.protocol;
-              address = drawn.flow.source;
-              port = drawn.flow.source_port;
-            };
+            line = line_with drawn.flow (next_of content);
             at = same;
             has = own_is packet content few drawn key value same now;
             few = drawn.within;
