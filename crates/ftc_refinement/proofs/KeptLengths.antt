@@ -1,15 +1,12 @@
 -- The packet of a message stays as long as it came.
 use Rattle.std.proofs.Common.{◌≡◌, ◌∙◌, ◌+◌, ◌==◌, ◌&&◌, ℕ, Bool, true, false, not, List, length, Option, Some, None}
-use Rattle.std.proofs.Common.{refl, sym, ap, subst, cond}
-use Rattle.ftc_base.specs.declared.ask.Change.{Change}
-use Rattle.ftc_base.specs.declared.ask.Change.TheVariants.{Keep, Source, Destination}
+use Rattle.std.proofs.Common.{sym, ap, subst, cond}
 use Rattle.ftc_base.specs.declared.ask.Verdict.{Verdict}
 use Rattle.ftc_base.specs.declared.ask.Verdict.TheVariants.{Forward, Filter}
 use Rattle.ftc_journal.specs.declared.event.Event.{Event}
 use Rattle.ftc_journal.specs.declared.event.Event.TheVariants.{Apply, Carry, Crash, Enter, Lose, Pass, Propagate, Pull}
 use Rattle.ftc_journal.specs.declared.event.Event.TheVariants.{Recover, Release, Take, Visit}
-use Rattle.ftc_packet.specs.Rewrite.{with_end, with_source, with_destination}
-use Rattle.ftc_packet.proofs.WordEdits.{length-with_word}
+use Rattle.ftc_mbox.proofs.ChangedLengths.{changed_length}
 use Rattle.ftc_mbox.specs.Change.{changed_packet, packet_after}
 use Rattle.ftc_serial.specs.Take.{Outcome, asked}
 use Rattle.ftc_serial.specs.Words.{with_at}
@@ -25,19 +22,6 @@ use Rattle.ftc_protocol.specs.Trace.{content_of}
 use Rattle.ftc_refinement.proofs.AlongRuns.{in_each_state}
 
 -- ---- a visit keeps the length
-
-source_length : (bytes : List ℕ) (address port : ℕ) → length (with_source bytes address port) ≡ length bytes
-unfolding with_end
-source_length bytes address port = simp length-with_word
-
-destination_length : (bytes : List ℕ) (address port : ℕ) → length (with_destination bytes address port) ≡ length bytes
-unfolding with_end
-destination_length bytes address port = simp length-with_word
-
-changed_length : (bytes : List ℕ) (change : Change) → length (changed_packet bytes change) ≡ length bytes
-changed_length bytes Keep = refl
-changed_length bytes (Source address port) = source_length bytes address port
-changed_length bytes (Destination address port) = destination_length bytes address port
 
 same_bytes : (one other : List ℕ) → Some one ≡ Some other → one ≡ other
 same_bytes one other same = cc

@@ -6,15 +6,12 @@ use Rattle.std.specs.List.{AllByRecursion}
 use Rattle.std.proofs.lemmas.Bool.{eqb-true}
 use Rattle.std.proofs.lemmas.Option.{slice_get-map, slice_get_within}
 use Rattle.ftc_base.specs.declared.limits.TheConstants.{MOST_CAPTURED}
-use Rattle.ftc_base.specs.declared.ask.Change.{Change}
-use Rattle.ftc_base.specs.declared.ask.Change.TheVariants.{Keep, Source, Destination}
 use Rattle.ftc_base.specs.declared.ask.Verdict.{Verdict}
 use Rattle.ftc_base.specs.declared.ask.Verdict.TheVariants.{Forward, Filter}
 use Rattle.ftc_base.specs.declared.released.Released.{Released}
-use Rattle.ftc_packet.specs.Rewrite.{with_end, with_source, with_destination}
-use Rattle.ftc_packet.proofs.WordEdits.{length-with_word}
 use Rattle.ftc_pcap.specs.declared.packets.Packet.{Packet}
 use Rattle.ftc_mbox.specs.declared.rule.Rule.{Rule}
+use Rattle.ftc_mbox.proofs.ChangedLengths.{changed_length}
 use Rattle.ftc_mbox.specs.Change.{changed_packet, packet_after}
 use Rattle.ftc_serial.specs.declared.position.Position.{Position}
 use Rattle.ftc_serial.specs.declared.position.Position.TheVariants as position
@@ -31,20 +28,6 @@ all_push : {A : Type 0} (P : A → Type 0) (xs : List A) (x : A) → AllByRecurs
     AllByRecursion P (xs ++ x ∷ [])
 all_push P [] x all holds = (holds, tt)
 all_push P (y ∷ xs) x all holds = (all.0, all_push P xs x all.1 holds)
-
--- a rewrite keeps the packet's length
-source_length : (bytes : List ℕ) (address port : ℕ) → length (with_source bytes address port) ≡ length bytes
-unfolding with_end
-source_length bytes address port = simp length-with_word
-
-destination_length : (bytes : List ℕ) (address port : ℕ) → length (with_destination bytes address port) ≡ length bytes
-unfolding with_end
-destination_length bytes address port = simp length-with_word
-
-changed_length : (bytes : List ℕ) (change : Change) → length (changed_packet bytes change) ≡ length bytes
-changed_length bytes Keep = refl
-changed_length bytes (Source address port) = source_length bytes address port
-changed_length bytes (Destination address port) = destination_length bytes address port
 
 -- a packet of the capture, with no more bytes than a record may have
 abbrev Fits : List Packet → ℕ → Option Position → Type 0
