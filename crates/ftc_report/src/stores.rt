@@ -6,7 +6,7 @@ ghost use Rattle.std.specs.List.{flat_map, enumerate_from};
 ghost use Rattle.hex.specs.Hex.{encode_lower};
 ghost use Rattle.ftc_store.specs.Pairs.{key_value};
 ghost use Rattle.ftc_serial.specs.Held.{rules_of, serial_state};
-ghost use Rattle.ftc_report.specs.Text.{value_text, key_line, store_lines};
+ghost use Rattle.ftc_report.specs.Text.{value_text, key_line, key_count, store_lines};
 ghost use Rattle.ftc_report.specs.Contents.{contents};
 
 use ftc_base::{Bytes, NoMemory, ServerId, Value};
@@ -53,8 +53,23 @@ fn append_keys(alloc: Global, pairs: &[Pair], out: &mut Bytes) -> Result<(), NoM
     Ok(())
 }
 
-/// Adds the lines of a middlebox's store.
+/// Adds the line of a middlebox's store, with the count of its keys.
 #[tactic(auto, unfolding(crate::specs::Text::store_line))]
+pub(crate) fn append_key_count(
+    alloc: Global,
+    server: ServerId,
+    store: &Store,
+    out: &mut Bytes,
+) -> Result<(), NoMemory>
+    ensures { OnOk result (out.new ≡ out.old ++ key_count (server, store.now.content)) }
+{
+    let server = server.number();
+    let count = store.len();
+    let line = format!(in alloc; "store {server} {count}\n")?;
+    out.append(line.as_bytes())
+}
+
+/// Adds the lines of a middlebox's store.
 fn append_store(
     alloc: Global,
     server: ServerId,
@@ -63,10 +78,7 @@ fn append_store(
 ) -> Result<(), NoMemory>
     ensures { OnOk result (out.new ≡ out.old ++ store_lines (server, store.now.content)) }
 {
-    let server = server.number();
-    let count = store.len();
-    let line = format!(in alloc; "store {server} {count}\n")?;
-    out.append(line.as_bytes())?;
+    append_key_count(alloc, server, store, out)?;
     let pairs = store.list(alloc)?;
     append_keys(alloc, pairs.as_slice(), out)
 }

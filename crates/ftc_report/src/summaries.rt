@@ -7,27 +7,11 @@ ghost use Rattle.ftc_report.specs.Contents.{contents};
 ghost use Rattle.ftc_report.specs.Text.{key_count, summary_text};
 
 use crate::counts::append_counts;
+use crate::stores::append_key_count;
 use ftc_base::{Bytes, NoMemory, ServerId};
 use ftc_protocol::Fates;
 use ftc_serial::Serial;
-use ftc_store::Store;
 use std::alloc::Global;
-
-/// Adds the count of a middlebox's keys.
-#[tactic(auto, unfolding(crate::specs::Text::store_line))]
-fn append_key_count(
-    alloc: Global,
-    server: ServerId,
-    store: &Store,
-    out: &mut Bytes,
-) -> Result<(), NoMemory>
-    ensures { OnOk result (out.new ≡ out.old ++ key_count (server, store.now.content)) }
-{
-    let server = server.number();
-    let count = store.len();
-    let line = format!(in alloc; "store {server} {count}\n")?;
-    out.append(line.as_bytes())
-}
 
 /// Adds the count of each middlebox's keys.
 fn append_key_counts(alloc: Global, serial: &Serial, out: &mut Bytes) -> Result<(), NoMemory>
