@@ -67,15 +67,7 @@ done_no_more (job.Crash server) old new (down, others) =
     others_no_more server old new others (λ worker none. none_runs (head_at new server) worker down)
 done_no_more (job.Recover server) old new (idle, others) =
     others_no_more server old new others (λ worker none. idle_runs (head_at new server) worker idle)
-done_no_more (job.Enter packet) old new same = same_no_more old new same
-done_no_more (job.Take link origin) old new same = same_no_more old new same
-done_no_more (job.Apply server origin group packet) old new same = same_no_more old new same
-done_no_more (job.Visit server packet) old new same = same_no_more old new same
-done_no_more (job.Pass server origin) old new same = same_no_more old new same
-done_no_more (job.Lose server origin) old new same = same_no_more old new same
-done_no_more (job.Carry origin) old new same = same_no_more old new same
-done_no_more (job.Pull link) old new same = same_no_more old new same
-done_no_more (job.Propagate origin) old new same = same_no_more old new same
+done_no_more other old new same = same_no_more old new same
 
 pub once_kept : (old new : Network) → SlotsRunNoMore old new → RunsOnce old → RunsOnce new
 once_kept old new fewer once worker one other differs runs =

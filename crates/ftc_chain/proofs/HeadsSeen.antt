@@ -92,15 +92,7 @@ module _ (given : Given) (old room : Course) (mid : Network) (new : Course) (run
   heads_after (job.Crash server) (down, others) = (mid_head server ∙ down, mid_others server others)
   heads_after (job.Recover server) (idle, others) =
       (subst IsIdleHead (sym (mid_head server)) idle, mid_others server others)
-  heads_after (job.Enter packet) stays = λ server. mid_stays server (stays server)
-  heads_after (job.Take link origin) stays = λ server. mid_stays server (stays server)
-  heads_after (job.Apply at origin group packet) stays = λ server. mid_stays server (stays server)
-  heads_after (job.Visit at packet) stays = λ server. mid_stays server (stays server)
-  heads_after (job.Pass at origin) stays = λ server. mid_stays server (stays server)
-  heads_after (job.Lose at origin) stays = λ server. mid_stays server (stays server)
-  heads_after (job.Carry origin) stays = λ server. mid_stays server (stays server)
-  heads_after (job.Pull link) stays = λ server. mid_stays server (stays server)
-  heads_after (job.Propagate origin) stays = λ server. mid_stays server (stays server)
+  heads_after other stays = λ server. mid_stays server (stays server)
 
   -- after a visit made whole
   pub visited_here : (server : ℕ) → IsIdleHead (head_at mid server) → IsIdleHead (head_in (run_of given new) server)

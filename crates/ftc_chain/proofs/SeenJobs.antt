@@ -24,32 +24,14 @@ use Rattle.ftc_chain.proofs.Made.{run_of}
 untaken_as : (runs other : ℕ → ℕ → Bool) → ((server packet : ℕ) → other server packet ≡ runs server packet) →
     (done : Job) → IsUntaken runs done → IsUntaken other done
 untaken_as runs other same (job.Visit server packet) is = same server packet ∙ is
-untaken_as runs other same (job.Enter packet) is = is
-untaken_as runs other same (job.Take link origin) is = is
-untaken_as runs other same (job.Apply server origin group packet) is = is
-untaken_as runs other same (job.Pass server origin) is = is
-untaken_as runs other same (job.Lose server origin) is = is
-untaken_as runs other same (job.Carry origin) is = is
-untaken_as runs other same (job.Crash server) is = is
-untaken_as runs other same (job.Recover server) is = is
-untaken_as runs other same (job.Pull link) is = is
-untaken_as runs other same (job.Propagate origin) is = is
+untaken_as runs other same done is = is
 
 wanted_as : (visits : Bool) (runs other : ℕ → ℕ → Bool) →
     ((server packet : ℕ) → other server packet ≡ runs server packet) → (done : Job) →
     is_sought visits other done ≡ is_sought visits runs done
 wanted_as false runs other same done = refl
 wanted_as true runs other same (job.Visit server packet) = ap not (same server packet)
-wanted_as true runs other same (job.Enter packet) = refl
-wanted_as true runs other same (job.Take link origin) = refl
-wanted_as true runs other same (job.Apply server origin group packet) = refl
-wanted_as true runs other same (job.Pass server origin) = refl
-wanted_as true runs other same (job.Lose server origin) = refl
-wanted_as true runs other same (job.Carry origin) = refl
-wanted_as true runs other same (job.Crash server) = refl
-wanted_as true runs other same (job.Recover server) = refl
-wanted_as true runs other same (job.Pull link) = refl
-wanted_as true runs other same (job.Propagate origin) = refl
+wanted_as true runs other same done = refl
 
 module _ (given : Given) (course : Course) where
   abbrev runs : ℕ → ℕ → Bool
