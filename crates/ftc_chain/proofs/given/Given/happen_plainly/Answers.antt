@@ -1,5 +1,3 @@
-use Rattle.ftc_journal.specs.declared.event.Event.TheVariants as event
-use Rattle.ftc_journal.specs.declared.job.Job.TheVariants as job
 use Rattle.ftc_chain.specs.Doing.{setting_by}
 use Rattle.ftc_chain.proofs.Permitted.{allowed, done, done_as, event_as}
 use Rattle.ftc_chain.proofs.given.Given.happen_plainly.Goals as goal
@@ -7,82 +5,69 @@ use Rattle.ftc_chain.proofs.given.Given.happen_plainly.Goals as goal
 pub take-requires : goal.take-requires
 take-requires c =
     let setting = setting_by c.args.self.now in
-    allowed setting c.args.job.now (event.Take c.in-Take.link c.in-Take.origin)
-    c.args.network.now (event_as setting c.in-Take.is) c.requires.may
+    allowed setting c.args.job.now _ _ (event_as setting c.in-Take.is) c.requires.may
 
 pub returns-in-Take-clause-ok : goal.returns-in-Take-clause-ok
 returns-in-Take-clause-ok c =
     let setting = setting_by c.args.self.now in
-    done c.take.result setting c.args.job.now (event.Take c.in-Take.link c.in-Take.origin)
-    c.args.network.now c.take.new.self
+    done c.take.result setting c.args.job.now _ c.args.network.now c.take.new.self
     (event_as setting c.in-Take.is) c.take.ensures.ok
 
 pub apply-requires : goal.apply-requires
 apply-requires c =
     let setting = setting_by c.args.self.now in
-    allowed setting c.args.job.now (event.Apply c.in-Apply.server c.in-Apply.origin c.in-Apply.group c.in-Apply.packet)
-    c.args.network.now (event_as setting c.in-Apply.is) c.requires.may
+    allowed setting c.args.job.now _ _ (event_as setting c.in-Apply.is) c.requires.may
 
 pub returns-in-Apply-clause-ok : goal.returns-in-Apply-clause-ok
 returns-in-Apply-clause-ok c =
     let setting = setting_by c.args.self.now in
-    done c.apply.result setting c.args.job.now
-    (event.Apply c.in-Apply.server c.in-Apply.origin c.in-Apply.group c.in-Apply.packet)
-    c.args.network.now c.apply.new.self
+    done c.apply.result setting c.args.job.now _ c.args.network.now c.apply.new.self
     (event_as setting c.in-Apply.is) c.apply.ensures.ok
 
 pub leave-requires : goal.leave-requires
 leave-requires c =
     let setting = setting_by c.args.self.now in
-    allowed setting c.args.job.now (event.Pass c.in-Pass.server c.in-Pass.origin)
-    c.args.network.now (event_as setting c.in-Pass.is) c.requires.may
+    allowed setting c.args.job.now _ _ (event_as setting c.in-Pass.is) c.requires.may
 
 pub returns-in-Pass-clause-ok : goal.returns-in-Pass-clause-ok
 returns-in-Pass-clause-ok c =
     let setting = setting_by c.args.self.now in
-    done c.leave.result setting c.args.job.now (event.Pass c.in-Pass.server c.in-Pass.origin)
-    c.args.network.now c.leave.new.self
+    done c.leave.result setting c.args.job.now _ c.args.network.now c.leave.new.self
     (event_as setting c.in-Pass.is) c.leave.ensures.ok
 
 pub carry-requires : goal.carry-requires
 carry-requires c =
     let setting = setting_by c.args.self.now in
-    allowed setting c.args.job.now (event.Carry c.in-Carry.origin)
-    c.args.network.now (event_as setting c.in-Carry.is) c.requires.may
+    allowed setting c.args.job.now _ _ (event_as setting c.in-Carry.is) c.requires.may
 
 pub returns-in-Carry-clause-ok : goal.returns-in-Carry-clause-ok
 returns-in-Carry-clause-ok c =
     let setting = setting_by c.args.self.now in
-    done c.carry.result setting c.args.job.now (event.Carry c.in-Carry.origin)
-    c.args.network.now c.carry.new.self
+    done c.carry.result setting c.args.job.now _ c.args.network.now c.carry.new.self
     (event_as setting c.in-Carry.is) c.carry.ensures.ok
 
 pub pull-requires : goal.pull-requires
 pull-requires c =
     let setting = setting_by c.args.self.now in
-    allowed setting c.args.job.now (event.Pull c.in-Pull.link)
-    c.args.network.now (event_as setting c.in-Pull.is) c.requires.may
+    allowed setting c.args.job.now _ _ (event_as setting c.in-Pull.is) c.requires.may
 
 pub returns-in-Pull-clause-ok : goal.returns-in-Pull-clause-ok
 returns-in-Pull-clause-ok c =
     let setting = setting_by c.args.self.now in
-    done c.pull.result setting c.args.job.now (event.Pull c.in-Pull.link)
-    c.args.network.now c.pull.new.self
+    done c.pull.result setting c.args.job.now _ c.args.network.now c.pull.new.self
     (event_as setting c.in-Pull.is) c.pull.ensures.ok
 
 pub returns-in-Enter-clause-ok : goal.returns-in-Enter-clause-ok
 returns-in-Enter-clause-ok c =
-    done_as c.enter.result (setting_by c.args.self.now) c.args.job.now (job.Enter c.in-Enter.packet) c.args.network.now
+    done_as c.enter.result (setting_by c.args.self.now) c.args.job.now _ c.args.network.now
     c.enter.new.network c.in-Enter.is c.enter.ensures.ok
 
 pub returns-in-Lose-clause-ok : goal.returns-in-Lose-clause-ok
 returns-in-Lose-clause-ok c =
-    done_as c.lose.result (setting_by c.args.self.now) c.args.job.now
-    (job.Lose c.in-Lose.server c.in-Lose.origin) c.args.network.now
+    done_as c.lose.result (setting_by c.args.self.now) c.args.job.now _ c.args.network.now
     c.lose.new.network c.in-Lose.is c.lose.ensures.ok
 
 pub returns-in-Propagate-clause-ok : goal.returns-in-Propagate-clause-ok
 returns-in-Propagate-clause-ok c =
-    done_as c.propagate.result (setting_by c.args.self.now) c.args.job.now
-    (job.Propagate c.in-Propagate.origin) c.args.network.now
+    done_as c.propagate.result (setting_by c.args.self.now) c.args.job.now _ c.args.network.now
     c.propagate.new.network c.in-Propagate.is c.propagate.ensures.ok
