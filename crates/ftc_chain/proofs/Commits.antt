@@ -34,7 +34,7 @@ use Rattle.ftc_chain.specs.Doing.{setting_by, HasDone}
 use Rattle.ftc_chain.specs.Slots.{HasCommittedAt, CommitsAt}
 use Rattle.ftc_chain.proofs.AtRest.{events_are}
 use Rattle.ftc_chain.proofs.HeadsKept.{head_as, once_as, once_kept, others_no_more}
-use Rattle.ftc_chain.proofs.Made.{run_of, still_rests, stepped}
+use Rattle.ftc_chain.proofs.Made.{run_of, roomed_rests, stepped}
 use Rattle.ftc_chain.proofs.Releases.{is_run_state}
 use Rattle.ftc_chain.proofs.SlotCalls.{live_of, after_end, Asks, asked_as, inside_of, other_heads, ends_no_more}
 use Rattle.ftc_chain.proofs.SlotCalls.{undone_at}
@@ -139,8 +139,7 @@ module _ (given : Given) (old room : Course) (mid : Network) (run : ChainRun) (w
   new = record { journal = room.journal; network = mid; outlet = room.outlet }
 
   pub undone_rests : StandsStill room.network mid → ∥ IsCourseResting (setting_by given) new ∥₁
-  undone_rests stands = ∥∥₁_map rests (still_rests (setting_by given) old new journal waiting drained
-      (λ state is. stands (setting_by given) state (subst (IsNetwork (setting_by given) state) (sym roomed) is)))
+  undone_rests stands = roomed_rests given old room mid journal roomed waiting drained stands rests
 
   pub once_ended : RunsOnce old.network → RunsOnce mid
   once_ended once = once_kept room.network mid

@@ -5,9 +5,10 @@ use Rattle.std.proofs.Math.Logic.{∥∥₁_elim, ∥∥₁_map, ∥∥₁_map�
 use Rattle.ftc_base.specs.declared.released.Released.{Released}
 use Rattle.ftc_journal.specs.declared.event.Event.{Event}
 use Rattle.ftc_journal.specs.declared.job.Job.{Job}
-use Rattle.ftc_journal.specs.declared.job.Job.TheVariants.{Enter, Take, Apply, Visit, Pass, Lose, Carry, Crash, Recover}
-use Rattle.ftc_journal.specs.declared.job.Job.TheVariants.{Pull, Propagate}
+use Rattle.ftc_journal.specs.declared.job.Job.TheVariants.{Enter}
 use Rattle.ftc_chain.specs.ChainRun.{ChainRun, setting_in, chain_state}
+use Rattle.ftc_network.specs.declared.network.Network.{Network}
+use Rattle.ftc_network.specs.Events.{StandsStill}
 use Rattle.ftc_network.specs.Slots.{head_of}
 use Rattle.ftc_network.specs.Stand.{IsNetwork}
 use Rattle.ftc_txn.specs.Head.{HeadState}
@@ -54,16 +55,7 @@ with_events given journal drained heads = record {
 pub isnt_release : (setting : Setting) (state : ChainState) (slot : ℕ) (job : Job) →
     is_release (event_of setting state slot job) ≡ false
 isnt_release setting state slot (Enter packet) = refl
-isnt_release setting state slot (Take link origin) = refl
-isnt_release setting state slot (Apply server origin group packet) = refl
-isnt_release setting state slot (Visit server packet) = refl
-isnt_release setting state slot (Pass server origin) = refl
-isnt_release setting state slot (Lose server origin) = refl
-isnt_release setting state slot (Carry origin) = refl
-isnt_release setting state slot (Crash server) = refl
-isnt_release setting state slot (Recover server) = refl
-isnt_release setting state slot (Pull link) = refl
-isnt_release setting state slot (Propagate origin) = refl
+isnt_release setting state slot other = refl
 
 -- the state after a list of events and another
 state_both : (setting : Setting) (state : ChainState) (one other : List Event) →
@@ -133,6 +125,15 @@ module _ (given : Given) (slot : ℕ) (job : Job) (old mid new : Course) (is : I
             ∙ same_front setting old.journal.items (event ∷ done.releases) old.outlet.drained
             (let few = few_drained (released_in state.trace) old.outlet is.course_is.outlet in omega (arith, few)));
       }
+
+-- what holds of the state of a chain at rest holds of the one that a contract sees
+pub seen_at_rest : (Fact : Setting → ChainState → Type 0) (given : Given) (course : Course) (run : ChainRun) →
+    run_of given course ≡ run → ∥ IsCourseResting (setting_by given) course ∥₁ →
+    (IsCourseResting (setting_by given) course →
+    Fact (setting_by given) (state_by (setting_by given) course.journal.items)) →
+    ∥ Fact (setting_in run) (chain_state run) ∥₁
+seen_at_rest Fact given course run same rests fact =
+    subst (λ (r : ChainRun). ∥ Fact (setting_in r) (chain_state r) ∥₁) same (∥∥₁_map rests fact)
 
 -- a chain before a job: it rests, and the job is legal
 pub before : (given : Given) (course : Course) (job : Job) (run : ChainRun) → run_of given course ≡ run →
@@ -214,3 +215,13 @@ still_rests setting old new same waiting drained stands is = record {
   };
   none_due = subst (λ (journal : List Event). IsNoneDue setting (state_by setting journal)) (sym same) is.none_due;
 }
+
+-- the same where room was made in its journal, and its network then stands for what it stood for
+pub roomed_rests : (given : Given) (old room : Course) (mid : Network) → room.journal.items ≡ old.journal.items →
+    room.network ≡ old.network → room.outlet.waiting ≡ old.outlet.waiting →
+    room.outlet.drained ≡ old.outlet.drained → StandsStill room.network mid → ∥ IsCourseResting (setting_by given) old ∥₁ →
+    ∥ IsCourseResting (setting_by given) (record { journal = room.journal; network = mid; outlet = room.outlet }) ∥₁
+roomed_rests given old room mid journal roomed waiting drained stands rests =
+    ∥∥₁_map rests (still_rests (setting_by given) old
+    (record { journal = room.journal; network = mid; outlet = room.outlet }) journal waiting drained
+    (λ state is. stands (setting_by given) state (subst (IsNetwork (setting_by given) state) (sym roomed) is)))

@@ -3,27 +3,26 @@ use Rattle.std.proofs.Math.Logic.{∥∥₁_map}
 use Rattle.ftc_base.specs.declared.limits.TheConstants.{FINISHING_SLOT}
 use Rattle.ftc_network.specs.declared.network.Network.{Network}
 use Rattle.ftc_network.specs.Slots.{head_at}
-use Rattle.ftc_network.specs.Stand.{IsNetwork}
 use Rattle.ftc_chain.specs.declared.course.Course.{Course}
 use Rattle.ftc_chain.specs.Course.{HasMade, IsCourseResting}
 use Rattle.ftc_chain.specs.Doing.{MayDo, setting_by}
 use Rattle.ftc_chain.proofs.AtRest.{may_do}
 use Rattle.ftc_chain.proofs.HeadsKept.{once_as, once_kept, once_after, same_no_more}
 use Rattle.ftc_chain.proofs.HeadsSeen.{heads_after, as_it_was}
-use Rattle.ftc_chain.proofs.Made.{before, run_of, stepped, still_rests}
+use Rattle.ftc_chain.proofs.Made.{before, run_of, stepped, roomed_rests}
 use Rattle.ftc_chain.proofs.Permitted.{on_any_err}
 use Rattle.ftc_chain.proofs.chain.Chain.make.Goals.{After-release_due}
 use Rattle.ftc_chain.proofs.chain.Chain.make.Goals as goal
 
 pub invariant_of-self : goal.invariant_of-self
-invariant_of-self c = (
-  c.self.invariant.0,
-  ∥∥₁_map c.self.invariant.1
-      (λ is. still_rests (setting_by c.self.inside.given) c.self.inside.course c.make_room.new.self
-      c.make_room.ensures.journal c.make_room.ensures.waiting c.make_room.ensures.drained (λ state stands.
-      subst (IsNetwork (setting_by c.self.inside.given) state) (sym c.make_room.ensures.network) stands) is),
-  once_as c.self.inside.course.network c.make_room.new.self.network c.make_room.ensures.network c.self.invariant.2,
-)
+invariant_of-self c =
+    let course = c.self.inside.course in
+    let room = c.make_room.new.self in (
+      c.self.invariant.0,
+      roomed_rests c.self.inside.given course room room.network c.make_room.ensures.journal c.make_room.ensures.network
+          c.make_room.ensures.waiting c.make_room.ensures.drained (λ setting state is. is) c.self.invariant.1,
+      once_as course.network room.network c.make_room.ensures.network c.self.invariant.2,
+    )
 
 pub happen-requires-clause-may : goal.happen-requires-clause-may
 happen-requires-clause-may c =
@@ -36,21 +35,14 @@ happen-requires-clause-may c =
 
 pub invariant_of-self-in_err-event : goal.invariant_of-self-in_err-event
 invariant_of-self-in_err-event c =
-    let given = c.self.inside.given in (
+    let course = c.self.inside.course in
+    let room = c.make_room.new.self in
+    let mid = c.happen.new.network in (
       c.self.invariant.0,
-      ∥∥₁_map c.self.invariant.1 (λ is. still_rests (setting_by given) c.self.inside.course
-          (record {
-            journal = c.make_room.new.self.journal;
-            network = c.happen.new.network;
-            outlet = c.make_room.new.self.outlet;
-          })
-          c.make_room.ensures.journal c.make_room.ensures.waiting c.make_room.ensures.drained
-          (λ state stands. c.in_err-event.ensures.err (setting_by given) state
-          (subst (IsNetwork (setting_by given) state) (sym c.make_room.ensures.network) stands)) is),
-      once_kept c.make_room.new.self.network c.happen.new.network
-          (same_no_more c.make_room.new.self.network c.happen.new.network c.in_err-event.ensures.same)
-          (once_as c.self.inside.course.network c.make_room.new.self.network c.make_room.ensures.network
-          c.self.invariant.2),
+      roomed_rests c.self.inside.given course room mid c.make_room.ensures.journal c.make_room.ensures.network
+          c.make_room.ensures.waiting c.make_room.ensures.drained c.in_err-event.ensures.err c.self.invariant.1,
+      once_kept room.network mid (same_no_more room.network mid c.in_err-event.ensures.same)
+          (once_as course.network room.network c.make_room.ensures.network c.self.invariant.2),
     )
 
 -- the job was made
@@ -93,17 +85,13 @@ pub returns-in_err-event-clause-err : goal.returns-in_err-event-clause-err
 returns-in_err-event-clause-err c =
     let given = c.self.inside.given in
     let course = c.self.inside.course in
-    let new : Course = record {
-      journal = c.make_room.new.self.journal;
-      network = c.happen.new.network;
-      outlet = c.make_room.new.self.outlet;
-    } in
+    let room = c.make_room.new.self in
+    let mid = c.happen.new.network in
+    let new : Course = record { journal = room.journal; network = mid; outlet = room.outlet } in
     on_any_err c.from_residual-in_err-event.result _
     (as_it_was given course new c.args.self.now c.self.view_is c.make_room.ensures.journal c.make_room.ensures.drained
     c.self.invariant.1
-    (∥∥₁_map c.self.invariant.1 (still_rests (setting_by given) course new c.make_room.ensures.journal
-    c.make_room.ensures.waiting c.make_room.ensures.drained (λ state stands.
-    c.in_err-event.ensures.err (setting_by given) state
-    (subst (IsNetwork (setting_by given) state) (sym c.make_room.ensures.network) stands))))
+    (roomed_rests given course room mid c.make_room.ensures.journal c.make_room.ensures.network
+    c.make_room.ensures.waiting c.make_room.ensures.drained c.in_err-event.ensures.err c.self.invariant.1)
     (λ server. c.in_err-event.ensures.same server
     ∙ ap (λ (network : Network). head_at network server) c.make_room.ensures.network))

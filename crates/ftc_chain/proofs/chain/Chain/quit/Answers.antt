@@ -1,13 +1,11 @@
 use Rattle.std.proofs.Common.{◌∙◌, Option, refl, ap}
-use Rattle.std.proofs.Math.Logic.{∥∥₁_map}
 use Rattle.ftc_txn.specs.Head.{HeadState}
 use Rattle.ftc_network.specs.Parts.{server_in}
 use Rattle.ftc_network.specs.Slots.{head_at, runs_in, AreOtherHeads}
-use Rattle.ftc_chain.specs.Doing.{setting_by}
 use Rattle.ftc_chain.specs.Slots.{QuitsIn}
 use Rattle.ftc_chain.proofs.HeadsKept.{head_as, once_kept}
 use Rattle.ftc_chain.proofs.HeadsSeen.{idle_stays}
-use Rattle.ftc_chain.proofs.Made.{still_rests}
+use Rattle.ftc_chain.proofs.Made.{roomed_rests}
 use Rattle.ftc_chain.proofs.SlotCalls.{idle_seen, quits_heads, other_heads, quits_everywhere, quits_no_more, quits_at}
 use Rattle.ftc_chain.proofs.chain.Chain.quit.Goals.{After-quit}
 use Rattle.ftc_chain.proofs.chain.Chain.quit.Goals as goal
@@ -24,9 +22,8 @@ pub invariant_of-self : goal.invariant_of-self
 invariant_of-self c =
     let course = c.self.inside.course in (
       c.self.invariant.0,
-      ∥∥₁_map c.self.invariant.1 (still_rests (setting_by c.self.inside.given) course
-          (record { journal = course.journal; network = c.quit.new.self; outlet = course.outlet }) refl refl refl
-          (λ state stands. c.quit.ensures.stands (setting_by c.self.inside.given) state stands)),
+      roomed_rests c.self.inside.given course course c.quit.new.self refl refl refl refl c.quit.ensures.stands
+          c.self.invariant.1,
       once_kept course.network c.quit.new.self
           (quits_no_more course.network c.quit.new.self c.args.worker c.in-Some.server (quits c)
           (others c)) c.self.invariant.2,

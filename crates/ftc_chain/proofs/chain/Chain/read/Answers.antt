@@ -3,10 +3,9 @@ use Rattle.std.proofs.Math.Logic.{∥∥₁_map}
 use Rattle.ftc_network.specs.Parts.{server_in}
 use Rattle.ftc_chain.specs.declared.course.Course.{Course}
 use Rattle.ftc_chain.specs.ChainRun.{ChainRun}
-use Rattle.ftc_chain.specs.Doing.{setting_by}
 use Rattle.ftc_chain.specs.Slots.{ReadsAt}
 use Rattle.ftc_chain.proofs.HeadsKept.{once_kept, others_no_more}
-use Rattle.ftc_chain.proofs.Made.{run_of, still_rests}
+use Rattle.ftc_chain.proofs.Made.{run_of, roomed_rests}
 use Rattle.ftc_chain.proofs.SlotCalls.{inside_of, idle_seen, other_heads, reads_no_more, reads_at}
 use Rattle.ftc_chain.proofs.chain.Chain.read.Goals as goal
 
@@ -15,9 +14,8 @@ invariant_of-self c =
     let course = c.self.inside.course in
     let server = c.in-Some.server in (
       c.self.invariant.0,
-      ∥∥₁_map c.self.invariant.1 (still_rests (setting_by c.self.inside.given) course
-          (record { journal = course.journal; network = c.read.new.self; outlet = course.outlet }) refl refl refl
-          (λ state stands. c.read.ensures.stands (setting_by c.self.inside.given) state stands)),
+      roomed_rests c.self.inside.given course course c.read.new.self refl refl refl refl c.read.ensures.stands
+          c.self.invariant.1,
       once_kept course.network c.read.new.self
           (others_no_more server course.network c.read.new.self
           (other_heads course.network c.read.new.self server c.read.ensures.others)
@@ -36,9 +34,8 @@ returns-in-Some c =
     c.self.view_is
     (∥∥₁_map c.self.invariant.1 (λ is. reads_at given course new c.args.worker server is
     (inside_of given course server is c.in-Some.ensures.inside) c.in-Some.ensures.some c.read.ensures.others refl refl
-    ∣ still_rests (setting_by given) course new refl refl refl
-    (λ state stands. c.read.ensures.stands (setting_by given) state stands) is ∣₁ c.what_slots_ask.ensures.asks
-    c.args.key.now c.read.result c.read.ensures.reads))
+    (roomed_rests given course course c.read.new.self refl refl refl refl c.read.ensures.stands c.self.invariant.1)
+    c.what_slots_ask.ensures.asks c.args.key.now c.read.result c.read.ensures.reads))
 
 pub returns-in-None : goal.returns-in-None
 returns-in-None c = ∣ (

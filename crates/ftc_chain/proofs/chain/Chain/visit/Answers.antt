@@ -4,25 +4,24 @@ use Rattle.ftc_journal.specs.declared.event.Event.TheVariants as event
 use Rattle.ftc_journal.specs.declared.job.Job.TheVariants.{Visit}
 use Rattle.ftc_network.specs.declared.network.Network.{Network}
 use Rattle.ftc_network.specs.Slots.{head_at}
-use Rattle.ftc_network.specs.Stand.{IsNetwork}
 use Rattle.ftc_chain.specs.Course.{HasMade, IsCourseResting}
 use Rattle.ftc_chain.specs.Doing.{MayDo, setting_by}
 use Rattle.ftc_chain.proofs.AtRest.{may_do}
 use Rattle.ftc_chain.proofs.HeadsKept.{SlotsRunNoMore, once_as, once_kept, same_no_more, then_no_more, visited_no_more}
 use Rattle.ftc_chain.proofs.HeadsSeen.{others_stay, idle_stays, visited_others}
-use Rattle.ftc_chain.proofs.Made.{before, run_of, stepped, still_rests}
+use Rattle.ftc_chain.proofs.Made.{before, run_of, stepped, roomed_rests}
 use Rattle.ftc_chain.proofs.chain.Chain.visit.Goals.{After-release_due}
 use Rattle.ftc_chain.proofs.chain.Chain.visit.Goals as goal
 
 pub invariant_of-self : goal.invariant_of-self
-invariant_of-self c = (
-  c.self.invariant.0,
-  ∥∥₁_map c.self.invariant.1
-      (λ is. still_rests (setting_by c.self.inside.given) c.self.inside.course c.make_room.new.self
-      c.make_room.ensures.journal c.make_room.ensures.waiting c.make_room.ensures.drained (λ state stands.
-      subst (IsNetwork (setting_by c.self.inside.given) state) (sym c.make_room.ensures.network) stands) is),
-  once_as c.self.inside.course.network c.make_room.new.self.network c.make_room.ensures.network c.self.invariant.2,
-)
+invariant_of-self c =
+    let course = c.self.inside.course in
+    let room = c.make_room.new.self in (
+      c.self.invariant.0,
+      roomed_rests c.self.inside.given course room room.network c.make_room.ensures.journal c.make_room.ensures.network
+          c.make_room.ensures.waiting c.make_room.ensures.drained (λ setting state is. is) c.self.invariant.1,
+      once_as course.network room.network c.make_room.ensures.network c.self.invariant.2,
+    )
 
 pub visit-requires : goal.visit-requires
 visit-requires c =
@@ -36,20 +35,15 @@ visit-requires c =
 
 pub invariant_of-self-in_err-visit : goal.invariant_of-self-in_err-visit
 invariant_of-self-in_err-visit c =
-    let given = c.self.inside.given in (
+    let course = c.self.inside.course in
+    let room = c.make_room.new.self in
+    let mid = c.visit.new.network in (
       c.self.invariant.0,
-      ∥∥₁_map c.self.invariant.1 (λ is. still_rests (setting_by given) c.self.inside.course
-          (record {
-            journal = c.make_room.new.self.journal;
-            network = c.visit.new.network;
-            outlet = c.make_room.new.self.outlet;
-          })
-          c.make_room.ensures.journal c.make_room.ensures.waiting c.make_room.ensures.drained
-          (λ state stands. c.in_err-visit.ensures.err (setting_by given) state
-          (subst (IsNetwork (setting_by given) state) (sym c.make_room.ensures.network) stands)) is),
-      once_kept c.self.inside.course.network c.visit.new.network
-          (visited_no_more c.args.server c.self.inside.course.network c.make_room.new.self.network c.visit.new.network
-          c.make_room.ensures.network c.visit.ensures.others c.visit.ensures.fewer) c.self.invariant.2,
+      roomed_rests c.self.inside.given course room mid c.make_room.ensures.journal c.make_room.ensures.network
+          c.make_room.ensures.waiting c.make_room.ensures.drained c.in_err-visit.ensures.err c.self.invariant.1,
+      once_kept course.network mid
+          (visited_no_more c.args.server course.network room.network mid c.make_room.ensures.network
+          c.visit.ensures.others c.visit.ensures.fewer) c.self.invariant.2,
     )
 
 -- the visit was made
