@@ -17,7 +17,7 @@ use Rattle.ftc_server.specs.declared.answers.CommitAnswer.TheVariants as commit
 use Rattle.ftc_server.specs.declared.server.Server.{Server}
 use Rattle.ftc_server.specs.Looks.{ask_in}
 use Rattle.ftc_server.specs.State.{ServerState, fields_of as fields_of}
-use Rattle.ftc_server.specs.Steps.{Reads, EndsVisit}
+use Rattle.ftc_server.specs.Steps.{Reads, HasRead, EndsVisit}
 use Rattle.ftc_txn.specs.Head.{HeadState, RunsUnwounded, next_age}
 use Rattle.ftc_txn.specs.Slots.{Running, slot_at, begun, restarted}
 use Rattle.ftc_txn.specs.Steps.{begins, restarts}
@@ -37,7 +37,8 @@ use Rattle.ftc_chain.specs.declared.given.Given.{Given}
 use Rattle.ftc_chain.specs.ChainRun.{ChainRun}
 use Rattle.ftc_chain.specs.Course.{IsCourseResting, RunsOnce, state_by}
 use Rattle.ftc_chain.specs.Doing.{setting_by}
-use Rattle.ftc_chain.specs.Slots.{head_in, runs_at, ask_at, IsIdle, Looks, OthersStay, IsAt, HasRead, ReadsAt, IsAsking}
+use Rattle.ftc_chain.specs.Slots.{head_in, runs_at, ask_at, IsIdle, Looks, OthersStay, IsAt, HasReadAt, ReadsAt}
+use Rattle.ftc_chain.specs.Slots.{IsAsking}
 use Rattle.ftc_chain.specs.Slots.{CommitsAt, QuitsIn, HasQuitAt}
 use Rattle.ftc_chain.proofs.HeadsKept.{head_as, SlotsRunNoMore, none_runs}
 use Rattle.ftc_ring.specs.Ring.{RingShape}
@@ -354,7 +355,7 @@ module _ (given : Given) (old new : Course) (worker server : ℕ) (rests : IsCou
 
   has_read : (live : Server) (key : List ℕ) (answer : ReadAnswer) →
       server_in new.network.servers.items server ≡ Some live →
-      Rattle.ftc_server.specs.Steps.HasRead live_is.live live worker key answer → HasRead before after worker key answer
+      HasRead live_is.live live worker key answer → HasReadAt before after worker key answer
   has_read live key answer is reads = record {
     server = server;
     running = live_is.running;

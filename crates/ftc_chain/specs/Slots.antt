@@ -100,7 +100,7 @@ pub record IsAt (old new : ChainRun) (worker server : ℕ) (running : Running) (
 -- ---- reads
 
 -- the head of the server at which the slot runs something answers; where that isn't wounded, its rule asks for the key
-pub record HasRead (old new : ChainRun) (worker : ℕ) (key : List ℕ) (answer : ReadAnswer) : Type 0 where
+pub record HasReadAt (old new : ChainRun) (worker : ℕ) (key : List ℕ) (answer : ReadAnswer) : Type 0 where
   pub server : ℕ
   pub running : Running
   pub before : HeadState
@@ -123,7 +123,7 @@ pub record IsUnasked (old : ChainRun) (worker : ℕ) (key : List ℕ) : Type 0 w
 abbrev pub ReadsAt : ChainRun → ChainRun → ℕ → List ℕ → ReadAnswer → Type 0
 ReadsAt old new worker key read.NotAsked = IsUnasked old worker key × (new ≡ old)
 ReadsAt old new worker key read.Idle = IsIdle old worker × (new ≡ old)
-ReadsAt old new worker key answer = HasRead old new worker key answer
+ReadsAt old new worker key answer = HasReadAt old new worker key answer
 
 -- ---- commits
 
