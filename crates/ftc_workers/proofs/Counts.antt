@@ -18,18 +18,8 @@ visits_append [] ys = omega arith
 visits_append (x ∷ xs) ys = omega (arith, visits_append xs ys)
 
 one_at_most : (one : Event) → visits_of one ≤ 1
-one_at_most (event.Enter packet) = omega arith
-one_at_most (event.Take link origin) = omega arith
-one_at_most (event.Apply server origin group packet) = omega arith
 one_at_most (event.Visit server packet worker) = omega arith
-one_at_most (event.Pass server origin) = omega arith
-one_at_most (event.Lose server origin) = omega arith
-one_at_most (event.Carry origin) = omega arith
-one_at_most (event.Crash server) = omega arith
-one_at_most (event.Recover server undone) = omega arith
-one_at_most (event.Pull link) = omega arith
-one_at_most (event.Propagate origin) = omega arith
-one_at_most (event.Release packet) = omega arith
+one_at_most other = omega arith
 
 -- there are no more visits than events
 pub visits_within : (events : List Event) → visits events ≤ length events
@@ -37,18 +27,8 @@ visits_within [] = omega arith
 visits_within (one ∷ events) = omega (arith, one_at_most one, visits_within events)
 
 release_counts : (one : Event) → is_release one ≡ true → visits_of one ≡ 0
-release_counts (event.Enter packet) is = refl
-release_counts (event.Take link origin) is = refl
-release_counts (event.Apply server origin group packet) is = refl
 release_counts (event.Visit server packet worker) is = absurd cc
-release_counts (event.Pass server origin) is = refl
-release_counts (event.Lose server origin) is = refl
-release_counts (event.Carry origin) is = refl
-release_counts (event.Crash server) is = refl
-release_counts (event.Recover server undone) is = refl
-release_counts (event.Pull link) is = refl
-release_counts (event.Propagate origin) is = refl
-release_counts (event.Release packet) is = refl
+release_counts other is = refl
 
 -- releases are no visits
 pub releases_count : (setting : Setting) (state : ChainState) (events : List Event) →
@@ -62,13 +42,4 @@ releases_count setting state (one ∷ events) due =
 pub step_counts : (setting : Setting) (state : ChainState) (slot : ℕ) (done : Job) → is_visit done ≡ false →
     visits_of (event_of setting state slot done) ≡ 0
 step_counts setting state slot (job.Visit server packet) other = absurd cc
-step_counts setting state slot (job.Enter packet) other = refl
-step_counts setting state slot (job.Take link origin) other = refl
-step_counts setting state slot (job.Apply server origin group packet) other = refl
-step_counts setting state slot (job.Pass server origin) other = refl
-step_counts setting state slot (job.Lose server origin) other = refl
-step_counts setting state slot (job.Carry origin) other = refl
-step_counts setting state slot (job.Crash server) other = refl
-step_counts setting state slot (job.Recover server) other = refl
-step_counts setting state slot (job.Pull link) other = refl
-step_counts setting state slot (job.Propagate origin) other = refl
+step_counts setting state slot done other = refl
