@@ -139,7 +139,8 @@ no_schedule laws text journal right status.Usage wrong = wrong
 no_schedule laws text journal right (status.Chain line cause) wrong = wrong
 no_schedule laws text journal right (status.Capture at cause) wrong = wrong
 no_schedule laws text journal right (status.Script line cause) wrong = wrong
-no_schedule laws text journal right (status.Schedule line cause) wrong = laws.no_journal_fault text journal _ right wrong
+no_schedule laws text journal right (status.Schedule line cause) wrong =
+    laws.no_journal_fault text journal _ right wrong
 no_schedule laws text journal right (status.Ports cause) wrong = wrong
 no_schedule laws text journal right (status.Journal line cause) wrong = wrong
 no_schedule laws text journal right (status.Beats line cause) wrong = wrong

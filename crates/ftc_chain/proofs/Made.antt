@@ -219,7 +219,8 @@ still_rests setting old new same waiting drained stands is = record {
 -- the same where room was made in its journal, and its network then stands for what it stood for
 pub roomed_rests : (given : Given) (old room : Course) (mid : Network) → room.journal.items ≡ old.journal.items →
     room.network ≡ old.network → room.outlet.waiting ≡ old.outlet.waiting →
-    room.outlet.drained ≡ old.outlet.drained → StandsStill room.network mid → ∥ IsCourseResting (setting_by given) old ∥₁ →
+    room.outlet.drained ≡ old.outlet.drained → StandsStill room.network mid →
+    ∥ IsCourseResting (setting_by given) old ∥₁ →
     ∥ IsCourseResting (setting_by given) (record { journal = room.journal; network = mid; outlet = room.outlet }) ∥₁
 roomed_rests given old room mid journal roomed waiting drained stands rests =
     ∥∥₁_map rests (still_rests (setting_by given) old
