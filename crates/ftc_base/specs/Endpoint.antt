@@ -11,7 +11,7 @@ use Rattle.ftc_base.specs.declared.network.Net.{Net}
 
 -- the parts of a word round each separator
 abbrev pub parts_of : ℕ → List ℕ → List (List ℕ)
-parts_of separator word = slice_split (λ b. b == separator) word
+parts_of separator word = slice_split (λ byte. byte == separator) word
 
 -- the next part of an address is a number up to 255
 abbrev pub with_octet : Result ℕ Lexical → Result ℕ Lexical → Result ℕ Lexical
@@ -20,9 +20,9 @@ with_octet (Ok high) (Err fault) = Err NotAddress
 with_octet (Err fault) low = Err NotAddress
 
 abbrev pub address_in : List (List ℕ) → Result ℕ Lexical
-address_in (a ∷ b ∷ c ∷ d ∷ []) =
-    with_octet (with_octet (with_octet (with_octet (Ok 0) (number_of a 255)) (number_of b 255)) (number_of c 255))
-    (number_of d 255)
+address_in (first ∷ second ∷ third ∷ fourth ∷ []) =
+    with_octet (with_octet (with_octet (with_octet (Ok 0) (number_of first 255)) (number_of second 255))
+    (number_of third 255)) (number_of fourth 255)
 address_in parts = Err NotAddress
 
 -- four numbers up to 255 with dots between them

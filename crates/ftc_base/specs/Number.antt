@@ -6,18 +6,18 @@ use Rattle.ftc_base.specs.declared.lexer.Lexical.{Lexical}
 use Rattle.ftc_base.specs.declared.lexer.Lexical.TheVariants.{NotNumber, TooLarge}
 
 abbrev pub is_digit : ℕ → Bool
-is_digit b = nat_le 48 b && nat_le b 57
+is_digit byte = nat_le 48 byte && nat_le byte 57
 
 -- decimal digits without a leading zero, or 0
 abbrev pub is_numeral : List ℕ → Bool
 is_numeral [] = false
-is_numeral (b ∷ []) = is_digit b
-is_numeral (b ∷ c ∷ bs) = not (b == 48) && list_all is_digit (b ∷ c ∷ bs)
+is_numeral (byte ∷ []) = is_digit byte
+is_numeral (byte ∷ next ∷ bytes) = not (byte == 48) && list_all is_digit (byte ∷ next ∷ bytes)
 
--- the worth of digits behind those that are worth n
+-- the worth of digits behind those that are worth so much
 abbrev pub decimal_from : ℕ → List ℕ → ℕ
-decimal_from n [] = n
-decimal_from n (d ∷ ds) = decimal_from (10 * n + (d - 48)) ds
+decimal_from worth [] = worth
+decimal_from worth (digit ∷ digits) = decimal_from (10 * worth + (digit - 48)) digits
 
 -- the number of a word, where it is at most `most`
 abbrev pub number_of : List ℕ → ℕ → Result ℕ Lexical

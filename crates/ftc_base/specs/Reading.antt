@@ -19,4 +19,4 @@ unless passed fault = if passed then Ok tt else Err fault
 
 -- the function with another value at one place
 abbrev pub with_at : {A : Type 0} → (ℕ → A) → ℕ → A → ℕ → A
-with_at f place value other = if other == place then value else f other
+with_at values place value other = if other == place then value else values other

@@ -68,7 +68,7 @@ fn blanks_end(line: &[u8], from: usize) -> usize
     requires { from ≤ length line.now }
     ensures after { from ≤ result }
     ensures within { result ≤ length line.now }
-    ensures blanks { All (λ b. is_blank b ≡ true) (slice_range line.now from result) }
+    ensures blanks { All (λ byte. is_blank byte ≡ true) (slice_range line.now from result) }
     ensures ended { result < length line.now → is_blank (slice_index line.now result) ≡ false }
 {
     match line[from..].iter().position(|b| !is_blank(*b)) {
@@ -82,7 +82,7 @@ fn letters_end(line: &[u8], from: usize) -> usize
     requires { from ≤ length line.now }
     ensures after { from ≤ result }
     ensures within { result ≤ length line.now }
-    ensures letters { All (λ b. is_blank b ≡ false) (slice_range line.now from result) }
+    ensures letters { All (λ byte. is_blank byte ≡ false) (slice_range line.now from result) }
     ensures ended { result < length line.now → is_blank (slice_index line.now result) ≡ true }
 {
     match line[from..].iter().position(|b| is_blank(*b)) {
@@ -94,7 +94,7 @@ fn letters_end(line: &[u8], from: usize) -> usize
 /// The first word at or after `from`, and None where no word is left.
 pub fn word_at(line: &[u8], from: usize) -> Option<Word>
     requires { from ≤ length line.now }
-    ensures none { IfNone result (All (λ b. is_blank b ≡ true) (drop from line.now)) }
+    ensures none { IfNone result (All (λ byte. is_blank byte ≡ true) (drop from line.now)) }
     ensures word { IfSome result (IsWord line.now from) }
 {
     let start = blanks_end(line, from);

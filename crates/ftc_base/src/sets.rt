@@ -229,5 +229,5 @@ impl WorkerSet {
 
 /// Two sets with the same members are equal.
 pub fn same_members()
-    ensures { (a b : ℕ) → ((member : ℕ) → has a member ≡ has b member) → a ≡ b }
+    ensures { (one other : ℕ) → ((member : ℕ) → has one member ≡ has other member) → one ≡ other }
 {}

@@ -76,7 +76,7 @@ pub fn split_word(line: &[u8]) -> Option<(&[u8], &[u8])>
 
 /// How many bytes stand before the first separator: all of them, where there is none.
 pub fn part_len(word: &[u8], separator: u8) -> usize
-    ensures length { result ≡ position_or_len (λ b. b == separator) word.now }
+    ensures length { result ≡ position_or_len (λ byte. byte == separator) word.now }
     ensures within { result ≤ length word.now }
 {
     for (i, b) in word.iter().enumerate() {

@@ -19,46 +19,49 @@ use Rattle.ftc_check.specs.Verdict.{IsWhole, IsVerdict}
 use Rattle.ftc_protocol.specs.Whole.{ReleasedVisited}
 
 abbrev pub DifferencesAreOne : Type 0
-DifferencesAreOne = (a b : List ℕ) (place other : ℕ) → IsFirstDifference a b place → IsFirstDifference a b other →
-    place ≡ other
+DifferencesAreOne = (one another : List ℕ) (place other : ℕ) → IsFirstDifference one another place →
+    IsFirstDifference one another other → place ≡ other
 
 abbrev pub FrontsAreOne : Type 0
 FrontsAreOne = (text front other : List ℕ) → IsWithoutTaps text front → IsWithoutTaps text other → front ≡ other
 
 abbrev pub VerdictsAreOne : Type 0
 VerdictsAreOne =
-    (c : Setting) (capture : Capture) (out : List ℕ) (journal : List Event) (report : List ℕ) (verdict other : Checked)
-    → IsVerdict c capture out journal report verdict → IsVerdict c capture out journal report other → verdict ≡ other
+    (setting : Setting) (capture : Capture) (out : List ℕ) (journal : List Event) (report : List ℕ)
+    (verdict other : Checked) → IsVerdict setting capture out journal report verdict →
+    IsVerdict setting capture out journal report other → verdict ≡ other
 
 -- a report without the lines of its taps is that which is written without taps
 abbrev pub OwnReportsStay : Type 0
 OwnReportsStay =
-    (c : Setting) (journal : List Event) (lines : List (List ℕ)) → AllByRecursion HasNoFeed lines →
-    IsWithoutTaps (report_of c journal lines) (report_of c journal [])
+    (setting : Setting) (journal : List Event) (lines : List (List ℕ)) → AllByRecursion HasNoFeed lines →
+    IsWithoutTaps (report_of setting journal lines) (report_of setting journal [])
 
 -- the OUT and the report of a finished run are right beside its journal, whatever its taps say
 abbrev pub WholeRunsAreRight : Type 0
 WholeRunsAreRight =
-    (c : Setting) (capture : Capture) (journal : List Event) (end : State)
-    (lines : List (List ℕ)) → AllByRecursion HasNoFeed lines → IsWhole c journal end →
-    IsVerdict c capture (out_bytes capture end.released) journal (report_of c journal lines) Yes
+    (setting : Setting) (capture : Capture) (journal : List Event) (end : State)
+    (lines : List (List ℕ)) → AllByRecursion HasNoFeed lines → IsWhole setting journal end →
+    IsVerdict setting capture (out_bytes capture end.released) journal (report_of setting journal lines) Yes
 
 -- and no other verdict says so of them
 abbrev pub WholeRunsAreOnlyRight : Type 0
 WholeRunsAreOnlyRight =
-    (c : Setting) (capture : Capture) (journal : List Event) (end : State) (lines : List (List ℕ)) (verdict : Checked)
-    → AllByRecursion HasNoFeed lines → IsWhole c journal end →
-    IsVerdict c capture (out_bytes capture end.released) journal (report_of c journal lines) verdict → verdict ≡ Yes
+    (setting : Setting) (capture : Capture) (journal : List Event) (end : State) (lines : List (List ℕ))
+    (verdict : Checked) → AllByRecursion HasNoFeed lines → IsWhole setting journal end →
+    IsVerdict setting capture (out_bytes capture end.released) journal (report_of setting journal lines) verdict →
+    verdict ≡ Yes
 
 -- in a run whose files are right each released packet has visited all middleboxes, and none of these visits was undone
 abbrev pub RightRunsAreVisited : Type 0
 RightRunsAreVisited =
-    (c : Setting) → IsSetting c → (capture : Capture) (out : List ℕ) (journal : List Event) (report : List ℕ)
-    → IsVerdict c capture out journal report Yes → ∥ ReleasedVisited (servers c) journal ∥₁
+    (setting : Setting) → IsSetting setting → (capture : Capture) (out : List ℕ) (journal : List Event)
+    (report : List ℕ) → IsVerdict setting capture out journal report Yes →
+    ∥ ReleasedVisited (servers setting) journal ∥₁
 
 -- and each packet was released, filtered or lost
 abbrev pub RightRunsAreSettled : Type 0
 RightRunsAreSettled =
-    (c : Setting) → IsSetting c → (capture : Capture) (out : List ℕ) (journal : List Event) (report : List ℕ)
-    → IsVerdict c capture out journal report Yes → (packet : ℕ) → packet < count c →
-    (state_after c (opening c) journal).fate packet ≢ became.Inside
+    (setting : Setting) → IsSetting setting → (capture : Capture) (out : List ℕ) (journal : List Event)
+    (report : List ℕ) → IsVerdict setting capture out journal report Yes → (packet : ℕ) → packet < count setting →
+    (state_after setting (opening setting) journal).fate packet ≢ became.Inside

@@ -16,7 +16,7 @@ use Rattle.ftc_conf.specs.declared.ports.PortRange.{PortRange}
 
 -- the bytes of lines that say something: those that can be seen, space, tab and carriage return
 abbrev pub is_text_byte : ℕ → Bool
-is_text_byte b = (nat_le 32 b && nat_le b 126) || b == 9 || b == 13
+is_text_byte byte = (nat_le 32 byte && nat_le byte 126) || byte == 9 || byte == 13
 
 -- a word that has to stand just so
 abbrev pub fixed : List ℕ → List ℕ → Result (Unit {0}) ChainCause
@@ -53,13 +53,13 @@ net_word word = as_address (net_of word)
 
 -- what stands before the first separator, and what stands behind it: nothing, where there is none
 abbrev pub part_before : ℕ → List ℕ → List ℕ
-part_before separator word = before_first (λ b. b == separator) word
+part_before separator word = before_first (λ byte. byte == separator) word
 
 abbrev pub part_behind : ℕ → List ℕ → List ℕ
-part_behind separator word = after_first (λ b. b == separator) word
+part_behind separator word = after_first (λ byte. byte == separator) word
 
 abbrev pub has_byte : ℕ → List ℕ → Bool
-has_byte byte word = list_any (λ b. b == byte) word
+has_byte byte word = list_any (λ other. other == byte) word
 
 -- ports from the first to the last: least ≤ first at the first, first ≤ last ≤ 65535 at the last
 abbrev pub ports_between : ℕ → List ℕ → List ℕ → Result PortRange ChainCause

@@ -46,8 +46,8 @@ figures_of (word ∷ words) = figure_of word >>= λ figure. figures_of words >>=
 
 -- a visit, as `J:P`
 abbrev pub name_of : List (List ℕ) → Result NameFigures JournalCause
-name_of (server ∷ packet ∷ []) = figure_of server >>= λ j. figure_of packet >>= λ p.
-    Ok (record { server = j; packet = p })
+name_of (first ∷ second ∷ []) = figure_of first >>= λ server. figure_of second >>= λ packet.
+    Ok (record { server = server; packet = packet })
 name_of parts = Err Word
 
 abbrev pub names_of : List (List ℕ) → Result (List NameFigures) JournalCause
@@ -124,19 +124,19 @@ apply_in version first second third fourth =
 
 -- a form has just so many numbers
 abbrev pub single_of : Version → Single → List (Option ℕ) → Result Event JournalCause
-single_of version kind (a ∷ []) = single_in version kind a
+single_of version kind (figure ∷ []) = single_in version kind figure
 single_of version kind figures = Err Word
 
 abbrev pub double_of : Version → Double → List (Option ℕ) → Result Event JournalCause
-double_of version kind (a ∷ b ∷ []) = double_in version kind a b
+double_of version kind (first ∷ second ∷ []) = double_in version kind first second
 double_of version kind figures = Err Word
 
 abbrev pub visit_of : Version → List (Option ℕ) → Result Event JournalCause
-visit_of version (a ∷ b ∷ c ∷ []) = visit_in version a b c
+visit_of version (first ∷ second ∷ third ∷ []) = visit_in version first second third
 visit_of version figures = Err Word
 
 abbrev pub apply_of : Version → List (Option ℕ) → Result Event JournalCause
-apply_of version (a ∷ b ∷ c ∷ d ∷ []) = apply_in version a b c d
+apply_of version (first ∷ second ∷ third ∷ fourth ∷ []) = apply_in version first second third fourth
 apply_of version figures = Err Word
 
 abbrev pub recovery : Version → Option ℕ → List NameFigures → Result Event JournalCause

@@ -65,8 +65,8 @@ pub record IsLockTable (locks : Locks) : Type 0 where
       holds locks worker partition ≡ true
   pub alone : (worker other partition : ℕ) → holds_exclusively locks worker partition ≡ true →
       holds locks other partition ≡ true → other ≡ worker
-  pub ages : (worker other p q : ℕ) → worker ≢ other → holds locks worker p ≡ true → holds locks other q ≡ true →
-      age_of locks worker ≢ age_of locks other
+  pub ages : (worker other one another : ℕ) → worker ≢ other → holds locks worker one ≡ true →
+      holds locks other another ≡ true → age_of locks worker ≢ age_of locks other
 
 -- whoever holds a partition is in the set; the list has, for each worker, the set of the partitions that it holds
 abbrev pub AreBusy : ℕ → List ℕ → Type 0

@@ -167,13 +167,13 @@ impl LockTable {
     fn grant(&mut self, worker: WorkerId, age: u64, partition: u8, change: bool)
         requires within { partition < self.old.partitions }
         requires free { (other : ℕ) → conflicts self.old worker partition change other ≡ false }
-        requires age_differs { (other p : ℕ) → other ≢ worker → holds self.old other p ≡ true →
+        requires age_differs { (other held : ℕ) → other ≢ worker → holds self.old other held ≡ true →
             age_of self.old other ≢ age }
         ensures held { holds self.new worker partition ≡ true }
         ensures exclusive { holds_exclusively self.new worker partition
             ≡ (change || holds_exclusively self.old worker partition) }
         ensures age { age_of self.new worker ≡ age }
-        ensures own { (p : ℕ) → p ≢ partition → SameHolding self.old self.new worker p }
+        ensures own { (other : ℕ) → other ≢ partition → SameHolding self.old self.new worker other }
         ensures others { (other : ℕ) → other ≢ worker → SameHoldings self.old self.new other }
         ensures partitions { self.new.partitions ≡ self.old.partitions }
     {
@@ -191,9 +191,9 @@ impl LockTable {
     /// the way blocks it; those that are younger and in the way give way.
     pub fn acquire(&mut self, worker: WorkerId, age: u64, partition: u8, change: bool) -> Acquired
         requires within { partition < self.old.partitions }
-        requires age_differs { (other p : ℕ) → other ≢ worker → holds self.old other p ≡ true →
+        requires age_differs { (other held : ℕ) → other ≢ worker → holds self.old other held ≡ true →
             age_of self.old other ≢ age }
-        requires age_stays { (p : ℕ) → holds self.old worker p ≡ true → age_of self.old worker ≡ age }
+        requires age_stays { (held : ℕ) → holds self.old worker held ≡ true → age_of self.old worker ≡ age }
 
         ensures blocked { IfBlocked result (IsOldestInTheWay self.old worker age partition change) }
         ensures unchanged { IfBlocked result (λ _. self.new ≡ self.old) }
@@ -210,7 +210,7 @@ impl LockTable {
             ≡ (change || holds_exclusively self.old worker partition)) }
         ensures age { OnGranted result (age_of self.new worker ≡ age) }
 
-        ensures own { OnGranted result ((p : ℕ) → p ≢ partition → SameHolding self.old self.new worker p) }
+        ensures own { OnGranted result ((other : ℕ) → other ≢ partition → SameHolding self.old self.new worker other) }
         ensures others { IfGranted result (λ wounded. (other : ℕ) →
             other ≢ worker → has wounded other ≡ false → SameHoldings self.old self.new other) }
         ensures partitions { self.new.partitions ≡ self.old.partitions }

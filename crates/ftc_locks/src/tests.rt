@@ -14,7 +14,7 @@ fn worker(rt: &impl Abort, number: u8) -> WorkerId
 /// A table of four partitions, which nobody holds.
 fn empty() -> LockTable
     ensures partitions { result.partitions ≡ 4 }
-    ensures ages { (w p : ℕ) → holds result w p ≡ true → age_of result w + 1 ≡ w }
+    ensures ages { (worker partition : ℕ) → holds result worker partition ≡ true → age_of result worker + 1 ≡ worker }
 {
     LockTable::new(4)
 }
@@ -23,9 +23,11 @@ fn empty() -> LockTable
 fn ask(rt: &impl Abort, table: &mut LockTable, number: u8, partition: u8, change: bool) -> Acquired
     requires number { 1 ≤ number }
     requires partition { partition < table.old.partitions }
-    requires ages { (w p : ℕ) → holds table.old w p ≡ true → age_of table.old w + 1 ≡ w }
+    requires ages { (worker partition : ℕ) → holds table.old worker partition ≡ true →
+        age_of table.old worker + 1 ≡ worker }
     ensures partitions { table.new.partitions ≡ table.old.partitions }
-    ensures ages { (w p : ℕ) → holds table.new w p ≡ true → age_of table.new w + 1 ≡ w }
+    ensures ages { (worker partition : ℕ) → holds table.new worker partition ≡ true →
+        age_of table.new worker + 1 ≡ worker }
 {
     let asking = worker(rt, number);
     table.acquire(asking, u64::from(number - 1), partition, change)
@@ -33,9 +35,10 @@ fn ask(rt: &impl Abort, table: &mut LockTable, number: u8, partition: u8, change
 
 /// A worker gives up what it holds.
 fn leave(rt: &impl Abort, table: &mut LockTable, number: u8)
-    requires { (w p : ℕ) → holds table.old w p ≡ true → age_of table.old w + 1 ≡ w }
+    requires { (worker partition : ℕ) → holds table.old worker partition ≡ true → age_of table.old worker + 1 ≡ worker }
     ensures partitions { table.new.partitions ≡ table.old.partitions }
-    ensures ages { (w p : ℕ) → holds table.new w p ≡ true → age_of table.new w + 1 ≡ w }
+    ensures ages { (worker partition : ℕ) → holds table.new worker partition ≡ true →
+        age_of table.new worker + 1 ≡ worker }
 {
     table.free_all(worker(rt, number));
 }

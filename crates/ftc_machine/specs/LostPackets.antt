@@ -23,8 +23,8 @@ fate_lost lost event fate = if lost then Some (Lost event) else fate
 
 -- a server holds it, or it is queued to that server
 abbrev pub is_kept_at : ℕ → ℕ → Place → Bool
-is_kept_at n server (Held other visited by_ring) = other == server
-is_kept_at n server (Queued link known) = next_of n link == server
+is_kept_at count server (Held other visited by_ring) = other == server
+is_kept_at count server (Queued link known) = next_of count link == server
 
 -- the middlebox of that server dropped the packet
 abbrev pub was_filtered : ℕ → Fate → Bool

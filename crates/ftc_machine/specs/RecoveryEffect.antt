@@ -107,4 +107,4 @@ is_dropped_kept machine following message = is_dropped_from machine following me
 
 -- the links into a server and out of it get gaps
 abbrev pub gaps_through : ℕ → (ℕ → Bool) → ℕ → ℕ → Bool
-gaps_through n gap server link = gap link || (link == server) || (next_of n link == server)
+gaps_through count gap server link = gap link || (link == server) || (next_of count link == server)

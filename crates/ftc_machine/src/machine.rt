@@ -42,16 +42,16 @@ impl<'a> Model for Machine<'a> {
 
     ghost Value = { RunSoFar };
 
-    ghost view = { λ m. record {
-      chain = m.spec.now;
-      packets = bytes_of_packets m.packets.now;
-      script = m.script.now;
+    ghost view = { λ machine. record {
+      chain = machine.spec.now;
+      packets = bytes_of_packets machine.packets.now;
+      script = machine.script.now;
       journal =
-          m.journal.items;
+          machine.journal.items;
     } };
 
-    ghost invariant = { λ m. ∥ IsRunSoFar (setting_of m.spec.now
-        (bytes_of_packets m.packets.now) m.script.now) m.journal.items m.kept ∥₁ };
+    ghost invariant = { λ machine. ∥ IsRunSoFar (setting_of machine.spec.now
+        (bytes_of_packets machine.packets.now) machine.script.now) machine.journal.items machine.kept ∥₁ };
 }
 
 impl<'a> Machine<'a> {

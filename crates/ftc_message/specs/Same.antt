@@ -8,20 +8,21 @@ use Rattle.ftc_message.specs.declared.message.Message.{Message}
 use Rattle.ftc_message.specs.Logged.{Logged}
 
 abbrev pub same_marks : List (Option ℕ) → List (Option ℕ) → Bool
-same_marks a b = pointwise (option_eq nat_eq) a b
+same_marks one other = pointwise (option_eq nat_eq) one other
 
 abbrev pub same_write : Write → Write → Bool
-same_write a b = pointwise nat_eq a.key b.key && option_eq (pointwise nat_eq) a.value b.value
+same_write one other = pointwise nat_eq one.key other.key && option_eq (pointwise nat_eq) one.value other.value
 
 abbrev pub same_log : Logged → Logged → Bool
-same_log a b =
-    a.group == b.group && (a.origin == b.origin && (same_marks a.before b.before
-    && (a.changed == b.changed && pointwise same_write a.writes b.writes)))
+same_log one other =
+    one.group == other.group && (one.origin == other.origin && (same_marks one.before other.before
+    && (one.changed == other.changed && pointwise same_write one.writes other.writes)))
 
 abbrev pub same_need : Need → Need → Bool
-same_need a b = a.group == b.group && same_marks a.marks b.marks
+same_need one other = one.group == other.group && same_marks one.marks other.marks
 
 abbrev pub same_message : Message → Message → Bool
-same_message a b =
-    a.origin == b.origin && (option_eq (pointwise nat_eq) a.packet b.packet && (pointwise same_log a.logs b.logs
-    && (pointwise same_need a.needs b.needs && pointwise (pointwise nat_eq) a.commits b.commits)))
+same_message one other =
+    one.origin == other.origin && (option_eq (pointwise nat_eq) one.packet other.packet
+    && (pointwise same_log one.logs other.logs && (pointwise same_need one.needs other.needs
+    && pointwise (pointwise nat_eq) one.commits other.commits)))

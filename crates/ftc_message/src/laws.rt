@@ -20,10 +20,10 @@ use crate::need::Need;
 
 /// The bytes of a number are those that it was read from, and it is read again from its bytes.
 pub fn numbers()
-    ensures four { (bytes : List ℕ) → length bytes ≡ 4 → ((i : ℕ) → slice_index bytes i < 256) →
+    ensures four { (bytes : List ℕ) → length bytes ≡ 4 → ((place : ℕ) → slice_index bytes place < 256) →
         number_bytes 4 (number_of 4 bytes) ≡ bytes }
     ensures four_again { (number : ℕ) → number < 2 ^ 32 → number_of 4 (number_bytes 4 number) ≡ number }
-    ensures eight { (bytes : List ℕ) → length bytes ≡ 8 → ((i : ℕ) → slice_index bytes i < 256) →
+    ensures eight { (bytes : List ℕ) → length bytes ≡ 8 → ((place : ℕ) → slice_index bytes place < 256) →
         number_bytes 8 (number_of 8 bytes) ≡ bytes }
     ensures eight_again { (number : ℕ) → number < 2 ^ 64 → number_of 8 (number_bytes 8 number) ≡ number }
 {}

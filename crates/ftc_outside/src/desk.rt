@@ -22,7 +22,7 @@ pub enum DeskError {
 }
 
 impl From<NoMemory> for DeskError {
-    ghost from_gives = { λ _ e. e ≡ error.NoMemory };
+    ghost from_gives = { λ _ found. found ≡ error.NoMemory };
 
     fn from(_error: NoMemory) -> DeskError {
         DeskError::NoMemory
@@ -30,7 +30,7 @@ impl From<NoMemory> for DeskError {
 }
 
 impl From<AllocError> for DeskError {
-    ghost from_gives = { λ _ e. e ≡ error.NoMemory };
+    ghost from_gives = { λ _ found. found ≡ error.NoMemory };
 
     fn from(_error: AllocError) -> DeskError {
         DeskError::NoMemory
@@ -38,7 +38,7 @@ impl From<AllocError> for DeskError {
 }
 
 impl<T: Drop> From<AllocFailed<T>> for DeskError {
-    ghost from_gives = { λ _ e. e ≡ error.NoMemory };
+    ghost from_gives = { λ _ found. found ≡ error.NoMemory };
 
     fn from(_error: AllocFailed<T>) -> DeskError {
         DeskError::NoMemory

@@ -6,7 +6,7 @@ use Rattle.ftc_packet.specs.declared.layout.TheConstants.{UDP_CHECKSUM}
 
 -- The items of the list are bytes.
 abbrev pub AreBytes : List ℕ → Type 0
-AreBytes bytes = (k : ℕ) → slice_index bytes k < 256
+AreBytes bytes = (place : ℕ) → slice_index bytes place < 256
 
 -- The word of 16 bits at a place, the first byte high.
 unfoldable pub word_at : List ℕ → ℕ → ℕ

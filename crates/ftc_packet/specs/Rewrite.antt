@@ -64,20 +64,20 @@ with_source bytes address port = with_end bytes Source address port
 abbrev pub with_destination : List ℕ → ℕ → ℕ → List ℕ
 with_destination bytes address port = with_end bytes Destination address port
 
--- The place k is none of the `count` bytes from the place `at` on.
+-- The place is none of the `count` bytes from the place `at` on.
 abbrev pub IsOutside : ℕ → ℕ → ℕ → Type 0
-IsOutside at count k = (k < at) ⊎ (at + count ≤ k)
+IsOutside at count place = (place < at) ⊎ (at + count ≤ place)
 
--- The place k holds nothing of the end's address, of its port or of either checksum.
-pub record IsBeyondEnd (bytes : List ℕ) (end : End) (k : ℕ) : Type 0 where
-  pub address : IsOutside (address_place end) 4 k
-  pub header_checksum : IsOutside IPV4_CHECKSUM 2 k
-  pub port : IsOutside (transport_start bytes + port_place end) 2 k
-  pub transport_checksum : IsOutside (transport_start bytes + checksum_place (protocol_of bytes)) 2 k
+-- The place holds nothing of the end's address, of its port or of either checksum.
+pub record IsBeyondEnd (bytes : List ℕ) (end : End) (place : ℕ) : Type 0 where
+  pub address : IsOutside (address_place end) 4 place
+  pub header_checksum : IsOutside IPV4_CHECKSUM 2 place
+  pub port : IsOutside (transport_start bytes + port_place end) 2 place
+  pub transport_checksum : IsOutside (transport_start bytes + checksum_place (protocol_of bytes)) 2 place
 
 -- Every byte beyond the end and the checksums is as it was.
 abbrev pub ChangesOnlyEnd : End → List ℕ → List ℕ → Type 0
-ChangesOnlyEnd end old new = (k : ℕ) → IsBeyondEnd old end k → slice_index new k ≡ slice_index old k
+ChangesOnlyEnd end old new = (place : ℕ) → IsBeyondEnd old end place → slice_index new place ≡ slice_index old place
 
 -- Every byte is as it was but those of the source's address and port and of the checksums.
 abbrev pub ChangesOnlySource : List ℕ → List ℕ → Type 0

@@ -16,8 +16,8 @@ use Rattle.ftc_pcap.specs.declared.capture.CaptureFault.{CaptureFault}
 
 -- the four bytes of a number
 unfoldable pub number_bytes : Bool → ℕ → List ℕ
-number_bytes true n = big_bytes 4 n
-number_bytes false n = little_bytes 4 n
+number_bytes true number = big_bytes 4 number
+number_bytes false number = little_bytes 4 number
 
 -- the number in the first four bytes
 unfoldable pub number_of : Bool → List ℕ → ℕ
@@ -31,7 +31,7 @@ short_of false bytes = little_number 2 bytes
 
 -- the magic numbers of stamps in microseconds and in nanoseconds
 abbrev pub is_magic : ℕ → Bool
-is_magic n = n == 0xa1b2c3d4 || n == 0xa1b23c4d
+is_magic number = number == 0xa1b2c3d4 || number == 0xa1b23c4d
 
 -- the byte order in which the first four bytes are a magic number
 abbrev pub magic_order : List ℕ → Option Bool
@@ -54,7 +54,8 @@ head_bytes big seconds fraction captured original =
 
 -- the head, and then the captured bytes
 abbrev pub record_bytes : Bool → Packet → List ℕ
-record_bytes big p = head_bytes big p.seconds p.fraction (length p.bytes) p.original ++ p.bytes
+record_bytes big packet =
+    head_bytes big packet.seconds packet.fraction (length packet.bytes) packet.original ++ packet.bytes
 
 -- the records of the packets, one after another
 abbrev pub records : Bool → List Packet → List ℕ
@@ -62,18 +63,18 @@ records big packets = flat_map (record_bytes big) packets
 
 -- the packet with other bytes
 abbrev pub rewritten : Packet → List ℕ → Packet
-rewritten p bytes = record p { bytes = bytes }
+rewritten packet bytes = record packet { bytes = bytes }
 
 -- the header, and then the records
 abbrev pub capture_bytes : Capture → List ℕ
 capture_bytes capture = capture.header ++ records capture.big capture.packets
 
 -- numbers of 32 bits, and at most so many captured bytes, whatever the original length
-pub record IsPacket (p : Packet) : Type 0 where
-  pub seconds : p.seconds < 2 ^ 32
-  pub fraction : p.fraction < 2 ^ 32
-  pub original : p.original < 2 ^ 32
-  pub captured : length p.bytes ≤ MOST_CAPTURED
+pub record IsPacket (packet : Packet) : Type 0 where
+  pub seconds : packet.seconds < 2 ^ 32
+  pub fraction : packet.fraction < 2 ^ 32
+  pub original : packet.original < 2 ^ 32
+  pub captured : length packet.bytes ≤ MOST_CAPTURED
 
 -- a right header, and packets in their bounds
 pub record IsCapture (capture : Capture) : Type 0 where

@@ -7,4 +7,4 @@ use Rattle.ftc_pcap.specs.declared.packets.Packet.{Packet}
 -- at most MOST_RECORDS packets, of at most MOST_CAPTURED captured bytes each
 pub record ArePackets (packets : List Packet) : Type 0 where
   pub few : length packets ≤ MOST_RECORDS
-  pub short : AllByRecursion (λ p. length p.bytes ≤ MOST_CAPTURED) packets
+  pub short : AllByRecursion (λ packet. length packet.bytes ≤ MOST_CAPTURED) packets

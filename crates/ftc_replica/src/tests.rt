@@ -25,7 +25,7 @@ fn marks(partition: u8, number: u64) -> Marks
 /// The set of one partition.
 fn only(partition: u8) -> PartSet
     requires { partition < MOST_PARTITIONS }
-    ensures { (p : ℕ) → has result p ≡ true → p ≡ partition }
+    ensures { (other : ℕ) → has result other ≡ true → other ≡ partition }
 {
     PartSet::new().with(partition)
 }
@@ -34,7 +34,7 @@ fn only(partition: u8) -> PartSet
 /// number at a key.
 fn log(origin: u8, partition: u8, number: u64) -> Log
     requires { partition < MOST_PARTITIONS }
-    ensures { (p : ℕ) → has result.changed p ≡ true → p ≡ partition }
+    ensures { (other : ℕ) → has result.changed other ≡ true → other ≡ partition }
 {
     let mut writes = Writes::new();
     writes.push(Write {
@@ -54,7 +54,7 @@ fn log(origin: u8, partition: u8, number: u64) -> Log
 /// Applies a log that changes one partition, where it is ready.
 fn apply(replica: &mut Replica, partition: u8, log: &Log) -> Result<bool, NoMemory>
     requires within { partition < MOST_PARTITIONS }
-    requires only { (p : ℕ) → has log.now.changed p ≡ true → p ≡ partition }
+    requires only { (other : ℕ) → has log.now.changed other ≡ true → other ≡ partition }
 {
     if !replica.ready(log) || replica.vector().at(partition) == u64::MAX {
         return Ok(false);

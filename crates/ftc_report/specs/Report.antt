@@ -10,5 +10,6 @@ use Rattle.ftc_report.specs.Contents.{contents_after}
 
 -- the report over the state after the journal, the maps of the serial run of its trace, and the lines of the taps
 abbrev pub report_of : Setting → List Event → List (List ℕ) → List ℕ
-report_of c journal taps =
-    report_text (fates_in c (state_after c (opening c) journal)) (contents_after c.rules c.packets journal) taps
+report_of setting journal taps =
+    report_text (fates_in setting (state_after setting (opening setting) journal))
+    (contents_after setting.rules setting.packets journal) taps

@@ -46,23 +46,25 @@ pub record IsFirstGone (ring : RingShape) (live : ℕ → Bool) (group : ℕ) : 
   pub gone : IsGone ring live group
   pub smallest : (other : ℕ) → other < group → HasLive ring live other
 
--- the other live server from which the fewest links lead to a server, in a ring of n
-pub record IsLiveBefore (n : ℕ) (live : ℕ → Bool) (server before : ℕ) : Type 0 where
-  pub within : before < n
+-- the other live server from which the fewest links lead to a server, in a ring of so many
+pub record IsLiveBefore (count : ℕ) (live : ℕ → Bool) (server before : ℕ) : Type 0 where
+  pub within : before < count
   pub other : before ≢ server
   pub up : IsLive live before
-  pub nearest : (k : ℕ) → k < n → k ≢ server → IsLive live k → apart n before server ≤ apart n k server
+  pub nearest : (third : ℕ) → third < count → third ≢ server → IsLive live third →
+      apart count before server ≤ apart count third server
 
 -- the other live server to which the fewest links lead from a server
-pub record IsLiveAfter (n : ℕ) (live : ℕ → Bool) (server after : ℕ) : Type 0 where
-  pub within : after < n
+pub record IsLiveAfter (count : ℕ) (live : ℕ → Bool) (server after : ℕ) : Type 0 where
+  pub within : after < count
   pub other : after ≢ server
   pub up : IsLive live after
-  pub nearest : (k : ℕ) → k < n → k ≢ server → IsLive live k → apart n server after ≤ apart n server k
+  pub nearest : (third : ℕ) → third < count → third ≢ server → IsLive live third →
+      apart count server after ≤ apart count server third
 
 -- all servers but one are down
 abbrev pub IsAlone : ℕ → (ℕ → Bool) → ℕ → Type 0
-IsAlone n live server = (k : ℕ) → k < n → k ≢ server → IsDown live k
+IsAlone count live server = (other : ℕ) → other < count → other ≢ server → IsDown live other
 
 -- the same as functions that compute, with None where there is no such server or group
 abbrev pub first_live_of : RingShape → (ℕ → Bool) → ℕ → Option ℕ
@@ -72,31 +74,32 @@ abbrev pub gone_of : RingShape → (ℕ → Bool) → Option ℕ
 gone_of ring live = find (λ group. is_none (first_live_of ring live group)) (range_with_len 0 ring.servers)
 
 abbrev pub live_before_of : ℕ → (ℕ → Bool) → ℕ → Option ℕ
-live_before_of n live server = find live (against n (n - 1) (previous_of n server))
+live_before_of count live server = find live (against count (count - 1) (previous_of count server))
 
 abbrev pub live_after_of : ℕ → (ℕ → Bool) → ℕ → Option ℕ
-live_after_of n live server = find live (along n (n - 1) (next_of n server))
+live_after_of count live server = find live (along count (count - 1) (next_of count server))
 
 -- from which of the two nearest live servers a new server gets the list of a group: from the one before it where the
 -- group's head lies from the first head of its groups up to that server, and from the one after it where the head lies
 -- behind that server
 abbrev pub source_between : ℕ → ℕ → ℕ → ℕ → ℕ → ℕ
-source_between n before after group server =
-    if nat_le (apart n before server) (apart n group server) then before else after
+source_between count before after group server =
+    if nat_le (apart count before server) (apart count group server) then before else after
 
 abbrev pub source_in : ℕ → ℕ → ℕ → Option ℕ → Option ℕ → Option ℕ
-source_in n group server (Some before) (Some after) = Some (source_between n before after group server)
-source_in n group server (Some before) None = None
-source_in n group server None after = None
+source_in count group server (Some before) (Some after) = Some (source_between count before after group server)
+source_in count group server (Some before) None = None
+source_in count group server None after = None
 
 abbrev pub source_of : ℕ → (ℕ → Bool) → ℕ → ℕ → Option ℕ
-source_of n live group server = source_in n group server (live_before_of n live server) (live_after_of n live server)
+source_of count live group server =
+    source_in count group server (live_before_of count live server) (live_after_of count live server)
 
 -- how many links lead from the live server before to the live server after: once round the ring where they are the same
 abbrev pub span : ℕ → ℕ → ℕ → ℕ
-span n before after = if before == after then n else apart n before after
+span count before after = if before == after then count else apart count before after
 
 -- a server lies strictly between the two: where they are the same, every other server does
-pub record IsBetween (n before after server : ℕ) : Type 0 where
-  pub behind : 0 < apart n before server
-  pub ahead : apart n before server < span n before after
+pub record IsBetween (count before after server : ℕ) : Type 0 where
+  pub behind : 0 < apart count before server
+  pub ahead : apart count before server < span count before after

@@ -13,9 +13,9 @@ pub record IsRing (ring : RingShape) : Type 0 where
   pub servers : ring.servers ≤ MOST_SERVERS
   pub failures : ring.failures < ring.servers
 
--- how many links lead from server a to server b, in a ring of n
+-- how many links lead from a server to another, in a ring of so many
 abbrev pub apart : ℕ → ℕ → ℕ → ℕ
-apart n a b = if nat_le a b then b - a else b + n - a
+apart count from to = if nat_le from to then to - from else to + count - from
 
 -- a server is a member of a group where at most f links lead to it from the group's head
 abbrev pub IsMember : RingShape → ℕ → ℕ → Type 0
@@ -23,10 +23,10 @@ IsMember ring group server = apart ring.servers group server ≤ ring.failures
 
 -- the server behind a link, and the server before it
 abbrev pub next_of : ℕ → ℕ → ℕ
-next_of n server = if server + 1 == n then 0 else server + 1
+next_of count server = if server + 1 == count then 0 else server + 1
 
 abbrev pub previous_of : ℕ → ℕ → ℕ
-previous_of n server = if server == 0 then n - 1 else server - 1
+previous_of count server = if server == 0 then count - 1 else server - 1
 
 -- the last member of a group: f links lead to it from the head
 abbrev pub tail_of : RingShape → ℕ → ℕ
@@ -35,13 +35,13 @@ tail_of ring group =
 
 -- so many servers, from one on along the links
 abbrev pub along : ℕ → ℕ → ℕ → List ℕ
-along n zero server = []
-along n (suc more) server = server ∷ along n more (next_of n server)
+along count zero server = []
+along count (suc more) server = server ∷ along count more (next_of count server)
 
 -- so many servers, from one on against the links
 abbrev pub against : ℕ → ℕ → ℕ → List ℕ
-against n zero server = []
-against n (suc more) server = server ∷ against n more (previous_of n server)
+against count zero server = []
+against count (suc more) server = server ∷ against count more (previous_of count server)
 
 -- the members of a group, from its head to its tail
 abbrev pub members_of : RingShape → ℕ → List ℕ

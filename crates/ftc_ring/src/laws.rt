@@ -9,43 +9,57 @@ ghost use Rattle.ftc_ring.specs.Live.{live_after_of, source_between, source_of, 
 
 /// How far servers are apart.
 pub fn distances()
-    ensures cases { (n a b : ℕ) → a < n → b < n →
-        ((a ≤ b) × (apart n a b + a ≡ b)) ⊎ ((b < a) × (apart n a b + a ≡ b + n)) }
-    ensures within { (n a b : ℕ) → a < n → b < n → apart n a b < n }
-    ensures itself { (n a : ℕ) → apart n a a ≡ 0 }
-    ensures same { (n a b : ℕ) → a < n → b < n → apart n a b ≡ 0 → a ≡ b }
-    ensures same_end { (n a b c : ℕ) → a < n → b < n → c < n → apart n a b ≡ apart n a c → b ≡ c }
-    ensures same_start { (n a b c : ℕ) → a < n → b < n → c < n → apart n a c ≡ apart n b c → a ≡ b }
-    ensures forward { (n a b : ℕ) → a ≤ b → apart n a b + a ≡ b }
-    ensures round { (n a b : ℕ) → a < n → b < n → a ≢ b → apart n a b + apart n b a ≡ n }
+    ensures cases { (count one other : ℕ) → one < count → other < count →
+        ((one ≤ other) × (apart count one other + one ≡ other))
+        ⊎ ((other < one) × (apart count one other + one ≡ other + count)) }
+    ensures within { (count one other : ℕ) → one < count → other < count → apart count one other < count }
+    ensures itself { (count one : ℕ) → apart count one one ≡ 0 }
+    ensures same { (count one other : ℕ) → one < count → other < count → apart count one other ≡ 0 → one ≡ other }
+    ensures same_end { (count one other third : ℕ) → one < count → other < count → third < count →
+        apart count one other ≡ apart count one third → other ≡ third }
+    ensures same_start { (count one other third : ℕ) → one < count → other < count → third < count →
+        apart count one third ≡ apart count other third → one ≡ other }
+    ensures forward { (count one other : ℕ) → one ≤ other → apart count one other + one ≡ other }
+    ensures round { (count one other : ℕ) → one < count → other < count → one ≢ other →
+        apart count one other + apart count other one ≡ count }
 {}
 
 /// One link on, and one link back.
 pub fn steps()
-    ensures next_within { (n k : ℕ) → k < n → next_of n k < n }
-    ensures previous_within { (n k : ℕ) → k < n → previous_of n k < n }
-    ensures previous_next { (n k : ℕ) → k < n → previous_of n (next_of n k) ≡ k }
-    ensures next_previous { (n k : ℕ) → k < n → next_of n (previous_of n k) ≡ k }
-    ensures farther { (n j k : ℕ) → j < n → k < n → next_of n k ≢ j → apart n j (next_of n k) ≡ apart n j k + 1 }
-    ensures home { (n j k : ℕ) → j < n → k < n → next_of n k ≡ j → apart n j k + 1 ≡ n }
-    ensures nearer { (n j k : ℕ) → j < n → k < n → k ≢ j → apart n j (previous_of n k) + 1 ≡ apart n j k }
-    ensures from_next { (n j k : ℕ) → j < n → k < n → j ≢ k → apart n (next_of n j) k + 1 ≡ apart n j k }
-    ensures from_previous { (n j k : ℕ) → j < n → k < n → previous_of n j ≢ k →
-        apart n (previous_of n j) k ≡ apart n j k + 1 }
+    ensures next_within { (count server : ℕ) → server < count → next_of count server < count }
+    ensures previous_within { (count server : ℕ) → server < count → previous_of count server < count }
+    ensures previous_next { (count server : ℕ) → server < count → previous_of count (next_of count server) ≡ server }
+    ensures next_previous { (count server : ℕ) → server < count → next_of count (previous_of count server) ≡ server }
+    ensures farther { (count from to : ℕ) → from < count → to < count → next_of count to ≢ from →
+        apart count from (next_of count to) ≡ apart count from to + 1 }
+    ensures home { (count from to : ℕ) → from < count → to < count → next_of count to ≡ from →
+        apart count from to + 1 ≡ count }
+    ensures nearer { (count from to : ℕ) → from < count → to < count → to ≢ from →
+        apart count from (previous_of count to) + 1 ≡ apart count from to }
+    ensures from_next { (count from to : ℕ) → from < count → to < count → from ≢ to →
+        apart count (next_of count from) to + 1 ≡ apart count from to }
+    ensures from_previous { (count from to : ℕ) → from < count → to < count → previous_of count from ≢ to →
+        apart count (previous_of count from) to ≡ apart count from to + 1 }
 {}
 
 /// Distances from one server, and from another.
 pub fn origins()
-    ensures near { (n r j k : ℕ) → r < n → j < n → k < n → apart n r j ≤ apart n r k →
-        apart n r j + apart n j k ≡ apart n r k }
-    ensures far { (n r j k : ℕ) → r < n → j < n → k < n → apart n r k < apart n r j →
-        apart n r j + apart n j k ≡ apart n r k + n }
-    ensures added { (n r j k : ℕ) → r < n → j < n → k < n → apart n r j + apart n j k < n →
-        apart n r k ≡ apart n r j + apart n j k }
-    ensures on_the_way { (n r j k : ℕ) → r < n → j < n → k < n → apart n j k ≤ apart n r k →
-        apart n r j + apart n j k ≡ apart n r k }
-    ensures ordered { (n j x y : ℕ) → j ≤ x → x ≤ y → apart n j x ≤ apart n j y }
-    ensures before { (n j x y : ℕ) → x < n → y < n → j ≤ x → apart n j y ≤ apart n j x → (j ≤ y) × (y ≤ x) }
+    ensures near { (count first second third : ℕ) → first < count → second < count → third < count →
+        apart count first second ≤ apart count first third →
+        apart count first second + apart count second third ≡ apart count first third }
+    ensures far { (count first second third : ℕ) → first < count → second < count → third < count →
+        apart count first third < apart count first second →
+        apart count first second + apart count second third ≡ apart count first third + count }
+    ensures added { (count first second third : ℕ) → first < count → second < count → third < count →
+        apart count first second + apart count second third < count →
+        apart count first third ≡ apart count first second + apart count second third }
+    ensures on_the_way { (count first second third : ℕ) → first < count → second < count → third < count →
+        apart count second third ≤ apart count first third →
+        apart count first second + apart count second third ≡ apart count first third }
+    ensures ordered { (count from one other : ℕ) → from ≤ one → one ≤ other →
+        apart count from one ≤ apart count from other }
+    ensures before { (count from one other : ℕ) → one < count → other < count → from ≤ one →
+        apart count from other ≤ apart count from one → (from ≤ other) × (other ≤ one) }
 {}
 
 /// A server is the last member of the group that ends at it, and of no other.
@@ -56,88 +70,115 @@ pub fn ends()
 
 /// The members of a group.
 pub fn groups()
-    ensures head { (ring : RingShape) (j : ℕ) → IsMember ring j j }
-    ensures tail_within { (ring : RingShape) (j : ℕ) → IsRing ring → j < ring.servers → tail_of ring j < ring.servers }
-    ensures tail { (ring : RingShape) (j : ℕ) → IsRing ring → j < ring.servers →
-        apart ring.servers j (tail_of ring j) ≡ ring.failures }
-    ensures tail_alone { (ring : RingShape) (j k : ℕ) → IsRing ring → j < ring.servers → k < ring.servers →
-        apart ring.servers j k ≡ ring.failures → k ≡ tail_of ring j }
-    ensures next { (ring : RingShape) (j k : ℕ) → IsRing ring → j < ring.servers → k < ring.servers →
-        IsMember ring j k → k ≢ tail_of ring j →
-        IsMember ring j (next_of ring.servers k) × (next_of ring.servers k ≢ j) }
-    ensures previous { (ring : RingShape) (j k : ℕ) → IsRing ring → j < ring.servers → k < ring.servers →
-        IsMember ring j k → k ≢ j →
-        IsMember ring j (previous_of ring.servers k) × (previous_of ring.servers k ≢ tail_of ring j) }
-    ensures all { (ring : RingShape) (j k : ℕ) → IsRing ring → j < ring.servers → k < ring.servers →
-        ring.failures + 1 ≡ ring.servers → IsMember ring j k }
+    ensures head { (ring : RingShape) (group : ℕ) → IsMember ring group group }
+    ensures tail_within { (ring : RingShape) (group : ℕ) → IsRing ring → group < ring.servers →
+        tail_of ring group < ring.servers }
+    ensures tail { (ring : RingShape) (group : ℕ) → IsRing ring → group < ring.servers →
+        apart ring.servers group (tail_of ring group) ≡ ring.failures }
+    ensures tail_alone { (ring : RingShape) (group server : ℕ) → IsRing ring → group < ring.servers →
+        server < ring.servers →
+        apart ring.servers group server ≡ ring.failures → server ≡ tail_of ring group }
+    ensures next { (ring : RingShape) (group server : ℕ) → IsRing ring → group < ring.servers → server < ring.servers →
+        IsMember ring group server → server ≢ tail_of ring group →
+        IsMember ring group (next_of ring.servers server) × (next_of ring.servers server ≢ group) }
+    ensures previous { (ring : RingShape) (group server : ℕ) → IsRing ring → group < ring.servers →
+        server < ring.servers →
+        IsMember ring group server → server ≢ group →
+        IsMember ring group (previous_of ring.servers server) × (previous_of ring.servers server ≢ tail_of ring group) }
+    ensures all { (ring : RingShape) (group server : ℕ) → IsRing ring → group < ring.servers → server < ring.servers →
+        ring.failures + 1 ≡ ring.servers → IsMember ring group server }
 {}
 
 /// What the functions that compute say, and that at most one server or group is meant.
 pub fn the_live()
-    ensures first_found { (ring : RingShape) (live : ℕ → Bool) (j k : ℕ) → IsRing ring → j < ring.servers →
-        (first_live_of ring live j ≡ Some k) ↔ IsFirstLive ring live j k }
-    ensures first_none { (ring : RingShape) (live : ℕ → Bool) (j : ℕ) → IsRing ring → j < ring.servers →
-        (first_live_of ring live j ≡ None) ↔ IsGone ring live j }
-    ensures gone_found { (ring : RingShape) (live : ℕ → Bool) (j : ℕ) → IsRing ring →
-        (gone_of ring live ≡ Some j) ↔ IsFirstGone ring live j }
+    ensures first_found { (ring : RingShape) (live : ℕ → Bool) (group server : ℕ) → IsRing ring → group < ring.servers →
+        (first_live_of ring live group ≡ Some server) ↔ IsFirstLive ring live group server }
+    ensures first_none { (ring : RingShape) (live : ℕ → Bool) (group : ℕ) → IsRing ring → group < ring.servers →
+        (first_live_of ring live group ≡ None) ↔ IsGone ring live group }
+    ensures gone_found { (ring : RingShape) (live : ℕ → Bool) (group : ℕ) → IsRing ring →
+        (gone_of ring live ≡ Some group) ↔ IsFirstGone ring live group }
     ensures gone_none { (ring : RingShape) (live : ℕ → Bool) → IsRing ring →
         (gone_of ring live ≡ None) ↔ IsAdmissible ring live }
-    ensures before_found { (n : ℕ) (live : ℕ → Bool) (k r : ℕ) → k < n →
-        (live_before_of n live k ≡ Some r) ↔ IsLiveBefore n live k r }
-    ensures before_none { (n : ℕ) (live : ℕ → Bool) (k : ℕ) → k < n →
-        (live_before_of n live k ≡ None) ↔ IsAlone n live k }
-    ensures after_found { (n : ℕ) (live : ℕ → Bool) (k s : ℕ) → k < n →
-        (live_after_of n live k ≡ Some s) ↔ IsLiveAfter n live k s }
-    ensures after_none { (n : ℕ) (live : ℕ → Bool) (k : ℕ) → k < n →
-        (live_after_of n live k ≡ None) ↔ IsAlone n live k }
-    ensures admissible_not_alone { (ring : RingShape) (live : ℕ → Bool) (k : ℕ) → k < ring.servers → IsDown live k →
-        IsAdmissible ring live → ¬ IsAlone ring.servers live k }
+    ensures before_found { (count : ℕ) (live : ℕ → Bool) (server before : ℕ) → server < count →
+        (live_before_of count live server ≡ Some before) ↔ IsLiveBefore count live server before }
+    ensures before_none { (count : ℕ) (live : ℕ → Bool) (server : ℕ) → server < count →
+        (live_before_of count live server ≡ None) ↔ IsAlone count live server }
+    ensures after_found { (count : ℕ) (live : ℕ → Bool) (server after : ℕ) → server < count →
+        (live_after_of count live server ≡ Some after) ↔ IsLiveAfter count live server after }
+    ensures after_none { (count : ℕ) (live : ℕ → Bool) (server : ℕ) → server < count →
+        (live_after_of count live server ≡ None) ↔ IsAlone count live server }
+    ensures admissible_not_alone { (ring : RingShape) (live : ℕ → Bool) (server : ℕ) → server < ring.servers →
+        IsDown live server →
+        IsAdmissible ring live → ¬ IsAlone ring.servers live server }
 {}
 
 /// Which sets of down servers leave each group a live member.
 pub fn admissible()
-    ensures nobody { (ring : RingShape) (live : ℕ → Bool) → IsRing ring → ((k : ℕ) → k < ring.servers → IsLive live k) →
+    ensures nobody { (ring : RingShape) (live : ℕ → Bool) → IsRing ring →
+        ((server : ℕ) → server < ring.servers → IsLive live server) →
         IsAdmissible ring live }
     ensures more { (ring : RingShape) (live more : ℕ → Bool) →
-        ((k : ℕ) → k < ring.servers → IsLive live k → IsLive more k) →
+        ((server : ℕ) → server < ring.servers → IsLive live server → IsLive more server) →
         IsAdmissible ring live → IsAdmissible ring more }
-    ensures first { (ring : RingShape) (live : ℕ → Bool) (j : ℕ) → IsRing ring → j < ring.servers →
+    ensures first { (ring : RingShape) (live : ℕ → Bool) (group : ℕ) → IsRing ring → group < ring.servers →
         IsAdmissible ring live →
-        (k : ℕ) × (first_live_of ring live j ≡ Some k) × IsFirstLive ring live j k }
+        (server : ℕ) × (first_live_of ring live group ≡ Some server) × IsFirstLive ring live group server }
 {}
 
 /// Where servers stand when server k, which is down, is replaced: r is the nearest live server before
 /// it and s the nearest live server after it.
 pub fn recoveries()
-    ensures between { (n : ℕ) (live : ℕ → Bool) (k r s : ℕ) → k < n → IsDown live k →
-        IsLiveBefore n live k r → IsLiveAfter n live k s → IsBetween n r s k }
-    ensures live_outside { (n : ℕ) (live : ℕ → Bool) (k r s x : ℕ) → k < n → IsDown live k →
-        IsLiveBefore n live k r → IsLiveAfter n live k s → x < n → IsLive live x →
-        (x ≡ r) ⊎ (span n r s ≤ apart n r x) }
-    ensures between_down { (n : ℕ) (live : ℕ → Bool) (k r s j : ℕ) → k < n → IsDown live k →
-        IsLiveBefore n live k r → IsLiveAfter n live k s → j < n → IsBetween n r s j → IsDown live j }
-    ensures after_is_first { (n : ℕ) (live : ℕ → Bool) (k r s j x : ℕ) → k < n → IsDown live k →
-        IsLiveBefore n live k r → IsLiveAfter n live k s → j < n → IsBetween n r s j → x < n → IsLive live x →
-        apart n j s ≤ apart n j x }
-    ensures after_is_member { (ring : RingShape) (live : ℕ → Bool) (k r s j : ℕ) → k < ring.servers → IsDown live k →
-        IsLiveBefore ring.servers live k r → IsLiveAfter ring.servers live k s →
-        IsAdmissible ring live → j < ring.servers → IsBetween ring.servers r s j → IsMember ring j s }
-    ensures from_before { (n : ℕ) (live : ℕ → Bool) (k r s j : ℕ) → k < n → IsDown live k →
-        IsLiveBefore n live k r → IsLiveAfter n live k s → j < n → apart n r k ≤ apart n j k →
-        apart n j r + apart n r k ≡ apart n j k }
-    ensures from_before_live { (n : ℕ) (live : ℕ → Bool) (k r s j x : ℕ) → k < n → IsDown live k →
-        IsLiveBefore n live k r → IsLiveAfter n live k s → j < n → apart n r k ≤ apart n j k →
-        x < n → IsLive live x → (apart n j x ≤ apart n j r) ⊎ (apart n j k < apart n j x) }
-    ensures from_after { (n : ℕ) (live : ℕ → Bool) (k r s j : ℕ) → k < n → IsDown live k →
-        IsLiveBefore n live k r → IsLiveAfter n live k s → j < n → apart n j k < apart n r k →
-        IsBetween n r s j × (apart n j k < apart n j s) }
-    ensures by_head { (n : ℕ) (live : ℕ → Bool) (k r s j : ℕ) → k < n → IsDown live k →
-        IsLiveBefore n live k r → IsLiveAfter n live k s → j < n →
-        (apart n j k < apart n r k) ↔ ((0 < apart n r j) × (apart n r j ≤ apart n r k)) }
-    ensures on_the_chain { (n : ℕ) (live : ℕ → Bool) (k r s j x : ℕ) → k < n → IsDown live k →
-        IsLiveBefore n live k r → IsLiveAfter n live k s → j < n → x < n → IsBetween n r s j →
-        j ≤ x → ¬ IsBetween n r s x → (j ≤ s) × (s ≤ x) }
-    ensures source_found { (ring : RingShape) (live : ℕ → Bool) (k j : ℕ) → k < ring.servers → IsDown live k →
-        IsAdmissible ring live → j < ring.servers → IsMember ring j k →
-        (x : ℕ) × (source_of ring.servers live j k ≡ Some x) × (x < ring.servers) × IsLive live x × IsMember ring j x }
+    ensures between { (count : ℕ) (live : ℕ → Bool) (server before after : ℕ) → server < count → IsDown live server →
+        IsLiveBefore count live server before → IsLiveAfter count live server after →
+        IsBetween count before after server }
+    ensures live_outside { (count : ℕ) (live : ℕ → Bool) (server before after other : ℕ) → server < count →
+        IsDown live server →
+        IsLiveBefore count live server before → IsLiveAfter count live server after → other < count →
+        IsLive live other →
+        (other ≡ before) ⊎ (span count before after ≤ apart count before other) }
+    ensures between_down { (count : ℕ) (live : ℕ → Bool) (server before after group : ℕ) → server < count →
+        IsDown live server →
+        IsLiveBefore count live server before → IsLiveAfter count live server after → group < count →
+        IsBetween count before after group → IsDown live group }
+    ensures after_is_first { (count : ℕ) (live : ℕ → Bool) (server before after group other : ℕ) → server < count →
+        IsDown live server →
+        IsLiveBefore count live server before → IsLiveAfter count live server after → group < count →
+        IsBetween count before after group → other < count → IsLive live other →
+        apart count group after ≤ apart count group other }
+    ensures after_is_member { (ring : RingShape) (live : ℕ → Bool) (server before after group : ℕ) →
+        server < ring.servers → IsDown live server →
+        IsLiveBefore ring.servers live server before → IsLiveAfter ring.servers live server after →
+        IsAdmissible ring live → group < ring.servers → IsBetween ring.servers before after group →
+        IsMember ring group after }
+    ensures from_before { (count : ℕ) (live : ℕ → Bool) (server before after group : ℕ) → server < count →
+        IsDown live server →
+        IsLiveBefore count live server before → IsLiveAfter count live server after → group < count →
+        apart count before server ≤ apart count group server →
+        apart count group before + apart count before server ≡ apart count group server }
+    ensures from_before_live { (count : ℕ) (live : ℕ → Bool) (server before after group other : ℕ) → server < count →
+        IsDown live server →
+        IsLiveBefore count live server before → IsLiveAfter count live server after → group < count →
+        apart count before server ≤ apart count group server →
+        other < count → IsLive live other →
+        (apart count group other ≤ apart count group before) ⊎ (apart count group server < apart count group other) }
+    ensures from_after { (count : ℕ) (live : ℕ → Bool) (server before after group : ℕ) → server < count →
+        IsDown live server →
+        IsLiveBefore count live server before → IsLiveAfter count live server after → group < count →
+        apart count group server < apart count before server →
+        IsBetween count before after group × (apart count group server < apart count group after) }
+    ensures by_head { (count : ℕ) (live : ℕ → Bool) (server before after group : ℕ) → server < count →
+        IsDown live server →
+        IsLiveBefore count live server before → IsLiveAfter count live server after → group < count →
+        (apart count group server < apart count before server)
+        ↔ ((0 < apart count before group) × (apart count before group ≤ apart count before server)) }
+    ensures on_the_chain { (count : ℕ) (live : ℕ → Bool) (server before after group other : ℕ) → server < count →
+        IsDown live server →
+        IsLiveBefore count live server before → IsLiveAfter count live server after → group < count → other < count →
+        IsBetween count before after group →
+        group ≤ other → ¬ IsBetween count before after other → (group ≤ after) × (after ≤ other) }
+    ensures source_found { (ring : RingShape) (live : ℕ → Bool) (server group : ℕ) → server < ring.servers →
+        IsDown live server →
+        IsAdmissible ring live → group < ring.servers → IsMember ring group server →
+        (source : ℕ) × (source_of ring.servers live group server ≡ Some source) × (source < ring.servers)
+        × IsLive live source × IsMember ring group source }
 {}

@@ -91,9 +91,9 @@ abbrev pub placed : {A : Type 0} → ℕ → Result A ScriptCause → Result A S
 placed line (Ok value) = Ok value
 placed line (Err cause) = fault_at line cause
 
--- the smallest server that is down, among n
+-- the smallest server that is down, among so many
 abbrev pub down_of : ℕ → (ℕ → Bool) → Option ℕ
-down_of n live = find (λ server. not (live server)) (range_with_len 0 n)
+down_of count live = find (λ server. not (live server)) (range_with_len 0 count)
 
 -- the script where no line is left; the place is behind the last line
 abbrev pub finished : RingShape → ℕ → ScriptDraft → ℕ → Option ℕ → Result ScriptShape ScriptFault

@@ -26,12 +26,14 @@ event_of verb at server =
 
 -- the words behind `at`: a number, `crash` or `recover`, and a server
 abbrev pub at_words : List (List ℕ) → Result Statement ScriptCause
-at_words (number ∷ verb ∷ server ∷ []) = number_word number >>= λ at. number_word server >>= λ k. event_of verb at k
+at_words (first ∷ verb ∷ second ∷ []) =
+    number_word first >>= λ at. number_word second >>= λ server. event_of verb at server
 at_words words = Err Word
 
 -- the words behind `lose`: a link and an origin
 abbrev pub lose_words : List (List ℕ) → Result Statement ScriptCause
-lose_words (link ∷ origin ∷ []) = number_word link >>= λ l. number_word origin >>= λ p. Ok (said.Lose l p)
+lose_words (first ∷ second ∷ []) =
+    number_word first >>= λ link. number_word second >>= λ origin. Ok (said.Lose link origin)
 lose_words words = Err Word
 
 -- a line without words and a comment say nothing

@@ -19,23 +19,23 @@ pub fn accepted()
     ensures parts { (ring : RingShape) (packets : ℕ) (text : List ℕ) (script : ScriptShape) → IsRing ring →
         script_of ring packets text ≡ Ok script →
         IsScript script × (script.ring ≡ ring) × (script.packets ≡ packets) }
-    ensures admissible { (script : ScriptShape) (k : ℕ) → IsScript script →
-        IsAdmissible script.ring (live_after_all all_live (take k script.steps)) }
-    ensures ends { (script : ScriptShape) (k : ℕ) → IsScript script → k < script.ring.servers →
-        IsLive (live_after_all all_live script.steps) k }
+    ensures admissible { (script : ScriptShape) (count : ℕ) → IsScript script →
+        IsAdmissible script.ring (live_after_all all_live (take count script.steps)) }
+    ensures ends { (script : ScriptShape) (server : ℕ) → IsScript script → server < script.ring.servers →
+        IsLive (live_after_all all_live script.steps) server }
 {}
 
 /// Steps one after the other.
 pub fn turns()
-    ensures step { (script : ScriptShape) (k : ℕ) (step : ScriptLine) → IsScript script →
-        slice_get script.steps k ≡ Some step →
-        IsStep script.ring script.packets (last_of 0 (take k script.steps))
-        (live_after_all all_live (take k script.steps)) step }
-    ensures behind { (live : ℕ → Bool) (steps : List ScriptLine) (k : ℕ) (step : ScriptLine) →
-        slice_get steps k ≡ Some step →
-        live_after_all live (take (k + 1) steps) ≡ live_after (live_after_all live (take k steps)) step }
-    ensures last { (last : ℕ) (steps : List ScriptLine) (k : ℕ) (step : ScriptLine) →
-        slice_get steps k ≡ Some step → last_of last (take (k + 1) steps) ≡ at_of step }
+    ensures step { (script : ScriptShape) (place : ℕ) (step : ScriptLine) → IsScript script →
+        slice_get script.steps place ≡ Some step →
+        IsStep script.ring script.packets (last_of 0 (take place script.steps))
+        (live_after_all all_live (take place script.steps)) step }
+    ensures behind { (live : ℕ → Bool) (steps : List ScriptLine) (place : ℕ) (step : ScriptLine) →
+        slice_get steps place ≡ Some step →
+        live_after_all live (take (place + 1) steps) ≡ live_after (live_after_all live (take place steps)) step }
+    ensures last { (last : ℕ) (steps : List ScriptLine) (place : ℕ) (step : ScriptLine) →
+        slice_get steps place ≡ Some step → last_of last (take (place + 1) steps) ≡ at_of step }
     ensures keeps { (ring : RingShape) (packets last : ℕ) (live : ℕ → Bool) (step : ScriptLine) →
         IsAdmissible ring live → IsStep ring packets last live step → IsAdmissible ring (live_after live step) }
 {}

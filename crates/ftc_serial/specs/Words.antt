@@ -5,15 +5,15 @@ pub use Rattle.ftc_base.specs.Reading.{with_at}
 
 -- the lists that the numbers below a count give, one after another
 abbrev pub each_below : {A : Type 0} → (ℕ → List A) → ℕ → List A
-each_below f zero = []
-each_below f (suc count) = each_below f count ++ f count
+each_below list zero = []
+each_below list (suc count) = each_below list count ++ list count
 
--- some item has P
+-- some item is such
 abbrev pub AnyOf : {A : Type 0} → (A → Type 0) → List A → Type 0
-AnyOf P [] = ⊥
-AnyOf P (x ∷ xs) = P x ⊎ AnyOf P xs
+AnyOf IsSuch [] = ⊥
+AnyOf IsSuch (item ∷ items) = IsSuch item ⊎ AnyOf IsSuch items
 
--- R holds of each item and each later one
+-- the relation holds of each item and each later one
 abbrev pub EachLater : {A : Type 0} → (A → A → Type 0) → List A → Type 0
-EachLater R [] = Unit {0}
-EachLater R (x ∷ xs) = AllByRecursion (R x) xs × EachLater R xs
+EachLater Relates [] = Unit {0}
+EachLater Relates (item ∷ items) = AllByRecursion (Relates item) items × EachLater Relates items

@@ -18,8 +18,11 @@ pub record Stored : Type 0 where
 abbrev pub stored_code : Coded Stored
 stored_code =
     code_by (Content × (ℕ × ℕ)) (coded× (code (coded_list coded_ℕ) (coded_list coded_ℕ)) (coded× coded_ℕ coded_ℕ))
-    (λ s. (s.content, (s.partitions, s.spare))) (λ p. record { content = p.0; partitions = p.1.0; spare = p.1.1 })
-    (λ _. refl)
+    (λ stored. (stored.content, (stored.partitions, stored.spare))) (λ parts. record {
+      content = parts.0;
+      partitions = parts.1.0;
+      spare = parts.1.1;
+    }) (λ _. refl)
 
 -- a value is put at the key, or the key is deleted
 abbrev pub changed : Content → List ℕ → Option (List ℕ) → Content

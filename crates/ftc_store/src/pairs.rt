@@ -47,8 +47,8 @@ pub(crate) fn copy_of(
     alloc: Global,
     held: &HashMap<Key, Value>,
 ) -> Result<HashMap<Key, Value>, AllocError>
-    ensures { IfOk result (λ copy. (q : List ℕ) →
-        get (pointwise nat_eq) copy q ≡ get (pointwise nat_eq) held.now q) }
+    ensures { IfOk result (λ copy. (key : List ℕ) →
+        get (pointwise nat_eq) copy key ≡ get (pointwise nat_eq) held.now key) }
 {
     held.iter()
         .map(|(key, value)| (*key, *value))

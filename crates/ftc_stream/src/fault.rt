@@ -20,7 +20,7 @@ pub enum PutFault {
 }
 
 impl From<NoMemory> for PutFault {
-    ghost from_gives = { λ _ e. e ≡ fault.NoMemory };
+    ghost from_gives = { λ _ ending. ending ≡ fault.NoMemory };
 
     fn from(_error: NoMemory) -> PutFault {
         PutFault::NoMemory
@@ -28,7 +28,7 @@ impl From<NoMemory> for PutFault {
 }
 
 impl From<DeskError> for PutFault {
-    ghost from_gives = { λ error e. e ≡ fault_of error };
+    ghost from_gives = { λ error ending. ending ≡ fault_of error };
 
     fn from(error: DeskError) -> PutFault {
         match error {

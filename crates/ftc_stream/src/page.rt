@@ -25,45 +25,47 @@ pub struct Page<'a, D> {
 }
 
 impl<'a, D: Desk> Sink for Page<'a, D> {
-    ghost kept = { λ a b. (b.desk.ghost_name ≡ a.desk.ghost_name) × (b.taps.ghost_name ≡ a.taps.ghost_name) ×
-        (b.capture ≡ a.capture) × (b.out ≡ a.out) };
+    ghost kept = { λ old new. (new.desk.ghost_name ≡ old.desk.ghost_name) ×
+        (new.taps.ghost_name ≡ old.taps.ghost_name) × (new.capture ≡ old.capture) × (new.out ≡ old.out) };
 
-    ghost went = { λ a b. (b.capture ≡ a.capture) × (b.out ≡ a.out) ×
-        Went D.tells D.sound D.file D.faults a.capture.now a.out.now a.writer b.writer a.desk.now b.desk.now
-        (map (λ tap. (Tap-box tap).face tap.value) a.taps.now.list.items)
-        (map (λ tap. (Tap-box tap).face tap.value) b.taps.now.list.items) };
+    ghost went = { λ old new. (new.capture ≡ old.capture) × (new.out ≡ old.out) ×
+        Went D.tells D.sound D.file D.faults old.capture.now old.out.now old.writer new.writer old.desk.now new.desk.now
+        (map (λ tap. (Tap-box tap).face tap.value) old.taps.now.list.items)
+        (map (λ tap. (Tap-box tap).face tap.value) new.taps.now.list.items) };
 
-    ghost broke = { λ a b fault. (b.capture ≡ a.capture) × (b.out ≡ a.out) ×
-        Broke D.tells D.sound D.file D.faults a.capture.now a.out.now fault a.writer b.writer a.desk.now b.desk.now
-        (map (λ tap. (Tap-box tap).face tap.value) a.taps.now.list.items)
-        (map (λ tap. (Tap-box tap).face tap.value) b.taps.now.list.items) };
+    ghost broke = { λ old new fault. (new.capture ≡ old.capture) × (new.out ≡ old.out) ×
+        Broke D.tells D.sound D.file D.faults old.capture.now old.out.now fault old.writer new.writer old.desk.now
+        new.desk.now
+        (map (λ tap. (Tap-box tap).face tap.value) old.taps.now.list.items)
+        (map (λ tap. (Tap-box tap).face tap.value) new.taps.now.list.items) };
 
-    ghost room = { λ a. a.writer.room - length a.writer.items };
+    ghost room = { λ page. page.writer.room - length page.writer.items };
 
-    ghost same = { λ a. (refl, refl, refl, refl) };
+    ghost same = { λ page. (refl, refl, refl, refl) };
 
-    ghost on = { λ a b c p q. (q.0 ∙ p.0, q.1 ∙ p.1, q.2 ∙ p.2, q.3 ∙ p.3) };
+    ghost on = { λ first between last one other. (other.0 ∙ one.0, other.1 ∙ one.1, other.2 ∙ one.2, other.3 ∙ one.3) };
 
-    ghost stays = { λ a. (
+    ghost stays = { λ page. (
       refl,
       refl,
-      went_stays D.tells D.sound D.file D.faults a.capture.now a.out.now a.writer a.desk.now _,
+      went_stays D.tells D.sound D.file D.faults page.capture.now page.out.now page.writer page.desk.now _,
     ) };
 
-    ghost goes_on = { λ a b c p q. (
-      q.0 ∙ p.0,
-      q.1 ∙ p.1,
-      went_on_page D.tells D.sound D.file D.faults a.capture.now a.out.now b.capture.now b.out.now
-          (ap (λ c. c.now) p.0) (ap (λ o. o.now) p.1) a.writer b.writer c.writer
-          a.desk.now b.desk.now c.desk.now _ _ _ p.2 q.2,
+    ghost goes_on = { λ first between last one other. (
+      other.0 ∙ one.0,
+      other.1 ∙ one.1,
+      went_on_page D.tells D.sound D.file D.faults first.capture.now first.out.now between.capture.now between.out.now
+          (ap (λ capture. capture.now) one.0) (ap (λ out. out.now) one.1) first.writer between.writer last.writer
+          first.desk.now between.desk.now last.desk.now _ _ _ one.2 other.2,
     ) };
 
-    ghost breaks = { λ a b c fault p q. (
-      q.0 ∙ p.0,
-      q.1 ∙ p.1,
-      went_breaks_page D.tells D.sound D.file D.faults a.capture.now a.out.now fault b.capture.now b.out.now
-          (ap (λ c. c.now) p.0) (ap (λ o. o.now) p.1) a.writer b.writer c.writer
-          a.desk.now b.desk.now c.desk.now _ _ _ p.2 q.2,
+    ghost breaks = { λ first between last fault one other. (
+      other.0 ∙ one.0,
+      other.1 ∙ one.1,
+      went_breaks_page D.tells D.sound D.file D.faults first.capture.now first.out.now fault between.capture.now
+          between.out.now (ap (λ capture. capture.now) one.0) (ap (λ out. out.now) one.1) first.writer
+          between.writer last.writer
+          first.desk.now between.desk.now last.desk.now _ _ _ one.2 other.2,
     ) };
 
     fn write_some(&mut self) -> Result<u32, PutFault> {

@@ -27,13 +27,14 @@ pub trait Sink {
         ensures room { IfOk result (λ count. room self.new + count ≡ room self.old) }
         ensures broke { IfErr result (λ fault. broke self.old self.new fault) };
 
-    ghost same: { (a : Self) → kept a a };
+    ghost same: { (sink : Self) → kept sink sink };
 
-    ghost on: { (a b c : Self) → kept a b → kept b c → kept a c };
+    ghost on: { (first between last : Self) → kept first between → kept between last → kept first last };
 
-    ghost stays: { (a : Self) → went a a };
+    ghost stays: { (sink : Self) → went sink sink };
 
-    ghost goes_on: { (a b c : Self) → went a b → went b c → went a c };
+    ghost goes_on: { (first between last : Self) → went first between → went between last → went first last };
 
-    ghost breaks: { (a b c : Self) (fault : PutFault) → went a b → broke b c fault → broke a c fault };
+    ghost breaks: { (first between last : Self) (fault : PutFault) → went first between → broke between last fault →
+        broke first last fault };
 }

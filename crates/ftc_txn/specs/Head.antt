@@ -86,11 +86,11 @@ abbrev pub locks_code : Coded Locks
 locks_code =
     code_by (ℕ × (List ℕ × (List ℕ × List ℕ)))
     (coded× coded_ℕ (coded× (coded_list coded_ℕ) (coded× (coded_list coded_ℕ) (coded_list coded_ℕ))))
-    (λ l. (l.partitions, (l.held, (l.exclusive, l.ages)))) (λ p. record {
-      partitions = p.0;
-      held = p.1.0;
-      exclusive = p.1.1.0;
-      ages = p.1.1.1;
+    (λ locks. (locks.partitions, (locks.held, (locks.exclusive, locks.ages)))) (λ parts. record {
+      partitions = parts.0;
+      held = parts.1.0;
+      exclusive = parts.1.1.0;
+      ages = parts.1.1.1;
     }) (λ _. refl)
 
 abbrev pub head_code : Coded HeadState
@@ -99,13 +99,13 @@ head_code =
     (coded× coded_ℕ (coded× (code (coded_list coded_ℕ) (coded_list coded_ℕ))
     (coded× coded_ℕ (coded× (coded_list coded_ℕ)
     (coded× locks_code (coded× (coded_list (coded_option running_code)) coded_ℕ))))))
-    (λ h. (h.group, (h.content, (h.partitions, (h.vector, (h.locks, (h.slots, h.last)))))))
-    (λ p. record {
-      group = p.0;
-      content = p.1.0;
-      partitions = p.1.1.0;
-      vector = p.1.1.1.0;
-      locks = p.1.1.1.1.0;
-      slots = p.1.1.1.1.1.0;
-      last = p.1.1.1.1.1.1;
+    (λ head. (head.group, (head.content, (head.partitions, (head.vector, (head.locks, (head.slots, head.last)))))))
+    (λ parts. record {
+      group = parts.0;
+      content = parts.1.0;
+      partitions = parts.1.1.0;
+      vector = parts.1.1.1.0;
+      locks = parts.1.1.1.1.0;
+      slots = parts.1.1.1.1.1.0;
+      last = parts.1.1.1.1.1.1;
     }) (λ _. refl)

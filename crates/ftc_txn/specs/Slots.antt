@@ -60,15 +60,15 @@ IsTurn slot (Unwounded age) = (running : Running) × (slot ≡ Some running) × 
 abbrev pub answer_code : Coded Answer
 answer_code =
     code_by (List ℕ × Option (List ℕ)) (coded× (coded_list coded_ℕ) (coded_option (coded_list coded_ℕ)))
-    (λ a. (a.key, a.value)) (λ p. record { key = p.0; value = p.1 }) (λ _. refl)
+    (λ answer. (answer.key, answer.value)) (λ parts. record { key = parts.0; value = parts.1 }) (λ _. refl)
 
 abbrev pub running_code : Coded Running
 running_code =
     code_by (ℕ × (ℕ × (List Answer × Option ℕ)))
     (coded× coded_ℕ (coded× coded_ℕ (coded× (coded_list answer_code) (coded_option coded_ℕ))))
-    (λ r. (r.packet, (r.age, (r.answers, r.wounded)))) (λ p. record {
-      packet = p.0;
-      age = p.1.0;
-      answers = p.1.1.0;
-      wounded = p.1.1.1;
+    (λ running. (running.packet, (running.age, (running.answers, running.wounded)))) (λ parts. record {
+      packet = parts.0;
+      age = parts.1.0;
+      answers = parts.1.1.0;
+      wounded = parts.1.1.1;
     }) (λ _. refl)

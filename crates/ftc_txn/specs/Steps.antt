@@ -36,7 +36,7 @@ pub record IsGranted (old new : Locks) (worker age partition : ℕ) (change : Bo
   pub held : holds new worker partition ≡ true
   pub exclusive : holds_exclusively new worker partition ≡ (change || holds_exclusively old worker partition)
   pub with_age : age_of new worker ≡ age
-  pub own : (p : ℕ) → p ≢ partition → SameHolding old new worker p
+  pub own : (other : ℕ) → other ≢ partition → SameHolding old new worker other
   pub wounded : (other : ℕ) → conflicts old worker partition change other ≡ true → HoldsNothing new other
   pub others : (other : ℕ) → other ≢ worker → conflicts old worker partition change other ≡ false →
       SameHoldings old new other

@@ -44,25 +44,25 @@ impl Model for Head {
 
     ghost coded = { head_code };
 
-    ghost view = { λ h. record {
-      group = h.group;
-      content = h.store.content;
-      partitions = h.partitions;
-      vector = h.vector;
-      locks = h.locks;
-      slots = h.slots;
-      last = h.last;
+    ghost view = { λ head. record {
+      group = head.group;
+      content = head.store.content;
+      partitions = head.partitions;
+      vector = head.vector;
+      locks = head.locks;
+      slots = head.slots;
+      last = head.last;
     } };
 
-    ghost invariant = { λ h. (h.store.partitions ≡ h.partitions) × (h.locks.partitions ≡ h.partitions)
+    ghost invariant = { λ head. (head.store.partitions ≡ head.partitions) × (head.locks.partitions ≡ head.partitions)
         × IsHead (record {
-          group = h.group;
-          content = h.store.content;
-          partitions = h.partitions;
-          vector = h.vector;
-          locks = h.locks;
-          slots = h.slots;
-          last = h.last;
+          group = head.group;
+          content = head.store.content;
+          partitions = head.partitions;
+          vector = head.vector;
+          locks = head.locks;
+          slots = head.slots;
+          last = head.last;
         }) };
 }
 

@@ -25,7 +25,12 @@ impl Model for Transaction {
 
     ghost coded = { running_code };
 
-    ghost view = { λ t. record { packet = t.packet; age = t.age; answers = t.answers.items; wounded = t.wounded } };
+    ghost view = { λ transaction. record {
+      packet = transaction.packet;
+      age = transaction.age;
+      answers = transaction.answers.items;
+      wounded = transaction.wounded;
+    } };
 }
 
 impl Transaction {

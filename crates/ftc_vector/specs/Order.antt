@@ -19,9 +19,9 @@ pub record IsCovered (vector : List ℕ) (need : List (Option ℕ)) : Type 0 whe
   pub reached : (partition least : ℕ) → partition < MOST_PARTITIONS → mark_at need partition ≡ Some least →
       least ≤ number_at vector partition
 
--- no number of a is greater than that of b
-pub record IsBelow (a b : List ℕ) : Type 0 where
-  pub each : (partition : ℕ) → partition < MOST_PARTITIONS → number_at a partition ≤ number_at b partition
+-- no number of the one is greater than that of the other
+pub record IsBelow (one other : List ℕ) : Type 0 where
+  pub each : (partition : ℕ) → partition < MOST_PARTITIONS → number_at one partition ≤ number_at other partition
 
 -- The same two as tests that compute.
 

@@ -5,9 +5,9 @@ use Rattle.std.specs.List.{range_with_len}
 use Rattle.ftc_base.specs.Sets.{has}
 use Rattle.ftc_base.specs.declared.limits.TheConstants.{MOST_PARTITIONS}
 
--- what f gives for each partition, from partition 0 on
+-- what a function gives for each partition, from partition 0 on
 unfoldable pub by_partition : {A : Type 0} → (ℕ → A) → List A
-by_partition f = map f (range_with_len 0 MOST_PARTITIONS)
+by_partition given = map given (range_with_len 0 MOST_PARTITIONS)
 
 -- the number of a partition
 abbrev pub number_at : List ℕ → ℕ → ℕ
@@ -35,7 +35,7 @@ pub record IsEnd (marks : List (Option ℕ)) (end : ℕ) : Type 0 where
 
 -- the greater number in each partition
 abbrev pub merged : List ℕ → List ℕ → List ℕ
-merged a b = by_partition (λ partition. max (number_at a partition) (number_at b partition))
+merged one other = by_partition (λ partition. max (number_at one partition) (number_at other partition))
 
 -- the number of each changed partition is raised by 1
 abbrev pub raised : List ℕ → ℕ → List ℕ

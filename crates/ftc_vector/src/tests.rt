@@ -18,7 +18,7 @@ fn carried(partition: u8, number: u64) -> Marks
 /// The set of one partition.
 fn only(partition: u8) -> PartSet
     requires { partition < MOST_PARTITIONS }
-    ensures { (p : ℕ) → has result p ≡ true → p ≡ partition }
+    ensures { (other : ℕ) → has result other ≡ true → other ≡ partition }
 {
     PartSet::new().with(partition)
 }

@@ -42,9 +42,9 @@ held_line at server (Some group) = record { at = at; server = server; group = gr
 -- the lines of the servers, among these, that have missed as many ticks as the limit, and without which, where the ones
 -- of smaller number that are down are down, a group has no live member
 abbrev pub held_in : RingShape → ℕ → ℕ → Watching → List ℕ → List Held
-held_in ring limit at w [] = []
-held_in ring limit at w (server ∷ servers) =
-    (if w.missed server == limit
-    then held_line at server (gone_of ring (with_at (earlier server w.live) server false))
+held_in ring limit at watching [] = []
+held_in ring limit at watching (server ∷ servers) =
+    (if watching.missed server == limit
+    then held_line at server (gone_of ring (with_at (earlier server watching.live) server false))
     else [])
-    ++ held_in ring limit at w servers
+    ++ held_in ring limit at watching servers

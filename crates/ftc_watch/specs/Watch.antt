@@ -24,13 +24,13 @@ at_start = record { live = all_live; missed = λ server. 0; script = []; held = 
 
 -- a down server gets its line, is up and has missed none
 abbrev pub recover_at : ℕ → Watching → ℕ → Watching
-recover_at at w server =
-    if w.live server then w else
+recover_at at watching server =
+    if watching.live server then watching else
     record {
-      live = with_at w.live server true;
-      missed = with_at w.missed server 0;
-      script = w.script ++ Recover at server ∷ [];
-      held = w.held;
+      live = with_at watching.live server true;
+      missed = with_at watching.missed server 0;
+      script = watching.script ++ Recover at server ∷ [];
+      held = watching.held;
     }
 
 -- a server that beat has missed none, and another one more, up to the limit
@@ -38,62 +38,64 @@ abbrev pub missed_of : ℕ → Bool → ℕ → ℕ
 missed_of limit beat missed = if beat then 0 else min (missed + 1) limit
 
 abbrev pub count_at : ℕ → ℕ → Watching → ℕ → Watching
-count_at limit beaten w server =
+count_at limit beaten watching server =
     record {
-      live = w.live;
-      missed = with_at w.missed server (missed_of limit (has beaten server) (w.missed server));
-      script = w.script;
-      held = w.held;
+      live = watching.live;
+      missed = with_at watching.missed server (missed_of limit (has beaten server) (watching.missed server));
+      script = watching.script;
+      held = watching.held;
     }
 
 -- a server goes down where each group keeps a live member, and is held where one doesn't
 abbrev pub fence_at : ℕ → Watching → ℕ → Option ℕ → Watching
-fence_at at w server None =
+fence_at at watching server None =
     record {
-      live = with_at w.live server false;
-      missed = w.missed;
-      script = w.script ++ Crash at server ∷ [];
-      held = w.held;
+      live = with_at watching.live server false;
+      missed = watching.missed;
+      script = watching.script ++ Crash at server ∷ [];
+      held = watching.held;
     }
-fence_at at w server (Some group) =
+fence_at at watching server (Some group) =
     record {
-      live = w.live;
-      missed = w.missed;
-      script = w.script;
-      held = w.held ++ record { at = at; server = server; group = group } ∷ [];
+      live = watching.live;
+      missed = watching.missed;
+      script = watching.script;
+      held = watching.held ++ record { at = at; server = server; group = group } ∷ [];
     }
 
 -- a server that has missed as many ticks as the limit
 abbrev pub judge_at : RingShape → ℕ → ℕ → Watching → ℕ → Watching
-judge_at ring limit at w server =
-    if w.missed server == limit then fence_at at w server (gone_of ring (with_at w.live server false)) else w
+judge_at ring limit at watching server =
+    if watching.missed server == limit
+    then fence_at at watching server (gone_of ring (with_at watching.live server false))
+    else watching
 
 -- a step at each of these servers, one after the other
 abbrev pub at_each : (Watching → ℕ → Watching) → Watching → List ℕ → Watching
-at_each step w [] = w
-at_each step w (server ∷ servers) = at_each step (step w server) servers
+at_each step watching [] = watching
+at_each step watching (server ∷ servers) = at_each step (step watching server) servers
 
 -- all servers of a ring, in rising order
 abbrev pub servers_of : RingShape → List ℕ
 servers_of ring = range_with_len 0 ring.servers
 
 abbrev pub recover_all : RingShape → ℕ → Watching → Watching
-recover_all ring at w = at_each (recover_at at) w (servers_of ring)
+recover_all ring at watching = at_each (recover_at at) watching (servers_of ring)
 
 abbrev pub count_all : RingShape → ℕ → ℕ → Watching → Watching
-count_all ring limit beaten w = at_each (count_at limit beaten) w (servers_of ring)
+count_all ring limit beaten watching = at_each (count_at limit beaten) watching (servers_of ring)
 
 abbrev pub judge_all : RingShape → ℕ → ℕ → Watching → Watching
-judge_all ring limit at w = at_each (judge_at ring limit at) w (servers_of ring)
+judge_all ring limit at watching = at_each (judge_at ring limit at) watching (servers_of ring)
 
 -- at a tick the down servers recover, then the beats count, then the silent servers are fenced or held
 abbrev pub tick_on : RingShape → ℕ → Watching → Tick → Watching
-tick_on ring limit w tick =
-    judge_all ring limit tick.at (count_all ring limit tick.servers (recover_all ring tick.at w))
+tick_on ring limit watching tick =
+    judge_all ring limit tick.at (count_all ring limit tick.servers (recover_all ring tick.at watching))
 
 abbrev pub ticks_on : RingShape → ℕ → Watching → List Tick → Watching
-ticks_on ring limit w [] = w
-ticks_on ring limit w (tick ∷ ticks) = ticks_on ring limit (tick_on ring limit w tick) ticks
+ticks_on ring limit watching [] = watching
+ticks_on ring limit watching (tick ∷ ticks) = ticks_on ring limit (tick_on ring limit watching tick) ticks
 
 -- after the last tick the down servers recover, when all packets have entered
 abbrev pub watch_of : RingShape → ℕ → ℕ → List Tick → Watching

@@ -33,15 +33,21 @@ impl Model for Watcher {
 
     ghost Value = { Kept };
 
-    ghost view = { λ w. record { down = w.down; missed = w.missed; script = w.script; held = w.held } };
+    ghost view = { λ watcher. record {
+      down = watcher.down;
+      missed = watcher.missed;
+      script = watcher.script;
+      held = watcher.held;
+    } };
 
-    ghost invariant = { λ w. length w.missed ≡ MOST_SERVERS };
+    ghost invariant = { λ watcher. length watcher.missed ≡ MOST_SERVERS };
 }
 
 /// The counts with another one at a server.
 fn with_missed(missed: [u8; SERVERS], server: u8, count: u8) -> [u8; SERVERS]
     requires { server < MOST_SERVERS }
-    ensures value { (other : ℕ) → slice_index result other ≡ with_at (λ k. slice_index missed k) server count other }
+    ensures value { (other : ℕ) →
+        slice_index result other ≡ with_at (λ place. slice_index missed place) server count other }
     ensures size { length result ≡ MOST_SERVERS }
 {
     let mut next = missed;

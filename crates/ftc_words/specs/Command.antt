@@ -43,28 +43,31 @@ pub record Read : Type 0 where
   pub names : List (List ℕ)
 
 abbrev pub with_name : List ℕ → Read → Read
-with_name w read = record read { names = w ∷ read.names }
+with_name word read = record read { names = word ∷ read.names }
 
 abbrev pub with_number : ℕ → Read → Read
-with_number n read = record read { numbers = n ∷ read.numbers }
+with_number value read = record read { numbers = value ∷ read.numbers }
 
 abbrev pub number_in : ℕ → ℕ → List ℕ → Option ℕ
-number_in least most w = elim (number_of w most) [ Ok n ↦ if nat_le least n then Some n else None | Err e ↦ None ]
+number_in least most word = elim (number_of word most) [
+  | Ok value ↦ if nat_le least value then Some value else None
+  | Err fault ↦ None
+]
 
 abbrev pub read_at : List Place → List (List ℕ) → Option Read
 read_at [] [] = Some (record { numbers = []; names = [] })
-read_at [] (w ∷ ws) = None
-read_at (p ∷ ps) [] = None
-read_at (name ∷ ps) (w ∷ ws) = option_map (with_name w) (read_at ps ws)
-read_at (number least most ∷ ps) (w ∷ ws) =
-    option_and_then (λ n. option_map (with_number n) (read_at ps ws)) (number_in least most w)
+read_at [] (word ∷ words) = None
+read_at (place ∷ places) [] = None
+read_at (name ∷ places) (word ∷ words) = option_map (with_name word) (read_at places words)
+read_at (number least most ∷ places) (word ∷ words) =
+    option_and_then (λ value. option_map (with_number value) (read_at places words)) (number_in least most word)
 
 -- ---- the options
 
 -- a move is planned for a server that a chain may have
 abbrev pub move_of : Option (List ℕ × List ℕ) → Option (Option (ℕ × List ℕ))
 move_of None = Some None
-move_of (Some (k, file)) = option_map (λ server. Some (server, file)) (number_in 0 (MOST_SERVERS - 1) k)
+move_of (Some (word, file)) = option_map (λ server. Some (server, file)) (number_in 0 (MOST_SERVERS - 1) word)
 
 -- of `--workers` and `--alone` there is at most one, and `--move` stands beside `--alone` alone; there is at least one
 -- worker
@@ -103,8 +106,8 @@ abbrev pub six_names : List Place
 six_names = name ∷ name ∷ name ∷ name ∷ name ∷ name ∷ []
 
 abbrev pub named : List (List ℕ) → Option Named
-named (a ∷ b ∷ c ∷ d ∷ e ∷ f ∷ []) =
-    Some (record { chain = a; script = b; capture = c; out = d; journal = e; report = f })
+named (chain ∷ script ∷ capture ∷ out ∷ journal ∷ report ∷ []) =
+    Some (record { chain = chain; script = script; capture = capture; out = out; journal = journal; report = report })
 named _ = None
 
 abbrev pub run_made : List ℕ → List (List ℕ) → Mode → Option Command
@@ -200,7 +203,7 @@ IsWithin other = Unit {0}
 
 abbrev pub are_distinct : List (List ℕ) → Bool
 are_distinct [] = true
-are_distinct (w ∷ ws) = not (list_any (bytes_eq w) ws) && are_distinct ws
+are_distinct (word ∷ words) = not (list_any (bytes_eq word) words) && are_distinct words
 
 -- the command of that form; all names are different
 abbrev pub of_form : Form → Mode → List (List ℕ) → Option Command
@@ -211,14 +214,16 @@ of_form form mode words =
     else None
 
 abbrev pub of_word : List Form → List ℕ → Mode → List (List ℕ) → Option Command
-of_word [] w mode words = None
-of_word (form ∷ more) w mode words = if bytes_eq w form.word then of_form form mode words else of_word more w mode words
+of_word [] word mode words = None
+of_word (form ∷ more) word mode words =
+    if bytes_eq word form.word then of_form form mode words else of_word more word mode words
 
 -- the command that words are, whether it is built or not
 abbrev pub spelled : List (List ℕ) → Option Command
 spelled [] = None
-spelled (w ∷ ws) =
-    option_and_then (λ given. option_and_then (λ mode. of_word forms w mode given.plain) (mode_of given)) (given_in ws)
+spelled (word ∷ words) =
+    option_and_then (λ given. option_and_then (λ mode. of_word forms word mode given.plain) (mode_of given))
+    (given_in words)
 
 -- the commands that the program has
 abbrev pub is_built : Command → Bool

@@ -5,12 +5,12 @@ use Rattle.std.specs.Str.{bytes_eq}
 use Rattle.std.specs.Borrow.{Bor}
 
 abbrev pub texts_of : List (Bor (List ℕ)) → List (List ℕ)
-texts_of words = map (λ w. w.now) words
+texts_of words = map (λ word. word.now) words
 
 -- not empty, and without a hyphen in front
 abbrev pub is_name : List ℕ → Bool
 is_name [] = false
-is_name (b ∷ bs) = not (b == 45)
+is_name (byte ∷ bytes) = not (byte == 45)
 
 -- what the next word is: an option or another word, or a value of an option
 pub data Awaited : Type 0 where
@@ -41,29 +41,29 @@ option_taken before awaited given = if before then None else Some (record given 
 
 -- a word where none is awaited as a value
 abbrev pub word_taken : Given → List ℕ → Option Given
-word_taken given w =
-    if bytes_eq w (codes "--workers") then option_taken (is_some given.workers) workers given
-    else (if bytes_eq w (codes "--alone") then option_taken (is_some given.schedule) schedule given
-    else (if bytes_eq w (codes "--move") then option_taken (is_some given.moved) server given
-    else (if is_name w && nat_lt (length given.plain) most_plain then
-    Some (record given { plain = given.plain ++ w ∷ [] }) else None)))
+word_taken given word =
+    if bytes_eq word (codes "--workers") then option_taken (is_some given.workers) workers given
+    else (if bytes_eq word (codes "--alone") then option_taken (is_some given.schedule) schedule given
+    else (if bytes_eq word (codes "--move") then option_taken (is_some given.moved) server given
+    else (if is_name word && nat_lt (length given.plain) most_plain then
+    Some (record given { plain = given.plain ++ word ∷ [] }) else None)))
 
 -- a value of an option
 abbrev pub value_taken : Awaited → Given → List ℕ → Given
-value_taken any given w = given
-value_taken workers given w = record given { awaited = any; workers = Some w }
-value_taken schedule given w = record given { awaited = any; schedule = Some w }
-value_taken server given w = record given { awaited = file w }
-value_taken (file number) given w = record given { awaited = any; moved = Some (number, w) }
+value_taken any given word = given
+value_taken workers given word = record given { awaited = any; workers = Some word }
+value_taken schedule given word = record given { awaited = any; schedule = Some word }
+value_taken server given word = record given { awaited = file word }
+value_taken (file number) given word = record given { awaited = any; moved = Some (number, word) }
 
 abbrev pub is_any : Awaited → Bool
 is_any any = true
 is_any other = false
 
 abbrev pub taken : Given → List ℕ → Option Given
-taken given w =
-    if is_any given.awaited then word_taken given w
-    else (if is_name w then Some (value_taken given.awaited given w) else None)
+taken given word =
+    if is_any given.awaited then word_taken given word
+    else (if is_name word then Some (value_taken given.awaited given word) else None)
 
 -- what is given then, where a word was taken
 abbrev pub if_taken : Bool → Given → Option Given
@@ -72,7 +72,7 @@ if_taken was given = if was then Some given else None
 -- one word after another; in the end no value is awaited
 abbrev pub given_from : Given → List (List ℕ) → Option Given
 given_from given [] = if is_any given.awaited then Some given else None
-given_from given (w ∷ ws) = option_and_then (λ next. given_from next ws) (taken given w)
+given_from given (word ∷ words) = option_and_then (λ next. given_from next words) (taken given word)
 
 abbrev pub given_in : List (List ℕ) → Option Given
 given_in words = given_from nothing_given words

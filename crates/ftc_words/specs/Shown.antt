@@ -49,8 +49,8 @@ awaited_of (awaited.File server) = given.file server.now
 abbrev pub sorted_of : Sorted → Given
 sorted_of sorted = record {
   awaited = awaited_of sorted.awaited;
-  workers = option_map (λ w. w.now) sorted.workers;
-  schedule = option_map (λ w. w.now) sorted.schedule;
-  moved = option_map (λ m. (m.0.now, m.1.now)) sorted.moved;
-  plain = map (λ w. w.now) sorted.plain.items;
+  workers = option_map (λ word. word.now) sorted.workers;
+  schedule = option_map (λ word. word.now) sorted.schedule;
+  moved = option_map (λ pair. (pair.0.now, pair.1.now)) sorted.moved;
+  plain = map (λ word. word.now) sorted.plain.items;
 }

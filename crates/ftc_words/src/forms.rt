@@ -44,7 +44,8 @@ fn workers_in(word: &str) -> Option<u8>
 
 /// The planned move of these two words, if there is one.
 fn move_of<'a>(moved: Option<(&'a str, &'a str)>) -> Option<Option<Move<'a>>>
-    ensures { option_map (option_map shown_move) result ≡ move_of (option_map (λ m. (m.0.now, m.1.now)) moved.entry) }
+    ensures { option_map (option_map shown_move) result
+        ≡ move_of (option_map (λ pair. (pair.0.now, pair.1.now)) moved.entry) }
 {
     match moved {
         None => Some(None),

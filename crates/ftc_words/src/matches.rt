@@ -36,7 +36,7 @@ pub fn without_move<'a>(alloc: Global, words: &[&'a str]) -> Result<Vec<&'a str>
 /// What clap makes of the words, the first of which is the command's. Want of memory alone refuses them.
 pub fn matches_of<'a>(alloc: Global, words: &'a [&'a str]) -> Result<ArgMatches<'a>, Error>
     requires form { has_form (texts_of words.now) ≡ true }
-    ensures err { IfErr result (λ e. kind_of e ≡ ErrorKind.OutOfMemory) }
+    ensures err { IfErr result (λ error. kind_of error ≡ ErrorKind.OutOfMemory) }
 {
     let workers = Arg::new(alloc, "workers")
         .long("workers")

@@ -32,10 +32,11 @@ pub fn command_of<'a>(words: &[&'a str]) -> Option<Command<'a>>
 /// for want of memory alone.
 pub fn read_command<'a>(alloc: Global, words: &[&'a str]) -> Result<Option<Command<'a>>, NoMemory>
     ensures command { IfOk result (λ command. option_map shown command ≡ command_of (texts_of words.now)) }
-    ensures built { IfOk result (λ command. IfSome command (λ c. is_built (shown c) ≡ true)) }
-    ensures distinct { IfOk result (λ command. IfSome command (λ c. are_distinct (files_of (shown c)) ≡ true)) }
-    ensures named { IfOk result (λ command. IfSome command (λ c. list_all is_name (named_by (shown c)) ≡ true)) }
-    ensures within { IfOk result (λ command. IfSome command (λ c. IsWithin (shown c))) }
+    ensures built { IfOk result (λ command. IfSome command (λ given. is_built (shown given) ≡ true)) }
+    ensures distinct { IfOk result (λ command. IfSome command (λ given. are_distinct (files_of (shown given)) ≡ true)) }
+    ensures named { IfOk result (λ command. IfSome command (λ given.
+        list_all is_name (named_by (shown given)) ≡ true)) }
+    ensures within { IfOk result (λ command. IfSome command (λ given. IsWithin (shown given))) }
     ensures memory { IfErr result (λ _. command_of (texts_of words.now) ≢ None) }
 {
     let Some(command) = command_of(words) else {
