@@ -7,11 +7,11 @@ pub mod ItemLaws
 pub mod WriteLaws
 pub mod LogLaws
 pub mod Partitions
-pub mod Rising
 pub mod NeedLaws
 pub mod CommitLaws
 pub mod MessageLaws
 pub mod Members
 mod Merged
 pub mod InOrder
+pub mod RiseLaws
 pub mod Searched

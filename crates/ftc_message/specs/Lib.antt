@@ -7,6 +7,8 @@ pub mod Fields
 pub mod Reading
 pub mod Front
 pub mod Ordered
+pub mod Rises
+pub mod OrderLaws
 pub mod Added
 pub mod Same
 pub mod SameLaws

@@ -18,6 +18,7 @@ mod need;
 mod need_bytes;
 mod part_bytes;
 mod parts;
+mod rising;
 mod seen;
 mod writes;
 

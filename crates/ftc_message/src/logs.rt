@@ -1,7 +1,7 @@
 //! Lists of logs.
 
-ghost use Rattle.std.specs.Prelude.{◌≡◌, ◌<◌, ◌≤◌, ◌+◌, ◌++◌, ◌==◌, [], ◌∷◌, true, false, is_some, length, vec_len};
-ghost use Rattle.std.specs.Prelude.{vec_capacity, Some, None, slice_get, IfOk, OnOk, OnErr};
+ghost use Rattle.std.specs.Prelude.{◌≡◌, ◌<◌, ◌≤◌, ◌++◌, ◌==◌, [], ◌∷◌, true, false, is_some, length, Some, None};
+ghost use Rattle.std.specs.Prelude.{slice_get, IfOk, OnOk, OnErr};
 ghost use Rattle.std.specs.List.{AllByRecursion, find, prefix_len};
 ghost use Rattle.std.specs.Option.{option_copied};
 ghost use Rattle.ftc_message.specs.Logged.{logs_rise};
@@ -12,12 +12,14 @@ ghost use Rattle.std.specs.Cmp.{partial_equiv_from_equiv};
 ghost use Rattle.std.specs.Cmp.Lexicographic.{pointwise};
 ghost use Rattle.ftc_message.specs.Ordered.{with_item, with_items, is_earlier, is_before, is_log_of, HasNone, AreApart};
 ghost use Rattle.ftc_message.specs.Ordered.{logs_without};
+ghost use Rattle.ftc_message.specs.Rises.{Rises};
+ghost use Rattle.ftc_message.specs.OrderLaws.{earlier_is_order};
 
 use crate::log::Log;
+use crate::rising::{Placed, merge, put};
 use ftc_base::{Items, NoMemory, PacketNo, ServerId, ServerSet};
 use std::alloc::Global;
 use std::marker::Model;
-use std::mem;
 
 /// Logs in any order.
 pub type LogList = Items<Log>;
@@ -56,37 +58,20 @@ fn is_of(log: &Log, origin: PacketNo, group: ServerId) -> bool
 
 /// How many of the logs, which rise, stand before that of a packet and a group.
 fn place_of(logs: &[Log], origin: PacketNo, group: ServerId) -> usize
-    requires { logs_rise None logs.now ≡ true }
+    requires { Rises is_earlier logs.now }
     ensures place { result ≡ prefix_len (is_before origin group) logs.now }
     ensures within { result ≤ length logs.now }
 {
     logs.partition_point(|log| is_before(log, origin, group))
 }
 
-/// Puts a log at its place among others, which rise. There is room for it.
-fn put(list: &mut Vec<Log>, log: Log)
-    requires room { vec_len list.old < vec_capacity list.old }
-    requires rising { logs_rise None list.old.items ≡ true }
-    ensures items { list.new.items ≡ with_item is_earlier log list.old.items }
-    ensures len { vec_len list.new ≡ vec_len list.old + 1 }
-    ensures capacity { vec_capacity list.old ≤ vec_capacity list.new }
-{
-    let place = place_of(list.as_slice(), log.origin(), log.group());
-    let put: Result<_, _> = list.insert(place, log);
-    put.unwrap();
-}
+impl Placed for Log {
+    ghost is_before = { is_earlier };
 
-/// Puts each log at its place. Both lists rise, no log is in both, and there is room for them.
-fn put_all(list: &mut Vec<Log>, logs: Vec<Log>)
-    requires room { vec_len list.old + vec_len logs ≤ vec_capacity list.old }
-    requires rising { logs_rise None list.old.items ≡ true }
-    requires others { logs_rise None logs.items ≡ true }
-    requires apart { AreApart logs.items list.old.items }
-    ensures { list.new.items ≡ with_items is_earlier logs.items list.old.items }
-{
-    let mut rest = logs;
-    while let Some(log) = rest.pop() {
-        put(list, log);
+    ghost is_order = { earlier_is_order };
+
+    fn place_among(&self, logs: &[Log]) -> usize {
+        place_of(logs, self.origin(), self.group())
     }
 }
 
@@ -177,15 +162,7 @@ impl Logs {
         ensures ok { OnOk result (self.new ≡ with_items is_earlier other self.old) }
         ensures err { OnErr result (self.new ≡ self.old) }
     {
-        let mut others = other.into_vec();
-        if others.len() <= self.list.len() {
-            self.list.reserve(others.len())?;
-            put_all(&mut self.list, others);
-            return Ok(());
-        }
-        others.reserve(self.list.len())?;
-        let fewer = mem::replace(&mut self.list, others);
-        put_all(&mut self.list, fewer);
+        merge(&mut self.list, other.into_vec())?;
         Ok(())
     }
 

@@ -1,8 +1,8 @@
 //! What has to be known of a tail before a packet may be released.
 
-ghost use Rattle.std.specs.Prelude.{◌≡◌, ◌<◌, ◌≤◌, ◌+◌, ◌++◌, ◌==◌, [], ◌∷◌, true, false, is_some, length, vec_len};
-ghost use Rattle.std.specs.Prelude.{vec_capacity, Some, None, slice_get, IfOk, OnOk, OnErr};
-ghost use Rattle.std.specs.List.{AllByRecursion, find, prefix_len};
+ghost use Rattle.std.specs.Prelude.{◌≡◌, ◌<◌, ◌++◌, ◌==◌, [], ◌∷◌, true, false, is_some, length, Some, slice_get};
+ghost use Rattle.std.specs.Prelude.{IfOk, OnOk, OnErr};
+ghost use Rattle.std.specs.List.{AllByRecursion, find};
 ghost use Rattle.std.specs.Option.{option_copied};
 ghost use Rattle.ftc_message.specs.Logged.{needs_rise};
 ghost use Rattle.ftc_message.specs.Bounds.{IsNeed, AreNeeds};
@@ -12,7 +12,9 @@ ghost use Rattle.std.specs.Cmp.{partial_equiv_from_equiv};
 ghost use Rattle.std.specs.Cmp.Lexicographic.{pointwise};
 ghost use Rattle.ftc_message.specs.Ordered.{with_item, with_items, is_lower, is_need_of, HasNoNeed, AreOfOthers};
 ghost use Rattle.ftc_message.specs.Ordered.{needs_without};
+ghost use Rattle.ftc_message.specs.OrderLaws.{lower_is_order};
 
+use crate::rising::{Placed, merge, put};
 use ftc_base::{NoMemory, ServerId, ServerSet};
 use ftc_vector::Marks;
 use std::alloc::Global;
@@ -43,39 +45,18 @@ impl Model for Needs {
     ghost invariant = { λ needs. AreNeeds needs.list.items };
 }
 
-/// How many of the needs stand before this one, up to the first that doesn't.
-fn place_of(needs: &[Need], need: &Need) -> usize
-    ensures place { result ≡ prefix_len (λ other. is_lower other need.now) needs.now }
-    ensures within { result ≤ length needs.now }
-{
-    for (place, other) in needs.iter().enumerate() {
-        if other.group.number() >= need.group.number() {
-            return place;
+impl Placed for Need {
+    ghost is_before = { is_lower };
+
+    ghost is_order = { lower_is_order };
+
+    fn place_among(&self, needs: &[Need]) -> usize {
+        for (place, need) in needs.iter().enumerate() {
+            if need.group.number() >= self.group.number() {
+                return place;
+            }
         }
-    }
-    needs.len()
-}
-
-/// Puts a need at its place. There is room for it.
-fn put(list: &mut Vec<Need>, need: Need)
-    requires { vec_len list.old < vec_capacity list.old }
-    ensures items { list.new.items ≡ with_item is_lower need list.old.items }
-    ensures len { vec_len list.new ≡ vec_len list.old + 1 }
-    ensures capacity { vec_capacity list.old ≤ vec_capacity list.new }
-{
-    let place = place_of(list.as_slice(), &need);
-    let put: Result<_, _> = list.insert(place, need);
-    put.unwrap();
-}
-
-/// Puts each need at its place. There is room for them.
-fn put_all(list: &mut Vec<Need>, needs: Vec<Need>)
-    requires { vec_len list.old + vec_len needs ≤ vec_capacity list.old }
-    ensures { list.new.items ≡ with_items is_lower needs.items list.old.items }
-{
-    let mut rest = needs;
-    while let Some(need) = rest.pop() {
-        put(list, need);
+        needs.len()
     }
 }
 
@@ -168,9 +149,7 @@ impl Needs {
         ensures ok { OnOk result (self.new ≡ with_items is_lower other self.old) }
         ensures err { OnErr result (self.new ≡ self.old) }
     {
-        let others = other.into_vec();
-        self.list.reserve(others.len())?;
-        put_all(&mut self.list, others);
+        merge(&mut self.list, other.into_vec())?;
         Ok(())
     }
 

@@ -1,5 +1,6 @@
 use Rattle.ftc_message.specs.Ordered.{is_earlier}
-use Rattle.ftc_message.proofs.InOrder.{count_with_items, are_logs-with, are_logs-with_items, are_logs-filter}
+use Rattle.ftc_message.proofs.InOrder.{count_with_items}
+use Rattle.ftc_message.proofs.RiseLaws.{are_logs-with, are_logs-with_items, are_logs-filter}
 use Rattle.ftc_message.proofs.laws.logs_in_order.Goals as goal
 
 pub returns : goal.returns

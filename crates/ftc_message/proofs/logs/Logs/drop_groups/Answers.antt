@@ -5,7 +5,7 @@ use Rattle.ftc_base.specs.Sets.{has}
 use Rattle.ftc_message.specs.Logged.{Logged}
 use Rattle.ftc_message.specs.Bounds.{AreLogs}
 use Rattle.ftc_message.specs.Ordered.{logs_without}
-use Rattle.ftc_message.proofs.InOrder.{are_logs-filter}
+use Rattle.ftc_message.proofs.RiseLaws.{are_logs-filter}
 use Rattle.ftc_message.proofs.logs.Logs.drop_groups.Goals as goal
 
 pub returns : goal.returns

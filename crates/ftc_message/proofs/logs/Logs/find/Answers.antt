@@ -5,9 +5,13 @@ use Rattle.std.proofs.lemmas.Bool.Decides.{nat_tests}
 use Rattle.std.proofs.lemmas.Option.{slice_get_past, slice_get-get_or}
 use Rattle.ftc_message.specs.Logged.{Logged}
 use Rattle.ftc_message.specs.Ordered.{is_log_of}
+use Rattle.ftc_message.proofs.RiseLaws.{logs_by_order}
 use Rattle.ftc_message.proofs.Searched.{found_by}
 use Rattle.ftc_message.proofs.logs.Logs.find.Goals as goal
 use Rattle.ftc_message.proofs.logs.Logs.find.Goals.{After-is_of}
+
+pub place_of-requires : goal.place_of-requires
+place_of-requires c = rw c.as_slice-logs.ensures.value (logs_by_order c.self.inside.list.items c.self.invariant.rising)
 
 pub returns-in_err-log : goal.returns-in_err-log
 returns-in_err-log c =

@@ -5,7 +5,7 @@ use Rattle.ftc_base.specs.Sets.{has}
 use Rattle.ftc_message.specs.declared.need.Need.{Need}
 use Rattle.ftc_message.specs.Bounds.{AreNeeds}
 use Rattle.ftc_message.specs.Ordered.{needs_without}
-use Rattle.ftc_message.proofs.InOrder.{are_needs-filter}
+use Rattle.ftc_message.proofs.RiseLaws.{are_needs-filter}
 use Rattle.ftc_message.proofs.need.Needs.drop_groups.Goals as goal
 
 pub returns : goal.returns

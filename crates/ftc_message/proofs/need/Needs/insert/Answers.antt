@@ -1,12 +1,15 @@
-use Rattle.std.proofs.Common.{sym, ap, subst, ◌∙◌, arith}
-use Rattle.ftc_message.specs.Bounds.{AreNeeds}
-use Rattle.ftc_message.specs.Ordered.{with_item, is_lower, HasNoNeed}
-use Rattle.ftc_message.proofs.InOrder.{are_needs-with}
+use Rattle.std.proofs.Common.{sym, subst, arith}
+use Rattle.ftc_message.specs.Ordered.{HasNoNeed}
+use Rattle.ftc_message.proofs.RiseLaws.{are_needs-with, needs_by_order}
 use Rattle.ftc_message.proofs.need.Needs.insert.Goals as goal
+
+pub put-requires-clause-rising : goal.put-requires-clause-rising
+put-requires-clause-rising c =
+    rw c.reserve.ensures.items (needs_by_order c.self.inside.list.items c.self.invariant.rising)
 
 pub invariant_of-self-2 : goal.invariant_of-self-2
 invariant_of-self-2 c =
-    subst AreNeeds (sym (c.put.ensures.items ∙ ap (with_item is_lower c.args.need) c.reserve.ensures.items))
+    rw (c.put.ensures.items, c.reserve.ensures.items)
     (are_needs-with c.args.need c.self.inside.list.items
     (record {
       group = omega (arith, c.number.ensures.within, c.number.ensures.same);

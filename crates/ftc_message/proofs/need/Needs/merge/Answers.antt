@@ -1,13 +1,21 @@
-use Rattle.std.proofs.Common.{sym, ap, subst, ◌∙◌}
-use Rattle.ftc_message.specs.Bounds.{AreNeeds}
-use Rattle.ftc_message.specs.Ordered.{with_items, is_lower, AreOfOthers}
-use Rattle.ftc_message.proofs.InOrder.{are_needs-with_items}
+use Rattle.std.proofs.Common.{sym, subst}
+use Rattle.ftc_message.specs.Ordered.{AreOfOthers}
+use Rattle.ftc_message.proofs.RiseLaws.{are_needs-with_items, needs_by_order, needs_apart}
 use Rattle.ftc_message.proofs.need.Needs.merge.Goals as goal
+
+pub merge-requires-clause-rising : goal.merge-requires-clause-rising
+merge-requires-clause-rising c = needs_by_order c.self.inside.list.items c.self.invariant.rising
+
+pub merge-requires-clause-others : goal.merge-requires-clause-others
+merge-requires-clause-others c =
+    rw c.into_vec.ensures.items (needs_by_order c.args.other c.into_vec.ensures.bounds.rising)
+
+pub merge-requires-clause-apart : goal.merge-requires-clause-apart
+merge-requires-clause-apart c =
+    rw (c.into_vec.ensures.items, c.self.view_is) (needs_apart c.args.other c.args.self.now c.requires)
 
 pub invariant_of-self-2 : goal.invariant_of-self-2
 invariant_of-self-2 c =
-    let all = c.put_all.ensures ∙ ap (with_items is_lower c.into_vec-others.result.items) c.reserve.ensures.items
-    ∙ ap (λ needs. with_items is_lower needs c.self.inside.list.items) c.into_vec-others.ensures.items in
-    subst AreNeeds (sym all)
-    (are_needs-with_items c.args.other c.self.inside.list.items c.into_vec-others.ensures.bounds c.self.invariant
+    rw (c.in_ok-merge.ensures.ok, c.into_vec.ensures.items)
+    (are_needs-with_items c.args.other c.self.inside.list.items c.into_vec.ensures.bounds c.self.invariant
     (subst (AreOfOthers c.args.other) (sym c.self.view_is) c.requires))
