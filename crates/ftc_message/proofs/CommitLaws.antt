@@ -11,6 +11,7 @@ use Rattle.std.proofs.lemmas.List.{length-append, length-replicate, length-map, 
 use Rattle.ftc_base.specs.declared.limits.TheConstants.{MOST_SERVERS, MOST_PARTITIONS}
 use Rattle.ftc_vector.specs.Vector.{by_partition, number_at, merged, IsVector}
 use Rattle.ftc_vector.specs.Commits.{by_group, vector_of, group_raised, IsGroupEnd}
+use Rattle.ftc_vector.proofs.Held.{zeros_are as zeros_are_vector}
 use Rattle.ftc_vector.proofs.Partitions.{by_partition-from, length-by_partition, get_or-by_partition}
 use Rattle.ftc_message.specs.declared.need.Need.{Need}
 use Rattle.ftc_message.specs.Logged.{needs_rise}
@@ -135,17 +136,7 @@ vector_is marks spelled = record {
 
 zeros_are : IsVector zeros
 unfolding zeros
-zeros_are = record {
-  size = length-by_partition (λ _. 0);
-  bounds = λ p.
-      elim (cases_lt p MOST_PARTITIONS) [
-        | inl within ↦ omega (arith, get_or-by_partition {A = ℕ} (λ _. 0) p 0 within)
-        | inr past ↦ omega (
-          arith,
-          get_or_past {X = ℕ} (by_partition (λ _. 0)) p 0 (omega (arith, length-by_partition {A = ℕ} (λ _. 0))),
-        )
-      ];
-}
+zeros_are = zeros_are_vector
 
 -- ---- which vectors are written
 
