@@ -1,12 +1,12 @@
 -- Items that are read one after the other, each of which follows the one before.
-use Rattle.std.proofs.Common.{◌≡◌, ℕ, zero, suc, Bool, true, ◌&&◌, List, [], ◌∷◌, ◌++◌, length, Result, Ok, refl, sym}
+use Rattle.std.proofs.Common.{◌≡◌, ℕ, zero, suc, Bool, true, List, [], ◌∷◌, ◌++◌, length, Result, Ok, refl, sym}
 use Rattle.std.proofs.Common.{ap, subst, ◌∙◌, append_assoc}
 use Rattle.std.specs.List.{AllByRecursion, flat_map}
-use Rattle.std.proofs.lemmas.Bool.{and_parts, and_from}
 use Rattle.std.proofs.lemmas.List.{append-nil}
 use Rattle.ftc_message.specs.declared.fault.FieldFault.{FieldFault}
 use Rattle.ftc_base.specs.Reading.{◌>>=◌}
 use Rattle.ftc_message.specs.Reading.{times}
+use Rattle.ftc_message.proofs.Following.{GoesOn, parts_of, of_parts}
 use Rattle.ftc_message.proofs.Fields.{IsBytes, Takes, Takes-then, bind_ok, ok_is, times_ok}
 
 -- how an item is read behind another, and spelled
@@ -16,6 +16,8 @@ pub record Items (L X : Type 0) : Type 1 where
   pub item_bytes : X → List ℕ
   pub IsItem : X → Type 0
   pub follows : L → X → Bool
+  pub rise : L → List X → Bool
+  pub goes_on : GoesOn place follows rise
   pub takes : (last : L) (bytes : List ℕ) (x : X × List ℕ) → IsBytes bytes → item_at last bytes ≡ Ok x →
       Takes bytes (item_bytes x.0) x.1 × IsItem x.0 × (follows last x.0 ≡ true)
   pub again : (last : L) (item : X) (rest : List ℕ) → IsItem item → follows last item ≡ true →
@@ -26,11 +28,6 @@ abbrev pub with_item : {L X : Type 0} → Items L X → L × List X → List ℕ
 with_item items so_far bytes = items.item_at so_far.0 bytes >>= λ item.
     Ok ((items.place item.0, so_far.1 ++ item.0 ∷ []), item.1)
 
--- each item follows the one before
-abbrev pub in_order : {L X : Type 0} → Items L X → L → List X → Bool
-in_order items last [] = true
-in_order items last (x ∷ xs) = items.follows last x && in_order items (items.place x) xs
-
 pub record ItemsRead {L X : Type 0} (items : Items L X) (count : ℕ) (last : L) (front : List X) (bytes : List ℕ)
     (x : (L × List X) × List ℕ) : Type 0 where
   pub back : List X
@@ -38,7 +35,7 @@ pub record ItemsRead {L X : Type 0} (items : Items L X) (count : ℕ) (last : L)
   pub all : length back ≡ count
   pub takes : Takes bytes (flat_map items.item_bytes back) x.1
   pub each : AllByRecursion items.IsItem back
-  pub rising : in_order items last back ≡ true
+  pub rising : items.rise last back ≡ true
 
 one_more : {L X : Type 0} (items : Items L X) (count : ℕ) (last : L) (front : List X) (bytes : List ℕ) (item : X
     × List ℕ) (x : (L × List X) × List ℕ) → Takes bytes (items.item_bytes item.0) item.1 → items.IsItem item.0 →
@@ -51,7 +48,7 @@ one_more items count last front bytes item x takes is_item follows rest = record
   all = ap suc rest.all;
   takes = Takes-then bytes (items.item_bytes item.0) item.1 (flat_map items.item_bytes rest.back) x.1 takes rest.takes;
   each = (is_item, rest.each);
-  rising = and_from (items.follows last item.0) (in_order items (items.place item.0) rest.back) follows rest.rising;
+  rising = of_parts items.place items.follows items.rise items.goes_on last item.0 rest.back follows rest.rising;
 }
 
 none_read : {L X : Type 0} (items : Items L X) (last : L) (front : List X) (bytes : List ℕ) (x : (L × List X)
@@ -64,9 +61,8 @@ none_read items last front bytes x fits is =
       whole = sym (append-nil front);
       all = refl;
       takes = record { parts = refl; rest_fits = fits };
-      each =
-          tt;
-      rising = refl;
+      each = tt;
+      rising = items.goes_on.none last;
     })
 
 pub items_read : {L X : Type 0} (items : Items L X) (count : ℕ) (last : L) (front : List X) (bytes : List ℕ)
@@ -91,7 +87,7 @@ pub record CountedRead {L X : Type 0} (items : Items L X) (first : L) (count_byt
   pub takes : Takes bytes (count_bytes (length x.0) ++ flat_map items.item_bytes x.0) x.1
   pub few : IsFew (length x.0)
   pub each : AllByRecursion items.IsItem x.0
-  pub rising : in_order items first x.0 ≡ true
+  pub rising : items.rise first x.0 ≡ true
 
 pub counted_read : {L X : Type 0} (items : Items L X) (first : L) (count_bytes : ℕ → List ℕ) (IsFew : ℕ → Type 0)
     (count_at : List ℕ → Result (ℕ × List ℕ) FieldFault) (bytes : List ℕ) (x : List X × List ℕ) →
@@ -117,14 +113,14 @@ counted_read {L = L} {X = X} items first count_bytes IsFew count_at bytes x coun
     })
 
 pub items_again : {L X : Type 0} (items : Items L X) (last : L) (front back : List X) (rest : List ℕ) →
-    AllByRecursion items.IsItem back → in_order items last back ≡ true
+    AllByRecursion items.IsItem back → items.rise last back ≡ true
     → (end : L) × (times (with_item items) (length back) (last, front) (flat_map items.item_bytes back ++ rest)
     ≡ Ok ((end, front ++ back), rest))
 unfolding times
 items_again {L = L} {X = X} items last front [] rest each rising =
     (last, ap (λ (xs : List X). Ok ((last, xs), rest)) (sym (append-nil front)))
 items_again {L = L} {X = X} items last front (x ∷ xs) rest each rising =
-    let order = and_parts (items.follows last x) (in_order items (items.place x) xs) rising in
+    let order = parts_of items.place items.follows items.rise items.goes_on last x xs rising in
     let behind = flat_map items.item_bytes xs ++ rest in
     let first = items.again last x behind each.0 order.0 in
     let others = items_again items (items.place x) (front ++ x ∷ []) xs rest each.1 order.1 in

@@ -3,6 +3,7 @@ pub mod Fields
 pub mod Blanks
 pub mod MarkLaws
 pub mod PartLaws
+pub mod Following
 pub mod ItemLaws
 pub mod WriteLaws
 pub mod LogLaws

@@ -1,6 +1,6 @@
 -- Logs: what is read is spelled so, and what is spelled so is read.
-use Rattle.std.proofs.Common.{◌≡◌, ℕ, zero, suc, ◌^◌, ◌<◌, ◌≤◌, ◌&&◌, Bool, true, List, [], ◌∷◌, ◌++◌, length, get_or}
-use Rattle.std.proofs.Common.{Option, Some, None, IsSome, Ok, refl, sym, ap, subst, ◌∙◌, append_assoc, arith}
+use Rattle.std.proofs.Common.{◌≡◌, ℕ, zero, suc, ◌^◌, ◌<◌, ◌≤◌, true, List, [], ◌∷◌, ◌++◌, length, get_or}
+use Rattle.std.proofs.Common.{Option, Some, None, IsSome, Ok, refl, ap, subst, ◌∙◌, append_assoc, arith}
 use Rattle.std.specs.List.{AllByRecursion, flat_map}
 use Rattle.ftc_base.specs.declared.ask.Write.{Write}
 use Rattle.ftc_base.specs.declared.limits.TheConstants.{MOST_SERVERS}
@@ -19,7 +19,8 @@ use Rattle.ftc_message.proofs.Fields.{number_takes, number_again, wide_4}
 use Rattle.ftc_message.proofs.MarkLaws.{IsMark, AreSpelled}
 use Rattle.ftc_message.proofs.PartLaws.{ArePartsSpelled, parts_at_takes, parts_at_again}
 use Rattle.ftc_message.proofs.WriteLaws.{AreWritesSpelled, writes_at_takes, writes_at_again}
-use Rattle.ftc_message.proofs.ItemLaws.{Items, in_order, counted_read, items_again}
+use Rattle.ftc_message.proofs.RiseLaws.{place_of_log, follows_log, logs_go}
+use Rattle.ftc_message.proofs.ItemLaws.{Items, counted_read, items_again}
 
 -- ---- marks by place and by recursion
 
@@ -218,18 +219,15 @@ log_at_again last log rest is follows =
 abbrev logs : Items (Option (ℕ × ℕ)) Logged
 logs = record {
   item_at = log_at;
-  place = λ log. Some (log.origin, log.group);
+  place = place_of_log;
   item_bytes = log_bytes;
   IsItem = IsLogSpelled;
-  follows = λ last log. log_follows last log.origin log.group;
+  follows = follows_log;
+  rise = logs_rise;
+  goes_on = logs_go;
   takes = log_at_takes;
   again = log_at_again;
 }
-
-in_order_is : (last : Option (ℕ × ℕ)) (ls : List Logged) → in_order logs last ls ≡ logs_rise last ls
-in_order_is last [] = refl
-in_order_is last (log ∷ ls) =
-    ap (λ (b : Bool). log_follows last log.origin log.group && b) (in_order_is (Some (log.origin, log.group)) ls)
 
 -- logs that have a spelling
 pub record AreLogsSpelled (ls : List Logged) : Type 0 where
@@ -243,13 +241,13 @@ unfolding logs_at
 logs_at_takes bytes x fits is =
     let read = counted_read logs None (number_bytes 4) (λ n. n < 2 ^ 32) (integer_at 4) bytes x
     (λ count. number_takes 4 (2 ^ 32) wide_4 bytes count fits) is in
-    (read.takes, record { few = read.few; each = read.each; rising = sym (in_order_is None x.0) ∙ read.rising })
+    (read.takes, record { few = read.few; each = read.each; rising = read.rising })
 
 pub logs_at_again : (ls : List Logged) (rest : List ℕ) → AreLogsSpelled ls →
     logs_at (logs_bytes ls ++ rest) ≡ Ok (ls, rest)
 unfolding logs_at
 logs_at_again ls rest spelled =
-    let read = items_again logs None [] ls rest spelled.each (in_order_is None ls ∙ spelled.rising) in
+    let read = items_again logs None [] ls rest spelled.each spelled.rising in
     let text : logs_bytes ls ++ rest ≡ number_bytes 4 (length ls) ++ (flat_map log_bytes ls ++ rest) =
     append_assoc (number_bytes 4 (length ls)) (flat_map log_bytes ls) rest in
     ap logs_at text ∙ rw (

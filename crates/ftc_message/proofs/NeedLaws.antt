@@ -1,6 +1,6 @@
 -- Needs: what is read is spelled so, and what is spelled so is read.
-use Rattle.std.proofs.Common.{◌≡◌, ℕ, ◌+◌, ◌<◌, ◌≤◌, ◌&&◌, leb, Bool, true, List, [], ◌∷◌, ◌++◌, length, Option, Ok}
-use Rattle.std.proofs.Common.{Err, refl, sym, ap, subst, ◌∙◌, arith}
+use Rattle.std.proofs.Common.{◌≡◌, ℕ, ◌<◌, ◌≤◌, leb, true, List, [], ◌∷◌, ◌++◌, length, Option, Ok}
+use Rattle.std.proofs.Common.{Err, refl, subst, arith}
 use Rattle.std.specs.List.{AllByRecursion, flat_map}
 use Rattle.ftc_base.specs.declared.limits.TheConstants.{MOST_SERVERS}
 use Rattle.ftc_message.specs.declared.fault.FrameCause.TheVariants.{Order}
@@ -14,7 +14,8 @@ use Rattle.ftc_message.specs.Reading.{marks_at, later_group_at, need_at, needs_a
 use Rattle.ftc_message.proofs.Fields.{IsBytes, Takes, Takes-then, bind_ok, test_ok, ok_is, within_takes, within_again}
 use Rattle.ftc_message.proofs.Fields.{group_takes, group_again}
 use Rattle.ftc_message.proofs.MarkLaws.{AreSpelled, marks_at_takes, marks_at_again}
-use Rattle.ftc_message.proofs.ItemLaws.{Items, in_order, counted_read, items_again}
+use Rattle.ftc_message.proofs.RiseLaws.{place_of_need, follows_need, needs_go}
+use Rattle.ftc_message.proofs.ItemLaws.{Items, counted_read, items_again}
 
 -- a need that has a spelling, with numbers that are at least `least`
 pub record IsNeedSpelled (least : ℕ) (need : Need) : Type 0 where
@@ -85,17 +86,15 @@ marks_refused least from bytes behind group fault first second = rw (first, seco
 abbrev needs : ℕ → Items ℕ Need
 needs least = record {
   item_at = need_at least;
-  place = λ need. need.group + 1;
+  place = place_of_need;
   item_bytes = need_bytes;
   IsItem = IsNeedSpelled least;
-  follows = λ from need. leb from need.group;
+  follows = follows_need;
+  rise = needs_rise;
+  goes_on = needs_go;
   takes = need_at_takes least;
   again = need_at_again least;
 }
-
-in_order_is : (least from : ℕ) (ns : List Need) → in_order (needs least) from ns ≡ needs_rise from ns
-in_order_is least from [] = refl
-in_order_is least from (need ∷ ns) = ap (λ (b : Bool). leb from need.group && b) (in_order_is least (need.group + 1) ns)
 
 -- needs that have a spelling
 pub record AreNeedsSpelled (least most : ℕ) (ns : List Need) : Type 0 where
@@ -109,11 +108,11 @@ unfolding needs_at
 needs_at_takes most least bytes x fits is =
     let read = counted_read (needs least) 0 (λ n. n ∷ []) (λ n. n ≤ most) (within_at 0 most) bytes x
     (λ count at. (let head = within_takes 0 most bytes count fits at in (head.0, head.2))) is in
-    (read.takes, record { few = read.few; each = read.each; rising = sym (in_order_is least 0 x.0) ∙ read.rising })
+    (read.takes, record { few = read.few; each = read.each; rising = read.rising })
 
 pub needs_at_again : (most least : ℕ) (ns : List Need) (rest : List ℕ) → AreNeedsSpelled least most ns →
     needs_at most least (needs_bytes ns ++ rest) ≡ Ok (ns, rest)
 unfolding needs_at
 needs_at_again most least ns rest spelled =
-    let read = items_again (needs least) 0 [] ns rest spelled.each (in_order_is least 0 ns ∙ spelled.rising) in
+    let read = items_again (needs least) 0 [] ns rest spelled.each spelled.rising in
     rw (within_again 0 most (length ns) (flat_map need_bytes ns ++ rest) (omega arith) spelled.few, read.1) refl

@@ -1,11 +1,8 @@
--- Logs and needs that rise, by the tests that go from item to item: one more at the end, and others put among them.
-use Rattle.std.proofs.Common.{◌≡◌, ◌∙◌, ℕ, ◌+◌, ◌&&◌, Bool, true, false, List, [], ◌∷◌, ◌++◌, Option, Some, None, refl}
-use Rattle.std.proofs.Common.{sym, ap, add-one, arith}
+-- Logs and needs that rise: one more at the end, others put among them, and some left out.
+use Rattle.std.proofs.Common.{◌≡◌, ℕ, ◌+◌, Bool, true, false, List, [], ◌∷◌, ◌++◌, Option, Some, None, refl}
+use Rattle.std.proofs.Common.{ap, add-one, arith}
 use Rattle.std.specs.Prelude.{nat_le, filter}
-use Rattle.std.specs.Cmp.{IsStrictWeakOrder}
-use Rattle.std.specs.List.{AllByRecursion}
 use Rattle.std.specs.List.Sorted.{ties}
-use Rattle.std.proofs.lemmas.Bool.{and_parts, and_from}
 use Rattle.std.proofs.lemmas.Bool.Decides.{nat_tests}
 use Rattle.std.proofs.lemmas.List.Elements.{recursion_from_All}
 use Rattle.ftc_message.specs.declared.need.Need.{Need}
@@ -15,86 +12,30 @@ use Rattle.ftc_message.specs.Ordered.{with_item, with_items, is_earlier, is_log_
 use Rattle.ftc_message.specs.Ordered.{is_need_of, HasNoNeed, AreOfOthers}
 use Rattle.ftc_message.specs.OrderLaws.{earlier_is_order, lower_is_order}
 use Rattle.ftc_message.specs.Rises.{Rises, TieNone}
-use Rattle.ftc_message.proofs.InOrder.{all-with_items, all-filter, all_so, before_all}
-use Rattle.ftc_message.proofs.InOrder.{rises-with_items, rises-filter}
-
--- what the item behind all of them has to follow
-abbrev pub end_of : {A S : Type 0} → (A → S) → S → List A → S
-end_of end from [] = from
-end_of end from (item ∷ items) = end_of end (end item) items
-
-pub end_of-push : {A S : Type 0} (end : A → S) (from : S) (items : List A) (item : A)
-    → end_of end from (items ++ item ∷ []) ≡ end item
-end_of-push end from [] item = refl
-end_of-push end from (first ∷ items) item = end_of-push end (end first) items item
-
--- the test `rise` asks of each item whether it follows what stands before it
-record GoesOn {A S : Type 0} (end : A → S) (follows : S → A → Bool) (rise : S → List A → Bool) : Type 0 where
-  none : (from : S) → rise from [] ≡ true
-  next : (from : S) (item : A) (items : List A)
-      → rise from (item ∷ items) ≡ (follows from item && rise (end item) items)
-
-module _ {A S : Type 0} (end : A → S) (follows : S → A → Bool) (rise : S → List A → Bool)
-    (goes : GoesOn end follows rise) where
-  parts_of : (from : S) (item : A) (items : List A) → rise from (item ∷ items) ≡ true
-      → (follows from item ≡ true) × (rise (end item) items ≡ true)
-  parts_of from item items rising =
-      and_parts (follows from item) (rise (end item) items) (sym (goes.next from item items) ∙ rising)
-
-  of_parts : (from : S) (item : A) (items : List A) → follows from item ≡ true → rise (end item) items ≡ true
-      → rise from (item ∷ items) ≡ true
-  of_parts from item items is rising =
-      goes.next from item items ∙ and_from (follows from item) (rise (end item) items) is rising
-
-  rise-push : (from : S) (items : List A) (item : A) → rise from items ≡ true
-      → follows (end_of end from items) item ≡ true → rise from (items ++ item ∷ []) ≡ true
-  rise-push from [] item rising is = of_parts from item [] is (goes.none (end item))
-  rise-push from (first ∷ items) item rising is =
-      let parts = parts_of from first items rising in
-      of_parts from first (items ++ item ∷ []) parts.0 (rise-push (end first) items item parts.1 is)
-
-  -- the test says that they rise by an order
-  module _ (is_before : A → A → Bool) (order : IsStrictWeakOrder is_before)
-      (same : (item next : A) → follows (end item) next ≡ is_before item next) where
-    rises_behind : (item : A) (items : List A) → rise (end item) items ≡ true → Rises is_before (item ∷ items)
-    rises_behind item [] rising = (tt, tt)
-    rises_behind item (next ∷ items) rising =
-        let parts = parts_of (end item) next items rising in
-        let behind = rises_behind next items parts.1 in
-        (before_all is_before order item next items (sym (same item next) ∙ parts.0) behind, behind)
-
-    by_order : (from : S) (items : List A) → rise from items ≡ true → Rises is_before items
-    by_order from [] rising = tt
-    by_order from (item ∷ items) rising = rises_behind item items (parts_of from item items rising).1
-
-    by_test : (from : S) (items : List A) → AllByRecursion (λ item. follows from item ≡ true) items
-        → Rises is_before items → rise from items ≡ true
-    by_test from [] all rises = goes.none from
-    by_test from (item ∷ items) all rises =
-        of_parts from item items all.0
-        (by_test (end item) items (all_so _ _ (λ later is. same item later ∙ is) items rises.0) rises.1)
+use Rattle.ftc_message.proofs.InOrder.{all-with_items, all-filter, all_so, rises-with_items, rises-filter}
+use Rattle.ftc_message.proofs.Following.{GoesOn, end_of, rise-push, by_order, by_test}
 
 -- ---- logs
 
-abbrev pub end_of_log : Logged → Option (ℕ × ℕ)
-end_of_log log = Some (log.origin, log.group)
+abbrev pub place_of_log : Logged → Option (ℕ × ℕ)
+place_of_log log = Some (log.origin, log.group)
 
-abbrev follows_log : Option (ℕ × ℕ) → Logged → Bool
+abbrev pub follows_log : Option (ℕ × ℕ) → Logged → Bool
 follows_log last log = log_follows last log.origin log.group
 
-logs_go : GoesOn end_of_log follows_log logs_rise
+pub logs_go : GoesOn place_of_log follows_log logs_rise
 logs_go = record { none = λ _. refl; next = λ _ _ _. refl }
 
 pub logs_rise-push : (last : Option (ℕ × ℕ)) (logs : List Logged) (log : Logged) → logs_rise last logs ≡ true
-    → log_follows (end_of end_of_log last logs) log.origin log.group ≡ true → logs_rise last (logs ++ log ∷ []) ≡ true
-logs_rise-push = rise-push end_of_log follows_log logs_rise logs_go
+    → log_follows (end_of place_of_log last logs) log.origin log.group ≡ true → logs_rise last (logs ++ log ∷ []) ≡ true
+logs_rise-push = rise-push place_of_log follows_log logs_rise logs_go
 
 pub logs_by_order : (logs : List Logged) → logs_rise None logs ≡ true → Rises is_earlier logs
-logs_by_order = by_order end_of_log follows_log logs_rise logs_go is_earlier earlier_is_order (λ _ _. refl) None
+logs_by_order = by_order place_of_log follows_log logs_rise logs_go is_earlier earlier_is_order (λ _ _. refl) None
 
 logs_by_test : (logs : List Logged) → Rises is_earlier logs → logs_rise None logs ≡ true
 logs_by_test logs =
-    by_test end_of_log follows_log logs_rise logs_go is_earlier earlier_is_order (λ _ _. refl) None logs
+    by_test place_of_log follows_log logs_rise logs_go is_earlier earlier_is_order (λ _ _. refl) None logs
     (recursion_from_All (λ _. true ≡ true) logs (λ _ _ _. refl))
 
 log_apart : (log other : Logged) → is_log_of log.origin log.group other ≡ false → ties is_earlier log other ≡ false
@@ -126,28 +67,28 @@ are_logs-filter test logs are = record {
 
 -- ---- needs
 
-abbrev pub end_of_need : Need → ℕ
-end_of_need need = need.group + 1
+abbrev pub place_of_need : Need → ℕ
+place_of_need need = need.group + 1
 
-abbrev follows_need : ℕ → Need → Bool
+abbrev pub follows_need : ℕ → Need → Bool
 follows_need from need = nat_le from need.group
 
-needs_go : GoesOn end_of_need follows_need needs_rise
+pub needs_go : GoesOn place_of_need follows_need needs_rise
 needs_go = record { none = λ _. refl; next = λ _ _ _. refl }
 
-need_follows : (need next : Need) → follows_need (end_of_need need) next ≡ is_lower need next
+need_follows : (need next : Need) → follows_need (place_of_need need) next ≡ is_lower need next
 need_follows need next = ap (λ (from : ℕ). nat_le from next.group) (add-one need.group)
 
 pub needs_rise-push : (from : ℕ) (needs : List Need) (need : Need) → needs_rise from needs ≡ true
-    → nat_le (end_of end_of_need from needs) need.group ≡ true → needs_rise from (needs ++ need ∷ []) ≡ true
-needs_rise-push = rise-push end_of_need follows_need needs_rise needs_go
+    → nat_le (end_of place_of_need from needs) need.group ≡ true → needs_rise from (needs ++ need ∷ []) ≡ true
+needs_rise-push = rise-push place_of_need follows_need needs_rise needs_go
 
 pub needs_by_order : (needs : List Need) → needs_rise 0 needs ≡ true → Rises is_lower needs
-needs_by_order = by_order end_of_need follows_need needs_rise needs_go is_lower lower_is_order need_follows 0
+needs_by_order = by_order place_of_need follows_need needs_rise needs_go is_lower lower_is_order need_follows 0
 
 needs_by_test : (needs : List Need) → Rises is_lower needs → needs_rise 0 needs ≡ true
 needs_by_test needs =
-    by_test end_of_need follows_need needs_rise needs_go is_lower lower_is_order need_follows 0 needs
+    by_test place_of_need follows_need needs_rise needs_go is_lower lower_is_order need_follows 0 needs
     (recursion_from_All (λ need. nat_le 0 need.group ≡ true) needs (λ _ _ _. grind (arith, nat_tests)))
 
 need_apart : (need other : Need) → is_need_of need.group other ≡ false → ties is_lower need other ≡ false

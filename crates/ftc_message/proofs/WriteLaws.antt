@@ -1,5 +1,5 @@
 -- Writes: what is read is spelled so, and what is spelled so is read.
-use Rattle.std.proofs.Common.{◌≡◌, ℕ, ◌≤◌, ◌==◌, ◌&&◌, Bool, true, false, cond, List, [], ◌∷◌, ◌++◌, length, Option}
+use Rattle.std.proofs.Common.{◌≡◌, ℕ, ◌≤◌, ◌==◌, Bool, true, false, cond, List, [], ◌∷◌, ◌++◌, length, Option}
 use Rattle.std.proofs.Common.{Some, None, Ok, refl, sym, ap, subst, ◌∙◌, ◌⊎◌, inl, inr, append_assoc, arith}
 use Rattle.std.specs.Prelude.{IfSome}
 use Rattle.std.specs.List.{AllByRecursion, flat_map}
@@ -15,7 +15,7 @@ use Rattle.ftc_message.specs.Fields.{fault_of, within_at, taken_at}
 use Rattle.ftc_message.specs.Reading.{put_at, value_at, key_at, write_at, writes_at}
 use Rattle.ftc_message.proofs.Fields.{IsBytes, Takes, Takes-then, bind_ok, test_ok, ok_is, within_takes, within_again}
 use Rattle.ftc_message.proofs.Fields.{taken_takes, taken_again}
-use Rattle.ftc_message.proofs.ItemLaws.{Items, in_order, counted_read, items_again}
+use Rattle.ftc_message.proofs.ItemLaws.{Items, counted_read, items_again}
 
 -- ---- a value
 
@@ -166,13 +166,11 @@ writes = record {
   item_bytes = write_bytes;
   IsItem = IsWrite;
   follows = λ last write. key_follows last write.key;
+  rise = keys_rise;
+  goes_on = record { none = λ _. refl; next = λ _ _ _. refl };
   takes = write_takes;
   again = write_again;
 }
-
-in_order_is : (last : Option (List ℕ)) (ws : List Write) → in_order writes last ws ≡ keys_rise last ws
-in_order_is last [] = refl
-in_order_is last (write ∷ ws) = ap (λ (b : Bool). key_follows last write.key && b) (in_order_is (Some write.key) ws)
 
 -- writes that have a spelling
 pub record AreWritesSpelled (ws : List Write) : Type 0 where
@@ -186,11 +184,11 @@ unfolding writes_at
 writes_at_takes bytes x fits is =
     let read = counted_read writes None (λ n. n ∷ []) (λ n. n ≤ MOST_WRITES) (within_at 0 MOST_WRITES) bytes x
     (λ count at. (let head = within_takes 0 MOST_WRITES bytes count fits at in (head.0, head.2))) is in
-    (read.takes, record { few = read.few; each = read.each; rising = sym (in_order_is None x.0) ∙ read.rising })
+    (read.takes, record { few = read.few; each = read.each; rising = read.rising })
 
 pub writes_at_again : (ws : List Write) (rest : List ℕ) → AreWritesSpelled ws →
     writes_at (writes_bytes ws ++ rest) ≡ Ok (ws, rest)
 unfolding writes_at
 writes_at_again ws rest spelled =
-    let read = items_again writes None [] ws rest spelled.each (in_order_is None ws ∙ spelled.rising) in
+    let read = items_again writes None [] ws rest spelled.each spelled.rising in
     rw (within_again 0 MOST_WRITES (length ws) (flat_map write_bytes ws ++ rest) (omega arith) spelled.few, read.1) refl

@@ -2,7 +2,8 @@ use Rattle.std.proofs.Common.{◌≡◌, ℕ, Option, None, Ok, true, refl, sym,
 use Rattle.ftc_message.specs.Logged.{log_follows}
 use Rattle.ftc_message.specs.Reading.{with_log, logs_at}
 use Rattle.ftc_message.proofs.Steps.{goes_on, ends, is_done}
-use Rattle.ftc_message.proofs.RiseLaws.{end_of_log, end_of-push, logs_rise-push}
+use Rattle.ftc_message.proofs.Following.{end_of-push}
+use Rattle.ftc_message.proofs.RiseLaws.{place_of_log, logs_rise-push}
 use Rattle.ftc_message.proofs.logs_bytes.logs_at.Goals as goal
 
 pub push-requires : goal.push-requires
@@ -27,7 +28,7 @@ loop-preserved c =
         c.loop.logs,
       ) _ c.loop.rest.now c.in-Ok.behind.now (logs_at c.args.bytes.now) c.loop-test.true
           (rw c.in-Ok.ensures.value refl) c.loop.invariant.told;
-      last = sym (end_of-push end_of_log None c.loop.logs c.in-Ok.log);
+      last = sym (end_of-push place_of_log None c.loop.logs c.in-Ok.log);
       rising = logs_rise-push None c.loop.logs c.in-Ok.log c.loop.invariant.rising
           (subst (λ (last : Option (ℕ × ℕ)). log_follows last c.in-Ok.log.origin c.in-Ok.log.group
           ≡ true) c.loop.invariant.last c.in-Ok.ensures.follows);

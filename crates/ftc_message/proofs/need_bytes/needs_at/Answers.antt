@@ -4,7 +4,8 @@ use Rattle.ftc_message.specs.declared.need.Need.{Need}
 use Rattle.ftc_message.specs.Reading.{with_need, needs_at}
 use Rattle.ftc_message.proofs.NeedLaws.{needs_at_takes, need_read, group_refused, marks_refused}
 use Rattle.ftc_message.proofs.Steps.{goes_on, ends, is_done}
-use Rattle.ftc_message.proofs.RiseLaws.{end_of_need, end_of-push, needs_rise-push}
+use Rattle.ftc_message.proofs.Following.{end_of-push}
+use Rattle.ftc_message.proofs.RiseLaws.{place_of_need, needs_rise-push}
 use Rattle.ftc_message.proofs.need_bytes.needs_at.Goals as goal
 
 pub push-requires : goal.push-requires
@@ -41,7 +42,7 @@ loop-preserved c =
       told = goes_on (with_need c.args.least) (λ needs. Ok (needs.0.1, needs.1)) c.in_ok-count.count c.loop.counter
           (c.loop.from, c.loop.needs) _ c.loop.rest.now c.in_ok-rest.rest.now
           (needs_at c.args.most c.args.least c.args.bytes.now) c.loop-test.true (rw read refl) c.loop.invariant.told;
-      next = sym (end_of-push end_of_need 0 c.loop.needs need);
+      next = sym (end_of-push place_of_need 0 c.loop.needs need);
       rising = needs_rise-push 0 c.loop.needs need c.loop.invariant.rising follows;
     })
 
