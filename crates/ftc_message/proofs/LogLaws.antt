@@ -58,16 +58,19 @@ pub record IsLogSpelled (log : Logged) : Type 0 where
   pub typed : IsLog log
   pub some : MarksSome log.before
 
-made : (group origin : ℕ) (parts : Parts) (ws : List Write) → group < MOST_SERVERS → origin < 2 ^ 32 →
-    ArePartsSpelled parts → AreWritesSpelled ws →
-    IsLogSpelled (record {
-      group = group;
-      origin = origin;
-      before = parts.before;
-      changed = parts.changed;
-      writes = ws;
-    })
-made group origin parts ws small_group small_origin spelled_parts spelled_writes = record {
+-- the log of an origin and a group, of parts and of writes
+abbrev pub log_of : ℕ × ℕ → Parts → List Write → Logged
+log_of head parts ws = record {
+  group = head.1;
+  origin = head.0;
+  before = parts.before;
+  changed = parts.changed;
+  writes = ws;
+}
+
+made : (head : ℕ × ℕ) (parts : Parts) (ws : List Write) → head.1 < MOST_SERVERS → head.0 < 2 ^ 32 →
+    ArePartsSpelled parts → AreWritesSpelled ws → IsLogSpelled (log_of head parts ws)
+made head parts ws small_group small_origin spelled_parts spelled_writes = record {
   typed = record {
     group = small_group;
     origin = small_origin;
@@ -75,8 +78,7 @@ made group origin parts ws small_group small_origin spelled_parts spelled_writes
     changed_marked = spelled_parts.changed;
     few_writes = spelled_writes.few;
     writes = spelled_writes.each;
-    keys =
-        spelled_writes.rising;
+    keys = spelled_writes.rising;
   };
   some = record { some = some_marked parts.before spelled_parts.before.some };
 }
@@ -126,38 +128,10 @@ pub log_at_takes : (last : Option (ℕ × ℕ)) (bytes : List ℕ) (x : Logged �
 unfolding log_at
 log_at_takes last bytes x fits is =
     let head = bind_ok (head_at last bytes) (λ head. parts_at head.1 >>= λ parts. writes_at parts.1 >>= λ ws.
-    Ok (
-      record {
-        group = head.0.1;
-        origin = head.0.0;
-        before = parts.0.before;
-        changed = parts.0.changed;
-        writes = ws.0;
-      },
-      ws.1,
-    )) x is in
+    Ok (log_of head.0 parts.0 ws.0, ws.1)) x is in
     let parts = bind_ok (parts_at head.0.1) (λ parts. writes_at parts.1 >>= λ ws.
-    Ok (
-      record {
-        group = head.0.0.1;
-        origin = head.0.0.0;
-        before = parts.0.before;
-        changed = parts.0.changed;
-        writes = ws.0;
-      },
-      ws.1,
-    )) x head.2 in
-    let ws = bind_ok (writes_at parts.0.1)
-    (λ ws. Ok (
-      record {
-        group = head.0.0.1;
-        origin = head.0.0.0;
-        before = parts.0.0.before;
-        changed = parts.0.0.changed;
-        writes = ws.0;
-      },
-      ws.1,
-    )) x parts.2 in
+    Ok (log_of head.0.0 parts.0 ws.0, ws.1)) x head.2 in
+    let ws = bind_ok (writes_at parts.0.1) (λ ws. Ok (log_of head.0.0 parts.0.0 ws.0, ws.1)) x parts.2 in
     let first = head_takes last bytes head.0 fits head.1 in
     let second = parts_at_takes head.0.1 parts.0 first.takes.rest_fits parts.1 in
     let third = writes_at_takes parts.0.1 ws.0 second.0.rest_fits ws.1 in
@@ -167,18 +141,9 @@ log_at_takes last bytes x fits is =
     (parts_bytes parts.0.0.before parts.0.0.changed ++ writes_bytes ws.0.0) ws.0.1 first.takes later in
     let P : Logged × List ℕ → Type 0 =
     λ y. Takes bytes (log_bytes y.0) y.1 × IsLogSpelled y.0 × (log_follows last y.0.origin y.0.group ≡ true) in
-    subst P (ok_is (
-      record {
-        group = head.0.0.1;
-        origin = head.0.0.0;
-        before = parts.0.0.before;
-        changed = parts.0.0.changed;
-        writes = ws.0.0;
-      },
-      ws.0.1,
-    ) x ws.2) (
+    subst P (ok_is (log_of head.0.0 parts.0.0 ws.0.0, ws.0.1) x ws.2) (
       whole,
-      made head.0.0.1 head.0.0.0 parts.0.0 ws.0.0 first.group first.origin second.1 third.1,
+      made head.0.0 parts.0.0 ws.0.0 first.group first.origin second.1 third.1,
       first.follows,
     )
 
@@ -199,8 +164,7 @@ log_at_again last log rest is follows =
       before = record {
         size = is.typed.before.size;
         some = marked_some log.before is.some.some.0 is.some.some.1;
-        each =
-            each_mark log.before is.typed.before.bounds;
+        each = each_mark log.before is.typed.before.bounds;
       };
       changed = is.typed.changed_marked;
     } in
@@ -264,23 +228,8 @@ pub record LogRead (last : Option (ℕ × ℕ)) (bytes rest : List ℕ) (log : L
 
 pub log_read : (last : Option (ℕ × ℕ)) (bytes one two rest : List ℕ) (head : ℕ × ℕ) (parts : Parts) (ws : List Write) →
     IsBytes bytes → head_at last bytes ≡ Ok (head, one) → parts_at one ≡ Ok (parts, two) → writes_at two ≡ Ok (ws, rest)
-    → LogRead last bytes rest (record {
-      group = head.1;
-      origin = head.0;
-      before = parts.before;
-      changed = parts.changed;
-      writes = ws;
-    })
+    → LogRead last bytes rest (log_of head parts ws)
 unfolding log_at
 log_read last bytes one two rest head parts ws fits first second third =
-    let read = log_at_takes last bytes (
-      record {
-        group = head.1;
-        origin = head.0;
-        before = parts.before;
-        changed = parts.changed;
-        writes = ws;
-      },
-      rest,
-    ) fits (rw (first, second, third) refl) in
+    let read = log_at_takes last bytes (log_of head parts ws, rest) fits (rw (first, second, third) refl) in
     record { takes = read.0; spelled = read.1; follows = read.2 }
