@@ -68,25 +68,19 @@ pub fn taken_at(count: usize, bytes: &[u8]) -> Result<(&[u8], &[u8]), FieldFault
 }
 
 /// A number of four bytes.
-#[tactic(auto, unfolding(crate::specs::Fields::integer_at, crate::specs::Fields::taken_at))]
+#[tactic(auto, unfolding(crate::specs::Fields::integer_at))]
 pub fn word_at(bytes: &[u8]) -> Result<(u32, &[u8]), FieldFault>
     ensures { IsField result (integer_at 4 bytes.now) }
 {
-    if bytes.len() < 4 {
-        return Err(fault_at(bytes, FrameCause::Cut));
-    }
-    let (front, rest) = bytes.split_at(4);
+    let (front, rest) = taken_at(4, bytes)?;
     Ok((word_of(front), rest))
 }
 
 /// A number of eight bytes.
-#[tactic(auto, unfolding(crate::specs::Fields::integer_at, crate::specs::Fields::taken_at))]
+#[tactic(auto, unfolding(crate::specs::Fields::integer_at))]
 pub fn integer_at(bytes: &[u8]) -> Result<(u64, &[u8]), FieldFault>
     ensures { IsField result (integer_at 8 bytes.now) }
 {
-    if bytes.len() < 8 {
-        return Err(fault_at(bytes, FrameCause::Cut));
-    }
-    let (front, rest) = bytes.split_at(8);
+    let (front, rest) = taken_at(8, bytes)?;
     Ok((number_of(front), rest))
 }
