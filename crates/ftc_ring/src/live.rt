@@ -2,6 +2,7 @@
 
 ghost use Rattle.std.specs.Prelude.{◌≡◌, ◌≤◌, ◌<◌, ◌↔◌, IfSome, IfNone, IsNone};
 ghost use Rattle.std.specs.List.{find};
+ghost use Rattle.ftc_ring.specs.declared.live.Way.TheVariants.{Along, Against};
 ghost use Rattle.ftc_ring.specs.Ring.{along, against};
 ghost use Rattle.ftc_ring.specs.Live.{is_live, IsGone, IsAdmissible, IsFirstLive, IsFirstGone, IsLiveBefore};
 ghost use Rattle.ftc_ring.specs.Live.{IsLiveAfter, IsAlone, first_live_of, gone_of, live_before_of, live_after_of};
@@ -9,6 +10,13 @@ ghost use Rattle.ftc_ring.specs.Live.{IsLiveAfter, IsAlone, first_live_of, gone_
 use crate::distance::server_of;
 use crate::ring::Ring;
 use ftc_base::{ServerId, ServerSet};
+
+/// How servers are passed one after another: along the links, or against them.
+#[derive(Clone, Copy)]
+enum Way {
+    Along,
+    Against,
+}
 
 /// Whether a server is live.
 fn is_live(server: ServerId, down: ServerSet) -> bool
@@ -18,38 +26,23 @@ fn is_live(server: ServerId, down: ServerSet) -> bool
 }
 
 impl Ring {
-    /// The first live server among so many, from `start` on along the links.
-    fn first_along(&self, start: ServerId, count: u8, down: ServerSet) -> Option<ServerId>
+    /// The first live server among so many, from `start` on that way.
+    fn first_on(&self, way: Way, start: ServerId, count: u8, down: ServerSet) -> Option<ServerId>
         requires { start < self.now.servers }
-        ensures { result ≡ find (is_live down) (along self.now.servers count start) }
+        ensures along { way ≡ Along → result ≡ find (is_live down) (along self.now.servers count start) }
+        ensures against { way ≡ Against → result ≡ find (is_live down) (against self.now.servers count start) }
     {
-        let mut server = start;
-        let mut left = count;
-        while left > 0 {
-            if is_live(server, down) {
-                return Some(server);
-            }
-            server = self.next(server);
-            left -= 1;
+        if count == 0 {
+            None
+        } else if is_live(start, down) {
+            Some(start)
+        } else {
+            let beyond = match way {
+                Way::Along => self.next(start),
+                Way::Against => self.previous(start),
+            };
+            self.first_on(way, beyond, count - 1, down)
         }
-        None
-    }
-
-    /// The first live server among so many, from `start` on against the links.
-    fn first_against(&self, start: ServerId, count: u8, down: ServerSet) -> Option<ServerId>
-        requires { start < self.now.servers }
-        ensures { result ≡ find (is_live down) (against self.now.servers count start) }
-    {
-        let mut server = start;
-        let mut left = count;
-        while left > 0 {
-            if is_live(server, down) {
-                return Some(server);
-            }
-            server = self.previous(server);
-            left -= 1;
-        }
-        None
     }
 
     /// The first member of a group that is live.
@@ -59,7 +52,7 @@ impl Ring {
         ensures first { IfSome result (IsFirstLive self.now (is_live down) group) }
         ensures none { IsNone result ↔ IsGone self.now (is_live down) group }
     {
-        self.first_along(group, self.failures() + 1, down)
+        self.first_on(Way::Along, group, self.failures() + 1, down)
     }
 
     /// The smallest group without a live member.
@@ -84,7 +77,8 @@ impl Ring {
         ensures nearest { IfSome result (IsLiveBefore self.now.servers (is_live down) server) }
         ensures none { IsNone result ↔ IsAlone self.now.servers (is_live down) server }
     {
-        self.first_against(self.previous(server), self.servers() - 1, down)
+        let start = self.previous(server);
+        self.first_on(Way::Against, start, self.servers() - 1, down)
     }
 
     /// The nearest other live server after a server.
@@ -94,6 +88,7 @@ impl Ring {
         ensures nearest { IfSome result (IsLiveAfter self.now.servers (is_live down) server) }
         ensures none { IsNone result ↔ IsAlone self.now.servers (is_live down) server }
     {
-        self.first_along(self.next(server), self.servers() - 1, down)
+        let start = self.next(server);
+        self.first_on(Way::Along, start, self.servers() - 1, down)
     }
 }
