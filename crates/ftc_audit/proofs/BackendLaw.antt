@@ -12,8 +12,8 @@ use Rattle.ftc_mbox.specs.declared.rule.Rule.TheVariants.{Balance}
 use Rattle.ftc_serial.specs.declared.step.Step.{Step}
 use Rattle.ftc_serial.specs.Serial.{serial_opening}
 use Rattle.ftc_audit.specs.declared.line.ClientLine.{ClientLine}
-use Rattle.ftc_audit.specs.Visits.{visits}
-use Rattle.ftc_audit.specs.Backends.{client_line_of, GaveBackend, SameClient}
+use Rattle.ftc_audit.specs.Visits.{Gave, visits}
+use Rattle.ftc_audit.specs.Backends.{client_line_of, SameClient}
 use Rattle.ftc_audit.proofs.ByteRuns.{rule_at}
 use Rattle.ftc_audit.proofs.Runs.{end_of, ends_given}
 use Rattle.ftc_audit.proofs.Balancing.{backend_at, HasBackend, Holds, balancing}
@@ -29,8 +29,8 @@ some_once one other same = cc
 
 pub one_backend : (rules : List Rule) (packets : List (List ℕ)) (steps : List Step) (server : ℕ) (rule : BalanceRule)
     (one other : ClientLine) → AllByRecursion IsRule rules → slice_get rules server ≡ Some (Balance rule)
-    → GaveBackend rule server (visits rules (serial_opening packets) steps) one
-    → GaveBackend rule server (visits rules (serial_opening packets) steps) other
+    → Gave (client_line_of rule) server (visits rules (serial_opening packets) steps) one
+    → Gave (client_line_of rule) server (visits rules (serial_opening packets) steps) other
     → SameClient one other → one.backend ≡ other.backend
 one_backend rules packets steps server rule one other all known gave given same =
     let fits : IsBalanceRule rule = rule_at rules server (Balance rule) all known in

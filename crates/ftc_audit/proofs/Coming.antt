@@ -17,8 +17,8 @@ use Rattle.ftc_serial.specs.Entries.{IsRightEntry}
 use Rattle.ftc_serial.proofs.Functions.{with_at_cases}
 use Rattle.ftc_serial.proofs.Legal.{visit_legal, told_legal}
 use Rattle.ftc_audit.specs.declared.line.PortLine.{PortLine}
-use Rattle.ftc_audit.specs.Visits.{Seen, waiting_bytes, seen_at, visits}
-use Rattle.ftc_audit.specs.Ports.{port_line_of, GavePort}
+use Rattle.ftc_audit.specs.Visits.{Seen, Gave, waiting_bytes, seen_at, visits}
+use Rattle.ftc_audit.specs.Ports.{port_line_of}
 use Rattle.ftc_audit.proofs.Runs.{end_of, outcome_is}
 use Rattle.ftc_audit.proofs.Translating.{IsPortKey, HasPort, Holds, comes, translating}
 
@@ -51,7 +51,7 @@ pub record IsOf (rule : NatRule) (server : ℕ) (run : List Seen) (key value : L
   pub at : key ≡ outside_port_key line.protocol line.address line.port
   pub has : value ≡ to_be_bytes w16 line.outside
   pub few : line.outside ≤ rule.last
-  pub gave : GavePort rule server run line
+  pub gave : Gave (port_line_of rule) server run line
 
 of_front : (rule : NatRule) (server : ℕ) (xs ys : List Seen) (key value : List ℕ) → IsOf rule server xs key value
     → IsOf rule server (xs ++ ys) key value
@@ -60,7 +60,7 @@ of_front rule server xs ys key value is = record {
   at = is.at;
   has = is.has;
   few = is.few;
-  gave = any_front (λ (seen : Seen). (seen.server ≡ server) × (port_line_of rule seen ≡ Some is.line)) xs ys is.gave;
+  gave = any_front _ xs ys is.gave;
 }
 
 of_behind : (rule : NatRule) (server : ℕ) (xs ys : List Seen) (key value : List ℕ) → IsOf rule server ys key value
@@ -70,7 +70,7 @@ of_behind rule server xs ys key value is = record {
   at = is.at;
   has = is.has;
   few = is.few;
-  gave = any_behind (λ (seen : Seen). (seen.server ≡ server) × (port_line_of rule seen ≡ Some is.line)) xs ys is.gave;
+  gave = any_behind _ xs ys is.gave;
 }
 
 module _ (rule : NatRule) (few : rule.last ≤ 65535) (rules : List Rule) (server : ℕ)

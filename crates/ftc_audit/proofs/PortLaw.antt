@@ -24,8 +24,8 @@ use Rattle.ftc_serial.proofs.Functions.{any_of_all}
 use Rattle.ftc_serial.specs.declared.step.Step.{Step}
 use Rattle.ftc_serial.specs.Serial.{serial_opening}
 use Rattle.ftc_audit.specs.declared.line.PortLine.{PortLine}
-use Rattle.ftc_audit.specs.Visits.{Seen, AreOfBytes, visits}
-use Rattle.ftc_audit.specs.Ports.{source_port, port_line_of_flow, port_line_of, GavePort, SameInside}
+use Rattle.ftc_audit.specs.Visits.{Seen, Gave, AreOfBytes, visits}
+use Rattle.ftc_audit.specs.Ports.{source_port, port_line_of_flow, port_line_of, SameInside}
 use Rattle.ftc_audit.proofs.Bytes.{word_fits}
 use Rattle.ftc_audit.proofs.ByteRuns.{rule_at, stay_bytes}
 use Rattle.ftc_audit.proofs.Runs.{end_of, ends_holding, ends_given}
@@ -87,10 +87,9 @@ line_fits rule seen line are told =
     ] refl told
 
 pub gave_fits : (rule : NatRule) (server : ℕ) (run : List Seen) (line : PortLine) → AreOfBytes run
-    → GavePort rule server run line → IsPortLine line
+    → Gave (port_line_of rule) server run line → IsPortLine line
 gave_fits rule server run line are gave =
-    any_of_all (λ (seen : Seen). (seen.server ≡ server) × (port_line_of rule seen ≡ Some line)) (λ
-    (seen : Seen). AreBytes seen.before) run
+    any_of_all _ (λ (seen : Seen). AreBytes seen.before) run
     (λ seen told bytes. line_fits rule seen line bytes told.1) gave are
 
 -- a line that was given is of TCP or of UDP
@@ -134,8 +133,8 @@ line_named rule seen line told =
           subst (λ (n : ℕ). (n ≡ 6) ⊎ (n ≡ 17)) (sym same) (flow_carries seen.before is.0)
     ] refl told
 
-pub gave_named : (rule : NatRule) (server : ℕ) (run : List Seen) (line : PortLine) → GavePort rule server run line
-    → (line.protocol ≡ 6) ⊎ (line.protocol ≡ 17)
+pub gave_named : (rule : NatRule) (server : ℕ) (run : List Seen) (line : PortLine)
+    → Gave (port_line_of rule) server run line → (line.protocol ≡ 6) ⊎ (line.protocol ≡ 17)
 gave_named rule server [] line gave = absurd gave
 gave_named rule server (seen ∷ run) line (inl (is, told)) = line_named rule seen line told
 gave_named rule server (seen ∷ run) line (inr more) = gave_named rule server run line more
@@ -176,8 +175,8 @@ starts_holding rule = record {
 pub ports_apart : (rules : List Rule) (packets : List (List ℕ)) (steps : List Step) (server : ℕ) (rule : NatRule)
     (one other : PortLine) → AllByRecursion IsRule rules → AllByRecursion AreBytes packets
     → slice_get rules server ≡ Some (Nat rule)
-    → GavePort rule server (visits rules (serial_opening packets) steps) one → GavePort rule server (visits rules
-    (serial_opening packets) steps) other
+    → Gave (port_line_of rule) server (visits rules (serial_opening packets) steps) one
+    → Gave (port_line_of rule) server (visits rules (serial_opening packets) steps) other
     → SameInside one other ↔ (one.outside ≡ other.outside)
 ports_apart rules packets steps server rule one other all bytes known gave given =
     let few : IsNatRule rule = rule_at rules server (Nat rule) all known in

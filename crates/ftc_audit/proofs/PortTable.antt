@@ -28,8 +28,8 @@ use Rattle.ftc_serial.specs.Words.{AnyOf}
 use Rattle.ftc_serial.specs.Serial.{State, serial_opening, serial_run}
 use Rattle.ftc_serial.proofs.Functions.{any_of_all}
 use Rattle.ftc_audit.specs.declared.line.PortLine.{PortLine}
-use Rattle.ftc_audit.specs.Visits.{Seen, visits}
-use Rattle.ftc_audit.specs.Ports.{port_line_of, GavePort, SameInside}
+use Rattle.ftc_audit.specs.Visits.{Seen, Gave, visits}
+use Rattle.ftc_audit.specs.Ports.{port_line_of, SameInside}
 use Rattle.ftc_audit.specs.Stored.{line_at, line_in, is_nat}
 use Rattle.ftc_audit.specs.Table.{IsPortTable, IsTableOf, HasNat, AreApart, AreNamed}
 use Rattle.ftc_audit.proofs.ByteRuns.{rule_at, stay_bytes}
@@ -92,8 +92,8 @@ module _ (rules : List Rule) (packets : List (List ℕ)) (steps : List Step) (se
   abbrev run : List Seen
   run = visits rules (serial_opening packets) steps
 
-  abbrev Gave : PortLine → Type 0
-  Gave line = GavePort rule server run line
+  abbrev IsGiven : PortLine → Type 0
+  IsGiven line = Gave (port_line_of rule) server run line
 
   abbrev pub content_then : Content
   content_then = (end_of rules (serial_opening packets) steps).maps server
@@ -101,10 +101,10 @@ module _ (rules : List Rule) (packets : List (List ℕ)) (steps : List Step) (se
   is_rule : IsNatRule rule
   is_rule = rule_at rules server (Nat rule) all known
 
-  fits : (line : PortLine) → Gave line → IsPortLine line
+  fits : (line : PortLine) → IsGiven line → IsPortLine line
   fits line gave = gave_fits rule server run line (stay_bytes rules packets steps all bytes) gave
 
-  law : (one other : PortLine) → Gave one → Gave other → SameInside one other ↔ (one.outside ≡ other.outside)
+  law : (one other : PortLine) → IsGiven one → IsGiven other → SameInside one other ↔ (one.outside ≡ other.outside)
   law one other gave given = ports_apart rules packets steps server rule one other all bytes known gave given
 
   -- what stands at an endpoint's key was given
@@ -123,13 +123,13 @@ module _ (rules : List Rule) (packets : List (List ℕ)) (steps : List Step) (se
       ∙ read_back is.line (fits is.line is.gave) (omega (arith, is.few, is_rule.last))
 
   says : (key value : List ℕ) (line : PortLine) → get content_then key ≡ Some value → line_at key value ≡ Some line
-      → (key ≡ key_of line) × Gave line
+      → (key ≡ key_of line) × IsGiven line
   says key value line has told =
       let is = stored key value (key_begins key value line told) has in
       let same : is.line ≡ line = some_once is.line line (sym (tells key value is) ∙ told) in
-      (is.at ∙ ap key_of same, subst Gave same is.gave)
+      (is.at ∙ ap key_of same, subst IsGiven same is.gave)
 
-  has_line : (line : PortLine) → Gave line → HasPort content_then line
+  has_line : (line : PortLine) → IsGiven line → HasPort content_then line
   has_line line gave =
       ends_given (Nat rule) (port_line_of rule) (Holds rule) HasPort
       (translating rule is_rule.last) rules server known line
@@ -149,13 +149,13 @@ module _ (rules : List Rule) (packets : List (List ℕ)) (steps : List Step) (se
         (λ other same. (ap (λ (p : Pair). p.key) same, ap (λ (p : Pair). p.value) same))
         (any_of_contains pairs pair there)))
 
-    gave_told : (line : PortLine) → Contains told line → Gave line
+    gave_told : (line : PortLine) → Contains told line → IsGiven line
     gave_told line there =
         any_of_all (λ (pair : Pair). line_in pair ≡ Some line) Known pairs
         (λ pair is has. (says pair.key pair.value line has is).1)
         (from_item line_in pairs line (any_of_contains told line there)) all_known
 
-    is_there : (line : PortLine) → Gave line → AnyOf (λ (pair : Pair). line_in pair ≡ Some line) pairs
+    is_there : (line : PortLine) → IsGiven line → AnyOf (λ (pair : Pair). line_in pair ≡ Some line) pairs
     is_there line gave =
         elim (get content_then (key_of line)) as (λ (o : Option (List ℕ)). get content_then (key_of line) ≡ o
         → AnyOf (λ (pair : Pair). line_in pair ≡ Some line) pairs) [
@@ -171,7 +171,7 @@ module _ (rules : List Rule) (packets : List (List ℕ)) (steps : List Step) (se
               (in_pairs pairs content_then listed (key_of line) value has)
         ] refl
 
-    told_gave : (line : PortLine) → Gave line → Contains told line
+    told_gave : (line : PortLine) → IsGiven line → Contains told line
     told_gave line gave = contains_any told line (of_item line_in pairs line (is_there line gave))
 
     -- two pairs at different keys don't say one outside port
@@ -215,7 +215,7 @@ module _ (rules : List Rule) (packets : List (List ℕ)) (steps : List Step) (se
         ] refl
 
     module _ (lines : List PortLine) (moved : IsPermutation told lines) (sorted : IsNonDecreasingBy outside lines) where
-      given : (line : PortLine) → Contains lines line → Gave line
+      given : (line : PortLine) → Contains lines line → IsGiven line
       given line there =
           gave_told line (Contains-permutation lines told line (IsPermutation-sym told lines moved) there)
 
@@ -223,8 +223,8 @@ module _ (rules : List Rule) (packets : List (List ℕ)) (steps : List Step) (se
       lines_distinct = distinct_moved outside told lines moved
           (distinct pairs (in_order pairs content_then listed) all_known)
 
-      all_given : AllByRecursion Gave lines
-      all_given = all_contained Gave lines given
+      all_given : AllByRecursion IsGiven lines
+      all_given = all_contained IsGiven lines given
 
       pub table : IsPortTable rule server run lines
       table = record {
@@ -232,7 +232,7 @@ module _ (rules : List Rule) (packets : List (List ℕ)) (steps : List Step) (se
         rising = rise outside lines sorted lines_distinct;
       }
 
-      apart_from : (line : PortLine) → Gave line → (others : List PortLine) → AllByRecursion Gave others
+      apart_from : (line : PortLine) → IsGiven line → (others : List PortLine) → AllByRecursion IsGiven others
           → AllByRecursion (λ n. (line.outside == n) ≡ false) (map outside others)
           → AllByRecursion (λ other. ¬ SameInside line other) others
       apart_from line gave [] gives differs = tt
@@ -243,7 +243,7 @@ module _ (rules : List Rule) (packets : List (List ℕ)) (steps : List Step) (se
         apart_from line gave others gives.1 differs.1,
       )
 
-      each_apart : (others : List PortLine) → AllByRecursion Gave others
+      each_apart : (others : List PortLine) → AllByRecursion IsGiven others
           → IsDistinct (λ x y. x == y) (map outside others) → AreApart others
       each_apart [] gives differs = tt
       each_apart (line ∷ others) gives differs = (

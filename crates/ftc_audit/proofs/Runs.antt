@@ -11,7 +11,7 @@ use Rattle.ftc_serial.specs.Serial.{State, Entry, Visited, Given, entry_of, afte
 use Rattle.ftc_serial.specs.Entries.{IsRightEntry}
 use Rattle.ftc_serial.proofs.Functions.{with_at_cases}
 use Rattle.ftc_serial.proofs.Legal.{IsVisitLegal, visit_legal, told_legal}
-use Rattle.ftc_audit.specs.Visits.{Seen, waiting_bytes, seen_at, visits}
+use Rattle.ftc_audit.specs.Visits.{Seen, Gave, waiting_bytes, seen_at, visits}
 
 some_once : {A : Type 0} (one other : A) → Some one ≡ Some other → one ≡ other
 some_once one other same = cc
@@ -49,10 +49,6 @@ module _ (rule : Rule) {Line : Type 0} (line_of : Seen → Option Line) (Holds :
     → Type 0)
     (kept : IsKept rule line_of Holds Has) (rules : List Rule) (server : ℕ)
     (known : slice_get rules server ≡ Some rule) where
-  -- the visits of that server that have this line
-  abbrev Gave : List Seen → Line → Type 0
-  Gave run line = AnyOf (λ seen. (seen.server ≡ server) × (line_of seen ≡ Some line)) run
-
   pub outcome_is : (state : State) (at packet : ℕ) (outcome : Outcome)
       (legal : IsVisitLegal rules state at packet outcome)
       → server ≡ at → taken rule legal.bytes (state.maps server) ≡ outcome
@@ -88,7 +84,7 @@ module _ (rule : Rule) {Line : Type 0} (line_of : Seen → Option Line) (Holds :
   has_on line state (Given packet bytes) legal holds has = has
 
   gives_on : (line : Line) (state : State) (entry : Entry) → IsRightEntry rules state entry → Holds (state.maps server)
-      → Gave (seen_at state entry) line → Has ((after (length rules) state entry).maps server) line
+      → Gave line_of server (seen_at state entry) line → Has ((after (length rules) state entry).maps server) line
   gives_on line state (Visited at packet outcome) legal holds (inl (is, told)) =
       let fair = visit_legal rules state at packet outcome legal in
       let seen : line_of (record {
@@ -143,12 +139,12 @@ module _ (rule : Rule) {Line : Type 0} (line_of : Seen → Option Line) (Holds :
 
   -- the store at the end has each line that was given
   pub ends_given : (line : Line) (state : State) (steps : List Step) → Holds (state.maps server)
-      → Gave (visits rules state steps) line
+      → Gave line_of server (visits rules state steps) line
       → Has ((end_of rules state steps).maps server) line
   ends_given line state [] holds gave = absurd gave
   ends_given line state (step ∷ steps) holds gave =
       elim (entry_of rules state step) as (λ (told : Option Entry). entry_of rules state step ≡ told
-      → Gave (elim told as (λ (o : Option Entry). List Seen) [
+      → Gave line_of server (elim told as (λ (o : Option Entry). List Seen) [
         | None ↦ []
         | Some entry ↦ seen_at state entry
             ++ visits rules (after (length rules) state entry) steps
@@ -163,8 +159,7 @@ module _ (rule : Rule) {Line : Type 0} (line_of : Seen → Option Line) (Holds :
             let legal = (told_legal rules state step entry told).0 in
             let next = after (length rules) state entry in
             let held = holds_on state entry legal holds in
-            elim (any_of_both (λ (seen : Seen). (seen.server ≡ server)
-            × (line_of seen ≡ Some line)) (seen_at state entry) (visits rules next steps) some) [
+            elim (any_of_both _ (seen_at state entry) (visits rules next steps) some) [
               | inl now ↦ ends_having line next steps held (gives_on line state entry legal holds now)
               | inr later ↦ ends_given line next steps held later
             ]

@@ -3,7 +3,6 @@ use Rattle.std.specs.Prelude.{◌≡◌, ◌==◌, ◌&&◌, ℕ, List, Option, 
 use Rattle.ftc_packet.specs.declared.flow.Flow.{Flow}
 use Rattle.ftc_packet.specs.Flow.{flow_found}
 use Rattle.ftc_balance.specs.declared.rule.BalanceRule.{BalanceRule}
-use Rattle.ftc_serial.specs.Words.{AnyOf}
 use Rattle.ftc_audit.specs.declared.line.ClientLine.{ClientLine}
 use Rattle.ftc_audit.specs.Visits.{Seen}
 
@@ -29,10 +28,6 @@ client_line_of_flow rule (Some after) flow =
 -- the line of a visit
 abbrev pub client_line_of : BalanceRule → Seen → Option ClientLine
 client_line_of rule seen = option_and_then (client_line_of_flow rule seen.outcome.packet) (flow_found seen.before)
-
--- one of the visits of that server has this line
-abbrev pub GaveBackend : BalanceRule → ℕ → List Seen → ClientLine → Type 0
-GaveBackend rule server run line = AnyOf (λ seen. (seen.server ≡ server) × (client_line_of rule seen ≡ Some line)) run
 
 -- the same client endpoint
 pub record SameClient (one other : ClientLine) : Type 0 where

@@ -4,7 +4,6 @@ use Rattle.ftc_packet.specs.declared.flow.Flow.{Flow}
 use Rattle.ftc_packet.specs.Flow.{flow_found}
 use Rattle.ftc_nat.specs.declared.rule.NatRule.{NatRule}
 use Rattle.ftc_nat.specs.Nat.{leaves}
-use Rattle.ftc_serial.specs.Words.{AnyOf}
 use Rattle.ftc_audit.specs.declared.line.PortLine.{PortLine}
 use Rattle.ftc_audit.specs.Visits.{Seen}
 
@@ -30,10 +29,6 @@ port_line_of_flow rule (Some after) flow =
 -- the line of a visit
 abbrev pub port_line_of : NatRule → Seen → Option PortLine
 port_line_of rule seen = option_and_then (port_line_of_flow rule seen.outcome.packet) (flow_found seen.before)
-
--- one of the visits of that server has this line
-abbrev pub GavePort : NatRule → ℕ → List Seen → PortLine → Type 0
-GavePort rule server run line = AnyOf (λ seen. (seen.server ≡ server) × (port_line_of rule seen ≡ Some line)) run
 
 -- the same inside endpoint
 pub record SameInside (one other : PortLine) : Type 0 where

@@ -12,12 +12,12 @@ use Rattle.ftc_serial.specs.Illegal.{IsFirstIllegal}
 use Rattle.ftc_audit.specs.declared.line.PortLine.{PortLine}
 use Rattle.ftc_audit.specs.declared.cause.PortsCause.{PortsCause}
 use Rattle.ftc_audit.specs.declared.cause.PortsCause.TheVariants.{NotNat, BadStep}
-use Rattle.ftc_audit.specs.Visits.{Seen, visits}
-use Rattle.ftc_audit.specs.Ports.{GavePort, SameInside}
+use Rattle.ftc_audit.specs.Visits.{Seen, Gave, visits}
+use Rattle.ftc_audit.specs.Ports.{port_line_of, SameInside}
 
 -- It has the line of each visit that gave a port and no other line, each once, by rising outside port.
 pub record IsPortTable (rule : NatRule) (server : ℕ) (run : List Seen) (lines : List PortLine) : Type 0 where
-  pub given : (line : PortLine) → Contains lines line ↔ GavePort rule server run line
+  pub given : (line : PortLine) → Contains lines line ↔ Gave (port_line_of rule) server run line
   pub rising : IsStrictlyIncreasing (map (λ (line : PortLine). line.outside) lines)
 
 -- the middlebox of that server is a translator, and the lines are its port table in the serial run of these steps

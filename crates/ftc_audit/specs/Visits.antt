@@ -1,11 +1,12 @@
 -- The visits of a serial run, with the packet that each was of.
-use Rattle.std.specs.Prelude.{ℕ, List, [], ◌∷◌, ◌++◌, length, Option, Some, None}
+use Rattle.std.specs.Prelude.{◌≡◌, ℕ, List, [], ◌∷◌, ◌++◌, length, Option, Some, None}
 use Rattle.std.specs.List.{AllByRecursion}
 use Rattle.ftc_packet.specs.Layout.{AreBytes}
 use Rattle.ftc_mbox.specs.declared.rule.Rule.{Rule}
 use Rattle.ftc_serial.specs.declared.position.Position.{Position}
 use Rattle.ftc_serial.specs.declared.position.Position.TheVariants as position
 use Rattle.ftc_serial.specs.declared.step.Step.{Step}
+use Rattle.ftc_serial.specs.Words.{AnyOf}
 use Rattle.ftc_serial.specs.Take.{Outcome}
 use Rattle.ftc_serial.specs.Serial.{State, Entry, Visited, Given, entry_of, after}
 
@@ -14,6 +15,10 @@ pub record Seen : Type 0 where
   pub server : ℕ
   pub before : List ℕ
   pub outcome : Outcome
+
+-- one of the visits of that server has this line, where a function tells the line of a visit
+abbrev pub Gave : {Line : Type 0} → (Seen → Option Line) → ℕ → List Seen → Line → Type 0
+Gave line_of server run line = AnyOf (λ seen. (seen.server ≡ server) × (line_of seen ≡ Some line)) run
 
 -- each packet was of bytes, before its visit
 abbrev pub AreOfBytes : List Seen → Type 0

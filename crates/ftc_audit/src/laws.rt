@@ -12,10 +12,10 @@ ghost use Rattle.ftc_serial.specs.declared.step.Step.{Step};
 ghost use Rattle.ftc_serial.specs.Serial.{serial_opening};
 ghost use Rattle.ftc_audit.specs.declared.line.PortLine.{PortLine as APortLine};
 ghost use Rattle.ftc_audit.specs.declared.line.ClientLine.{ClientLine as AClientLine};
-ghost use Rattle.ftc_audit.specs.Visits.{Seen, AreOfBytes, visits};
-ghost use Rattle.ftc_audit.specs.Ports.{GavePort, SameInside};
+ghost use Rattle.ftc_audit.specs.Visits.{Seen, Gave, AreOfBytes, visits};
+ghost use Rattle.ftc_audit.specs.Ports.{port_line_of, SameInside};
 ghost use Rattle.ftc_audit.specs.Table.{IsPortTable};
-ghost use Rattle.ftc_audit.specs.Backends.{GaveBackend, SameClient};
+ghost use Rattle.ftc_audit.specs.Backends.{client_line_of, SameClient};
 
 /// At one translator, over a whole run and whatever else goes through it, inside endpoints are equal
 /// exactly where their outside ports are.
@@ -23,8 +23,8 @@ pub fn ports_are_apart()
     ensures { (rules : List Rule) (packets : List (List ℕ)) (steps : List Step) (server : ℕ) (rule : NatRule)
         (one other : APortLine) → AllByRecursion IsRule rules → AllByRecursion AreBytes packets →
         slice_get rules server ≡ Some (Nat rule) →
-        GavePort rule server (visits rules (serial_opening packets) steps) one →
-        GavePort rule server (visits rules (serial_opening packets) steps) other →
+        Gave (port_line_of rule) server (visits rules (serial_opening packets) steps) one →
+        Gave (port_line_of rule) server (visits rules (serial_opening packets) steps) other →
         SameInside one other ↔ (one.outside ≡ other.outside) }
 {}
 
@@ -32,8 +32,8 @@ pub fn ports_are_apart()
 pub fn backends_stay()
     ensures { (rules : List Rule) (packets : List (List ℕ)) (steps : List Step) (server : ℕ) (rule : BalanceRule)
         (one other : AClientLine) → AllByRecursion IsRule rules → slice_get rules server ≡ Some (Balance rule) →
-        GaveBackend rule server (visits rules (serial_opening packets) steps) one →
-        GaveBackend rule server (visits rules (serial_opening packets) steps) other →
+        Gave (client_line_of rule) server (visits rules (serial_opening packets) steps) one →
+        Gave (client_line_of rule) server (visits rules (serial_opening packets) steps) other →
         SameClient one other → one.backend ≡ other.backend }
 {}
 
