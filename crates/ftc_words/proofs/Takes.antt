@@ -99,78 +99,56 @@ abbrev awaits : State → Bool
 awaits (ready rows p named) = false
 awaits (await rows o) = true
 
--- a word that is no option goes to the names
-name_passes : (rows : List Row) (p : Option (Which × Text)) (named : Bool) (b : ℕ) (bs : List ℕ) → (b == 45) ≡ false →
-    turn_passes top [] (at rows (pending_of p) (wait named)) (b ∷ bs) ≡ true
-unfolding clap_on_literals
-name_passes rows None true b bs differs = rw (differs, differs) refl
-name_passes rows None false b bs differs = rw (differs, differs) refl
-name_passes rows (Some (of_workers, v)) true b bs differs = rw (differs, differs) refl
-name_passes rows (Some (of_workers, v)) false b bs differs = rw (differs, differs) refl
-name_passes rows (Some (of_alone, v)) true b bs differs = rw (differs, differs) refl
-name_passes rows (Some (of_alone, v)) false b bs differs = rw (differs, differs) refl
-name_passes rows (Some (of_names, v)) true b bs differs = rw (differs, differs) refl
-name_passes rows (Some (of_names, v)) false b bs differs = rw (differs, differs) refl
+-- a walk takes this word, and goes on as the next
+abbrev Turns : Walk → Text → Walk → Type 0
+Turns k word next = (turn_passes top [] k word ≡ true) × (walked top.rules [] k word ≡ next)
 
-name_walks : (rows : List Row) (p : Option (Which × Text)) (named : Bool) (b : ℕ) (bs : List ℕ) → (b == 45) ≡ false
-    → walked top.rules [] (at rows (pending_of p) (wait named)) (b ∷ bs)
-    ≡ walk_of (ready (settled_rows top.rules (pending_of p) rows) (Some (of_names, b ∷ bs)) true)
+-- a word that is no option goes to the names
+name_turns : (rows : List Row) (p : Option (Which × Text)) (named : Bool) (b : ℕ) (bs : List ℕ) → (b == 45) ≡ false →
+    Turns (at rows (pending_of p) (wait named)) (b ∷ bs)
+    (walk_of (ready (settled_rows top.rules (pending_of p) rows) (Some (of_names, b ∷ bs)) true))
 unfolding clap_on_literals
-name_walks rows None true b bs differs = rw (differs, differs) refl
-name_walks rows None false b bs differs = rw (differs, differs) refl
-name_walks rows (Some (of_workers, v)) true b bs differs = rw (differs, differs) refl
-name_walks rows (Some (of_workers, v)) false b bs differs = rw (differs, differs) refl
-name_walks rows (Some (of_alone, v)) true b bs differs = rw (differs, differs) refl
-name_walks rows (Some (of_alone, v)) false b bs differs = rw (differs, differs) refl
-name_walks rows (Some (of_names, v)) true b bs differs = rw (differs, differs) refl
-name_walks rows (Some (of_names, v)) false b bs differs = rw (differs, differs) refl
+name_turns rows None true b bs differs = (rw (differs, differs) refl, rw (differs, differs) refl)
+name_turns rows None false b bs differs = (rw (differs, differs) refl, rw (differs, differs) refl)
+name_turns rows (Some (of_workers, v)) true b bs differs = (rw (differs, differs) refl, rw (differs, differs) refl)
+name_turns rows (Some (of_workers, v)) false b bs differs = (rw (differs, differs) refl, rw (differs, differs) refl)
+name_turns rows (Some (of_alone, v)) true b bs differs = (rw (differs, differs) refl, rw (differs, differs) refl)
+name_turns rows (Some (of_alone, v)) false b bs differs = (rw (differs, differs) refl, rw (differs, differs) refl)
+name_turns rows (Some (of_names, v)) true b bs differs = (rw (differs, differs) refl, rw (differs, differs) refl)
+name_turns rows (Some (of_names, v)) false b bs differs = (rw (differs, differs) refl, rw (differs, differs) refl)
 
 -- an option waits for its value
 abbrev word_of : Bool → Text
 word_of true = codes "--workers"
 word_of false = codes "--alone"
 
-option_passes : (rows : List Row) (p : Option (Which × Text)) (named o : Bool) →
-    turn_passes top [] (at rows (pending_of p) (wait named)) (word_of o) ≡ true
+option_turns : (rows : List Row) (p : Option (Which × Text)) (named o : Bool) →
+    Turns (at rows (pending_of p) (wait named)) (word_of o)
+    (walk_of (await (settled_rows top.rules (pending_of p) rows) o))
 unfolding clap_on_literals
-option_passes rows None true true = refl
-option_passes rows None true false = refl
-option_passes rows None false true = refl
-option_passes rows None false false = refl
-option_passes rows (Some (of_workers, v)) true true = refl
-option_passes rows (Some (of_workers, v)) true false = refl
-option_passes rows (Some (of_workers, v)) false true = refl
-option_passes rows (Some (of_workers, v)) false false = refl
-option_passes rows (Some (of_alone, v)) true true = refl
-option_passes rows (Some (of_alone, v)) true false = refl
-option_passes rows (Some (of_alone, v)) false true = refl
-option_passes rows (Some (of_alone, v)) false false = refl
-option_passes rows (Some (of_names, v)) true true = refl
-option_passes rows (Some (of_names, v)) true false = refl
-option_passes rows (Some (of_names, v)) false true = refl
-option_passes rows (Some (of_names, v)) false false = refl
-
-option_walks : (rows : List Row) (p : Option (Which × Text)) (named o : Bool)
-    → walked top.rules [] (at rows (pending_of p) (wait named)) (word_of o)
-    ≡ walk_of (await (settled_rows top.rules (pending_of p) rows) o)
-unfolding clap_on_literals
-option_walks rows p true true = refl
-option_walks rows p true false = refl
-option_walks rows p false true = refl
-option_walks rows p false false = refl
+option_turns rows None true true = (refl, refl)
+option_turns rows None true false = (refl, refl)
+option_turns rows None false true = (refl, refl)
+option_turns rows None false false = (refl, refl)
+option_turns rows (Some (of_workers, v)) true true = (refl, refl)
+option_turns rows (Some (of_workers, v)) true false = (refl, refl)
+option_turns rows (Some (of_workers, v)) false true = (refl, refl)
+option_turns rows (Some (of_workers, v)) false false = (refl, refl)
+option_turns rows (Some (of_alone, v)) true true = (refl, refl)
+option_turns rows (Some (of_alone, v)) true false = (refl, refl)
+option_turns rows (Some (of_alone, v)) false true = (refl, refl)
+option_turns rows (Some (of_alone, v)) false false = (refl, refl)
+option_turns rows (Some (of_names, v)) true true = (refl, refl)
+option_turns rows (Some (of_names, v)) true false = (refl, refl)
+option_turns rows (Some (of_names, v)) false true = (refl, refl)
+option_turns rows (Some (of_names, v)) false false = (refl, refl)
 
 -- the value of an option
-value_passes : (rows : List Row) (o : Bool) (b : ℕ) (bs : List ℕ) → (b == 45) ≡ false →
-    turn_passes top [] (walk_of (await rows o)) (b ∷ bs) ≡ true
+value_turns : (rows : List Row) (o : Bool) (b : ℕ) (bs : List ℕ) → (b == 45) ≡ false →
+    Turns (walk_of (await rows o)) (b ∷ bs) (walk_of (ready rows (Some (chosen o, b ∷ bs)) false))
 unfolding clap_on_literals
-value_passes rows true b bs differs = rw (differs, differs) refl
-value_passes rows false b bs differs = rw (differs, differs) refl
-
-value_walks : (rows : List Row) (o : Bool) (b : ℕ) (bs : List ℕ) → (b == 45) ≡ false
-    → walked top.rules [] (walk_of (await rows o)) (b ∷ bs) ≡ walk_of (ready rows (Some (chosen o, b ∷ bs)) false)
-unfolding clap_on_literals
-value_walks rows true b bs differs = rw (differs, differs) refl
-value_walks rows false b bs differs = rw (differs, differs) refl
+value_turns rows true b bs differs = (rw (differs, differs) refl, rw (differs, differs) refl)
+value_turns rows false b bs differs = (rw (differs, differs) refl, rw (differs, differs) refl)
 
 -- ---- all words
 
@@ -180,12 +158,11 @@ Settled k = (k.stopped ≡ None) × (settle_passes top.rules false k.held ≡ tr
 abbrev Good : Walk → List Text → Type 0
 Good k words = (walk_passes top [] k words ≡ true) × Settled (fold (walked top.rules []) k words)
 
-step : (k next : Walk) (word : Text) (words : List Text) → turn_passes top [] k word ≡ true →
-    walked top.rules [] k word ≡ next → Good next words → Good k (word ∷ words)
+step : (k next : Walk) (word : Text) (words : List Text) → Turns k word next → Good next words → Good k (word ∷ words)
 unfolding walk_passes
-step k next word words passes is good = (
-  all_of _ _ passes (subst (λ (w : Walk). walk_passes top [] w words ≡ true) (sym is) good.0),
-  subst (λ (w : Walk). Settled (fold (walked top.rules []) w words)) (sym is) good.1,
+step k next word words turns good = (
+  all_of _ _ turns.0 (subst (λ (w : Walk). walk_passes top [] w words ≡ true) (sym turns.1) good.0),
+  subst (λ (w : Walk). Settled (fold (walked top.rules []) w words)) (sym turns.1) good.1,
 )
 
 pick : (x y l r n c d e : Bool) → (if x then not l && c else (if y then not r && d else n && e)) ≡ true
@@ -204,7 +181,7 @@ goes ([] ∷ words) (await rows o) w a is = cc
 goes ((b ∷ bs) ∷ words) (await rows o) w a is =
     let differs = not_true (b == 45) (left (not (b == 45)) (is_formed false w a words) is) in
     step (walk_of (await rows o)) (walk_of (ready rows (Some (chosen o, b ∷ bs)) false)) (b
-    ∷ bs) words (value_passes rows o b bs differs) (value_walks rows o b bs differs)
+    ∷ bs) words (value_turns rows o b bs differs)
     (goes words (ready rows (Some (chosen o, b ∷ bs)) false) w a (right (not (b == 45)) (is_formed false w a words) is))
 goes ([] ∷ words) (ready rows p named) w a is = cc
 goes ((b ∷ bs) ∷ words) (ready rows p named) w a is =
@@ -214,17 +191,15 @@ goes ((b ∷ bs) ∷ words) (ready rows p named) w a is =
       | inl h ↦ let same = (bytes_eq-Decides (b ∷ bs) (codes "--workers")).0 h.0 in
           subst (λ (word : Text). Good (at rows (pending_of p) (wait named)) (word ∷ words)) (sym same)
           (step (at rows (pending_of p) (wait named)) (walk_of (await now true)) (word_of true) words
-          (option_passes rows p named true) (option_walks rows p named true)
-          (goes words (await now true) true a h.1))
+          (option_turns rows p named true) (goes words (await now true) true a h.1))
       | inr more ↦ elim more [
         | inl h ↦ let same = (bytes_eq-Decides (b ∷ bs) (codes "--alone")).0 h.0 in
             subst (λ (word : Text). Good (at rows (pending_of p) (wait named)) (word ∷ words)) (sym same)
             (step (at rows (pending_of p) (wait named)) (walk_of (await now false)) (word_of false) words
-            (option_passes rows p named false) (option_walks rows p named false)
-            (goes words (await now false) w true h.1))
+            (option_turns rows p named false) (goes words (await now false) w true h.1))
         | inr h ↦ let differs = not_true (b == 45) h.0 in
             step (at rows (pending_of p) (wait named)) (walk_of (ready now (Some (of_names, b ∷ bs)) true)) (b
-            ∷ bs) words (name_passes rows p named b bs differs) (name_walks rows p named b bs differs)
+            ∷ bs) words (name_turns rows p named b bs differs)
             (goes words (ready now (Some (of_names, b ∷ bs)) true) w a h.1)
       ]
     ]
