@@ -53,24 +53,16 @@ pub record IsOf (rule : NatRule) (server : ℕ) (run : List Seen) (key value : L
   pub few : line.outside ≤ rule.last
   pub gave : Gave (port_line_of rule) server run line
 
-of_front : (rule : NatRule) (server : ℕ) (xs ys : List Seen) (key value : List ℕ) → IsOf rule server xs key value
-    → IsOf rule server (xs ++ ys) key value
-of_front rule server xs ys key value is = record {
+-- the same in a run that has what that one has
+of_more : (rule : NatRule) (server : ℕ) (run more : List Seen) (key value : List ℕ)
+    → ((P : Seen → Type 0) → AnyOf P run → AnyOf P more) → IsOf rule server run key value
+    → IsOf rule server more key value
+of_more rule server run more key value has is = record {
   line = is.line;
   at = is.at;
   has = is.has;
   few = is.few;
-  gave = any_front _ xs ys is.gave;
-}
-
-of_behind : (rule : NatRule) (server : ℕ) (xs ys : List Seen) (key value : List ℕ) → IsOf rule server ys key value
-    → IsOf rule server (xs ++ ys) key value
-of_behind rule server xs ys key value is = record {
-  line = is.line;
-  at = is.at;
-  has = is.has;
-  few = is.few;
-  gave = any_behind _ xs ys is.gave;
+  gave = has _ is.gave;
 }
 
 module _ (rule : NatRule) (few : rule.last ≤ 65535) (rules : List Rule) (server : ℕ)
@@ -134,12 +126,13 @@ module _ (rule : NatRule) (few : rule.last ≤ 65535) (rules : List Rule) (serve
         | Some entry ↦ λ told there.
             let legal = (told_legal rules state step entry told).0 in
             let next = after (length rules) state entry in
+            let first = seen_at state entry in
             let more = visits rules next steps in
             elim (ends_come next steps key value begins there) [
-              | inr later ↦ inr (of_behind rule server (seen_at state entry) more key value later)
+              | inr later ↦ inr (of_more rule server more _ key value (λ P. any_behind P first more) later)
               | inl before ↦ elim (come_on state entry legal key value begins before) [
                 | inl stays ↦ inl stays
-                | inr now ↦ inr (of_front rule server (seen_at state entry) more key value now)
+                | inr now ↦ inr (of_more rule server first _ key value (λ P. any_front P first more) now)
               ]
             ]
       ] refl has
