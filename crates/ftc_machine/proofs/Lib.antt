@@ -39,7 +39,6 @@ pub mod AfterLeaving
 pub mod RaisedRows
 pub mod AfterApply
 pub mod SameParts
-pub mod VisitRoom
 pub mod AfterVisit
 pub mod VisitOutcomes
 pub mod Results
