@@ -322,67 +322,60 @@ follows rule packet answers flows =
       | Some flow ↦ λ is. can_follow packet (ask_of rule (Some flow) answers) is.0
     ] (flows packet)
 
-pub may_change : (server : Server) (worker : ℕ) (end : End) (held : HeldMessage) (bytes : List ℕ)
+pub may_change : {server : Server} {worker : ℕ} {end : End} {held : HeldMessage} {bytes : List ℕ}
     → IsEnding server worker end held bytes → FlowsAreFound → CanEnd bytes end.verdict
-may_change server worker end held bytes is flows =
+may_change {server = server} {end = end} {bytes = bytes} is flows =
     let asks : ask server.rule bytes is.running.answers ≡ Finish end =
     same_Some (ask server.rule bytes is.running.answers) (Finish end)
     (sym (ap (λ (f : Option HeldMessage). ask_of_held server.rule is.running f) is.there
     ∙ ap (option_map (λ (b : List ℕ). ask server.rule b is.running.answers)) is.with_packet) ∙ is.asked) in
     subst (CanFollow bytes) asks (follows server.rule bytes is.running.answers flows)
 
-left_here : (server : Server) (worker : ℕ) (end : End) (held : HeldMessage) (bytes : List ℕ) (log : Option Logged)
-    → (is : IsEnding server worker end held bytes) →
-    IsLogLeft server.head (slot_at server.head.slots worker) end.writes.items log
+left_here : {server : Server} {worker : ℕ} {end : End} {held : HeldMessage} {bytes : List ℕ}
+    → (is : IsEnding server worker end held bytes) → (log : Option Logged)
+    → IsLogLeft server.head (slot_at server.head.slots worker) end.writes.items log
     → IsLogLeft server.head (Some is.running) end.writes.items log
-left_here server worker end held bytes log is left =
+left_here {server = server} {end = end} is log left =
     subst (λ (slot : Option Running). IsLogLeft server.head slot end.writes.items log) is.runs.slot left
 
-without_own : (server : Server) (worker : ℕ) (end : End) (held : HeldMessage) (bytes : List ℕ) →
-    IsEnding server worker end held bytes
-    → is_without server.id held ≡ true
-without_own server worker end held bytes is =
+without_own : {server : Server} {worker : ℕ} {end : End} {held : HeldMessage} {bytes : List ℕ}
+    → IsEnding server worker end held bytes
+    → (list_all (λ (other : Logged). not (other.group == server.id)) held.message.logs ≡ true)
+    × (list_all (λ (other : Need). not (other.group == server.id)) held.message.needs ≡ true)
+without_own {server = server} {worker = worker} {held = held} is =
     let unvisited = still_unvisited server.rule server.head server.held.items worker is.running held server.slots
     is.runs.slot is.there in
-    open_is server.id held unvisited
-    (test_of_found (is_open server.id) (is_of is.running.packet) server.held.items held server.«open» is.there)
+    both (list_all (λ (other : Logged). not (other.group == server.id)) held.message.logs)
+    (list_all (λ (other : Need). not (other.group == server.id)) held.message.needs)
+    (open_is server.id held unvisited
+    (test_of_found (is_open server.id) (is_of is.running.packet) server.held.items held server.«open» is.there))
 
-pub log_is_new : (server : Server) (worker : ℕ) (end : End) (held : HeldMessage) (bytes : List ℕ) (log : Option Logged)
-    → IsEnding server worker end held bytes →
-    IsLogLeft server.head (slot_at server.head.slots worker) end.writes.items log
+pub log_is_new : {server : Server} {worker : ℕ} {end : End} {held : HeldMessage} {bytes : List ℕ}
+    → IsEnding server worker end held bytes → (log : Option Logged)
+    → IsLogLeft server.head (slot_at server.head.slots worker) end.writes.items log
     → IfSome log (λ log. HasNone log held.message.logs)
-log_is_new server worker end held bytes None is left = tt
-log_is_new server worker end held bytes (Some log) is left =
-    let of = (left_here server worker end held bytes (Some log) is left).1 in
-    let parts = both (list_all (λ (other : Logged). not (other.group == server.id)) held.message.logs)
-    (list_all (λ (other : Need). not (other.group == server.id)) held.message.needs)
-    (without_own server worker end held bytes is) in
-    none_of_group server.id log held.message.logs (of.group ∙ server.head_group) parts.0
+log_is_new is None left = tt
+log_is_new {server = server} {held = held} is (Some log) left =
+    none_of_group server.id log held.message.logs ((left_here is (Some log) left).1.group ∙ server.head_group)
+    (without_own is).0
 
-pub need_is_new : (server : Server) (worker : ℕ) (end : End) (held : HeldMessage) (bytes : List ℕ) (log : Option Logged)
-    → IsEnding server worker end held bytes →
-    IsLogLeft server.head (slot_at server.head.slots worker) end.writes.items log
+pub need_is_new : {server : Server} {worker : ℕ} {end : End} {held : HeldMessage} {bytes : List ℕ}
+    → IsEnding server worker end held bytes → (log : Option Logged)
+    → IsLogLeft server.head (slot_at server.head.slots worker) end.writes.items log
     → IfSome log (λ log. HasNoNeed (need_of_log log) held.message.needs)
-need_is_new server worker end held bytes None is left = tt
-need_is_new server worker end held bytes (Some log) is left =
-    let of = (left_here server worker end held bytes (Some log) is left).1 in
-    let parts = both (list_all (λ (other : Logged). not (other.group == server.id)) held.message.logs)
-    (list_all (λ (other : Need). not (other.group == server.id)) held.message.needs)
-    (without_own server worker end held bytes is) in
-    no_need_of_group server.id log held.message.needs (of.group ∙ server.head_group) parts.1
+need_is_new is None left = tt
+need_is_new {server = server} {held = held} is (Some log) left =
+    no_need_of_group server.id log held.message.needs ((left_here is (Some log) left).1.group ∙ server.head_group)
+    (without_own is).1
 
-pub log_may_rise : (server : Server) (worker : ℕ) (end : End) (held : HeldMessage) (bytes : List ℕ)
-    (log : Option Logged)
-    → IsEnding server worker end held bytes →
-    IsLogLeft server.head (slot_at server.head.slots worker) end.writes.items log
+pub log_may_rise : {server : Server} {worker : ℕ} {end : End} {held : HeldMessage} {bytes : List ℕ}
+    → IsEnding server worker end held bytes → (log : Option Logged)
+    → IsLogLeft server.head (slot_at server.head.slots worker) end.writes.items log
     → may_rise server.head.vector ≡ true
     → IfSome log (λ log. (partition carried : ℕ) → partition < MOST_PARTITIONS →
     mark_at log.before partition ≡ Some carried
     → has log.changed partition ≡ true → carried < 2 ^ 64 - 1)
-log_may_rise server worker end held bytes None is left may = tt
-log_may_rise server worker end held bytes (Some log) is left may =
-    let of = (left_here server worker end held bytes (Some log) is left).1 in
-    λ partition carried within marked changed.
+log_may_rise is None left may = tt
+log_may_rise {server = server} {end = end} is (Some log) left may = λ partition carried within marked changed.
     log_rises server.head.group server.head.partitions server.head.vector is.running.packet is.running.answers
-    end.writes.items log
-    of may partition carried within marked
+    end.writes.items log (left_here is (Some log) left).1 may partition carried within marked
