@@ -200,9 +200,9 @@ module _ (c : Setting) (s : ChainState) (h : IsSteadyState c s) where
         (λ both. slot.1 (sym both.1)))
 
     -- at a server that isn't the group's tail
-    pub replicas_applied : is_tail c group server ≡ false →
+    before_tail : is_tail c group server ≡ false →
         AreReplicas c (next c s applying) server own (slice_set others group (Some (applied log replica))) known
-    replicas_applied isnt = record {
+    before_tail isnt = record {
       own = own_stays known refl;
       others = λ other less. slots_set (λ g o. g < servers c → IsReplicaSlot c (next c s applying) server known g o)
           others group (Some (applied log replica)) (is_within others group replica there)
@@ -274,10 +274,11 @@ module _ (c : Setting) (s : ChainState) (h : IsSteadyState c s) where
           ∙ missing_twice (vector_of known group) (vector_of raised group) raised_covers (replica.kept ++ log ∷ [])))
           at_tail
 
-      pub replicas_applied_at_tail : (server ≡ group → ⊥) →
-          AreReplicas c (next c s applying) server own (slice_set others group (Some (applied log replica))) raised
-      replicas_applied_at_tail other_group = record {
-        own = own_stays raised (vector_of-other known group server (applied log replica).vector (λ e. other_group e));
+      at_the_tail : AreReplicas c (next c s applying) server own (slice_set others group (Some (applied log replica)))
+          raised
+      at_the_tail = record {
+        own = own_stays raised
+            (vector_of-other known group server (applied log replica).vector (λ e. slot.1 (sym e)));
         others = λ other less. slots_set (λ g o. g < servers c → IsReplicaSlot c (next c s applying) server raised g o)
             others group (Some (applied log replica)) (is_within others group replica there)
             (λ _. (slot.0, slot.1, here))
@@ -288,3 +289,12 @@ module _ (c : Setting) (s : ChainState) (h : IsSteadyState c s) where
         size = length-set known group (merged (vector_of known group) (applied log replica).vector) ∙ are.size;
         known = known_is;
       }
+
+    pub replicas_applied : AreReplicas c (next c s applying) server own
+        (slice_set others group (Some (applied log replica))) (if is_tail c group server then raised else known)
+    replicas_applied = elim (is_tail c group server) as (λ tail. is_tail c group server ≡ tail →
+        AreReplicas c (next c s applying) server own (slice_set others group (Some (applied log replica)))
+        (if tail then raised else known)) [
+          | true ↦ at_the_tail
+          | false ↦ before_tail
+        ] refl

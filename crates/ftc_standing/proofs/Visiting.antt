@@ -139,6 +139,9 @@ module _ (c : Setting) (s : ChainState) (h : IsSteadyState c s) (k p w : ℕ) (l
     log_now : IsLogIn c.partitions (next c s visiting).trace log
     log_now = commit_logs c s h k p w legal up (pruned_by (vector_of known k) own) are.own log made
 
+    abbrev raised : List (List ℕ)
+    raised = group_raised known k after.vector
+
     -- at a head that isn't its group's tail
     module _ (isnt : is_tail c k k ≡ false) where
       known_after : AreCommits c (next c s visiting) (knows c (next c s visiting) k) known
@@ -165,8 +168,8 @@ module _ (c : Setting) (s : ChainState) (h : IsSteadyState c s) (k p w : ℕ) (l
           new.tied.trace.0 (stands_map (λ o. is_changing c.partitions o ≡ true) (λ o. Unit {0})
           (λ o u. tt) s.trace k p stood))
 
-      pub replicas_committed : AreReplicas c (next c s visiting) k after others known
-      replicas_committed = record {
+      committed_before_tail : AreReplicas c (next c s visiting) k after others known
+      committed_before_tail = record {
         own = subst (λ (kept : List Logged). IsReplicaAt c (next c s visiting) k k (record after { kept = kept }))
             (sym (missing_last (vector_of known k) log uncovered own.kept))
             (visit_leaves c s h k p w legal
@@ -178,9 +181,6 @@ module _ (c : Setting) (s : ChainState) (h : IsSteadyState c s) (k p w : ℕ) (l
 
     -- where the head is the only member of its group
     module _ (tail : is_tail c k k ≡ true) where
-      abbrev raised : List (List ℕ)
-      raised = group_raised known k after.vector
-
       at_tail : IsReplicaAt c (next c s visiting) k k
           (pruned_by after.vector (committed c.partitions outcome log (pruned_by (vector_of known k) own)))
       at_tail = visit_at_tail c s h k p w legal
@@ -212,8 +212,8 @@ module _ (c : Setting) (s : ChainState) (h : IsSteadyState c s) (k p w : ℕ) (l
           (λ q. tail_knows c (next c s visiting) (steady_next c s h visiting legal) k k q up member tail)
           ∙ sym at_tail.vector)
 
-      pub replicas_committed_alone : AreReplicas c (next c s visiting) k after others raised
-      replicas_committed_alone = record {
+      committed_alone : AreReplicas c (next c s visiting) k after others raised
+      committed_alone = record {
         own = subst (λ (kept : List Logged). IsReplicaAt c (next c s visiting) k k (record after { kept = kept }))
             (ap (λ v. missing v (missing (vector_of known k) own.kept ++ log ∷ [])) (sym own_vector)
             ∙ (missing_both (vector_of raised k) (missing (vector_of known k) own.kept) (log ∷ [])
@@ -226,6 +226,14 @@ module _ (c : Setting) (s : ChainState) (h : IsSteadyState c s) (k p w : ℕ) (l
         size = length-set known k (merged (vector_of known k) after.vector) ∙ are.size;
         known = known_raised;
       }
+
+    pub replicas_committed : AreReplicas c (next c s visiting) k after others
+        (if is_tail c k k then raised else known)
+    replicas_committed = elim (is_tail c k k) as (λ tail. is_tail c k k ≡ tail →
+        AreReplicas c (next c s visiting) k after others (if tail then raised else known)) [
+          | true ↦ committed_alone
+          | false ↦ committed_before_tail
+        ] refl
 
 -- ---- the message
 

@@ -44,14 +44,13 @@ use Rattle.ftc_standing.proofs.Arriving.{there_here}
 use Rattle.ftc_standing.proofs.Buffering.{held_carried, forwarder_gets, withheld_released, withheld_kept, withheld_gets}
 use Rattle.ftc_standing.proofs.Events.{held_begins, held_keeps, held_taken, held_leaves, oldest_stands, forwarder_left}
 use Rattle.ftc_standing.proofs.Fresh.{nothing_known, nothing_size, knows_nothing, replicas_told_nothing}
-use Rattle.ftc_standing.proofs.Gaining.{receiver_up, replicas_told, replicas_applied, replicas_applied_at_tail}
+use Rattle.ftc_standing.proofs.Gaining.{receiver_up, replicas_told, replicas_applied}
 use Rattle.ftc_standing.proofs.Lasting.{IsFirmState, replicas_stay, held_stay, withheld_stay, forwarded_stay, of_it}
 use Rattle.ftc_standing.proofs.Movements.{changes, some_go}
 use Rattle.ftc_standing.proofs.Pulling.{replicas_pulled}
 use Rattle.ftc_standing.proofs.SamePlaces.{elsewhere, server_as_before, none_entering, none_begun, comes_there}
 use Rattle.ftc_standing.proofs.SamePlaces.{at_place, recovery_drops}
-use Rattle.ftc_standing.proofs.Visiting.{replicas_unchanged, replicas_committed, replicas_committed_alone, visited_one}
-use Rattle.ftc_standing.proofs.Visiting.{visited_stands}
+use Rattle.ftc_standing.proofs.Visiting.{replicas_unchanged, replicas_committed, visited_one, visited_stands}
 
 -- a server heads its own group
 own_member : (c : Setting) (k : ℕ) → k < servers c → is_member c k k ≡ true
@@ -157,32 +156,17 @@ module _ (c : Setting) (s : ChainState) (f : IsFirmState c s) (server origin gro
   abbrev applying : Event
   applying = Apply server origin group packet
 
-  with_replicas : (others : List (Option Replicated)) (known : List (List ℕ)) →
-      AreReplicas c (next c s applying) server head others known →
-      IsServerOf c (next c s applying) server head others known items buffer carried
-  with_replicas others known are = record {
-    replicas = are;
+  pub applies : IsServerOf c (next c s applying) server head (slice_set later group (Some (applied log replica)))
+      (if is_tail c group server then group_raised commits group (applied log replica).vector else commits) items buffer
+      carried
+  applies = record {
+    replicas = replicas_applied c s f.steady server origin group packet legal up below log log_of group_is origin_is
+        head later commits replica there is.replicas;
     held = held_stay c s f applying legal server (λ origin. refl) (λ (item : HeldItem). item.visited)
         (λ (item : HeldItem). item.by_ring) (λ (item : HeldItem). item.message) items is.held;
     withheld = withheld_stay c s f applying legal server (λ packet. refl) buffer is.withheld;
     forwarded = forwarded_stay c s f applying legal server (λ group packet. refl) carried is.forwarded;
   }
-
-  pub applies : is_tail c group server ≡ false → IsServerOf c (next c s applying) server head
-      (slice_set later group (Some (applied log replica))) commits items buffer carried
-  applies isnt = with_replicas (slice_set later group (Some (applied log replica))) commits
-      (replicas_applied c s f.steady server origin group packet legal up below log log_of group_is origin_is head later
-      commits replica there is.replicas isnt)
-
-  pub applies_at_tail : is_tail c group server ≡ true → (server ≡ group → ⊥) →
-      IsServerOf c (next c s applying) server head
-      (slice_set later group (Some (applied log replica))) (group_raised commits group (applied log replica).vector)
-      items buffer carried
-  applies_at_tail tail other = with_replicas (slice_set later group (Some (applied log replica)))
-      (group_raised commits group (applied log replica).vector)
-      (replicas_applied_at_tail c s f.steady server origin group packet legal up below log log_of group_is origin_is
-      head
-      later commits replica there is.replicas tail other)
 
 -- the visit of a held message is made
 module _ (c : Setting) (s : ChainState) (f : IsFirmState c s) (k p w : ℕ) (legal : IsLegal c s (Visit k p w))
@@ -278,23 +262,15 @@ module _ (c : Setting) (s : ChainState) (f : IsFirmState c s) (k p w : ℕ) (leg
   visits_only unchanging = with_replicas_of head commits
       (replicas_unchanged c s f.steady k p w legal up member head later commits is.replicas unchanging)
 
-  module _ (changing : is_changing c.partitions (outcome_at c s k p) ≡ true) (one : Logged) (one_is : log
-      ≡ Some one) where
-    pub visits : is_tail c k k ≡ false → IsServerOf c (next c s visiting) k
-        (committed c.partitions (outcome_at c s k p) one head) later commits
-        (before ++ item_of true item.by_ring sent ∷ after) buffer carried
-    visits isnt = with_replicas_of (committed c.partitions (outcome_at c s k p) one head) commits
-        (replicas_committed c s f.steady k p w legal up member head later commits is.replicas changing one
-        (made one one_is) isnt)
-
-    pub visits_alone : is_tail c k k ≡ true → IsServerOf c (next c s visiting) k
-        (committed c.partitions (outcome_at c s k p) one head) later
-        (group_raised commits k (committed c.partitions (outcome_at c s k p) one head).vector)
-        (before ++ item_of true item.by_ring sent ∷ after) buffer carried
-    visits_alone tail = with_replicas_of (committed c.partitions (outcome_at c s k p) one head)
-        (group_raised commits k (committed c.partitions (outcome_at c s k p) one head).vector)
-        (replicas_committed_alone c s f.steady k p w legal up member head later commits is.replicas changing one
-        (made one one_is) tail)
+  pub visits : is_changing c.partitions (outcome_at c s k p) ≡ true → (one : Logged) → log ≡ Some one →
+      IsServerOf c (next c s visiting) k (committed c.partitions (outcome_at c s k p) one head) later
+      (if is_tail c k k then group_raised commits k (committed c.partitions (outcome_at c s k p) one head).vector
+      else commits) (before ++ item_of true item.by_ring sent ∷ after) buffer carried
+  visits changing one one_is =
+      let own = committed c.partitions (outcome_at c s k p) one head in
+      with_replicas_of own (if is_tail c k k then group_raised commits k own.vector else commits)
+      (replicas_committed c s f.steady k p w legal up member head later commits is.replicas changing one
+      (made one one_is))
 
 -- a message leaves its server, or ends
 module _ (c : Setting) (s : ChainState) (f : IsFirmState c s) (head : Replicated) (later : List (Option Replicated))

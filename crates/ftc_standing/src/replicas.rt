@@ -1,6 +1,7 @@
 //! Visits that join what a server has.
 
 ghost use Rattle.std.specs.Prelude.{◌≡◌, ◌<◌, ◌++◌, ◌∷◌, ℕ, true, false, List, Option, Some, slice_set};
+ghost use Rattle.std.specs.Prelude.{if◌then◌else◌};
 ghost use Rattle.std.specs.Option.{is_some};
 ghost use Rattle.ftc_journal.specs.declared.event.Event.TheVariants as event;
 ghost use Rattle.ftc_message.specs.declared.message.Message.{Message as SentMessage};
@@ -23,23 +24,16 @@ use ftc_ties::every_state_tied;
 
 /// A log of a visit is applied to the replica of its group. The group's tail knows then that it is there.
 pub fn a_log_is_applied()
-    ensures member { (setting : Setting) (state : ChainState) (server origin group packet : ℕ) (log : Logged)
+    ensures { (setting : Setting) (state : ChainState) (server origin group packet : ℕ) (log : Logged)
         (contents : ServerContents) (replica : Replicated) → IsRunState setting state →
         IsLegal setting state (event.Apply server origin group packet) → state.up server ≡ true →
         group < servers setting → IsLogIn setting.partitions state.trace log → log.group ≡ group →
-        log.origin ≡ packet → replica_of contents.later group ≡ Some replica → is_tail setting group server ≡ false →
+        log.origin ≡ packet → replica_of contents.later group ≡ Some replica →
         IsServer setting state server contents →
-        IsServer setting (next setting state (event.Apply server origin group packet)) server
-        (record contents { later = slice_set contents.later group (Some (applied log replica)) }) }
-    ensures tail { (setting : Setting) (state : ChainState) (server origin group packet : ℕ) (log : Logged)
-        (contents : ServerContents) (replica : Replicated) → IsRunState setting state →
-        IsLegal setting state (event.Apply server origin group packet) → state.up server ≡ true →
-        group < servers setting → IsLogIn setting.partitions state.trace log → log.group ≡ group →
-        log.origin ≡ packet → replica_of contents.later group ≡ Some replica → is_tail setting group server ≡ true →
-        (server ≡ group → ⊥) → IsServer setting state server contents →
         IsServer setting (next setting state (event.Apply server origin group packet)) server (record contents {
           later = slice_set contents.later group (Some (applied log replica));
-          known = group_raised contents.known group (applied log replica).vector;
+          known = if is_tail setting group server then group_raised contents.known group (applied log replica).vector
+              else contents.known;
         }) }
 {
     every_state_tied();
@@ -63,7 +57,7 @@ pub fn a_visit_is_made()
         IsServer setting state server contents →
         IsServer setting (next setting state (event.Visit server packet worker)) server
         (record contents { held = before ++ item_of true item.by_ring sent ∷ after }) }
-    ensures head { (setting : Setting) (state : ChainState) (server packet worker : ℕ) (contents : ServerContents)
+    ensures changing { (setting : Setting) (state : ChainState) (server packet worker : ℕ) (contents : ServerContents)
         (before : List HeldItem) (item : HeldItem) (after : List HeldItem) (sent : SentMessage)
         (log : Logged) → IsRunState setting state →
         IsLegal setting state (event.Visit server packet worker) → state.up server ≡ true →
@@ -73,26 +67,12 @@ pub fn a_visit_is_made()
         (outcome_at setting state server packet).answers (outcome_at setting state server packet).writes log →
         IsVisited setting.failures (outcome_at setting state server packet) (Some log) item.message sent →
         is_changing setting.partitions (outcome_at setting state server packet) ≡ true →
-        is_tail setting server server ≡ false → IsServer setting state server contents →
+        IsServer setting state server contents →
         IsServer setting (next setting state (event.Visit server packet worker)) server (record contents {
           head = committed setting.partitions (outcome_at setting state server packet) log contents.head;
-          held = before ++ item_of true item.by_ring sent ∷ after;
-        }) }
-    ensures alone { (setting : Setting) (state : ChainState) (server packet worker : ℕ) (contents : ServerContents)
-        (before : List HeldItem) (item : HeldItem) (after : List HeldItem) (sent : SentMessage)
-        (log : Logged) → IsRunState setting state →
-        IsLegal setting state (event.Visit server packet worker) → state.up server ≡ true →
-        contents.held ≡ before ++ item ∷ after → item.message.origin ≡ packet →
-        is_touching (outcome_at setting state server packet) ≡ true →
-        IsLogOf server setting.partitions contents.head.vector packet
-        (outcome_at setting state server packet).answers (outcome_at setting state server packet).writes log →
-        IsVisited setting.failures (outcome_at setting state server packet) (Some log) item.message sent →
-        is_changing setting.partitions (outcome_at setting state server packet) ≡ true →
-        is_tail setting server server ≡ true → IsServer setting state server contents →
-        IsServer setting (next setting state (event.Visit server packet worker)) server (record contents {
-          head = committed setting.partitions (outcome_at setting state server packet) log contents.head;
-          known = group_raised contents.known server
-              (committed setting.partitions (outcome_at setting state server packet) log contents.head).vector;
+          known = if is_tail setting server server then group_raised contents.known server
+              (committed setting.partitions (outcome_at setting state server packet) log contents.head).vector
+              else contents.known;
           held = before ++ item_of true item.by_ring sent ∷ after;
         }) }
 {

@@ -1,16 +1,14 @@
-use Rattle.std.proofs.Common.{◌≡◌, ◌∙◌, true, false, Some, refl, sym, ap, subst, cond, slice_set}
+use Rattle.std.proofs.Common.{◌≡◌, ◌∙◌, true, Some, sym, ap, subst, slice_set}
 use Rattle.ftc_journal.specs.declared.event.Event.TheVariants as event
 use Rattle.ftc_replica.specs.Held.{applied}
-use Rattle.ftc_vector.specs.Commits.{group_raised}
 use Rattle.ftc_ties.specs.Logs.{IsLogIn}
-use Rattle.ftc_protocol.specs.Setting.{servers, is_tail}
+use Rattle.ftc_protocol.specs.Setting.{servers}
 use Rattle.ftc_protocol.specs.State.{Where}
 use Rattle.ftc_protocol.specs.Orderly.{aim}
 use Rattle.ftc_protocol.specs.Next.{next}
 use Rattle.ftc_server.specs.Looks.{log_of}
-use Rattle.ftc_standing.specs.Stand.{IsReplicaSlot}
 use Rattle.ftc_message.specs.Ordered.{is_log_of}
-use Rattle.ftc_refinement.specs.Contents.{contents_of, IsServerAt}
+use Rattle.ftc_refinement.specs.Contents.{contents_of}
 use Rattle.ftc_refinement.proofs.ReplicaCalls.{applies, put_at, known_at}
 use Rattle.ftc_refinement.proofs.Messages.{found_as, found_is, log_names}
 use Rattle.ftc_refinement.proofs.Ring.{knows_own}
@@ -34,8 +32,6 @@ returns c setting state server origin group packet old new run legal is done =
     let up = subst (λ (p : Where). state.up (aim (servers setting) p)
     ≡ true) place (order.awake origin message there) in
     let inside = order.inside server up in
-    let slot = subst (IsReplicaSlot setting state server old.known group) done.before
-    (is.stands.replicas.others group below) in
     let later = slice_set old.others.items group (Some (applied log done.replica)) in
     let others = done.others ∙ put_at old.others.items log group done.replica names.1 done.before in
     let knows = known_at setting server group
@@ -43,20 +39,7 @@ returns c setting state server origin group packet old new run legal is done =
     is.number_is done.known
     ∙ knows_own c.ends.ensures setting server group
     (applied log done.replica).vector old.known run.right.ring below inside in
-    elim (is_tail setting group server) as (λ b. is_tail setting group server ≡ b →
-    IsServerAt setting (next setting state (event.Apply server origin group packet)) server new) [
-      | true ↦ λ tail. applies setting state
-          (next setting state (event.Apply server origin group packet)) server old new
-          origin group packet later (group_raised old.known group (applied log done.replica).vector) is done others
-          (knows ∙ ap (λ b. cond b (group_raised old.known group (applied log done.replica).vector) old.known) tail)
-          (c.a_log_is_applied.ensures.tail setting state server origin group packet log
-          (contents_of old) done.replica run legal up
-          below of_log.0 names.1 names.0 done.before tail (λ same. slot.1 (sym same)) is.stands)
-      | false ↦ λ other. applies setting state
-          (next setting state (event.Apply server origin group packet)) server old new
-          origin group packet later old.known is done others
-          (knows ∙ ap (λ b. cond b (group_raised old.known group (applied log done.replica).vector) old.known) other)
-          (c.a_log_is_applied.ensures.member setting state server origin group packet log
-          (contents_of old) done.replica run legal
-          up below of_log.0 names.1 names.0 done.before other is.stands)
-    ] refl
+    applies setting state (next setting state (event.Apply server origin group packet)) server old new origin group
+    packet later _ is done others knows
+    (c.a_log_is_applied.ensures setting state server origin group packet log (contents_of old) done.replica run legal up
+    below of_log.0 names.1 names.0 done.before is.stands)

@@ -1,5 +1,5 @@
 use Rattle.std.proofs.Common.{◌≡◌, ◌∙◌, ◌++◌, ◌∷◌, ℕ, true, false, List, [], Option, Some, None, length, refl, sym, ap}
-use Rattle.std.proofs.Common.{subst, cond}
+use Rattle.std.proofs.Common.{subst}
 use Rattle.std.proofs.Math.Logic.{∥∥₁_map}
 use Rattle.std.specs.List.{AllByRecursion}
 use Rattle.std.specs.Option.{is_some, option_map}
@@ -11,7 +11,7 @@ use Rattle.ftc_message.specs.Logged.{Logged}
 use Rattle.ftc_mbox.specs.Ask.{ask}
 use Rattle.ftc_mbox.specs.InTurn.{InTurn}
 use Rattle.ftc_protocol.specs.Changes.{is_touching, is_changing}
-use Rattle.ftc_protocol.specs.Setting.{servers, shape, rule_at, is_tail}
+use Rattle.ftc_protocol.specs.Setting.{servers, shape, rule_at}
 use Rattle.ftc_protocol.specs.State.{Where}
 use Rattle.ftc_protocol.specs.Trace.{content_of}
 use Rattle.ftc_protocol.specs.Orderly.{aim}
@@ -21,7 +21,6 @@ use Rattle.ftc_serial.specs.Reads.{IsRead}
 use Rattle.ftc_ring.specs.Ring.{RingShape}
 use Rattle.ftc_replica.specs.Held.{Held as Replicated}
 use Rattle.ftc_txn.specs.Logs.{IsLogOf}
-use Rattle.ftc_vector.specs.Commits.{group_raised}
 use Rattle.ftc_vector.proofs.Partitions.{length-by_partition}
 use Rattle.ftc_ties.specs.Numbers.{count_of}
 use Rattle.ftc_ties.specs.Replica.{committed}
@@ -137,21 +136,9 @@ returns c setting state server worker running end old new run legal is runs aske
                 let seen = subst (λ (o : Option Logged). IsVisited setting.failures outcome o done.before.message sent)
                 logged
                 visited in
-                elim (is_tail setting server server) as (λ b. is_tail setting server server ≡ b →
-                IsServerAt setting after server new) [
-                  | false ↦ λ other. commits setting state after server old new head old.known held is beside head_is
-                      (knows ∙ ap (λ b. cond b (group_raised old.known server head.vector) old.known) other) holds
-                      (c.a_visit_is_made.ensures.head setting state server packet worker (contents_of old)
-                      (items_of split.before) (item_of_held done.before)
-                      (items_of split.after) sent log run legal up items
-                      split.origin_is touches (of_visit log logged) seen changing other is.stands)
-                  | true ↦ λ tail. commits setting state after server old new head
-                      (group_raised old.known server head.vector) held is beside head_is
-                      (knows ∙ ap (λ b. cond b (group_raised old.known server head.vector) old.known) tail) holds
-                      (c.a_visit_is_made.ensures.alone setting state server packet worker (contents_of old)
-                      (items_of split.before) (item_of_held done.before)
-                      (items_of split.after) sent log run legal up items
-                      split.origin_is touches (of_visit log logged) seen changing tail is.stands)
-                ] refl
+                commits setting state after server old new head _ held is beside head_is knows holds
+                (c.a_visit_is_made.ensures.changing setting state server packet worker (contents_of old)
+                (items_of split.before) (item_of_held done.before) (items_of split.after) sent log run legal up items
+                split.origin_is touches (of_visit log logged) seen changing is.stands)
           ] refl
     ] refl)
