@@ -3,7 +3,6 @@ pub mod Passing
 pub mod Trace
 pub mod Needs
 pub mod Alone
-pub mod Nearest
 pub mod Undone
 pub mod Adding
 pub mod Dropping

@@ -1,6 +1,5 @@
 -- Facts about lists.
 use Rattle.std.proofs.Common.{◌≡◌, ◌++◌, Bool, true, false, List, [], ◌∷◌, map, filter, cond, inl, inr, refl, sym, ap}
-use Rattle.std.specs.Prelude.{IfOk, Result, Ok, Err}
 use Rattle.std.specs.List.{AllByRecursion, list_all}
 use Rattle.std.proofs.lemmas.Bool.{and_parts, and_from}
 use Rattle.ftc_serial.specs.Words.{AnyOf}
@@ -107,7 +106,3 @@ pub all_tests : {A : Type 0} (test : A → Bool) (xs : List A) → AllByRecursio
     list_all test xs ≡ true
 all_tests test [] all = refl
 all_tests test (x ∷ xs) all = and_from (test x) (list_all test xs) all.0 (all_tests test xs all.1)
-
-pub if_ok_map : {A E : Type 0} (r : Result A E) (P Q : A → Type 0) → ((x : A) → P x → Q x) → IfOk r P → IfOk r Q
-if_ok_map (Ok x) P Q f is = f x is
-if_ok_map (Err e) P Q f is = tt

@@ -83,7 +83,7 @@ returns-clause-previous c setting state server undone run legal =
     (c.the_live.ensures.admissible_not_alone (shape setting) state.up server down.0 down.1 order.admissible)
     (c.the_live.ensures.before_none (servers setting) state.up server down.0)
     (λ other. c.the_live.ensures.before_found (servers setting) state.up server other down.0) in
-    (found.within, found.differs, found.up)
+    (found.within, found.other, found.up)
 
 pub returns-clause-following : goal.returns-clause-following
 returns-clause-following c setting state server undone run legal =
@@ -93,4 +93,4 @@ returns-clause-following c setting state server undone run legal =
     (c.the_live.ensures.admissible_not_alone (shape setting) state.up server down.0 down.1 order.admissible)
     (c.the_live.ensures.after_none (servers setting) state.up server down.0)
     (λ other. c.the_live.ensures.after_found (servers setting) state.up server other down.0) in
-    (found.within, found.differs, found.up)
+    (found.within, found.other, found.up)

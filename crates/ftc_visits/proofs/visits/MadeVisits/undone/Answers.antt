@@ -1,17 +1,17 @@
 use Rattle.std.proofs.Common.{◌<◌, ◌∙◌, List, refl, ap, arith, false}
+use Rattle.std.proofs.lemmas.Result.{IfOk-weaker}
 use Rattle.ftc_journal.specs.declared.event.VisitName.{VisitName}
 use Rattle.ftc_protocol.proofs.Places.{serial_by}
 use Rattle.ftc_protocol.specs.Recovery.{previous_live, following_live, undone_visits}
 use Rattle.ftc_protocol.specs.Setting.{servers, shape}
+use Rattle.ftc_refinement.proofs.LiveNeighbours.{before_is, after_is}
 use Rattle.ftc_visits.specs.Undoing.{is_undone_alone, undone_from}
 use Rattle.ftc_visits.proofs.Alone.{is_within}
-use Rattle.ftc_visits.proofs.Lists.{if_ok_map}
-use Rattle.ftc_visits.proofs.Nearest.{is_before, is_after}
 use Rattle.ftc_visits.proofs.Undone.{found_is}
 use Rattle.ftc_visits.proofs.visits.MadeVisits.undone.Goals as goal
 
 pub returns : goal.returns
-returns c = if_ok_map c.undone_between.result _ _
+returns c = IfOk-weaker c.undone_between.result _ _
     (λ (names : List VisitName) found setting state server run line previous_is is are.
     let visits = c.args.self.now.items in
     let old = c.args.following.now in
@@ -20,12 +20,12 @@ returns c = if_ok_map c.undone_between.result _ _
     let ring = shape setting in
     let live = c.the_live.ensures in
     let not_alone = live.admissible_not_alone ring state.up server down.0 down.1 order.admissible in
-    let previous = is_before (servers setting) state.up server not_alone
-    (λ k. live.before_found (servers setting) state.up server k down.0)
-    (live.before_none (servers setting) state.up server down.0) in
-    let following = is_after (servers setting) state.up server not_alone
-    (λ k. live.after_found (servers setting) state.up server k down.0)
-    (live.after_none (servers setting) state.up server down.0) in
+    let previous = before_is (servers setting) state.up server not_alone
+    (live.before_none (servers setting) state.up server down.0)
+    (λ k. live.before_found (servers setting) state.up server k down.0) in
+    let following = after_is (servers setting) state.up server not_alone
+    (live.after_none (servers setting) state.up server down.0)
+    (λ k. live.after_found (servers setting) state.up server k down.0) in
     let some_server : 0 < servers setting = omega (arith, down.0) in
     found
     ∙ (ap (λ k. undone_from (is_undone_alone k old) (λ packet. false) visits) previous_is
