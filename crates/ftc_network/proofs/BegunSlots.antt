@@ -4,8 +4,8 @@ use Rattle.std.proofs.Common.{subst, length-set}
 use Rattle.std.proofs.lemmas.Bool.{cases_eq, cases_lt}
 use Rattle.std.proofs.lemmas.List.{get_or_past}
 use Rattle.ftc_base.specs.declared.limits.TheConstants.{MOST_SLOTS}
-use Rattle.ftc_refinement.proofs.Works.{ready_of}
-use Rattle.ftc_server.proofs.Working.{held_with}
+use Rattle.ftc_server.proofs.Slotting.{slot_ready as one_ready}
+use Rattle.ftc_server.proofs.Working.{held_with, last_of}
 use Rattle.ftc_server.specs.declared.server.Server.{Server}
 use Rattle.ftc_server.specs.declared.work.Work.TheVariants.{Visit}
 use Rattle.ftc_server.specs.Holding.{found}
@@ -18,7 +18,7 @@ use Rattle.ftc_txn.specs.Slots.{Running, slot_at, begun}
 use Rattle.ftc_txn.proofs.Kept.{slot_set}
 use Rattle.ftc_network.specs.Stand.{AreReady}
 use Rattle.ftc_network.proofs.IdleSlots.{set_other}
-use Rattle.ftc_network.proofs.ReadySlots.{all_ready, one_ready}
+use Rattle.ftc_network.proofs.ReadySlots.{all_ready}
 
 -- a held message that is to be visited is ready
 to_visit_ready : (server : Server) (packet : ℕ) → work_in server packet ≡ Some Visit →
@@ -26,7 +26,7 @@ to_visit_ready : (server : Server) (packet : ℕ) → work_in server packet ≡ 
 to_visit_ready server packet work =
     let there = held_with server.others.items (found packet server.held.items) Visit work in
     ap (is_ready_one server.others.items) there.there
-    ∙ ready_of server.others.items there.held Visit (λ group origin same. absurd cc) there.works
+    ∙ (last_of server.others.items there.held Visit (λ group origin same. absurd cc) there.works).0
 
 -- what a slot that was set runs is what it was set to
 pub set_to : (slots : List (Option Running)) (worker : ℕ) (start running : Running) →

@@ -1,5 +1,5 @@
 -- What slots run, and that it is ready.
-use Rattle.std.proofs.Common.{◌≡◌, ◌≢◌, ◌∙◌, ◌&&◌, ℕ, zero, suc, Bool, true, false, List, [], ◌∷◌, Option, Some, None}
+use Rattle.std.proofs.Common.{◌≡◌, ◌≢◌, ◌∙◌, ℕ, suc, Bool, true, false, List, [], ◌∷◌, Option, Some, None}
 use Rattle.std.proofs.Common.{refl, sym, ap, subst}
 use Rattle.std.specs.List.{list_all}
 use Rattle.ftc_journal.specs.declared.event.Event.{Event}
@@ -11,7 +11,8 @@ use Rattle.ftc_refinement.proofs.Works.{same_flags}
 use Rattle.ftc_replica.specs.Held.{Held as Replicated}
 use Rattle.ftc_serial.proofs.Functions.{with_at_cases}
 use Rattle.ftc_serial.specs.Take.{Outcome}
-use Rattle.ftc_server.proofs.Finding.{both}
+use Rattle.ftc_server.proofs.Finding.{and_both}
+use Rattle.ftc_server.proofs.Slotting.{slot_ready as one_ready}
 use Rattle.ftc_server.specs.declared.held.HeldMessage.{HeldMessage}
 use Rattle.ftc_server.specs.declared.server.Server.{Server}
 use Rattle.ftc_server.specs.Holding.{found}
@@ -113,28 +114,12 @@ ready_first : (replicas : List (Option Replicated)) (items : List HeldMessage) (
 ready_first replicas items None each = refl
 ready_first replicas items (Some running) each = each running refl
 
-both_hold : (one other : Bool) → one ≡ true → other ≡ true → one && other ≡ true
-both_hold true other is also = also
-both_hold false other is also = is
-
-pub one_ready : (replicas : List (Option Replicated)) (items : List HeldMessage) (slots : List (Option Running))
-    (worker : ℕ) (running : Running) → list_all (slot_is_ready replicas items) slots ≡ true →
-    slot_at slots worker ≡ Some running → is_ready_one replicas (found running.packet items) ≡ true
-one_ready replicas items [] worker running all runs = absurd cc
-one_ready replicas items (slot ∷ slots) zero running all runs =
-    let first = (both (slot_is_ready replicas items slot) (list_all (slot_is_ready replicas items) slots) all).0 in
-    let same : slot ≡ Some running = runs in
-    ap (slot_is_ready replicas items) (sym same) ∙ first
-one_ready replicas items (slot ∷ slots) (suc worker) running all runs =
-    one_ready replicas items slots worker running
-    (both (slot_is_ready replicas items slot) (list_all (slot_is_ready replicas items) slots) all).1 runs
-
 pub all_ready : (replicas : List (Option Replicated)) (items : List HeldMessage) (slots : List (Option Running)) →
     ((worker : ℕ) (running : Running) → slot_at slots worker ≡ Some running →
     is_ready_one replicas (found running.packet items) ≡ true) → list_all (slot_is_ready replicas items) slots ≡ true
 all_ready replicas items [] each = refl
 all_ready replicas items (slot ∷ slots) each =
-    both_hold (slot_is_ready replicas items slot) (list_all (slot_is_ready replicas items) slots)
+    and_both (slot_is_ready replicas items slot) (list_all (slot_is_ready replicas items) slots)
     (ready_first replicas items slot (λ running same. each 0 running same))
     (all_ready replicas items slots (λ worker running runs. each (suc worker) running runs))
 

@@ -21,22 +21,6 @@ use Rattle.ftc_refinement.proofs.Messages.{both, kept_item}
 
 -- ---- work and readiness
 
-is_all_had : (replicas : List (Option Replicated)) (held : HeldMessage) (log : Option Logged) (work : Work) →
-    ((group packet : ℕ) → Apply group packet ≡ work → ⊥) → work_behind replicas held log ≡ Some work →
-    is_ready replicas held ≡ true
-is_all_had replicas held (Some log) work other is =
-    let e : Apply log.group log.origin ≡ work = cc in absurd (other log.group log.origin e)
-is_all_had replicas held None work other is =
-    elim (is_ready replicas held) as (λ b. cond b (Some (last_work held)) None ≡ Some work → b ≡ true) [
-      | true ↦ λ same. refl
-      | false ↦ λ none. absurd cc
-    ] is
-
-pub ready_of : (replicas : List (Option Replicated)) (held : HeldMessage) (work : Work) →
-    ((group packet : ℕ) → Apply group packet ≡ work → ⊥) → work_for replicas held ≡ Some work →
-    is_ready replicas held ≡ true
-ready_of replicas held work other is = is_all_had replicas held (next_log replicas None held.message.logs) work other is
-
 -- where all logs are had, none is to be applied
 none_next : (replicas : List (Option Replicated)) (waiting : Option ℕ) (logs : List Logged) →
     list_all (is_had replicas) logs ≡ true → next_log replicas waiting logs ≡ None
@@ -58,11 +42,6 @@ last_comes replicas held ready =
 
 abbrev pub last_by : Bool → Bool → Work
 last_by waiting by_ring = cond waiting Visit (cond by_ring Carry Send)
-
-pub is_to_visit : (waiting by_ring : Bool) → last_by waiting by_ring ≡ Visit → waiting ≡ true
-is_to_visit true by_ring is = refl
-is_to_visit false true is = absurd cc
-is_to_visit false false is = absurd cc
 
 pub is_to_send : (waiting by_ring : Bool) → last_by waiting by_ring ≡ Send → (waiting ≡ false) × (by_ring ≡ false)
 is_to_send true by_ring is = absurd cc
@@ -87,12 +66,6 @@ done_is true packet is = refl
 done_is false None is = refl
 done_is false (Some bytes) (inl is) = absurd cc
 done_is false (Some bytes) (inr is) = absurd cc
-
-pub bytes_in_it : (visited : Bool) (packet : Option (List ℕ)) → not visited && is_some packet ≡ true →
-    (visited ≡ false) × ((bytes : List ℕ) × (packet ≡ Some bytes))
-bytes_in_it true packet is = absurd cc
-bytes_in_it false None is = absurd cc
-bytes_in_it false (Some bytes) is = (refl, (bytes, refl))
 
 -- a log that is to be applied is the next one
 pub next_applied : (replicas : List (Option Replicated)) (held : HeldMessage) (next : Option Logged)

@@ -493,7 +493,7 @@ slots_restarted rule old new items worker writes NoMemory some commits slots =
     subst (λ (h : HeadState). AreSlots rule h items) (sym commits.2) slots
 
 -- messages that lack a log are dropped, but not those that slots run
-slot_ready : (replicas : List (Option Held)) (items : Items) (slots : List (Option Running)) (worker : ℕ)
+pub slot_ready : (replicas : List (Option Held)) (items : Items) (slots : List (Option Running)) (worker : ℕ)
     (running : Running)
     → list_all (slot_is_ready replicas items) slots ≡ true → slot_at slots worker ≡ Some running
     → is_ready_one replicas (found running.packet items) ≡ true

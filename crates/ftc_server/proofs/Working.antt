@@ -1,5 +1,6 @@
 -- What the work of a held message says of it.
 use Rattle.std.proofs.Common.{◌≡◌, ◌∙◌, ◌&&◌, not, ℕ, Bool, true, false, List, Option, Some, None, refl, ap, cond}
+use Rattle.std.proofs.Common.{◌⊎◌, inl, inr, sym}
 use Rattle.std.specs.Prelude.{is_some}
 use Rattle.ftc_message.specs.Logged.{Logged}
 use Rattle.ftc_replica.specs.Held.{Held}
@@ -19,66 +20,66 @@ pub held_with : (replicas : List (Option Held)) (found : Option HeldMessage) (wo
 held_with replicas None work is = absurd cc
 held_with replicas (Some held) work is = record { held = held; there = refl; works = is }
 
--- what is to be done is no apply, so that it is the last work
-last_is : (replicas : List (Option Held)) (held : HeldMessage) (log : Option Logged) (work : Work)
-    → ((group packet : ℕ) → Apply group packet ≡ work → ⊥)
-    → work_behind replicas held log ≡ Some work → last_work held ≡ work
-last_is replicas held (Some log) work other is = let e : Apply log.group log.origin ≡ work =
+-- what is to be done is no apply, so that the message lacks nothing and it is the last work
+last_behind : (replicas : List (Option Held)) (held : HeldMessage) (log : Option Logged) (work : Work)
+    → ((group packet : ℕ) → Apply group packet ≡ work → ⊥) → work_behind replicas held log ≡ Some work
+    → (is_ready replicas held ≡ true) × (last_work held ≡ work)
+last_behind replicas held (Some log) work other is = let e : Apply log.group log.origin ≡ work =
     cc in absurd (other log.group log.origin e)
-last_is replicas held None work other is =
-    elim (is_ready replicas held) as (λ t. cond t (Some (last_work held)) None ≡ Some work → last_work held ≡ work) [
-      | true ↦ λ same. cc
+last_behind replicas held None work other is =
+    elim (is_ready replicas held) as (λ t. cond t (Some (last_work held)) None ≡ Some work →
+    (t ≡ true) × (last_work held ≡ work)) [
+      | true ↦ λ same. (refl, cc)
       | false ↦ λ none. absurd cc
     ] is
 
 pub last_of : (replicas : List (Option Held)) (held : HeldMessage) (work : Work)
-    → ((group packet : ℕ) → Apply group packet ≡ work → ⊥) → work_for replicas held ≡ Some work → last_work held ≡ work
-last_of replicas held work other is = last_is replicas held (next_log replicas None held.message.logs) work other is
-
--- where the work is no apply, the message lacks nothing
-ready_behind : (replicas : List (Option Held)) (held : HeldMessage) (log : Option Logged) (work : Work)
-    → ((group packet : ℕ) → Apply group packet ≡ work → ⊥)
-    → work_behind replicas held log ≡ Some work → is_ready replicas held ≡ true
-ready_behind replicas held (Some log) work other is = let e : Apply log.group log.origin ≡ work =
-    cc in absurd (other log.group log.origin e)
-ready_behind replicas held None work other is =
-    elim (is_ready replicas held) as (λ t. cond t (Some (last_work held)) None ≡ Some work → t ≡ true) [
-      | true ↦ λ same. refl
-      | false ↦ λ none. absurd cc
-    ] is
-
-pub ready_for : (replicas : List (Option Held)) (held : HeldMessage) (work : Work)
-    → ((group packet : ℕ) → Apply group packet ≡ work → ⊥) → work_for replicas held ≡ Some work →
-    is_ready replicas held ≡ true
-ready_for replicas held work other is =
-    ready_behind replicas held (next_log replicas None held.message.logs) work other is
+    → ((group packet : ℕ) → Apply group packet ≡ work → ⊥) → work_for replicas held ≡ Some work
+    → (is_ready replicas held ≡ true) × (last_work held ≡ work)
+last_of replicas held work other is =
+    last_behind replicas held (next_log replicas None held.message.logs) work other is
 
 waits_for : (waiting by_ring : Bool) → cond waiting Visit (cond by_ring Carry Send) ≡ Visit → waiting ≡ true
 waits_for true by_ring is = refl
 waits_for false true is = absurd cc
 waits_for false false is = absurd cc
 
-sends_on : (waiting by_ring : Bool) → cond waiting Visit (cond by_ring Carry Send) ≡ Send → waiting ≡ false
-sends_on true by_ring is = absurd cc
-sends_on false by_ring is = refl
-
-carries_on : (waiting by_ring : Bool) → cond waiting Visit (cond by_ring Carry Send) ≡ Carry → waiting ≡ false
-carries_on true by_ring is = absurd cc
-carries_on false by_ring is = refl
+waits_not : (waiting by_ring : Bool) → (cond waiting Visit (cond by_ring Carry Send) ≡ Visit → ⊥) → waiting ≡ false
+waits_not true by_ring isnt = absurd (isnt refl)
+waits_not false by_ring isnt = refl
 
 pub visits : (replicas : List (Option Held)) (held : HeldMessage) → work_for replicas held ≡ Some Visit →
     is_waiting held ≡ true
 visits replicas held is = waits_for (is_waiting held) held.by_ring
-    (last_of replicas held Visit (λ g p same. absurd cc) is)
+    (last_of replicas held Visit (λ g p same. absurd cc) is).1
 
-pub sends : (replicas : List (Option Held)) (held : HeldMessage) → work_for replicas held ≡ Some Send →
-    is_waiting held ≡ false
-sends replicas held is = sends_on (is_waiting held) held.by_ring (last_of replicas held Send (λ g p same. absurd cc) is)
+-- a message of which nothing is left to do at the server that holds it
+pub record IsThrough (replicas : List (Option Held)) (found : Option HeldMessage) : Type 0 where
+  pub held : HeldMessage
+  pub there : found ≡ Some held
+  pub ready : is_ready replicas held ≡ true
+  pub visited : is_waiting held ≡ false
 
-pub carries : (replicas : List (Option Held)) (held : HeldMessage) → work_for replicas held ≡ Some Carry →
-    is_waiting held ≡ false
-carries replicas held is =
-    carries_on (is_waiting held) held.by_ring (last_of replicas held Carry (λ g p same. absurd cc) is)
+through : (replicas : List (Option Held)) (found : Option HeldMessage) (work : Work)
+    → ((group packet : ℕ) → Apply group packet ≡ work → ⊥) → (Visit ≡ work → ⊥)
+    → work_for_found replicas found ≡ Some work → IsThrough replicas found
+through replicas found work no_apply no_visit is =
+    let it = held_with replicas found work is in
+    let last = last_of replicas it.held work no_apply it.works in
+    record {
+      held = it.held;
+      there = it.there;
+      ready = last.0;
+      visited = waits_not (is_waiting it.held) it.held.by_ring (λ visit. no_visit (sym visit ∙ last.1));
+    }
+
+pub goes_on_or_ends : (replicas : List (Option Held)) (found : Option HeldMessage)
+    → (work_for_found replicas found ≡ Some Send) ⊎ (work_for_found replicas found ≡ Some Carry)
+    → IsThrough replicas found
+goes_on_or_ends replicas found (inl sends) =
+    through replicas found Send (λ g p same. absurd cc) (λ same. absurd cc) sends
+goes_on_or_ends replicas found (inr carries) =
+    through replicas found Carry (λ g p same. absurd cc) (λ same. absurd cc) carries
 
 -- a message whose packet waits for its visit
 pub record Waits (held : HeldMessage) : Type 0 where

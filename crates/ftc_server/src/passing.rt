@@ -1,9 +1,9 @@
 //! A message leaves a server.
 
-ghost use Rattle.std.specs.Prelude.{◌≡◌, ◌≤◌, ◌++◌, true, Some, None, IfOk, OnOk, OnErr, option_map};
+ghost use Rattle.std.specs.Prelude.{◌≡◌, ◌≤◌, ◌++◌, ◌⊎◌, true, Some, None, IfOk, OnOk, OnErr, option_map};
 ghost use Rattle.ftc_edge.specs.Due.{first_due, freed};
 ghost use Rattle.ftc_server.specs.declared.work.Work.TheVariants.{Send, Carry};
-ghost use Rattle.ftc_server.specs.Holding.{found};
+ghost use Rattle.ftc_server.specs.Holding.{found, without};
 ghost use Rattle.ftc_server.specs.Standing.{is_last};
 ghost use Rattle.ftc_server.specs.State.{fields_of};
 ghost use Rattle.ftc_server.specs.Looks.{work_in, sent, sent_in, attached_in, onward_in, are_apart, are_apart_from};
@@ -93,6 +93,18 @@ impl Server {
         }
     }
 
+    /// A held message that is sent on or ends is held no more.
+    fn let_go(&mut self, origin: PacketNo) -> Option<HeldMessage>
+        requires { (work_in self.old origin ≡ Some Send) ⊎ (work_in self.old origin ≡ Some Carry) }
+        ensures gone { result ≡ found origin self.old.held.items }
+        ensures others { self.new.held.items ≡ without origin self.old.held.items }
+        ensures rest { fields_of self.new ≡ record (fields_of self.old) { held = self.new.held } }
+    {
+        // The contract of this call tells that no two held messages have one origin.
+        let _ = self.held.len();
+        self.held.take_out(origin)
+    }
+
     /// A held message leaves, whose work this is. At the last server its packet is withheld, for which there is
     /// room.
     pub fn pass(&mut self, origin: PacketNo)
@@ -100,9 +112,7 @@ impl Server {
         requires room { is_last self.old.ring self.old.id ≡ true → 1 ≤ self.old.buffer.spare }
         ensures { HasPassed self.old self.new origin }
     {
-        // The contract of this call tells that no two held messages have one origin.
-        let _ = self.held.len();
-        let Some(HeldMessage { message, .. }) = self.held.take_out(origin) else {
+        let Some(HeldMessage { message, .. }) = self.let_go(origin) else {
             return;
         };
         if self.id.number() == 0 {
@@ -120,14 +130,12 @@ impl Server {
         ensures ok { OnOk result (HasCarried self.old self.new origin) }
         ensures err { OnErr result (fields_of self.new ≡ fields_of self.old) }
     {
-        // The contract of this call tells that no two held messages have one origin.
-        let _ = self.held.len();
         let Some(held) = self.held.get(origin) else {
             return Ok(());
         };
         let logs = onward(self.alloc, &self.ring, self.id, &held.message.logs)?;
         self.forwarder.carry(&logs)?;
-        self.held.take_out(origin);
+        self.let_go(origin);
         Ok(())
     }
 

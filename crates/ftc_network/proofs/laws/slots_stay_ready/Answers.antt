@@ -5,10 +5,11 @@ use Rattle.ftc_protocol.proofs.RunLists.{run_next}
 use Rattle.ftc_protocol.specs.Next.{next}
 use Rattle.ftc_protocol.specs.State.{Held}
 use Rattle.ftc_refinement.proofs.Works.{held_in}
+use Rattle.ftc_server.proofs.Slotting.{slot_ready as one_ready}
 use Rattle.ftc_server.specs.Holding.{found}
 use Rattle.ftc_server.specs.Replicas.{is_ready}
 use Rattle.ftc_server.specs.Slots.{is_ready_one}
-use Rattle.ftc_network.proofs.ReadySlots.{all_ready, not_visited, one_ready, still_there}
+use Rattle.ftc_network.proofs.ReadySlots.{all_ready, not_visited, still_there}
 use Rattle.ftc_network.proofs.laws.slots_stay_ready.Goals as goal
 
 pub returns : goal.returns

@@ -2,9 +2,9 @@ use Rattle.std.proofs.Common.{◌≡◌, ◌∙◌, Bool, true, false, sym, ap}
 use Rattle.std.proofs.Math.Logic.{∥∥₁_map}
 use Rattle.ftc_protocol.specs.State.{Held}
 use Rattle.ftc_refinement.proofs.Works.{held_in}
+use Rattle.ftc_server.proofs.Slotting.{slot_ready as one_ready}
 use Rattle.ftc_server.specs.Replicas.{is_ready}
 use Rattle.ftc_server.specs.Slots.{is_ready_one}
-use Rattle.ftc_network.proofs.ReadySlots.{one_ready}
 use Rattle.ftc_network.proofs.laws.what_runs_may_be_visited.Goals as goal
 
 pub returns : goal.returns

@@ -80,7 +80,7 @@ returns-clause-ring c setting state server origin old run is works =
     let with = held_with old.others.items (found origin old.held.items) Carry works in
     let in_state = held_in setting state server origin with.held old.held.items with.there is.stands.held in
     let carries = is_to_carry (is_waiting with.held) with.held.by_ring
-    (last_of old.others.items with.held Carry (λ group packet same. absurd cc) with.works) in
+    (last_of old.others.items with.held Carry (λ group packet same. absurd cc) with.works).1 in
     let order = c.order_of_a_state.ensures setting state run in
     order.by_ring origin server with.held.visited in_state.message in_state.there
     (in_state.stands.place ∙ ap (λ b. Held server with.held.visited b) carries)
