@@ -1,7 +1,7 @@
 -- What follows from an event's being allowed, where it is a test.
 use Rattle.std.proofs.Common.{◌≡◌, ◌<◌, ◌^◌, ◌-◌, ℕ, Bool, true, nat_lt, Option, Some, sym, ap, subst}
 use Rattle.std.proofs.Math.Bool.{Bool-set}
-use Rattle.std.proofs.Math.Logic.{∥∥₁_elim, ∥∥₁_map}
+use Rattle.std.proofs.Math.Logic.{∥∥₁_elim}
 use Rattle.std.proofs.lemmas.Bool.{ltb-true, lt-ltb}
 use Rattle.ftc_journal.specs.declared.event.Event.{Event}
 use Rattle.ftc_journal.specs.declared.event.Event.TheVariants as event
@@ -12,10 +12,8 @@ use Rattle.ftc_protocol.specs.State.{ChainState}
 use Rattle.ftc_ring.specs.Ring.{RingShape}
 use Rattle.ftc_server.specs.declared.server.Server.{Server}
 use Rattle.ftc_network.specs.declared.network.Network.{Network}
-use Rattle.ftc_network.specs.Committing.{IsAtRestAt}
 use Rattle.ftc_network.specs.Events.{IsAllowed, IsAllowedAt}
-use Rattle.ftc_network.specs.Parts.{server_in}
-use Rattle.ftc_network.specs.Slots.{IsNetworkAtRest, IsLegalIn}
+use Rattle.ftc_network.specs.Slots.{IsLegalIn}
 use Rattle.ftc_network.specs.Stand.{IsSlot, IsUp}
 use Rattle.ftc_network.proofs.Untold.{is_below}
 
@@ -64,29 +62,3 @@ module _ (places : (setting : Setting) (state : ChainState) (server packet worke
       is_below server network.ring.servers legal (λ given.
       subst (λ (n : ℕ). server < n) (sym (ap (λ (ring : RingShape). ring.servers) given.stands.ring))
       (places given.setting given.state server packet worker given.run given.legal).0)
-
--- what is allowed with a network is allowed with its server of a number
-pub slot_allowed : (event : Event) (network : Network) (number : ℕ) (slot : Option Server) →
-    number < network.ring.servers →
-    slot ≡ server_in network.servers.items number → ∥ IsAllowed event network ∥₁ → ∥ IsAllowedAt event number slot ∥₁
-slot_allowed event network number slot below same allowed = ∥∥₁_map allowed (λ given. record {
-  setting = given.setting;
-  state = given.state;
-  run = given.run;
-  legal = given.legal;
-  few = given.few;
-  stands = subst (IsSlot given.setting given.state number) (sym same) (given.stands.servers_are number
-      (subst (λ (n : ℕ). number < n) (ap (λ (ring : RingShape). ring.servers) given.stands.ring) below));
-})
-
--- where a network is at rest, each of its servers is
-pub slot_rests : (network : Network) (number : ℕ) (slot : Option Server) → number < network.ring.servers →
-    slot ≡ server_in network.servers.items number → ∥ IsNetworkAtRest network ∥₁ → ∥ IsAtRestAt number slot ∥₁
-slot_rests network number slot below same rests = ∥∥₁_map rests (λ given. record {
-  setting = given.setting;
-  state = given.state;
-  run = given.run;
-  few = given.few;
-  stands = subst (IsSlot given.setting given.state number) (sym same) (given.stands.servers_are number
-      (subst (λ (n : ℕ). number < n) (ap (λ (ring : RingShape). ring.servers) given.stands.ring) below));
-})

@@ -1,16 +1,6 @@
 -- What holds of results and options that have a value.
 use Rattle.std.proofs.Common.{◌≡◌, false, Result, Ok, Err, Option, Some, None, refl, sym, subst}
-use Rattle.std.specs.Prelude.{OnOk, OnErr, IfOk, IfSome, option_map, is_some}
-
-pub on_ok : {A E : Type 0} (result : Result A E) (Fact Other : Type 0) → (Fact → Other) → OnOk result Fact →
-    OnOk result Other
-on_ok (Ok value) Fact Other from fact = from fact
-on_ok (Err fault) Fact Other from fact = tt
-
-pub on_err : {A E : Type 0} (result : Result A E) (Fact Other : Type 0) → (Fact → Other) → OnErr result Fact →
-    OnErr result Other
-on_err (Ok value) Fact Other from fact = tt
-on_err (Err fault) Fact Other from fact = from fact
+use Rattle.std.specs.Prelude.{OnErr, IfSome, option_map, is_some}
 
 -- nothing comes of it only where there is nothing
 pub none_mapped : {A B : Type 0} (make : A → B) (from : Option A) (result : Option B) → result ≡ option_map make from →
@@ -46,8 +36,3 @@ pub each_some : {A : Type 0} (Fact : A → Type 0) (option : Option A) → ((ite
     IfSome option Fact
 each_some Fact None each = tt
 each_some Fact (Some item) each = each item refl
-
-pub if_ok : {A E : Type 0} (Fact Other : A → Type 0) (result : Result A E) → ((item : A) → Fact item → Other item) →
-    IfOk result Fact → IfOk result Other
-if_ok Fact Other (Ok item) from fact = from item fact
-if_ok Fact Other (Err fault) from fact = tt

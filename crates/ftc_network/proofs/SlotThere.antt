@@ -2,6 +2,7 @@
 -- is changed at its place.
 use Rattle.std.proofs.Common.{◌≡◌, ◌≢◌, ◌<◌, ◌≤◌, ◌∙◌, ◌-◌, ℕ, List, Option, None, length, slice_set, get_or, refl, sym}
 use Rattle.std.proofs.Common.{ap, subst, arith, get_or-set_same, get_or-set_other}
+use Rattle.std.proofs.Math.Logic.{∥∥₁_map}
 use Rattle.std.specs.Vec.{vec_len}
 use Rattle.ftc_journal.specs.declared.event.Event.{Event}
 use Rattle.ftc_link.specs.Queue.{Queue}
@@ -17,9 +18,10 @@ use Rattle.ftc_standing.specs.View.{IsBesideServer, IsBesideLink}
 use Rattle.ftc_visits.specs.Made.{AreMade}
 use Rattle.ftc_visits.specs.declared.visit.MadeVisit.{MadeVisit}
 use Rattle.ftc_network.specs.declared.network.Network.{Network}
-use Rattle.ftc_network.specs.Events.{SlotStandsStill}
+use Rattle.ftc_network.specs.Committing.{IsAtRestAt}
+use Rattle.ftc_network.specs.Events.{IsAllowed, IsAllowedAt, SlotStandsStill}
 use Rattle.ftc_network.specs.Parts.{NetworkParts, parts_of, server_in, link_in, buffer_of}
-use Rattle.ftc_network.specs.Slots.{head_of}
+use Rattle.ftc_network.specs.Slots.{head_of, IsNetworkAtRest}
 use Rattle.ftc_network.specs.Stand.{IsSlot, IsNetwork, AreCounts, AreParts}
 use Rattle.ftc_network.proofs.Changed.{server_set}
 use Rattle.ftc_network.proofs.Heads.{same_heads}
@@ -60,6 +62,29 @@ pub stands_there : {network : Network} {place server : ℕ} {slot : Option Serve
 stands_there {server = server} at setting state is =
     subst (IsSlot setting state server) (sym at.slot_is) (is.servers_are server
     (subst (λ (n : ℕ). server < n) (ap (λ (ring : RingShape). ring.servers) is.ring) at.inside))
+
+-- what is allowed with the network is allowed with that server
+pub allowed_there : {event : Event} {network : Network} {place server : ℕ} {slot : Option Server} →
+    IsAt network place server slot → ∥ IsAllowed event network ∥₁ → ∥ IsAllowedAt event server slot ∥₁
+allowed_there at allowed = ∥∥₁_map allowed (λ given. record {
+  setting = given.setting;
+  state = given.state;
+  run = given.run;
+  legal = given.legal;
+  few = given.few;
+  stands = stands_there at given.setting given.state given.stands;
+})
+
+-- where the network is at rest, the server is
+pub rests_there : {network : Network} {place server : ℕ} {slot : Option Server} → IsAt network place server slot →
+    ∥ IsNetworkAtRest network ∥₁ → ∥ IsAtRestAt server slot ∥₁
+rests_there at rests = ∥∥₁_map rests (λ given. record {
+  setting = given.setting;
+  state = given.state;
+  run = given.run;
+  few = given.few;
+  stands = stands_there at given.setting given.state given.stands;
+})
 
 -- the changed slot is that of the server
 pub is_there : {network : Network} {place server : ℕ} {slot : Option Server} → IsAt network place server slot →

@@ -1,4 +1,5 @@
 use Rattle.std.proofs.Common.{true, refl, ap, sym, ◌∙◌, ◌≡◌}
+use Rattle.std.proofs.lemmas.Result.{on_ok_weaker, on_err_weaker}
 use Rattle.ftc_journal.specs.declared.event.Event.{Event}
 use Rattle.ftc_journal.specs.declared.event.Event.TheVariants as event
 use Rattle.ftc_server.specs.Looks.{may_apply_in}
@@ -7,7 +8,6 @@ use Rattle.ftc_server.specs.State.{ServerState}
 use Rattle.ftc_network.specs.Parts.{buffer_of}
 use Rattle.ftc_network.proofs.Allowed.{at_up}
 use Rattle.ftc_network.proofs.ReadySlots.{same_runs, same_still, slot_follows}
-use Rattle.ftc_network.proofs.Results.{on_ok, on_err}
 use Rattle.ftc_network.proofs.Heads.{same_head, either_way}
 use Rattle.ftc_network.proofs.applying.apply_at.Goals as goal
 
@@ -33,7 +33,7 @@ pub returns-in-Some-clause-ok : goal.returns-in-Some-clause-ok
 returns-in-Some-clause-ok c =
     let old = c.in-Some.live in
     let new = c.apply.new.self in
-    on_ok c.apply.result _ _ (λ done setting state run legal. slot_follows c.in-Some.is refl
+    on_ok_weaker c.apply.result (λ done setting state run legal. slot_follows c.in-Some.is refl
     (λ at. c.what_apply_does.ensures setting state c.args.server c.args.origin c.args.group c.args.packet old new run
     legal at done)
     (λ at after. c.slots_stay_ready.ensures setting state
@@ -41,14 +41,14 @@ returns-in-Some-clause-ok c =
     (same_runs old new (ap (λ (s : ServerState). s.head) done.rest)))) c.apply.ensures.ok
 
 pub returns-in-Some-clause-buffer : goal.returns-in-Some-clause-buffer
-returns-in-Some-clause-buffer c = on_ok c.apply.result _ _ (λ done.
+returns-in-Some-clause-buffer c = on_ok_weaker c.apply.result (λ done.
     ap (λ (s : ServerState). s.buffer.items) done.rest ∙ ap buffer_of (sym c.in-Some.is)) c.apply.ensures.ok
 
 pub returns-in-Some-clause-err : goal.returns-in-Some-clause-err
 returns-in-Some-clause-err c =
     let old = c.in-Some.live in
     let new = c.apply.new.self in
-    on_err c.apply.result _ _ (λ same. same_still c.args.slot.now old new c.in-Some.is same
+    on_err_weaker c.apply.result (λ same. same_still c.args.slot.now old new c.in-Some.is same
     (λ setting state number at fields. c.what_stays.ensures.same setting state number old new at fields) c.args.server)
     c.apply.ensures.err
 

@@ -1,4 +1,5 @@
 use Rattle.std.proofs.Common.{◌≡◌, ◌∙◌, Bool, true, false, Option, Some, None, refl, ap, sym}
+use Rattle.std.proofs.lemmas.Result.{on_ok_weaker, on_err_weaker}
 use Rattle.ftc_journal.specs.declared.event.Event.TheVariants as event
 use Rattle.ftc_server.specs.declared.work.Work.{Work}
 use Rattle.ftc_server.specs.declared.work.Work.TheVariants.{Apply, Visit, Send, Carry}
@@ -8,7 +9,6 @@ use Rattle.ftc_server.specs.State.{ServerState}
 use Rattle.ftc_network.specs.Parts.{buffer_of}
 use Rattle.ftc_network.proofs.Allowed.{at_up}
 use Rattle.ftc_network.proofs.ReadySlots.{same_runs, same_still, slot_follows}
-use Rattle.ftc_network.proofs.Results.{on_ok, on_err}
 use Rattle.ftc_network.proofs.Heads.{same_head, either_way}
 use Rattle.ftc_network.proofs.carrying.carry_at.Goals as goal
 
@@ -52,20 +52,20 @@ pub returns-in-Some-clause-ok : goal.returns-in-Some-clause-ok
 returns-in-Some-clause-ok c =
     let old = c.in-Some.server in
     let new = c.carry.new.self in
-    on_ok c.carry.result _ _ (λ done setting state run legal. slot_follows c.in-Some.is refl
+    on_ok_weaker c.carry.result (λ done setting state run legal. slot_follows c.in-Some.is refl
     (λ at. c.what_carry_does.ensures setting state c.args.origin old new run legal at done)
     (λ at after. c.slots_stay_ready.ensures setting state (event.Carry c.args.origin) 0 old new run legal at after
     (same_runs old new (ap (λ (s : ServerState). s.head) done.rest)))) c.carry.ensures.ok
 
 pub returns-in-Some-clause-buffer : goal.returns-in-Some-clause-buffer
-returns-in-Some-clause-buffer c = on_ok c.carry.result _ _ (λ done.
+returns-in-Some-clause-buffer c = on_ok_weaker c.carry.result (λ done.
     ap (λ (s : ServerState). s.buffer.items) done.rest ∙ ap buffer_of (sym c.in-Some.is)) c.carry.ensures.ok
 
 pub returns-in-Some-clause-err : goal.returns-in-Some-clause-err
 returns-in-Some-clause-err c =
     let old = c.in-Some.server in
     let new = c.carry.new.self in
-    on_err c.carry.result _ _ (λ same. same_still c.args.slot.now old new c.in-Some.is same
+    on_err_weaker c.carry.result (λ same. same_still c.args.slot.now old new c.in-Some.is same
     (λ setting state number at fields. c.what_stays.ensures.same setting state number old new at fields) 0)
     c.carry.ensures.err
 

@@ -1,5 +1,6 @@
 use Rattle.std.proofs.Common.{◌≡◌, ◌∙◌, ◌++◌, [], ◌∷◌, ℕ, Option, Some, refl, sym, ap, subst, map}
 use Rattle.std.proofs.Math.Logic.{∥∥₁_elim, ∥∥₁_prop, ∥∥₁_map₂}
+use Rattle.std.proofs.lemmas.Result.{IfOk-weaker}
 use Rattle.ftc_journal.specs.declared.event.Event.TheVariants as event
 use Rattle.ftc_protocol.specs.Legal.{IsLegal}
 use Rattle.ftc_protocol.specs.Next.{next}
@@ -12,7 +13,6 @@ use Rattle.ftc_network.specs.Committing.{HasMade, SlotFollowsCommit, commit_answ
 use Rattle.ftc_network.specs.Slots.{head_of, runs_in, SlotEndsVisit}
 use Rattle.ftc_network.specs.Stand.{IsSlot, IsUp}
 use Rattle.ftc_network.proofs.CommittedSlots.{may_rise_at, undone_still, where_undone}
-use Rattle.ftc_network.proofs.Results.{if_ok}
 use Rattle.ftc_network.proofs.RunSlots.{emptied_runs}
 use Rattle.ftc_network.proofs.committing.commit_at.Goals as goal
 
@@ -49,7 +49,8 @@ returns-in-Some-clause-follows c =
     let new = c.commit_there.new.live in
     let server = c.args.server in
     let worker = c.args.worker in
-    if_ok (HasMade old new worker) (SlotFollowsCommit worker server c.args.slot.now (Some new)) c.commit_there.result
+    IfOk-weaker c.commit_there.result (HasMade old new worker)
+    (SlotFollowsCommit worker server c.args.slot.now (Some new))
     (λ visit done setting state running visits run none_due is runs visits_are.
     let up : IsUp setting state server old = subst (IsSlot setting state server) c.in-Some.is is in
     let runs_there : slot_at old.head.slots worker ≡ Some running =

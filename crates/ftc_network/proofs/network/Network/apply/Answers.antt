@@ -1,11 +1,11 @@
 use Rattle.std.proofs.Common.{refl}
+use Rattle.std.proofs.lemmas.Result.{on_ok_weaker, on_err_weaker}
 use Rattle.ftc_journal.specs.declared.event.Event.{Event}
 use Rattle.ftc_journal.specs.declared.event.Event.TheVariants as event
 use Rattle.ftc_protocol.specs.Next.{next}
-use Rattle.ftc_network.proofs.Allowed.{applies_inside, slot_allowed}
-use Rattle.ftc_network.proofs.Results.{on_ok, on_err}
-use Rattle.ftc_network.proofs.SlotThere.{is_within, is_at, stands_there, still_there, withheld_there, heads_there}
-use Rattle.ftc_network.proofs.SlotThere.{same_counts, follows_there}
+use Rattle.ftc_network.proofs.Allowed.{applies_inside}
+use Rattle.ftc_network.proofs.SlotThere.{is_within, is_at, stands_there, allowed_there, still_there}
+use Rattle.ftc_network.proofs.SlotThere.{withheld_there, heads_there, same_counts, follows_there}
 use Rattle.ftc_network.proofs.network.Network.apply.Goals as goal
 
 pub index_mut-requires : goal.index_mut-requires
@@ -16,8 +16,7 @@ pub apply_at-requires : goal.apply_at-requires
 apply_at-requires c =
     let at = is_at c.args.self.now (applies_inside c.where_events_are.ensures.apply c.requires) c.place_of.ensures
     c.index_mut.ensures.value in
-    let event : Event = event.Apply c.args.server c.args.origin c.args.group c.args.packet in
-    slot_allowed event c.args.self.now c.args.server c.index_mut.result.now at.inside at.slot_is c.requires
+    allowed_there at c.requires
 
 pub returns-clause-ok : goal.returns-clause-ok
 returns-clause-ok c =
@@ -25,7 +24,7 @@ returns-clause-ok c =
     let at = is_at old (applies_inside c.where_events_are.ensures.apply c.requires) c.place_of.ensures
     c.index_mut.ensures.value in
     let event : Event = event.Apply c.args.server c.args.origin c.args.group c.args.packet in
-    on_ok c.apply_at.result _ _ (λ follows setting state run legal is.
+    on_ok_weaker c.apply_at.result (λ follows setting state run legal is.
     follows_there c.servers_beside.ensures c.links_stand_still.ensures at c.apply_at.new.slot setting state event
     (λ other differs. differs) (λ link. tt) run legal is
     (follows setting state run legal (stands_there at setting state is)) old.entered old.done old.propagates
@@ -36,13 +35,13 @@ pub returns-clause-err : goal.returns-clause-err
 returns-clause-err c =
     let at = is_at c.args.self.now (applies_inside c.where_events_are.ensures.apply c.requires) c.place_of.ensures
     c.index_mut.ensures.value in
-    on_err c.apply_at.result _ _ (still_there at c.apply_at.new.slot) c.apply_at.ensures.err
+    on_err_weaker c.apply_at.result (still_there at c.apply_at.new.slot) c.apply_at.ensures.err
 
 pub returns-clause-withheld : goal.returns-clause-withheld
 returns-clause-withheld c =
     let at = is_at c.args.self.now (applies_inside c.where_events_are.ensures.apply c.requires) c.place_of.ensures
     c.index_mut.ensures.value in
-    on_ok c.apply_at.result _ _ (withheld_there at c.apply_at.new.slot) c.apply_at.ensures.buffer
+    on_ok_weaker c.apply_at.result (withheld_there at c.apply_at.new.slot) c.apply_at.ensures.buffer
 
 pub returns-clause-heads : goal.returns-clause-heads
 returns-clause-heads c =

@@ -1,24 +1,23 @@
 use Rattle.std.proofs.Common.{refl}
+use Rattle.std.proofs.lemmas.Result.{on_ok_weaker, on_err_weaker}
 use Rattle.ftc_journal.specs.declared.event.Event.{Event}
 use Rattle.ftc_journal.specs.declared.event.Event.TheVariants as event
 use Rattle.ftc_protocol.specs.Next.{next}
-use Rattle.ftc_network.proofs.Allowed.{slot_allowed}
-use Rattle.ftc_network.proofs.Results.{on_ok, on_err}
-use Rattle.ftc_network.proofs.SlotThere.{is_first, stands_there, still_there, withheld_there, heads_there}
-use Rattle.ftc_network.proofs.SlotThere.{same_counts, follows_there}
+use Rattle.ftc_network.proofs.SlotThere.{is_first, stands_there, allowed_there, still_there, withheld_there}
+use Rattle.ftc_network.proofs.SlotThere.{heads_there, same_counts, follows_there}
 use Rattle.ftc_network.proofs.network.Network.carry.Goals as goal
 
 pub carry_at-requires : goal.carry_at-requires
 carry_at-requires c =
     let at = is_first c.args.self.now c.servers.ensures.bounds.some c.index_mut.ensures.value in
-    slot_allowed (event.Carry c.args.origin) c.args.self.now 0 c.index_mut.result.now at.inside at.slot_is c.requires
+    allowed_there at c.requires
 
 pub returns-clause-ok : goal.returns-clause-ok
 returns-clause-ok c =
     let event : Event = event.Carry c.args.origin in
     let old = c.args.self.now in
     let at = is_first old c.servers.ensures.bounds.some c.index_mut.ensures.value in
-    on_ok c.carry_at.result _ _ (λ follows setting state run legal is.
+    on_ok_weaker c.carry_at.result (λ follows setting state run legal is.
     follows_there c.servers_beside.ensures c.links_stand_still.ensures at c.carry_at.new.slot setting state event
     (λ other differs. differs) (λ link. tt) run legal is
     (follows setting state run legal (stands_there at setting state is)) old.entered old.done old.propagates
@@ -28,12 +27,12 @@ returns-clause-ok c =
 pub returns-clause-err : goal.returns-clause-err
 returns-clause-err c =
     let at = is_first c.args.self.now c.servers.ensures.bounds.some c.index_mut.ensures.value in
-    on_err c.carry_at.result _ _ (still_there at c.carry_at.new.slot) c.carry_at.ensures.err
+    on_err_weaker c.carry_at.result (still_there at c.carry_at.new.slot) c.carry_at.ensures.err
 
 pub returns-clause-withheld : goal.returns-clause-withheld
 returns-clause-withheld c =
     let at = is_first c.args.self.now c.servers.ensures.bounds.some c.index_mut.ensures.value in
-    on_ok c.carry_at.result _ _ (withheld_there at c.carry_at.new.slot) c.carry_at.ensures.buffer
+    on_ok_weaker c.carry_at.result (withheld_there at c.carry_at.new.slot) c.carry_at.ensures.buffer
 
 pub returns-clause-heads : goal.returns-clause-heads
 returns-clause-heads c =

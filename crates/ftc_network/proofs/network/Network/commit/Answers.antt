@@ -9,10 +9,9 @@ use Rattle.ftc_visits.specs.Made.{AreMade}
 use Rattle.ftc_visits.specs.declared.visit.MadeVisit.{MadeVisit}
 use Rattle.ftc_network.specs.Parts.{parts_of}
 use Rattle.ftc_network.specs.Slots.{head_of, runs_in, SlotEndsVisit}
-use Rattle.ftc_network.proofs.Allowed.{slot_rests}
 use Rattle.ftc_network.proofs.CommittedSlots.{ends_withheld}
 use Rattle.ftc_network.proofs.SlotThere.{is_within, is_at, stands_there, both_there, others_there, still_there}
-use Rattle.ftc_network.proofs.SlotThere.{withheld_there, same_counts, with_visits, follows_there}
+use Rattle.ftc_network.proofs.SlotThere.{rests_there, withheld_there, same_counts, with_visits, follows_there}
 use Rattle.ftc_network.proofs.network.Network.commit.Goals as goal
 
 pub index_mut-requires : goal.index_mut-requires
@@ -21,7 +20,7 @@ index_mut-requires c = is_within c.args.self.now c.requires.inside c.place_of.en
 pub commit_at-requires : goal.commit_at-requires
 commit_at-requires c =
     let at = is_at c.args.self.now c.requires.inside c.place_of.ensures c.index_mut.ensures.value in
-    slot_rests c.args.self.now c.args.server c.index_mut.result.now at.inside at.slot_is c.requires.rests
+    rests_there at c.requires.rests
 
 pub returns-then-is_err-clause-follows : goal.returns-then-is_err-clause-follows
 returns-then-is_err-clause-follows c done = absurd (c.refuse.ensures.undone done)

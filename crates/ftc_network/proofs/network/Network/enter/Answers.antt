@@ -1,17 +1,15 @@
 use Rattle.std.proofs.Common.{◌+◌, ℕ, refl, ap}
 use Rattle.ftc_journal.specs.declared.event.Event.{Event}
 use Rattle.ftc_journal.specs.declared.event.Event.TheVariants as event
-use Rattle.ftc_network.proofs.Allowed.{slot_allowed}
 use Rattle.ftc_network.proofs.Results.{as_err}
-use Rattle.ftc_network.proofs.SlotThere.{is_first, stands_there, still_there, withheld_there, heads_there}
-use Rattle.ftc_network.proofs.SlotThere.{follows_there}
+use Rattle.ftc_network.proofs.SlotThere.{is_first, stands_there, allowed_there, still_there, withheld_there}
+use Rattle.ftc_network.proofs.SlotThere.{heads_there, follows_there}
 use Rattle.ftc_network.proofs.network.Network.enter.Goals as goal
 
 pub enter_at-requires : goal.enter_at-requires
 enter_at-requires c =
     let at = is_first c.args.self.now c.servers.ensures.bounds.some c.index_mut.ensures.value in
-    slot_allowed (event.Enter c.args.packet) c.args.self.now 0 c.index_mut.result.now at.inside at.slot_is
-    c.requires.allowed
+    allowed_there at c.requires.allowed
 
 pub returns-clause-ok : goal.returns-clause-ok
 returns-clause-ok c setting state bytes run legal is =

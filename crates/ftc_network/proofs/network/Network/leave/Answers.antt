@@ -1,6 +1,7 @@
 use Rattle.std.proofs.Common.{◌≡◌, ◌∙◌, ℕ, Bool, true, false, refl, sym, subst}
 use Rattle.std.proofs.Math.Logic.{∥∥₁_map}
 use Rattle.std.specs.Prelude.{is_some}
+use Rattle.std.proofs.lemmas.Result.{on_ok_weaker}
 use Rattle.ftc_protocol.specs.Next.{next}
 use Rattle.ftc_standing.specs.Stand.{IsLink}
 use Rattle.ftc_standing.specs.View.{leaving}
@@ -8,7 +9,7 @@ use Rattle.ftc_visits.specs.Made.{keeps_visits}
 use Rattle.ftc_network.specs.Parts.{parts_of}
 use Rattle.ftc_network.specs.Stand.{IsSlot}
 use Rattle.ftc_network.proofs.OneEach.{one_each, receiver_up}
-use Rattle.ftc_network.proofs.Results.{on_ok, on_err_both}
+use Rattle.ftc_network.proofs.Results.{on_err_both}
 use Rattle.ftc_network.proofs.SentAlong.{leaver_inside, other_server, other_link, counts_after}
 use Rattle.ftc_network.proofs.SlotThere.{is_at, is_link_at, stands_there, link_stands_there, heads_there}
 use Rattle.ftc_network.proofs.network.Network.leave.Goals as goal
@@ -54,7 +55,7 @@ returns-clause-ok c =
     let receiver = is_at old c.next-receiver.ensures.within c.place_of.ensures c.index.ensures in
     let slot = is_at old inside c.place_of-2.ensures c.index_mut.ensures.value in
     let link = is_link_at old inside c.place_of-3.ensures c.index_mut-2.ensures.value in
-    on_ok c.leave_at.result _ _ (λ done setting state run legal is.
+    on_ok_weaker c.leave_at.result (λ done setting state run legal is.
     let after = next setting state (leaving lost server origin) in
     let left = done setting state
     (receiver_up setting state (parts_of old) is server c.next-receiver.result c.next-receiver.result c.index.result.now

@@ -1,5 +1,6 @@
 use Rattle.std.proofs.Common.{◌≡◌, ◌∙◌, ◌==◌, ◌+◌, ℕ, refl, sym, ap, subst}
 use Rattle.std.proofs.Math.Logic.{∥∥₁_map}
+use Rattle.std.proofs.lemmas.Result.{on_ok_weaker}
 use Rattle.ftc_journal.specs.declared.event.Event.{Event}
 use Rattle.ftc_journal.specs.declared.event.Event.TheVariants as event
 use Rattle.ftc_protocol.specs.Next.{next}
@@ -10,7 +11,7 @@ use Rattle.ftc_network.specs.Parts.{parts_of}
 use Rattle.ftc_network.specs.Stand.{IsSlot}
 use Rattle.ftc_network.proofs.Allowed.{below_servers}
 use Rattle.ftc_network.proofs.OneServer.{server_and_link}
-use Rattle.ftc_network.proofs.Results.{on_ok, on_err_both}
+use Rattle.ftc_network.proofs.Results.{on_err_both}
 use Rattle.ftc_network.proofs.SlotThere.{is_at, is_link_at, stands_there, link_stands_there, withheld_there}
 use Rattle.ftc_network.proofs.SlotThere.{heads_there, same_counts}
 use Rattle.ftc_network.proofs.network.Network.take.Goals as goal
@@ -52,7 +53,7 @@ returns-clause-ok c =
     (c.where_events_are.ensures.take setting state link c.args.origin run legal).0) c.requires in
     let queue = is_link_at old below c.place_of.ensures c.index_mut.ensures.value in
     let slot = is_at old c.next-receiver.ensures.within c.place_of-2.ensures c.index_mut-2.ensures.value in
-    on_ok c.take_at.result _ _ (λ follows setting state run legal is.
+    on_ok_weaker c.take_at.result (λ follows setting state run legal is.
     let size : old.ring.servers ≡ servers setting = ap (λ (ring : RingShape). ring.servers) is.ring in
     let receiver : c.next-receiver.result ≡ next_of (servers setting) link =
     c.next-receiver.ensures.same ∙ ap (λ (n : ℕ). next_of n link) size in
@@ -95,7 +96,7 @@ returns-clause-err c =
 pub returns-clause-withheld : goal.returns-clause-withheld
 returns-clause-withheld c =
     let slot = is_at c.args.self.now c.next-receiver.ensures.within c.place_of-2.ensures c.index_mut-2.ensures.value in
-    on_ok c.take_at.result _ _ (withheld_there slot c.take_at.new.slot) c.take_at.ensures.buffer
+    on_ok_weaker c.take_at.result (withheld_there slot c.take_at.new.slot) c.take_at.ensures.buffer
 
 pub returns-clause-heads : goal.returns-clause-heads
 returns-clause-heads c =

@@ -8,11 +8,11 @@ use Rattle.ftc_visits.specs.Made.{AreMade}
 use Rattle.ftc_visits.specs.declared.visit.MadeVisit.{MadeVisit}
 use Rattle.ftc_network.specs.Parts.{parts_of}
 use Rattle.ftc_network.specs.Slots.{head_of, runs_in, IsIdleHead}
-use Rattle.ftc_network.proofs.Allowed.{visits_inside, slot_allowed}
+use Rattle.ftc_network.proofs.Allowed.{visits_inside}
 use Rattle.ftc_network.proofs.Heads.{idle_runs}
 use Rattle.ftc_network.proofs.Results.{as_err}
 use Rattle.ftc_network.proofs.SlotThere.{is_within, is_at, stands_there, is_there, others_there, still_there}
-use Rattle.ftc_network.proofs.SlotThere.{same_counts, with_visits, follows_there}
+use Rattle.ftc_network.proofs.SlotThere.{allowed_there, same_counts, with_visits, follows_there}
 use Rattle.ftc_network.proofs.network.Network.visit.Goals as goal
 
 pub index_mut-requires : goal.index_mut-requires
@@ -23,8 +23,7 @@ pub visit_at-requires : goal.visit_at-requires
 visit_at-requires c =
     let at = is_at c.args.self.now (visits_inside c.where_events_are.ensures.visit c.requires) c.place_of.ensures
     c.index_mut.ensures.value in
-    let here : Event = event.Visit c.args.server c.args.packet c.args.worker in
-    slot_allowed here c.args.self.now c.args.server c.index_mut.result.now at.inside at.slot_is c.requires
+    allowed_there at c.requires
 
 pub returns-in_err-visit-clause-err : goal.returns-in_err-visit-clause-err
 returns-in_err-visit-clause-err c =
