@@ -9,7 +9,6 @@ use Rattle.ftc_pcap.specs.declared.packets.Packet.{Packet}
 use Rattle.ftc_protocol.specs.Legal.{IsNextLine}
 use Rattle.ftc_protocol.specs.Measure.{most_messages}
 use Rattle.ftc_protocol.specs.Setting.{Setting, count}
-use Rattle.ftc_protocol.specs.State.{ChainState}
 use Rattle.ftc_script.specs.declared.line.ScriptLine.{ScriptLine}
 use Rattle.ftc_serial.specs.Packets.{bytes_of_packets}
 use Rattle.ftc_network.specs.declared.network.Network.{Network}
@@ -30,10 +29,10 @@ pub few_bytes : (packets : List Packet) (most : ℕ) → length packets ≤ most
 few_bytes packets most few = omega (arith, few, length-map packets (λ (p : Packet). p.bytes))
 
 -- of packets that entered
-pub room_to_enter : (setting : Setting) (packet : ℕ) (network : Network) (most : ℕ) → count setting ≤ most →
-    ∥ MayDo setting (job.Enter packet) network ∥₁ → network.entered < most
-room_to_enter setting packet network most few =
-    is_below setting (job.Enter packet) network network.entered most (λ given.
+pub room_to_enter : {setting : Setting} {packet : ℕ} {network : Network} →
+    ∥ MayDo setting (job.Enter packet) network ∥₁ → (most : ℕ) → count setting ≤ most → network.entered < most
+room_to_enter {network = network} may most few =
+    is_below may network.entered most (λ given.
     let same = given.legal.0.0 in
     let below = given.legal.0.1 in
     omega (arith, given.stands.counts.entered_is, same, below, few))
@@ -52,12 +51,11 @@ line_there lines left done line same next =
     there lines done line (subst (λ (l : List ScriptLine). IsNextLine l line) same next)
 
 -- of messages that began without a packet
-pub room_to_propagate : (setting : Setting) (origin : ℕ) (network : Network) (most : ℕ) →
-    most_messages setting ≤ most →
-    ((state : ChainState) → MayDo setting (job.Propagate origin) network → origin < most_messages setting) →
-    ∥ MayDo setting (job.Propagate origin) network ∥₁ → network.propagates < most
-room_to_propagate setting origin network most few within =
-    is_below setting (job.Propagate origin) network network.propagates most (λ given.
+pub room_to_propagate : {setting : Setting} {origin : ℕ} {network : Network} →
+    ∥ MayDo setting (job.Propagate origin) network ∥₁ → (most : ℕ) → most_messages setting ≤ most →
+    (MayDo setting (job.Propagate origin) network → origin < most_messages setting) → network.propagates < most
+room_to_propagate {network = network} may most few within =
+    is_below may network.propagates most (λ given.
     let same = given.legal.0.4 in
-    let below = within given.state given in
+    let below = within given in
     omega (arith, given.stands.counts.propagates_is, same, below, few))

@@ -1,8 +1,6 @@
 use Rattle.std.proofs.Common.{◌∙◌, refl, arith}
 use Rattle.std.proofs.lemmas.List.{length-map}
 use Rattle.std.proofs.lemmas.Result.{on_ok_weaker}
-use Rattle.ftc_journal.specs.declared.event.Event.TheVariants as event
-use Rattle.ftc_journal.specs.declared.job.Job.TheVariants as job
 use Rattle.ftc_pcap.specs.declared.packets.Packet.{Packet}
 use Rattle.ftc_chain.specs.Doing.{setting_by}
 use Rattle.ftc_chain.proofs.Permitted.{allowed}
@@ -10,16 +8,13 @@ use Rattle.ftc_chain.proofs.Rooms.{bytes_at, room_to_enter}
 use Rattle.ftc_chain.proofs.given.Given.enter.Goals as goal
 
 pub enter-requires-clause-allowed : goal.enter-requires-clause-allowed
-enter-requires-clause-allowed c =
-    allowed (setting_by c.args.self.now) (job.Enter c.args.packet) (event.Enter c.args.packet) c.args.network.now
-    (λ state. refl) c.requires
+enter-requires-clause-allowed c = allowed c.requires refl (λ state. refl)
 
 pub enter-requires-clause-room : goal.enter-requires-clause-room
 enter-requires-clause-room c =
     let given = c.args.self.now in
-    room_to_enter (setting_by given) c.args.packet c.args.network.now 4294967295
+    room_to_enter c.requires 4294967295
     (omega (arith, length-map given.packets.now (λ (p : Packet). p.bytes), c.len.ensures.same, c.len.ensures.few))
-    c.requires
 
 pub returns-clause-ok : goal.returns-clause-ok
 returns-clause-ok c =

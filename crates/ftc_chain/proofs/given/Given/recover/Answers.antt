@@ -18,10 +18,9 @@ pub at-rule-requires : goal.at-rule-requires
 at-rule-requires c =
     let setting = setting_by c.args.self.now in
     let job = job.Recover c.args.server in
-    let below = is_below setting job c.args.network.now c.args.server (servers setting) (λ given.
+    let below = is_below c.requires c.args.server (servers setting) (λ given.
     within_of setting given.state job given.run
-    (λ journal right run. c.jobs_of_events.ensures.within setting right journal run job)
-    given.legal) c.requires in
+    (λ journal right run. c.jobs_of_events.ensures.within setting right journal run job) given.legal) in
     let size = ap (λ (rules : List Rule). length rules) c.rules.ensures.same in
     omega (arith, below, size, c.from.ensures, c.number.ensures.same)
 
@@ -54,10 +53,10 @@ pub recover-requires-clause-room : goal.recover-requires-clause-room
 recover-requires-clause-room c =
     let setting = setting_by c.args.self.now in
     let old = c.args.network.now in
-    is_below setting (job.Recover c.args.server) old old.done 18446744073709551615 (λ given.
+    is_below c.requires old.done 18446744073709551615 (λ given.
     let line = line_there setting.lines given.state.lines old.done (Recover given.state.entered c.args.server)
     given.stands.counts.lines given.legal.0.0 in
-    omega (arith, line, c.steps.ensures)) c.requires
+    omega (arith, line, c.steps.ensures))
 
 pub returns-clause-ok : goal.returns-clause-ok
 returns-clause-ok c =

@@ -1,5 +1,4 @@
 use Rattle.std.proofs.lemmas.Result.{on_ok_weaker}
-use Rattle.ftc_journal.specs.declared.event.Event.TheVariants as event
 use Rattle.ftc_journal.specs.declared.job.Job.TheVariants as job
 use Rattle.ftc_chain.specs.Doing.{setting_by}
 use Rattle.ftc_chain.proofs.Permitted.{allowed_where}
@@ -9,8 +8,7 @@ pub visit-requires : goal.visit-requires
 visit-requires c =
     let setting = setting_by c.args.self.now in
     let job = job.Visit c.args.server c.args.packet in
-    allowed_where setting job (event.Visit c.args.server c.args.packet c.args.worker) c.args.network.now
-    (λ state. (c.jobs_of_events.ensures.slots setting state c.args.worker job).1) c.requires
+    allowed_where c.requires (λ state. (c.jobs_of_events.ensures.slots setting state c.args.worker job).1)
 
 pub returns-clause-ok : goal.returns-clause-ok
 returns-clause-ok c =
