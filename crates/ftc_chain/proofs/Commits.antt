@@ -29,7 +29,7 @@ use Rattle.ftc_network.specs.Stand.{IsNetwork}
 use Rattle.ftc_chain.specs.declared.course.Course.{Course}
 use Rattle.ftc_chain.specs.declared.given.Given.{Given}
 use Rattle.ftc_chain.specs.ChainRun.{ChainRun}
-use Rattle.ftc_chain.specs.Course.{IsCourse, IsCourseResting, RunsOnce, HasReleased, HasMade, state_by}
+use Rattle.ftc_chain.specs.Course.{IsCourse, IsCourseResting, RunsOnce, HasReleased, HasRoomed, HasMade, state_by}
 use Rattle.ftc_chain.specs.Doing.{setting_by, HasDone}
 use Rattle.ftc_chain.specs.Slots.{HasCommittedAt, CommitsAt}
 use Rattle.ftc_chain.proofs.AtRest.{events_are}
@@ -129,8 +129,7 @@ done_at given old mid new worker server packet rests inside others stay asks end
 module _ (given : Given) (old room : Course) (mid : Network) (run : ChainRun) (worker server : ℕ)
     (answer : CommitAnswer)
     (same : run_of given old ≡ run) (rests : ∥ IsCourseResting (setting_by given) old ∥₁)
-    (journal : room.journal.items ≡ old.journal.items) (roomed : room.network ≡ old.network)
-    (waiting : room.outlet.waiting ≡ old.outlet.waiting) (drained : room.outlet.drained ≡ old.outlet.drained)
+    (roomed : HasRoomed old room)
     (ends : SlotEndsVisit (server_in room.network.servers.items server)
     (server_in mid.servers.items server) worker answer)
     (others : (other : ℕ) → other ≢ server →
@@ -139,14 +138,14 @@ module _ (given : Given) (old room : Course) (mid : Network) (run : ChainRun) (w
   new = record { journal = room.journal; network = mid; outlet = room.outlet }
 
   pub undone_rests : StandsStill room.network mid → ∥ IsCourseResting (setting_by given) new ∥₁
-  undone_rests stands = roomed_rests given old room mid journal roomed waiting drained stands rests
+  undone_rests stands = roomed_rests given mid roomed stands rests
 
   pub once_ended : RunsOnce old.network → RunsOnce mid
   once_ended once = once_kept room.network mid
       (others_no_more server room.network mid (other_heads room.network mid server others)
       (ends_no_more (server_in room.network.servers.items server)
       (server_in mid.servers.items server) worker answer ends))
-      (once_as old.network room.network roomed once)
+      (once_as old.network room.network roomed.network once)
 
   pub undone : answer ≢ commit.Done → StandsStill room.network mid → server < old.network.ring.servers →
       runs_in (head_at old.network server) worker ≢ None → Asks → ∥ CommitsAt run (run_of given new) worker answer ∥₁
@@ -154,11 +153,11 @@ module _ (given : Given) (old room : Course) (mid : Network) (run : ChainRun) (w
       subst (λ (r : ChainRun). ∥ CommitsAt r (run_of given new) worker answer ∥₁) same
       (∥∥₁_map rests (λ is. undone_at given old new worker server is (inside_of given old server is below) runs
       (subst (λ (n : Network). (other : ℕ) → other ≢ server →
-      server_in mid.servers.items other ≡ server_in n.servers.items other) roomed others)
-      journal drained (undone_rests stands) asks answer not
+      server_in mid.servers.items other ≡ server_in n.servers.items other) roomed.network others)
+      roomed.journal roomed.drained (undone_rests stands) asks answer not
       (subst (λ (n : Network). SlotEndsVisit (server_in n.servers.items server)
       (server_in mid.servers.items server) worker
-      answer) roomed ends)))
+      answer) roomed.network ends)))
 
 -- ---- a commit that makes one
 
@@ -169,8 +168,7 @@ where_ok (Err fault) Fact ok fact = absurd cc
 
 module _ (given : Given) (old room : Course) (mid : Network) (events : EventList) (new : Course)
     (worker server packet : ℕ) (rests : ∥ IsCourseResting (setting_by given) old ∥₁)
-    (journal : room.journal.items ≡ old.journal.items) (roomed : room.network ≡ old.network)
-    (waiting : room.outlet.waiting ≡ old.outlet.waiting) (drained : room.outlet.drained ≡ old.outlet.drained)
+    (roomed : HasRoomed old room)
     (grown : events.items ≡ room.journal.items ++ event.Visit server packet worker ∷ [])
     (runs : runs_in (head_at old.network server) worker ≢ None)
     (named : Some packet ≡ packet_of (runs_in (head_at old.network server) worker))
@@ -189,14 +187,14 @@ module _ (given : Given) (old room : Course) (mid : Network) (events : EventList
       let live_is = live_of (server_in old.network.servers.items server) worker runs in
       let runs_old : runs_in (head_at old.network server) worker ≡ Some live_is.running =
       ap (λ (slot : Option Server). runs_in (head_of slot) worker) live_is.is ∙ live_is.runs in
-      let runs_room = ap (λ (network : Network). runs_in (head_at network server) worker) roomed ∙ runs_old in
+      let runs_room = ap (λ (network : Network). runs_in (head_at network server) worker) roomed.network ∙ runs_old in
       let packet_is = packet_runs (runs_in (head_at old.network server) worker) live_is.running packet runs_old named in
       ∥∥₁_elim rests ∥∥₁_prop (λ is. stepped given worker (job.Visit server packet) old room
       (record { journal = events; network = mid; outlet = room.outlet }) new (event.Visit server packet worker)
       (run_of given old) refl ∣ is ∣₁
-      (visit_legal given old room.network mid worker server packet roomed live_is.running runs_room packet_is follows
-      slots is)
-      (λ setting state. (slots setting state).1) journal roomed waiting drained refl grown
-      (visit_done given old room.network mid worker server packet roomed live_is.running runs_room packet_is follows
-      slots)
+      (visit_legal given old room.network mid worker server packet roomed.network live_is.running runs_room packet_is
+      follows slots is)
+      (λ setting state. (slots setting state).1) roomed refl grown
+      (visit_done given old room.network mid worker server packet roomed.network live_is.running runs_room packet_is
+      follows slots)
       released ends)

@@ -23,7 +23,7 @@ use Rattle.ftc_protocol.specs.State.{ChainState, opening}
 use Rattle.ftc_serial.specs.Packets.{bytes_of_packets}
 use Rattle.ftc_chain.specs.declared.course.Course.{Course}
 use Rattle.ftc_chain.specs.declared.given.Given.{Given}
-use Rattle.ftc_chain.specs.Course.{IsCourse, IsCourseResting, HasReleased, HasMade, state_by}
+use Rattle.ftc_chain.specs.Course.{IsCourse, IsCourseResting, HasReleased, HasRoomed, HasMade, state_by}
 use Rattle.ftc_chain.specs.Doing.{HasDone, setting_by}
 use Rattle.ftc_chain.specs.Outlet.{Outgoing, IsOutlet}
 use Rattle.ftc_chain.proofs.Outlets.{few_drained, released_kept, same_front, still_out}
@@ -151,23 +151,20 @@ pub did_between : (given : Given) (slot : ℕ) (job : Job) (old room mid : Cours
     IsLegalJob (setting_by given) (state_by (setting_by given) old.journal.items) job →
     IsLegal (setting_by given) (state_by (setting_by given) old.journal.items)
     (event_of (setting_by given) (state_by (setting_by given) old.journal.items) slot job) →
-    room.journal.items ≡ old.journal.items → room.network ≡ old.network →
-    room.outlet.waiting ≡ old.outlet.waiting → room.outlet.drained ≡ old.outlet.drained → mid.outlet ≡ room.outlet →
-    mid.journal.items ≡ room.journal.items ++ event ∷ [] →
-    HasDone (setting_by given) slot job event room.network mid.network →
-    ∥ IsBetween given slot job old mid ∥₁
-did_between given slot job old room mid event is may legal same same_network waiting drained same_outlet grown done =
+    HasRoomed old room → mid.outlet ≡ room.outlet → mid.journal.items ≡ room.journal.items ++ event ∷ [] →
+    HasDone (setting_by given) slot job event room.network mid.network → ∥ IsBetween given slot job old mid ∥₁
+did_between given slot job old room mid event is may legal roomed same_outlet grown done =
     let setting : Setting = setting_by given in
     let state : ChainState = state_by setting old.journal.items in
     let did = done state (is_run_state setting old is.course_is) may
-    (subst (IsNetwork setting state) (sym same_network) is.course_is.stands) in
+    (subst (IsNetwork setting state) (sym roomed.network) is.course_is.stands) in
     ∥∥₁_map did.1 (λ stands. record {
       legal = legal;
-      grown = grown ∙ (ap (λ (journal : List Event). journal ++ event ∷ []) same
+      grown = grown ∙ (ap (λ (journal : List Event). journal ++ event ∷ []) roomed.journal
           ∙ ap (λ (e : Event). old.journal.items ++ e ∷ []) did.0);
       stands = subst (λ (e : Event). IsNetwork setting (next setting state e) mid.network) did.0 stands;
-      waiting = ap (λ (outlet : Outgoing). outlet.waiting) same_outlet ∙ waiting;
-      drained = ap (λ (outlet : Outgoing). outlet.drained) same_outlet ∙ drained;
+      waiting = ap (λ (outlet : Outgoing). outlet.waiting) same_outlet ∙ roomed.waiting;
+      drained = ap (λ (outlet : Outgoing). outlet.drained) same_outlet ∙ roomed.drained;
     })
 
 -- a chain after a job, in whatever slot, and the releases that are due
@@ -176,21 +173,17 @@ pub stepped : (given : Given) (slot : ℕ) (job : Job) (old room mid new : Cours
     ∥ IsLegalJob (setting_in run) (chain_state run) job ∥₁ →
     ((setting : Setting) (state : ChainState) → IsLegalJob setting state job →
     IsLegal setting state (event_of setting state slot job)) →
-    room.journal.items ≡ old.journal.items → room.network ≡ old.network →
-    room.outlet.waiting ≡ old.outlet.waiting → room.outlet.drained ≡ old.outlet.drained → mid.outlet ≡ room.outlet →
-    mid.journal.items ≡ room.journal.items ++ event ∷ [] →
+    HasRoomed old room → mid.outlet ≡ room.outlet → mid.journal.items ≡ room.journal.items ++ event ∷ [] →
     HasDone (setting_by given) slot job event room.network mid.network →
     ((setting : Setting) → IsCourse setting mid → HasReleased setting mid new) →
     ((setting : Setting) (state : ChainState) (events : List Event) → AreReleases setting state events →
     IsNoneDue setting (state_after setting state events)) →
     ∥ IsCourseResting (setting_by given) new × HasMade slot job run (run_of given new) ∥₁
-stepped given slot job old room mid new event run same resting legal in_slot same_journal same_network waiting drained
-    same_outlet
-    grown done released ends =
+stepped given slot job old room mid new event run same resting legal in_slot roomed same_outlet grown done released
+    ends =
     ∥∥₁_elim (before given old job run same resting legal) ∥∥₁_prop (λ both.
     ∥∥₁_map (did_between given slot job old room mid event both.0 both.1
-    (in_slot (setting_by given) (state_by (setting_by given) old.journal.items) both.1) same_journal same_network
-    waiting drained same_outlet grown done)
+    (in_slot (setting_by given) (state_by (setting_by given) old.journal.items) both.1) roomed same_outlet grown done)
     (λ between. (
       rests given slot job old mid new both.0 between (released (setting_by given)) (ends (setting_by given)),
       subst (λ (r : ChainRun). HasMade slot job r (run_of given new)) same
@@ -217,12 +210,15 @@ still_rests setting old new same waiting drained stands is = record {
 }
 
 -- the same where room was made in its journal, and its network then stands for what it stood for
-pub roomed_rests : (given : Given) (old room : Course) (mid : Network) → room.journal.items ≡ old.journal.items →
-    room.network ≡ old.network → room.outlet.waiting ≡ old.outlet.waiting →
-    room.outlet.drained ≡ old.outlet.drained → StandsStill room.network mid →
-    ∥ IsCourseResting (setting_by given) old ∥₁ →
+pub roomed_rests : (given : Given) {old room : Course} (mid : Network) → HasRoomed old room →
+    StandsStill room.network mid → ∥ IsCourseResting (setting_by given) old ∥₁ →
     ∥ IsCourseResting (setting_by given) (record { journal = room.journal; network = mid; outlet = room.outlet }) ∥₁
-roomed_rests given old room mid journal roomed waiting drained stands rests =
+roomed_rests given {old = old} {room = room} mid roomed stands rests =
     ∥∥₁_map rests (still_rests (setting_by given) old
-    (record { journal = room.journal; network = mid; outlet = room.outlet }) journal waiting drained
-    (λ state is. stands (setting_by given) state (subst (IsNetwork (setting_by given) state) (sym roomed) is)))
+    (record { journal = room.journal; network = mid; outlet = room.outlet }) roomed.journal roomed.waiting
+    roomed.drained
+    (λ state is. stands (setting_by given) state (subst (IsNetwork (setting_by given) state) (sym roomed.network) is)))
+
+-- no room was made
+pub unroomed : (course : Course) → HasRoomed course course
+unroomed course = record { journal = refl; network = refl; waiting = refl; drained = refl }

@@ -32,6 +32,13 @@ pub record IsCourseResting (setting : Setting) (course : Course) : Type 0 where
   pub course_is : IsCourse setting course
   pub none_due : IsNoneDue setting (state_by setting course.journal.items)
 
+-- there may be more room, and nothing else differs
+pub record HasRoomed (old new : Course) : Type 0 where
+  pub journal : new.journal.items ≡ old.journal.items
+  pub network : new.network ≡ old.network
+  pub waiting : new.outlet.waiting ≡ old.outlet.waiting
+  pub drained : new.outlet.drained ≡ old.outlet.drained
+
 -- the journal has the releases that are due at its end
 pub record HasReleased (setting : Setting) (old new : Course) : Type 0 where
   pub releases : List Event

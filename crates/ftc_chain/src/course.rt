@@ -1,7 +1,8 @@
 //! What happened, and what came of it.
 
-ghost use Rattle.std.specs.Prelude.{◌≡◌, ◌≤◌, ◌<◌, ◌+◌, ◌-◌, ◌^◌, length, OnOk};
+ghost use Rattle.std.specs.Prelude.{◌≤◌, ◌<◌, ◌+◌, ◌-◌, ◌^◌, length, OnOk};
 ghost use Rattle.ftc_network.specs.Parts.{withheld_in};
+ghost use Rattle.ftc_chain.specs.Course.{HasRoomed};
 
 use crate::outlet::Outlet;
 use ftc_base::NoMemory;
@@ -23,10 +24,7 @@ impl Course {
         ensures room { OnOk result (withheld_in self.old.network + 2 ≤ self.new.journal.spare) }
         ensures outlet { OnOk result (withheld_in self.old.network + 2 ≤ self.new.outlet.spare) }
         ensures few { OnOk result (length self.old.journal.items < 2 ^ 64 - 1) }
-        ensures journal { self.new.journal.items ≡ self.old.journal.items }
-        ensures network { self.new.network ≡ self.old.network }
-        ensures waiting { self.new.outlet.waiting ≡ self.old.outlet.waiting }
-        ensures drained { self.new.outlet.drained ≡ self.old.outlet.drained }
+        ensures same { HasRoomed self.old self.new }
     {
         if self.journal.len() as u64 == u64::MAX {
             return Err(NoMemory);

@@ -1,10 +1,9 @@
-use Rattle.std.proofs.Common.{refl}
 use Rattle.std.proofs.Math.Logic.{∥∥₁_map}
 use Rattle.ftc_journal.specs.declared.job.Job.TheVariants.{Visit}
 use Rattle.ftc_chain.specs.Course.{state_by}
 use Rattle.ftc_chain.specs.Doing.{setting_by}
 use Rattle.ftc_chain.proofs.HeadsSeen.{others_stay}
-use Rattle.ftc_chain.proofs.Made.{before, roomed_rests}
+use Rattle.ftc_chain.proofs.Made.{before, roomed_rests, unroomed}
 use Rattle.ftc_chain.proofs.Releases.{is_run_state}
 use Rattle.ftc_chain.proofs.SlotCalls.{idle_there, other_heads, once_begun}
 use Rattle.ftc_chain.proofs.chain.Chain.begin.Goals as goal
@@ -29,7 +28,7 @@ invariant_of-self c =
     let given = c.self.inside.given in
     let course = c.self.inside.course in (
       c.self.invariant.0,
-      roomed_rests given course course c.begin.new.self refl refl refl refl c.begin.ensures.stands c.self.invariant.1,
+      roomed_rests given c.begin.new.self (unroomed course) c.begin.ensures.stands c.self.invariant.1,
       once_begun course.network c.begin.new.self c.args.worker c.args.server c.args.packet
           (idle_there given course c.args.self.now c.self.view_is c.args.worker c.requires.idle) c.begin.ensures.head
           (other_heads course.network c.begin.new.self c.args.server c.begin.ensures.others) c.self.invariant.2,

@@ -32,21 +32,18 @@ invariant_of-self c =
     let mid = c.refuse.new.self in (
       c.self.invariant.0,
       undone_rests given course room mid c.args.self.now c.args.worker c.in-Some.server c.refuse.result c.self.view_is
-          c.self.invariant.1 c.make_room.ensures.journal c.make_room.ensures.network c.make_room.ensures.waiting
-          c.make_room.ensures.drained c.refuse.ensures.ends c.refuse.ensures.others c.refuse.ensures.stands,
+          c.self.invariant.1 c.make_room.ensures.same c.refuse.ensures.ends c.refuse.ensures.others
+          c.refuse.ensures.stands,
       once_ended given course room mid c.args.self.now c.args.worker c.in-Some.server c.refuse.result c.self.view_is
-          c.self.invariant.1 c.make_room.ensures.journal c.make_room.ensures.network c.make_room.ensures.waiting
-          c.make_room.ensures.drained c.refuse.ensures.ends c.refuse.ensures.others c.self.invariant.2,
+          c.self.invariant.1 c.make_room.ensures.same c.refuse.ensures.ends c.refuse.ensures.others c.self.invariant.2,
     )
 
 pub returns-then-is_err : goal.returns-then-is_err
 returns-then-is_err c =
     undone c.self.inside.given c.self.inside.course c.make_room.new.self c.refuse.new.self c.args.self.now c.args.worker
-    c.in-Some.server c.refuse.result c.self.view_is c.self.invariant.1 c.make_room.ensures.journal
-    c.make_room.ensures.network
-    c.make_room.ensures.waiting c.make_room.ensures.drained c.refuse.ensures.ends c.refuse.ensures.others
-    c.refuse.ensures.undone c.refuse.ensures.stands c.in-Some.ensures.inside c.in-Some.ensures.some
-    c.what_slots_ask.ensures.asks
+    c.in-Some.server c.refuse.result c.self.view_is c.self.invariant.1 c.make_room.ensures.same c.refuse.ensures.ends
+    c.refuse.ensures.others c.refuse.ensures.undone c.refuse.ensures.stands c.in-Some.ensures.inside
+    c.in-Some.ensures.some c.what_slots_ask.ensures.asks
 
 pub commit-requires-clause-rests : goal.commit-requires-clause-rests
 commit-requires-clause-rests c =
@@ -54,7 +51,7 @@ commit-requires-clause-rests c =
     let course = c.self.inside.course in
     let few = where_ok c.make_room.result _ (sym c.is_err.ensures.value ∙ c.if-is_err.false) c.make_room.ensures.few in
     ∥∥₁_map c.self.invariant.1
-    (at_rest_there (setting_by given) course c.make_room.new.self.network c.make_room.ensures.network few)
+    (at_rest_there (setting_by given) course c.make_room.new.self.network c.make_room.ensures.same.network few)
 
 pub invariant_of-self-in_default-commit : goal.invariant_of-self-in_default-commit
 invariant_of-self-in_default-commit c =
@@ -64,22 +61,18 @@ invariant_of-self-in_default-commit c =
     let mid = c.commit.new.self in (
       c.self.invariant.0,
       undone_rests given course room mid c.args.self.now c.args.worker c.in-Some.server c.commit.result c.self.view_is
-          c.self.invariant.1 c.make_room.ensures.journal c.make_room.ensures.network c.make_room.ensures.waiting
-          c.make_room.ensures.drained c.commit.ensures.ends c.commit.ensures.others
+          c.self.invariant.1 c.make_room.ensures.same c.commit.ensures.ends c.commit.ensures.others
           (c.commit.ensures.stands c.in_default-commit.not-Done),
       once_ended given course room mid c.args.self.now c.args.worker c.in-Some.server c.commit.result c.self.view_is
-          c.self.invariant.1 c.make_room.ensures.journal c.make_room.ensures.network c.make_room.ensures.waiting
-          c.make_room.ensures.drained c.commit.ensures.ends c.commit.ensures.others c.self.invariant.2,
+          c.self.invariant.1 c.make_room.ensures.same c.commit.ensures.ends c.commit.ensures.others c.self.invariant.2,
     )
 
 pub returns-in_default-commit : goal.returns-in_default-commit
 returns-in_default-commit c =
     undone c.self.inside.given c.self.inside.course c.make_room.new.self c.commit.new.self c.args.self.now c.args.worker
-    c.in-Some.server c.commit.result c.self.view_is c.self.invariant.1 c.make_room.ensures.journal
-    c.make_room.ensures.network
-    c.make_room.ensures.waiting c.make_room.ensures.drained c.commit.ensures.ends c.commit.ensures.others
-    c.in_default-commit.not-Done (c.commit.ensures.stands c.in_default-commit.not-Done) c.in-Some.ensures.inside
-    c.in-Some.ensures.some c.what_slots_ask.ensures.asks
+    c.in-Some.server c.commit.result c.self.view_is c.self.invariant.1 c.make_room.ensures.same c.commit.ensures.ends
+    c.commit.ensures.others c.in_default-commit.not-Done (c.commit.ensures.stands c.in_default-commit.not-Done)
+    c.in-Some.ensures.inside c.in-Some.ensures.some c.what_slots_ask.ensures.asks
 
 -- the visit was made
 made : (c : After-release_due) → ∥ IsCourseResting (setting_by c.self.inside.given) c.release_due.new.course
@@ -91,8 +84,8 @@ made c =
     let some : 1 ≤ c.make_room.new.self.journal.spare = omega (arith, roomy) in
     visit_made c.self.inside.given c.self.inside.course c.make_room.new.self c.commit.new.self c.push.new.self
     c.release_due.new.course c.args.worker c.in-Some.server c.in-Some-packet_run.packet c.self.invariant.1
-    c.make_room.ensures.journal c.make_room.ensures.network c.make_room.ensures.waiting c.make_room.ensures.drained
-    (when_ok c.push.result _ (c.push.ensures.succeeds some) c.push.ensures.ok) c.in-Some.ensures.some
+    c.make_room.ensures.same (when_ok c.push.result _ (c.push.ensures.succeeds some) c.push.ensures.ok)
+    c.in-Some.ensures.some
     (sym c.in-Some-packet_run.is ∙ c.packet_run.ensures) c.release_due.ensures.released (c.in-Done.ensures.follows refl)
     (λ setting state. c.jobs_of_events.ensures.slots setting state c.args.worker
     (Visit c.in-Some.server c.in-Some-packet_run.packet)) c.releases.ensures.end
@@ -107,9 +100,8 @@ invariant_of-self-2 c =
       once_kept mid c.release_due.new.course.network
           (same_no_more mid c.release_due.new.course.network c.release_due.ensures.heads)
           (once_ended given course c.make_room.new.self mid c.args.self.now c.args.worker c.in-Some.server Done
-          c.self.view_is
-          c.self.invariant.1 c.make_room.ensures.journal c.make_room.ensures.network c.make_room.ensures.waiting
-          c.make_room.ensures.drained c.in-Done.ensures.ends c.commit.ensures.others c.self.invariant.2),
+          c.self.view_is c.self.invariant.1 c.make_room.ensures.same c.in-Done.ensures.ends c.commit.ensures.others
+          c.self.invariant.2),
     )
 
 pub returns : goal.returns
@@ -119,7 +111,7 @@ returns c =
     let new = c.release_due.new.course in
     let server = c.in-Some.server in
     let mid = c.commit.new.self in
-    let roomed = c.make_room.ensures.network in
+    let roomed = c.make_room.ensures.same.network in
     subst (λ (run : ChainRun). ∥ HasCommittedAt run (run_of given new) c.args.worker ∥₁) c.self.view_is
     (∥∥₁_map₂ c.self.invariant.1 (made c) (λ is both.
     done_at given old mid new c.args.worker server c.in-Some-packet_run.packet is

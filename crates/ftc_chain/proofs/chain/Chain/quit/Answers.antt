@@ -5,7 +5,7 @@ use Rattle.ftc_network.specs.Slots.{head_at, runs_in, AreOtherHeads}
 use Rattle.ftc_chain.specs.Slots.{QuitsIn}
 use Rattle.ftc_chain.proofs.HeadsKept.{head_as, once_kept}
 use Rattle.ftc_chain.proofs.HeadsSeen.{idle_stays}
-use Rattle.ftc_chain.proofs.Made.{roomed_rests}
+use Rattle.ftc_chain.proofs.Made.{roomed_rests, unroomed}
 use Rattle.ftc_chain.proofs.SlotCalls.{idle_seen, quits_heads, other_heads, quits_everywhere, quits_no_more, quits_at}
 use Rattle.ftc_chain.proofs.chain.Chain.quit.Goals.{After-quit}
 use Rattle.ftc_chain.proofs.chain.Chain.quit.Goals as goal
@@ -22,7 +22,7 @@ pub invariant_of-self : goal.invariant_of-self
 invariant_of-self c =
     let course = c.self.inside.course in (
       c.self.invariant.0,
-      roomed_rests c.self.inside.given course course c.quit.new.self refl refl refl refl c.quit.ensures.stands
+      roomed_rests c.self.inside.given c.quit.new.self (unroomed course) c.quit.ensures.stands
           c.self.invariant.1,
       once_kept course.network c.quit.new.self
           (quits_no_more course.network c.quit.new.self c.args.worker c.in-Some.server (quits c)

@@ -5,7 +5,7 @@ use Rattle.ftc_chain.specs.declared.course.Course.{Course}
 use Rattle.ftc_chain.specs.ChainRun.{ChainRun}
 use Rattle.ftc_chain.specs.Slots.{ReadsAt}
 use Rattle.ftc_chain.proofs.HeadsKept.{once_kept, others_no_more}
-use Rattle.ftc_chain.proofs.Made.{run_of, roomed_rests}
+use Rattle.ftc_chain.proofs.Made.{run_of, roomed_rests, unroomed}
 use Rattle.ftc_chain.proofs.SlotCalls.{inside_of, idle_seen, other_heads, reads_no_more, reads_at}
 use Rattle.ftc_chain.proofs.chain.Chain.read.Goals as goal
 
@@ -14,7 +14,7 @@ invariant_of-self c =
     let course = c.self.inside.course in
     let server = c.in-Some.server in (
       c.self.invariant.0,
-      roomed_rests c.self.inside.given course course c.read.new.self refl refl refl refl c.read.ensures.stands
+      roomed_rests c.self.inside.given c.read.new.self (unroomed course) c.read.ensures.stands
           c.self.invariant.1,
       once_kept course.network c.read.new.self
           (others_no_more server course.network c.read.new.self
@@ -34,7 +34,7 @@ returns-in-Some c =
     c.self.view_is
     (∥∥₁_map c.self.invariant.1 (λ is. reads_at given course new c.args.worker server is
     (inside_of given course server is c.in-Some.ensures.inside) c.in-Some.ensures.some c.read.ensures.others refl refl
-    (roomed_rests given course course c.read.new.self refl refl refl refl c.read.ensures.stands c.self.invariant.1)
+    (roomed_rests given c.read.new.self (unroomed course) c.read.ensures.stands c.self.invariant.1)
     c.what_slots_ask.ensures.asks c.args.key.now c.read.result c.read.ensures.reads))
 
 pub returns-in-None : goal.returns-in-None

@@ -18,9 +18,9 @@ invariant_of-self c =
     let course = c.self.inside.course in
     let room = c.make_room.new.self in (
       c.self.invariant.0,
-      roomed_rests c.self.inside.given course room room.network c.make_room.ensures.journal c.make_room.ensures.network
-          c.make_room.ensures.waiting c.make_room.ensures.drained (λ setting state is. is) c.self.invariant.1,
-      once_as course.network room.network c.make_room.ensures.network c.self.invariant.2,
+      roomed_rests c.self.inside.given room.network c.make_room.ensures.same (λ setting state is. is)
+          c.self.invariant.1,
+      once_as course.network room.network c.make_room.ensures.same.network c.self.invariant.2,
     )
 
 pub visit-requires : goal.visit-requires
@@ -29,7 +29,7 @@ visit-requires c =
     let course = c.self.inside.course in
     ∥∥₁_map (before given course
     (Visit c.args.server c.args.packet) c.args.self.now c.self.view_is c.self.invariant.1 c.requires) (λ both.
-    subst (MayDo (setting_by given) (Visit c.args.server c.args.packet)) (sym c.make_room.ensures.network)
+    subst (MayDo (setting_by given) (Visit c.args.server c.args.packet)) (sym c.make_room.ensures.same.network)
     (may_do (setting_by given) course
     (Visit c.args.server c.args.packet) c.in_ok-make_room.ensures.few both.0.course_is both.1))
 
@@ -39,10 +39,9 @@ invariant_of-self-in_err-visit c =
     let room = c.make_room.new.self in
     let mid = c.visit.new.network in (
       c.self.invariant.0,
-      roomed_rests c.self.inside.given course room mid c.make_room.ensures.journal c.make_room.ensures.network
-          c.make_room.ensures.waiting c.make_room.ensures.drained c.in_err-visit.ensures.err c.self.invariant.1,
+      roomed_rests c.self.inside.given mid c.make_room.ensures.same c.in_err-visit.ensures.err c.self.invariant.1,
       once_kept course.network mid
-          (visited_no_more c.args.server course.network room.network mid c.make_room.ensures.network
+          (visited_no_more c.args.server course.network room.network mid c.make_room.ensures.same.network
           c.visit.ensures.others c.visit.ensures.fewer) c.self.invariant.2,
     )
 
@@ -62,8 +61,7 @@ made c =
     c.args.self.now c.self.view_is c.self.invariant.1 c.requires
     (λ setting state legal. (c.jobs_of_events.ensures.slots setting state c.args.worker
     (Visit c.args.server c.args.packet)).1 legal)
-    c.make_room.ensures.journal c.make_room.ensures.network c.make_room.ensures.waiting c.make_room.ensures.drained refl
-    c.in_ok-push.ensures.ok
+    c.make_room.ensures.same refl c.in_ok-push.ensures.ok
     (λ state run legal stands. (refl, c.in_ok-visit.ensures.ok state run legal stands))
     c.release_due.ensures.released c.releases.ensures.end
 
@@ -72,7 +70,7 @@ fewer_then : (c : After-release_due) → SlotsRunNoMore c.self.inside.course.net
 fewer_then c =
     then_no_more c.self.inside.course.network c.visit.new.network c.release_due.new.course.network
     (visited_no_more c.args.server c.self.inside.course.network c.make_room.new.self.network c.visit.new.network
-    c.make_room.ensures.network c.visit.ensures.others c.visit.ensures.fewer)
+    c.make_room.ensures.same.network c.visit.ensures.others c.visit.ensures.fewer)
     (same_no_more c.visit.new.network c.release_due.new.course.network c.release_due.ensures.heads)
 
 pub invariant_of-self-2 : goal.invariant_of-self-2
@@ -94,7 +92,7 @@ returns-in_err-visit-clause-others c =
       outlet = c.make_room.new.self.outlet;
     })
     c.args.self.now c.self.view_is c.args.server (λ other differs. c.visit.ensures.others other differs
-    ∙ ap (λ (network : Network). head_at network other) c.make_room.ensures.network)
+    ∙ ap (λ (network : Network). head_at network other) c.make_room.ensures.same.network)
 
 pub returns-in_err-visit-clause-idle : goal.returns-in_err-visit-clause-idle
 returns-in_err-visit-clause-idle c other idle =
@@ -106,12 +104,12 @@ returns-in_err-visit-clause-idle c other idle =
     })
     c.args.self.now c.self.view_is other
     (visited_no_more c.args.server c.self.inside.course.network c.make_room.new.self.network c.visit.new.network
-    c.make_room.ensures.network c.visit.ensures.others c.visit.ensures.fewer) idle
+    c.make_room.ensures.same.network c.visit.ensures.others c.visit.ensures.fewer) idle
 
 pub returns-clause-others : goal.returns-clause-others
 returns-clause-others c =
     visited_others c.self.inside.given c.self.inside.course c.make_room.new.self c.visit.new.network
-    c.release_due.new.course c.args.self.now c.self.view_is c.make_room.ensures.network c.release_due.ensures.heads
+    c.release_due.new.course c.args.self.now c.self.view_is c.make_room.ensures.same.network c.release_due.ensures.heads
     c.args.server c.visit.ensures.others
 
 pub returns-clause-idle : goal.returns-clause-idle
