@@ -1,14 +1,11 @@
 -- What a check says of files that are those of one run: nothing but Yes.
 use Rattle.std.proofs.Common.{◌≡◌, ◌∙◌, ◌⊎◌, inl, inr, refl, sym, subst, ℕ, List, length, Some, Result, Ok, Err}
 use Rattle.ftc_outside.specs.Tap.{Face}
-use Rattle.ftc_outside.specs.Desk.{Files, SameFiles}
-use Rattle.ftc_pcap.specs.Grammar.{Spells, IsFault}
+use Rattle.ftc_outside.specs.Desk.{Files}
+use Rattle.ftc_pcap.specs.Grammar.{Spells}
 use Rattle.ftc_pcap.specs.declared.capture.Capture.{Capture}
-use Rattle.ftc_pcap.specs.declared.capture.CaptureFault.{CaptureFault}
 use Rattle.ftc_journal.specs.declared.event.Event.{Event}
-use Rattle.ftc_journal.specs.declared.fault.JournalFault.{JournalFault}
 use Rattle.ftc_journal.specs.Spelling.{IsSpelling}
-use Rattle.ftc_journal.specs.Faulty.{IsFirstFault}
 use Rattle.ftc_mbox.specs.Chain.{Chain}
 use Rattle.ftc_conf.specs.Grammar.{chain_of}
 use Rattle.ftc_ring.specs.Ring.{RingShape}
@@ -16,19 +13,20 @@ use Rattle.ftc_script.specs.Script.{ScriptShape}
 use Rattle.ftc_script.specs.Grammar.{script_of}
 use Rattle.ftc_serial.specs.Packets.{bytes_of_packets}
 use Rattle.ftc_protocol.specs.Setting.{setting_of}
-use Rattle.ftc_check.specs.Laws.{VerdictsAreOne}
 use Rattle.ftc_check.specs.Verdict.{IsVerdict}
 use Rattle.ftc_check.specs.declared.verdict.Checked.{Checked}
 use Rattle.ftc_check.specs.declared.verdict.Checked.TheVariants.{Yes}
 use Rattle.ftc.specs.declared.status.Status.{Status}
 use Rattle.ftc.specs.declared.status.Status.TheVariants as status
 use Rattle.ftc_words.specs.Command.{Named, Mode, plain, workers, alone}
-use Rattle.ftc.specs.Texts.{ring_of, HasChain, HasCapture, HasSchedule, AreInputs, AreTexts}
+use Rattle.ftc.specs.Texts.{ring_of, HasChain, HasCapture, HasSchedule, IsSetup, AreInputs, AreTexts}
 use Rattle.ftc.specs.Refused.{IsTextRefused, IsWrongChain, IsWrongCapture, IsWrongScript, IsWrongSchedule}
-use Rattle.ftc.specs.Refused.{IsWrongJournal, IsNeverWrong, IsInputRefused, IsScheduleRefused, IsRunRefused}
-use Rattle.ftc.specs.Refused.{IsCheckRefused}
+use Rattle.ftc.specs.Refused.{IsWrongJournal, IsNeverWrong, IsSetupRefused, IsInputRefused, IsScheduleRefused}
+use Rattle.ftc.specs.Refused.{IsRunRefused, IsCheckRefused}
+use Rattle.ftc.specs.Laws.{TextLaws}
 use Rattle.ftc.specs.Done.{Ends}
 use Rattle.ftc.specs.Checking.{IsJudged, AreChecked, IsRightRun, Judges, IsYesOrRefused, IsCheckEnd}
+use Rattle.ftc.proofs.Endings.{done_or_memory}
 
 -- a text is not both right and wrong
 pub not_both : {A F : Type 0} (told : Result A F) (value : A) (fault : F) → told ≡ Ok value → told ≡ Err fault → ⊥
@@ -106,18 +104,7 @@ same_verdict other chain taken capture told script some out events journal text 
     of_script of_out of_journal of_report is =
     rw (← of_chain, ← of_capture, ← of_script, ← of_out, ← of_journal, ← of_report) is
 
--- the laws of the crates below
-pub record Laws : Type 0 where
-  pub one_capture : (text : List ℕ) (one other : Capture) → Spells text one → Spells text other → one ≡ other
-  pub no_fault : (text : List ℕ) (capture : Capture) (fault : CaptureFault) → Spells text capture → IsFault text fault →
-      ⊥
-  pub one_journal : (text : List ℕ) (one other : List Event) → IsSpelling one text → IsSpelling other text →
-      one ≡ other
-  pub no_journal_fault : (text : List ℕ) (journal : List Event) (fault : JournalFault) → IsSpelling journal text →
-      IsFirstFault text fault → ⊥
-  pub one_verdict : VerdictsAreOne
-
-pub no_capture : (laws : Laws) (text : List ℕ) (capture : Capture) → Spells text capture → (ending : Status) →
+pub no_capture : (laws : TextLaws) (text : List ℕ) (capture : Capture) → Spells text capture → (ending : Status) →
     IsWrongCapture text ending → ⊥
 no_capture laws text capture right status.Done wrong = wrong
 no_capture laws text capture right status.Usage wrong = wrong
@@ -132,7 +119,7 @@ no_capture laws text capture right (status.Check verdict) wrong = wrong
 no_capture laws text capture right status.DeskFault wrong = wrong
 no_capture laws text capture right status.NoMemory wrong = wrong
 
-no_schedule : (laws : Laws) (text : List ℕ) (journal : List Event) → IsSpelling journal text → (ending : Status) →
+no_schedule : (laws : TextLaws) (text : List ℕ) (journal : List Event) → IsSpelling journal text → (ending : Status) →
     IsWrongSchedule text ending → ⊥
 no_schedule laws text journal right status.Done wrong = wrong
 no_schedule laws text journal right status.Usage wrong = wrong
@@ -148,8 +135,8 @@ no_schedule laws text journal right (status.Check verdict) wrong = wrong
 no_schedule laws text journal right status.DeskFault wrong = wrong
 no_schedule laws text journal right status.NoMemory wrong = wrong
 
-pub no_journal : (laws : Laws) (text : List ℕ) (journal : List Event) → IsSpelling journal text → (ending : Status) →
-    IsWrongJournal text ending → ⊥
+pub no_journal : (laws : TextLaws) (text : List ℕ) (journal : List Event) → IsSpelling journal text →
+    (ending : Status) → IsWrongJournal text ending → ⊥
 no_journal laws text journal right status.Done wrong = wrong
 no_journal laws text journal right status.Usage wrong = wrong
 no_journal laws text journal right (status.Chain line cause) wrong = wrong
@@ -163,25 +150,37 @@ no_journal laws text journal right (status.Check verdict) wrong = wrong
 no_journal laws text journal right status.DeskFault wrong = wrong
 no_journal laws text journal right status.NoMemory wrong = wrong
 
-module _ (laws : Laws) (names : Named) (files : Files) (chain : Chain) (capture : Capture) (script : ScriptShape)
-    (inputs : AreInputs names files chain capture script) where
-  -- what else a chain, a capture and a script that are right may be said to spell is the same
-  chain_reads : (text : List ℕ) → files names.chain ≡ Some text → chain_of text ≡ Ok chain
+-- what else a chain and a capture that are right may be said to spell is the same, and neither is refused but for the
+-- desk or for memory
+module _ (laws : TextLaws) (chain_name capture_name : List ℕ) (files : Files) (chain : Chain) (capture : Capture)
+    (setup : IsSetup chain_name capture_name files chain capture) where
+  chain_reads : (text : List ℕ) → files chain_name ≡ Some text → chain_of text ≡ Ok chain
   chain_reads text file =
-      let has = inputs.chain_right in
+      let has = setup.chain_right in
       subst (λ (t : List ℕ). chain_of t ≡ Ok chain) (some_once has.text text (sym has.file ∙ file)) has.right
 
-  capture_reads : (text : List ℕ) → files names.capture ≡ Some text → Spells text capture
+  capture_reads : (text : List ℕ) → files capture_name ≡ Some text → Spells text capture
   capture_reads text file =
-      let has = inputs.capture_right in
+      let has = setup.capture_right in
       subst (λ (t : List ℕ). Spells t capture) (some_once has.text text (sym has.file ∙ file)) has.right
 
-  chain_is : (other : Chain) → HasChain names.chain files other → other ≡ chain
+  pub chain_is : (other : Chain) → HasChain chain_name files other → other ≡ chain
   chain_is other has = ok_once (chain_of has.text) other chain has.right (chain_reads has.text has.file)
 
-  capture_is : (other : Capture) → HasCapture names.capture files other → other ≡ capture
+  pub capture_is : (other : Capture) → HasCapture capture_name files other → other ≡ capture
   capture_is other has = laws.one_capture has.text other capture has.right (capture_reads has.text has.file)
 
+  pub setup_once : (sound : Type 0) (ending : Status) → (ending ≡ status.DeskFault → ⊥) →
+      IsSetupRefused sound chain_name capture_name files ending → ending ≡ status.NoMemory
+  setup_once sound ending no-fault refused = elim refused [
+    | inl first ↦ not_refused sound files chain_name IsWrongChain ending
+        (λ text file. no_chain text chain (chain_reads text file) ending) no-fault first
+    | inr behind ↦ not_refused sound files capture_name IsWrongCapture ending
+        (λ text file. no_capture laws text capture (capture_reads text file) ending) no-fault behind.2
+  ]
+
+module _ (laws : TextLaws) (names : Named) (files : Files) (chain : Chain) (capture : Capture) (script : ScriptShape)
+    (inputs : AreInputs names files chain capture script) where
   script_reads : (other : Chain) (taken : Capture) (text : List ℕ) → other ≡ chain → taken ≡ capture →
       files names.script ≡ Some text → script_of (ring_of other) (length taken.packets) text ≡ Ok script
   script_reads other taken text is also file =
@@ -192,22 +191,17 @@ module _ (laws : Laws) (names : Named) (files : Files) (chain : Chain) (capture 
   -- none of the three is refused, but for the desk or for memory
   input_once : (sound : Type 0) (ending : Status) → (ending ≡ status.DeskFault → ⊥) →
       IsInputRefused sound names files ending → ending ≡ status.NoMemory
-  input_once sound ending no-fault refused =
-      elim refused [
-        | inl first ↦ not_refused sound files names.chain IsWrongChain ending
-            (λ text file. no_chain text chain (chain_reads text file) ending) no-fault first
-        | inr behind ↦ let (other, other_right, refused) = behind in elim refused [
-          | inl first ↦ not_refused sound files names.capture IsWrongCapture ending
-              (λ text file. no_capture laws text capture (capture_reads text file) ending) no-fault first
-          | inr behind ↦ let (taken, taken_right, refused) = behind in not_refused sound files names.script
-              (IsWrongScript (ring_of other) (length taken.packets)) ending
-              (λ text file. no_script (ring_of other) (length taken.packets) text script
-              (script_reads other taken text (chain_is other other_right)
-              (capture_is taken taken_right) file) ending) no-fault refused
-        ]
-      ]
+  input_once sound ending no-fault refused = elim refused [
+    | inl first ↦ setup_once laws names.chain names.capture files chain capture inputs.setup sound ending no-fault first
+    | inr behind ↦ let (other, taken, setup, refused) = behind in not_refused sound files names.script
+        (IsWrongScript (ring_of other) (length taken.packets)) ending
+        (λ text file. no_script (ring_of other) (length taken.packets) text script (script_reads other taken text
+        (chain_is laws names.chain names.capture files chain capture inputs.setup other setup.chain_right)
+        (capture_is laws names.chain names.capture files chain capture inputs.setup taken setup.capture_right)
+        file) ending) no-fault refused
+  ]
 
-module _ (laws : Laws) (names : Named) (files : Files) (chain : Chain) (capture : Capture) (script : ScriptShape)
+module _ (laws : TextLaws) (names : Named) (files : Files) (chain : Chain) (capture : Capture) (script : ScriptShape)
     (out : List ℕ) (journal : List Event) (report : List ℕ)
     (checked : AreChecked names files chain capture script out journal report) where
   journal_reads : (text : List ℕ) → files names.journal ≡ Some text → IsSpelling journal text
@@ -264,10 +258,11 @@ module _ (laws : Laws) (names : Named) (files : Files) (chain : Chain) (capture 
       (setting_of chain (bytes_of_packets capture.packets) script) capture out journal report Yes →
       (verdict : Checked) → IsJudged names files verdict → verdict ≡ Yes
   verdict_is fine verdict judged =
-      let of_chain = chain_is laws names files chain capture script checked.inputs judged.chain
-      judged.checked.inputs.chain_right in
-      let of_capture = capture_is laws names files chain capture script checked.inputs judged.capture
-      judged.checked.inputs.capture_right in
+      let setup = judged.checked.inputs.setup in
+      let of_chain = chain_is laws names.chain names.capture files chain capture checked.inputs.setup judged.chain
+      setup.chain_right in
+      let of_capture = capture_is laws names.chain names.capture files chain capture checked.inputs.setup judged.capture
+      setup.capture_right in
       let spelled = judged.checked.inputs.script_right in
       let of_script : judged.script ≡ script =
       ok_once _ judged.script script spelled.right
@@ -284,7 +279,7 @@ module _ (laws : Laws) (names : Named) (files : Files) (chain : Chain) (capture 
       judged.report report verdict
       of_chain of_capture of_script of_out of_journal of_report judged.verdict_right) fine
 
-module _ (laws : Laws) (names : Named) (files : Files) (right : IsRightRun names files) where
+module _ (laws : TextLaws) (names : Named) (files : Files) (right : IsRightRun names files) where
   wrong : (sound : Type 0) (ending : Status) → Judges sound names files ending → (ending ≡ status.DeskFault → ⊥) →
       IsCheckEnd ending
   wrong = judges_all laws names files right.judged.chain right.judged.capture right.judged.script right.judged.out
@@ -308,7 +303,7 @@ module _ (laws : Laws) (names : Named) (files : Files) (right : IsRightRun names
   agrees sound status.NoMemory judged = tt
 
 -- a run whose texts are right ends done, or for want of memory, or by a fault of the desk
-module _ (laws : Laws) (names : Named) (mode : Mode) (files : Files) (chain : Chain) (capture : Capture)
+module _ (laws : TextLaws) (names : Named) (mode : Mode) (files : Files) (chain : Chain) (capture : Capture)
     (script : ScriptShape) (schedule : List Event)
     (texts : AreTexts names mode files chain capture script schedule) where
   schedule_once : (sound : Type 0) (way : Mode) → HasSchedule way files schedule → (ending : Status) →
@@ -330,31 +325,7 @@ module _ (laws : Laws) (names : Named) (mode : Mode) (files : Files) (chain : Ch
         | inr behind ↦ schedule_once sound mode texts.schedule_right ending no-fault behind.4
       ]
 
-  done_or_memory : (sound : Type 0) (new : Files) (ending : Status) → (ending ≡ status.DeskFault → ⊥) →
-      IsRunRefused sound names mode files ending × SameFiles files new
-      → (ending ≡ status.Done) ⊎ (ending ≡ status.NoMemory)
-  done_or_memory sound new ending no-fault refused = inr (run_refused_once sound ending no-fault refused.0)
-
   pub completes : (sound : Type 0) (taps left : List Face) (new : Files) (ending : Status) →
       Ends sound names mode taps left files new ending → (ending ≡ status.DeskFault → ⊥)
       → (ending ≡ status.Done) ⊎ (ending ≡ status.NoMemory)
-  completes sound taps left new status.Done ends no-fault = inl refl
-  completes sound taps left new status.Usage ends no-fault = done_or_memory sound new status.Usage no-fault ends
-  completes sound taps left new (status.Chain line cause) ends no-fault =
-      done_or_memory sound new (status.Chain line cause) no-fault ends
-  completes sound taps left new (status.Capture at cause) ends no-fault =
-      done_or_memory sound new (status.Capture at cause) no-fault ends
-  completes sound taps left new (status.Script line cause) ends no-fault =
-      done_or_memory sound new (status.Script line cause) no-fault ends
-  completes sound taps left new (status.Schedule line cause) ends no-fault =
-      done_or_memory sound new (status.Schedule line cause) no-fault ends
-  completes sound taps left new (status.Ports cause) ends no-fault =
-      done_or_memory sound new (status.Ports cause) no-fault ends
-  completes sound taps left new (status.Journal line cause) ends no-fault =
-      done_or_memory sound new (status.Journal line cause) no-fault ends
-  completes sound taps left new (status.Beats line cause) ends no-fault =
-      done_or_memory sound new (status.Beats line cause) no-fault ends
-  completes sound taps left new (status.Check verdict) ends no-fault =
-      done_or_memory sound new (status.Check verdict) no-fault ends
-  completes sound taps left new status.DeskFault ends no-fault = absurd (no-fault refl)
-  completes sound taps left new status.NoMemory ends no-fault = inr refl
+  completes sound taps left new = done_or_memory _ _ _ _ _ (run_refused_once sound)

@@ -12,23 +12,18 @@ use Rattle.ftc_outside.specs.declared.desk.DeskError.{DeskError}
 use Rattle.ftc_outside.specs.declared.desk.DeskError.TheVariants as desk
 use Rattle.ftc_pcap.specs.declared.capture.Capture.{Capture}
 use Rattle.ftc_journal.specs.declared.event.Event.{Event}
-use Rattle.ftc_journal.specs.declared.form.Version.TheVariants as version
 use Rattle.ftc_journal.specs.Text.{spelling}
-use Rattle.ftc_journal.specs.Spelling.{IsEvent, IsSpelling}
 use Rattle.ftc_mbox.specs.Chain.{Chain}
 use Rattle.ftc_script.specs.Script.{ScriptShape}
 use Rattle.ftc_serial.specs.Serial.{State, serial_run, serial_opening}
 use Rattle.ftc_serial.specs.Trace.{trace_of}
 use Rattle.ftc_serial.specs.Packets.{bytes_of_packets}
 use Rattle.ftc_machine.proofs.RunInputs.{bytes_count}
-use Rattle.ftc_protocol.specs.declared.fate.Fate.TheVariants as became
-use Rattle.ftc_protocol.specs.Orderly.{IsLostAt}
 use Rattle.ftc_protocol.specs.Moment.{released_in}
 use Rattle.ftc_protocol.specs.Run.{IsRun, state_after}
 use Rattle.ftc_protocol.specs.Setting.{Setting, IsSetting, setting_of}
 use Rattle.ftc_protocol.specs.State.{opening}
 use Rattle.ftc_report.specs.Output.{out_bytes}
-use Rattle.ftc_check.specs.Laws.{WholeRunsAreRight, RightRunsAreVisited, RightRunsAreSettled}
 use Rattle.ftc_check.specs.Verdict.{IsVerdict}
 use Rattle.ftc_check.specs.declared.verdict.Checked.TheVariants.{Yes}
 use Rattle.ftc_words.specs.Command.{Named, Mode, plain, workers, alone}
@@ -36,8 +31,10 @@ use Rattle.ftc.specs.Status.{desk_status}
 use Rattle.ftc.specs.Writing.{IsUnwritten, AreDifferent, AreWritten, AreCutShort}
 use Rattle.ftc.specs.Texts.{AreTexts}
 use Rattle.ftc.specs.Driven.{IsFinishedRun, HasWritten, HasBegun}
-use Rattle.ftc.proofs.Moments.{EveryMoment, sound_throughout}
+use Rattle.ftc.proofs.Moments.{sound_throughout}
+use Rattle.ftc.proofs.Refusing.{setup_stays, script_stays}
 use Rattle.ftc.specs.Checking.{IsRightRun}
+use Rattle.ftc.specs.Laws.{RunLaws}
 use Rattle.ftc.specs.Done.{IsDone, IsDoneBeside, IsChosen, WereTold, IsOutOpen, IsCut, IsCutShort, Ends, lines_of}
 use Rattle.ftc.specs.Done.{report_bytes}
 
@@ -57,19 +54,7 @@ put_other : (at bytes : List ℕ) (files : Files) (name : List ℕ) → name ≢
 put_other at bytes files name not =
     otherwise (bytes_eq name at) (Some bytes) (files name) (λ same. not ((bytes_eq-Decides name at).0 same))
 
--- the laws of the crates below
-pub record EndLaws : Type 0 where
-  pub printed : (events : List Event) → AllByRecursion (IsEvent version.Second) events →
-      IsSpelling events (spelling events)
-  pub right : WholeRunsAreRight
-  pub moments : EveryMoment
-  pub visited : RightRunsAreVisited
-  pub settled : RightRunsAreSettled
-  pub lost : (setting : Setting) (journal : List Event) (packet number : ℕ)
-      → (state_after setting (opening setting) journal).fate packet ≡ became.Lost number →
-      IsLostAt setting journal number
-
-module _ (laws : EndLaws) (names : Named) (mode : Mode) (old : Files) (apart : AreDifferent names) (chain : Chain)
+module _ (laws : RunLaws) (names : Named) (mode : Mode) (old : Files) (apart : AreDifferent names) (chain : Chain)
     (capture : Capture) (script : ScriptShape) (schedule journal : List Event) (end : State)
     (texts : AreTexts names mode old chain capture script schedule)
     (run : IsFinishedRun (setting_of chain (bytes_of_packets capture.packets) script) journal end)
@@ -103,21 +88,10 @@ module _ (laws : EndLaws) (names : Named) (mode : Mode) (old : Files) (apart : A
         report = report;
         checked = record {
           inputs = record {
-            chain_right = record {
-              text = texts.inputs.chain_right.text;
-              file = still names.chain apart.chain ∙ texts.inputs.chain_right.file;
-              right = texts.inputs.chain_right.right;
-            };
-            capture_right = record {
-              text = texts.inputs.capture_right.text;
-              file = still names.capture apart.capture ∙ texts.inputs.capture_right.file;
-              right = texts.inputs.capture_right.right;
-            };
-            script_right = record {
-              text = texts.inputs.script_right.text;
-              file = still names.script apart.script ∙ texts.inputs.script_right.file;
-              right = texts.inputs.script_right.right;
-            };
+            setup = setup_stays _ _ old new chain capture (still names.chain apart.chain)
+                (still names.capture apart.capture) texts.inputs.setup;
+            script_right = script_stays _ old new chain _ script (still names.script apart.script)
+                texts.inputs.script_right;
           };
           out_file = written.out_file;
           journal_right = record {
@@ -230,7 +204,7 @@ open_before names plain old mid new same others = λ name not. others name not �
 open_before names (workers count) old mid new same others = λ name not. others name not ∙ same name
 open_before names (alone name move) old mid new same none = none
 
-module _ (laws : EndLaws) (names : Named) (mode : Mode) (old : Files) (apart : AreDifferent names) (chain : Chain)
+module _ (laws : RunLaws) (names : Named) (mode : Mode) (old : Files) (apart : AreDifferent names) (chain : Chain)
     (capture : Capture) (script : ScriptShape) (schedule : List Event)
     (texts : AreTexts names mode old chain capture script schedule) (taps left : List Face) (mid new : Files)
     (same : SameFiles old mid) where

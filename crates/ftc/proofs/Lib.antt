@@ -4,6 +4,7 @@ pub mod Moments
 pub mod DriveLemmas
 pub mod EndLemmas
 pub mod Agreeing
+pub mod Endings
 pub mod Unread
 pub mod Refusing
 pub mod WatchLemmas

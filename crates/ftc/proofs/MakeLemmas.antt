@@ -18,6 +18,7 @@ use Rattle.ftc.specs.Status.{desk_status}
 use Rattle.ftc.specs.Making.{made_text, AreMaking, IsMade, IsMadeShort, MakeEnds}
 use Rattle.ftc.specs.Watching.{AreMade, AreMadeShort}
 use Rattle.ftc.proofs.Agreeing.{not_both}
+use Rattle.ftc.proofs.Endings.{done_or_memory}
 
 -- a name is not that of standard output
 pub made_apart : (name : List ℕ) → list_all is_name (name ∷ []) ≡ true → name ≢ codes "-"
@@ -75,22 +76,11 @@ module _ (packets seed : ℕ) (name : List ℕ) (old new : Files) (bytes told : 
   pub make_cut : (sound : Type 0) (error : DeskError) → (sound → error ≡ desk.Failed → ⊥) →
       AreMadeShort name bytes told old new
       → MakeEnds sound packets seed name old new (desk_status error)
-  make_cut sound desk.Failed safe made = (short made, λ s. safe s refl)
+  make_cut sound desk.Failed safe made = inr (short made, λ s. safe s refl)
   make_cut sound desk.NoMemory safe made = inr (short made)
 
 -- it is done, but for want of memory or by a fault of the desk
 pub make_completes : (sound : Type 0) (packets seed : ℕ) (name : List ℕ) (old new : Files) (ending : Status)
     → MakeEnds sound packets seed name old new ending → (ending ≡ status.DeskFault → ⊥) →
     (ending ≡ status.Done) ⊎ (ending ≡ status.NoMemory)
-make_completes sound packets seed name old new status.Done ends no-fault = inl refl
-make_completes sound packets seed name old new status.Usage ends no-fault = absurd ends
-make_completes sound packets seed name old new (status.Chain line cause) ends no-fault = absurd ends
-make_completes sound packets seed name old new (status.Capture at cause) ends no-fault = absurd ends
-make_completes sound packets seed name old new (status.Script line cause) ends no-fault = absurd ends
-make_completes sound packets seed name old new (status.Schedule line cause) ends no-fault = absurd ends
-make_completes sound packets seed name old new (status.Journal line cause) ends no-fault = absurd ends
-make_completes sound packets seed name old new (status.Beats line cause) ends no-fault = absurd ends
-make_completes sound packets seed name old new (status.Check verdict) ends no-fault = absurd ends
-make_completes sound packets seed name old new (status.Ports cause) ends no-fault = absurd ends
-make_completes sound packets seed name old new status.DeskFault ends no-fault = absurd (no-fault refl)
-make_completes sound packets seed name old new status.NoMemory ends no-fault = inr refl
+make_completes sound packets seed name old new = done_or_memory _ _ _ _ _ (λ ending no-fault refused. absurd refused)

@@ -1,17 +1,11 @@
 -- What holds at every moment holds after each front of a journal that is a run.
-use Rattle.std.proofs.Common.{List, ◌++◌, subst}
+use Rattle.std.proofs.Common.{List, subst}
 use Rattle.std.proofs.Math.Logic.{∥∥₁_map}
 use Rattle.ftc_journal.specs.declared.event.Event.{Event}
-use Rattle.ftc_protocol.specs.Moment.{IsSound}
-use Rattle.ftc_protocol.specs.Run.{IsRun, state_after}
+use Rattle.ftc_protocol.specs.Run.{IsRun}
 use Rattle.ftc_protocol.specs.Setting.{Setting, IsSetting}
-use Rattle.ftc_protocol.specs.State.{opening}
 use Rattle.ftc.specs.Checking.{IsSoundThroughout}
-
--- the law
-abbrev pub EveryMoment : Type 0
-EveryMoment = (setting : Setting) → IsSetting setting → (before after : List Event) → IsRun setting (before ++ after)
-    → IsSound setting (state_after setting (opening setting) before)
+use Rattle.ftc.specs.Laws.{EveryMoment}
 
 pub sound_throughout : EveryMoment → (setting : Setting) → IsSetting setting → (journal : List Event) →
     ∥ IsRun setting journal ∥₁

@@ -7,9 +7,7 @@ use Rattle.ftc_outside.specs.Desk.{Files, SameFiles, SameButAt, GrewAt, MayHaveG
 use Rattle.ftc_outside.specs.declared.desk.DeskError.{DeskError}
 use Rattle.ftc_outside.specs.declared.desk.DeskError.TheVariants as desk
 use Rattle.ftc_pcap.specs.declared.capture.Capture.{Capture}
-use Rattle.ftc_pcap.specs.Grammar.{Spells}
 use Rattle.ftc_mbox.specs.Chain.{Chain}
-use Rattle.ftc_conf.specs.Grammar.{chain_of}
 use Rattle.ftc_ring.specs.Ring.{RingShape}
 use Rattle.ftc_script.specs.Grammar.{script_of}
 use Rattle.ftc_watch.specs.Beats.{BeatsShape}
@@ -24,11 +22,14 @@ use Rattle.ftc_words.specs.Given.{is_name}
 use Rattle.ftc.specs.declared.status.Status.{Status}
 use Rattle.ftc.specs.declared.status.Status.TheVariants as status
 use Rattle.ftc.specs.Status.{desk_status}
-use Rattle.ftc.specs.Texts.{ring_of, HasChain, HasCapture}
-use Rattle.ftc.specs.Refused.{IsTextRefused, IsWrongChain, IsWrongCapture}
+use Rattle.ftc.specs.Texts.{ring_of, IsSetup}
+use Rattle.ftc.specs.Refused.{IsTextRefused}
 use Rattle.ftc.specs.Watching.{WatchNamed, standard_output, HasBeats, AreBeats, IsWrongBeats, IsWatchRefused, AreMade}
 use Rattle.ftc.specs.Watching.{AreMadeShort, watching, script_made, script_read, IsWatched, IsWatchedShort, WatchEnds}
-use Rattle.ftc.proofs.Agreeing.{Laws, not_refused, not_both, ok_once, some_once, no_chain, no_capture}
+use Rattle.ftc.specs.Laws.{TextLaws}
+use Rattle.ftc.proofs.Agreeing.{not_refused, not_both, some_once, chain_is, capture_is, setup_once}
+use Rattle.ftc.proofs.Endings.{refused_ends, done_or_memory}
+use Rattle.ftc.proofs.Refusing.{setup_isnt_done}
 
 last_named : (a b : Bool) → (a && b) ≡ true → b ≡ true
 last_named true b is = is
@@ -56,34 +57,20 @@ beats_before name old new ring packets beats same has = record {
 }
 
 pub beats_refused : (sound : Type 0) (names : WatchNamed) (files : Files) (chain : Chain) (capture : Capture)
-    (ending : Status) → HasChain names.chain files chain → HasCapture names.capture files capture
+    (ending : Status) → IsSetup names.chain names.capture files chain capture
     → IsTextRefused sound files names.beats (IsWrongBeats (ring_of chain) (length capture.packets)) ending
     → IsWatchRefused sound names files ending
-beats_refused sound names files chain capture ending chain_right capture_right refused = inr (
-  chain,
-  chain_right,
-  inr
-      (capture, capture_right, refused),
-)
+beats_refused sound names files chain capture ending setup refused = inr (chain, capture, setup, refused)
 
 isnt_done : (sound : Type 0) (names : WatchNamed) (files : Files) → IsWatchRefused sound names files status.Done → ⊥
-isnt_done sound names files refused =
-    elim refused [ inl first ↦ first.2 | inr behind ↦ elim behind.2 [ inl first ↦ first.2 | inr behind ↦ behind.2.2 ] ]
+isnt_done sound names files refused = elim refused [
+  | inl first ↦ setup_isnt_done sound names.chain names.capture files first
+  | inr behind ↦ behind.3.2
+]
 
 pub watch_refused : (sound : Type 0) (limit : ℕ) (names : WatchNamed) (old new : Files) (ending : Status)
     → IsWatchRefused sound names old ending → SameFiles old new → WatchEnds sound limit names old new ending
-watch_refused sound limit names old new status.Done refused same = absurd (isnt_done sound names old refused)
-watch_refused sound limit names old new status.Usage refused same = (refused, same)
-watch_refused sound limit names old new (status.Chain line cause) refused same = (refused, same)
-watch_refused sound limit names old new (status.Capture at cause) refused same = (refused, same)
-watch_refused sound limit names old new (status.Script line cause) refused same = (refused, same)
-watch_refused sound limit names old new (status.Schedule line cause) refused same = (refused, same)
-watch_refused sound limit names old new (status.Ports cause) refused same = (refused, same)
-watch_refused sound limit names old new (status.Journal line cause) refused same = (refused, same)
-watch_refused sound limit names old new (status.Beats line cause) refused same = (refused, same)
-watch_refused sound limit names old new (status.Check verdict) refused same = (refused, same)
-watch_refused sound limit names old new status.DeskFault refused same = inl (refused, same)
-watch_refused sound limit names old new status.NoMemory refused same = inl same
+watch_refused sound limit names old new = refused_ends _ _ _ _ _ (isnt_done sound names old)
 
 -- ---- what is written
 
@@ -239,26 +226,8 @@ no_beats ring packets text beats right (status.Check verdict) wrong = wrong
 no_beats ring packets text beats right status.DeskFault wrong = wrong
 no_beats ring packets text beats right status.NoMemory wrong = wrong
 
-module _ (laws : Laws) (names : WatchNamed) (files : Files) (beats : BeatsShape)
+module _ (laws : TextLaws) (names : WatchNamed) (files : Files) (beats : BeatsShape)
     (given : AreBeats names files beats) where
-  chain_reads : (text : List ℕ) → files names.chain ≡ Some text → chain_of text ≡ Ok given.chain
-  chain_reads text file =
-      let has = given.chain_right in
-      subst (λ (t : List ℕ). chain_of t ≡ Ok given.chain) (some_once has.text text (sym has.file
-      ∙ file)) has.right
-
-  capture_reads : (text : List ℕ) → files names.capture ≡ Some text → Spells text given.capture
-  capture_reads text file =
-      let has = given.capture_right in
-      subst (λ (t : List ℕ). Spells t given.capture) (some_once has.text text (sym has.file ∙ file)) has.right
-
-  chain_is : (other : Chain) → HasChain names.chain files other → other ≡ given.chain
-  chain_is other has = ok_once (chain_of has.text) other given.chain has.right
-      (chain_reads has.text has.file)
-
-  capture_is : (other : Capture) → HasCapture names.capture files other → other ≡ given.capture
-  capture_is other has = laws.one_capture has.text other given.capture has.right (capture_reads has.text has.file)
-
   beats_read : (other : Chain) (taken : Capture) (text : List ℕ) → other ≡ given.chain → taken ≡ given.capture
       → files names.beats ≡ Some text → beats_of (ring_of other) (length taken.packets) text ≡ Ok beats
   beats_read other taken text is also file =
@@ -268,45 +237,18 @@ module _ (laws : Laws) (names : WatchNamed) (files : Files) (beats : BeatsShape)
 
   refused_once : (sound : Type 0) (ending : Status) → (ending ≡ status.DeskFault → ⊥)
       → IsWatchRefused sound names files ending → ending ≡ status.NoMemory
-  refused_once sound ending no-fault refused =
-      elim refused [
-        | inl first ↦ not_refused sound files names.chain IsWrongChain ending
-            (λ text file. no_chain text given.chain (chain_reads text file) ending) no-fault first
-        | inr behind ↦ let (other, other_right, refused) = behind in elim refused [
-          | inl first ↦ not_refused sound files names.capture IsWrongCapture ending
-              (λ text file. no_capture laws text given.capture (capture_reads text file) ending) no-fault first
-          | inr behind ↦ let (taken, taken_right, refused) = behind in not_refused sound files names.beats
-              (IsWrongBeats (ring_of other) (length taken.packets)) ending
-              (λ text file. no_beats (ring_of other) (length taken.packets) text beats (beats_read other taken text
-              (chain_is other other_right) (capture_is taken taken_right) file) ending) no-fault refused
-        ]
-      ]
-
-  for_memory : (sound : Type 0) (new : Files) (ending : Status) → (ending ≡ status.DeskFault → ⊥)
-      → IsWatchRefused sound names files ending × SameFiles files new → (ending ≡ status.Done)
-      ⊎ (ending ≡ status.NoMemory)
-  for_memory sound new ending no-fault refused = inr (refused_once sound ending no-fault refused.0)
+  refused_once sound ending no-fault refused = elim refused [
+    | inl first ↦ setup_once laws names.chain names.capture files given.chain given.capture given.setup sound ending
+        no-fault first
+    | inr behind ↦ let (other, taken, setup, refused) = behind in not_refused sound files names.beats
+        (IsWrongBeats (ring_of other) (length taken.packets)) ending
+        (λ text file. no_beats (ring_of other) (length taken.packets) text beats (beats_read other taken text
+        (chain_is laws names.chain names.capture files given.chain given.capture given.setup other setup.chain_right)
+        (capture_is laws names.chain names.capture files given.chain given.capture given.setup taken
+        setup.capture_right) file) ending) no-fault refused
+  ]
 
   pub watch_completes : (sound : Type 0) (limit : ℕ) (new : Files) (ending : Status)
-      → WatchEnds sound limit names files new ending → (ending ≡ status.DeskFault → ⊥) → (ending ≡ status.Done)
-      ⊎ (ending ≡ status.NoMemory)
-  watch_completes sound limit new status.Done ends no-fault = inl refl
-  watch_completes sound limit new status.Usage ends no-fault = for_memory sound new status.Usage no-fault ends
-  watch_completes sound limit new (status.Chain line cause) ends no-fault = for_memory sound new
-      (status.Chain line cause) no-fault ends
-  watch_completes sound limit new (status.Capture at cause) ends no-fault = for_memory sound new
-      (status.Capture at cause) no-fault ends
-  watch_completes sound limit new (status.Script line cause) ends no-fault = for_memory sound new
-      (status.Script line cause) no-fault ends
-  watch_completes sound limit new (status.Schedule line cause) ends no-fault = for_memory sound new
-      (status.Schedule line cause) no-fault ends
-  watch_completes sound limit new (status.Ports cause) ends no-fault = for_memory sound new
-      (status.Ports cause) no-fault ends
-  watch_completes sound limit new (status.Journal line cause) ends no-fault = for_memory sound new
-      (status.Journal line cause) no-fault ends
-  watch_completes sound limit new (status.Beats line cause) ends no-fault = for_memory sound new
-      (status.Beats line cause) no-fault ends
-  watch_completes sound limit new (status.Check verdict) ends no-fault = for_memory sound new
-      (status.Check verdict) no-fault ends
-  watch_completes sound limit new status.DeskFault ends no-fault = absurd (no-fault refl)
-  watch_completes sound limit new status.NoMemory ends no-fault = inr refl
+      → WatchEnds sound limit names files new ending → (ending ≡ status.DeskFault → ⊥)
+      → (ending ≡ status.Done) ⊎ (ending ≡ status.NoMemory)
+  watch_completes sound limit new = done_or_memory _ _ _ _ _ (refused_once sound)

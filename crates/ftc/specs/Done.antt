@@ -15,10 +15,10 @@ use Rattle.ftc_protocol.specs.Moment.{released_in}
 use Rattle.ftc_report.specs.Report.{report_of}
 use Rattle.ftc_stream.specs.Taps.{AreLeft}
 use Rattle.ftc.specs.declared.status.Status.{Status}
-use Rattle.ftc.specs.declared.status.Status.TheVariants as status
 use Rattle.ftc_words.specs.Command.{Named, Mode, alone}
 use Rattle.ftc.specs.Output.{MayHold, SameElsewhere, written_by}
 use Rattle.ftc.specs.Refused.{IsRunRefused}
+use Rattle.ftc.specs.Ending.{EndsAs}
 use Rattle.ftc.specs.Texts.{HasSchedule}
 use Rattle.ftc.specs.Checking.{IsRightRun, state_after_journal}
 
@@ -106,12 +106,8 @@ IsOutOpen names other old new = SameElsewhere (names.out ∷ []) old new
 abbrev pub IsCut : Named → Mode → List Face → Files → Files → Type 0
 IsCut names mode left old new = IsOutOpen names mode old new ⊎ IsCutShort names mode left old new
 
--- How a run with these names ends, which had these taps and leaves those. A run that fails has changed nothing yet, or
--- was cut short. Where the desk is sound, it fails only where the first text that is not right is missing.
+-- How a run with these names ends, which had these taps and leaves those.
 abbrev pub Ends : Type 0 → Named → Mode → List Face → List Face → Files → Files → Status → Type 0
-Ends sound names mode taps left old new status.Done = IsDoneBeside names mode taps left old new
-Ends sound names mode taps left old new status.DeskFault =
-    (IsRunRefused sound names mode old status.DeskFault × SameFiles old new)
-    ⊎ (IsCut names mode left old new × (sound → ⊥))
-Ends sound names mode taps left old new status.NoMemory = SameFiles old new ⊎ IsCut names mode left old new
-Ends sound names mode taps left old new refused = IsRunRefused sound names mode old refused × SameFiles old new
+Ends sound names mode taps left old new =
+    EndsAs sound (IsDoneBeside names mode taps left old new) (IsRunRefused sound names mode old) (SameFiles old new)
+    (IsCut names mode left old new)

@@ -1,11 +1,13 @@
 pub mod Status
 pub mod Ended
+pub mod Laws
 pub mod Output
 pub mod Driven
 pub mod Settled
 pub mod Texts
 pub mod Checking
 pub mod Refused
+pub mod Ending
 pub mod Writing
 pub mod Done
 pub mod Answers

@@ -1,5 +1,5 @@
 -- A capture that is made, the run of a chain over it, and what is told of that run.
-use Rattle.std.specs.Prelude.{◌≡◌, ◌⊎◌, ℕ, List, [], codes, Ok}
+use Rattle.std.specs.Prelude.{◌≡◌, ℕ, List, [], codes, Ok}
 use Rattle.ftc_conf.specs.Grammar.{chain_of}
 use Rattle.ftc_gen.specs.Capture.{generated}
 use Rattle.ftc_gen.specs.Packets.{generated_capture}
@@ -17,8 +17,8 @@ use Rattle.ftc_report.specs.Text.{summary_text}
 use Rattle.ftc_script.specs.Script.{ScriptShape}
 use Rattle.ftc_serial.specs.Packets.{bytes_of_packets}
 use Rattle.ftc.specs.declared.status.Status.{Status}
-use Rattle.ftc.specs.declared.status.Status.TheVariants as status
 use Rattle.ftc.specs.Texts.{ring_of}
+use Rattle.ftc.specs.Ending.{EndsAs}
 use Rattle.ftc.specs.Watching.{AreMade, AreMadeShort}
 
 -- the chain that a made capture runs through
@@ -75,9 +75,12 @@ pub record IsMadeShort (packets seed : ℕ) (name : List ℕ) (old new : Files) 
   pub making : AreMaking packets seed bytes told
   pub made : AreMadeShort name bytes told old new
 
--- How such a command ends. It reads nothing, so on a sound desk it doesn't fail.
+-- It reads nothing, so nothing is refused, and on a sound desk it doesn't fail.
+abbrev pub IsNeverRefused : Status → Type 0
+IsNeverRefused ending = ⊥
+
+-- How such a command ends.
 abbrev pub MakeEnds : Type 0 → ℕ → ℕ → List ℕ → Files → Files → Status → Type 0
-MakeEnds sound packets seed name old new status.Done = IsMade packets seed name old new
-MakeEnds sound packets seed name old new status.DeskFault = IsMadeShort packets seed name old new × (sound → ⊥)
-MakeEnds sound packets seed name old new status.NoMemory = SameFiles old new ⊎ IsMadeShort packets seed name old new
-MakeEnds sound packets seed name old new other = ⊥
+MakeEnds sound packets seed name old new =
+    EndsAs sound (IsMade packets seed name old new) IsNeverRefused (SameFiles old new)
+    (IsMadeShort packets seed name old new)

@@ -12,8 +12,9 @@ use Rattle.ftc_serial.specs.Trace.{trace_of}
 use Rattle.ftc.specs.declared.porting.PortNames.{PortNames}
 use Rattle.ftc.specs.declared.status.Status.{Status}
 use Rattle.ftc.specs.declared.status.Status.TheVariants as status
-use Rattle.ftc.specs.Refused.{IsTextRefused, IsWrongChain, IsWrongCapture, IsWrongJournal}
-use Rattle.ftc.specs.Texts.{HasChain, HasCapture, HasJournal}
+use Rattle.ftc.specs.Texts.{HasJournal, IsSetup}
+use Rattle.ftc.specs.Refused.{IsTextRefused, IsWrongJournal, IsSetupRefused}
+use Rattle.ftc.specs.Ending.{EndsAs}
 use Rattle.ftc.specs.Watching.{standard_output}
 
 -- the names of the files of a port table
@@ -34,8 +35,7 @@ pub record IsTableIn (names : PortNamed) (server : ℕ) (files : Files) (lines :
   pub chain : Chain
   pub capture : Capture
   pub journal : List Event
-  pub chain_right : HasChain names.chain files chain
-  pub capture_right : HasCapture names.capture files capture
+  pub setup : IsSetup names.chain names.capture files chain capture
   pub journal_right : HasJournal names.journal files journal
   pub table : IsTableOf chain.rules (bytes_of_packets capture.packets) (trace_of journal) server lines
 
@@ -48,13 +48,11 @@ HasNoTable chain capture journal server other = ⊥
 -- a text is refused, or it is right and one behind it is refused; or all are right and there is no table
 abbrev pub ArePortsRefused : Type 0 → PortNamed → ℕ → Files → Status → Type 0
 ArePortsRefused sound names server files ending =
-    IsTextRefused sound files names.chain IsWrongChain ending
-    ⊎ ((chain : Chain) × HasChain names.chain files chain
-    × (IsTextRefused sound files names.capture IsWrongCapture ending
-    ⊎ ((capture : Capture) × HasCapture names.capture files capture
+    IsSetupRefused sound names.chain names.capture files ending
+    ⊎ ((chain : Chain) × (capture : Capture) × IsSetup names.chain names.capture files chain capture
     × (IsTextRefused sound files names.journal IsWrongJournal ending
     ⊎ ((journal : List Event) × HasJournal names.journal files journal
-    × HasNoTable chain capture journal server ending)))))
+    × HasNoTable chain capture journal server ending)))
 
 -- Standard output has the table more, and no file has changed.
 pub record ArePortsTold (names : PortNamed) (server : ℕ) (old new : Files) : Type 0 where
@@ -70,12 +68,8 @@ pub record ArePortsCutShort (names : PortNamed) (server : ℕ) (old new : Files)
   pub told : MayHaveGrownAt standard_output (ports_text lines) old new
   pub others : SameButAt standard_output old new
 
--- How such a command ends. One that fails has told nothing yet, or was cut short. Where the desk is sound, it fails
--- only where the first text that is not right is missing.
+-- How such a command ends.
 abbrev pub PortsEnd : Type 0 → PortNamed → ℕ → Files → Files → Status → Type 0
-PortsEnd sound names server old new status.Done = ArePortsTold names server old new
-PortsEnd sound names server old new status.DeskFault =
-    (ArePortsRefused sound names server old status.DeskFault × SameFiles old new)
-    ⊎ (ArePortsCutShort names server old new × (sound → ⊥))
-PortsEnd sound names server old new status.NoMemory = SameFiles old new ⊎ ArePortsCutShort names server old new
-PortsEnd sound names server old new refused = ArePortsRefused sound names server old refused × SameFiles old new
+PortsEnd sound names server old new =
+    EndsAs sound (ArePortsTold names server old new) (ArePortsRefused sound names server old) (SameFiles old new)
+    (ArePortsCutShort names server old new)

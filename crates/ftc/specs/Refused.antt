@@ -13,7 +13,7 @@ use Rattle.ftc_journal.specs.declared.event.Event.{Event}
 use Rattle.ftc_words.specs.Command.{Named, Mode, alone}
 use Rattle.ftc.specs.declared.status.Status.{Status}
 use Rattle.ftc.specs.declared.status.Status.TheVariants as status
-use Rattle.ftc.specs.Texts.{ring_of, HasChain, HasCapture, HasJournal, AreInputs}
+use Rattle.ftc.specs.Texts.{ring_of, HasChain, HasJournal, IsSetup, AreInputs}
 
 -- ---- one text
 
@@ -53,14 +53,19 @@ IsNeverWrong text ending = ⊥
 
 -- ---- the texts of each command in order: a text is refused, or it is right and one behind it is refused
 
+-- chain and capture, which each command that reads texts reads first
+abbrev pub IsSetupRefused : Type 0 → List ℕ → List ℕ → Files → Status → Type 0
+IsSetupRefused sound chain_name capture_name files ending =
+    IsTextRefused sound files chain_name IsWrongChain ending
+    ⊎ ((chain : Chain) × HasChain chain_name files chain
+    × IsTextRefused sound files capture_name IsWrongCapture ending)
+
 -- chain, capture and script, which runs and checks read first
 abbrev pub IsInputRefused : Type 0 → Named → Files → Status → Type 0
 IsInputRefused sound names files ending =
-    IsTextRefused sound files names.chain IsWrongChain ending
-    ⊎ ((chain : Chain) × HasChain names.chain files chain
-    × (IsTextRefused sound files names.capture IsWrongCapture ending
-    ⊎ ((capture : Capture) × HasCapture names.capture files capture
-    × IsTextRefused sound files names.script (IsWrongScript (ring_of chain) (length capture.packets)) ending)))
+    IsSetupRefused sound names.chain names.capture files ending
+    ⊎ ((chain : Chain) × (capture : Capture) × IsSetup names.chain names.capture files chain capture
+    × IsTextRefused sound files names.script (IsWrongScript (ring_of chain) (length capture.packets)) ending)
 
 -- the schedule, where a run has one
 abbrev pub IsScheduleRefused : Type 0 → Mode → Files → Status → Type 0

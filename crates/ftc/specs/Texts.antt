@@ -34,11 +34,15 @@ pub record HasJournal (name : List ℕ) (files : Files) (journal : List Event) :
   pub file : files name ≡ Some text
   pub right : IsSpelling journal text
 
--- A chain, a capture and a script that are right.
+-- A chain and a capture that are right, by the names of their files.
+pub record IsSetup (chain_name capture_name : List ℕ) (files : Files) (chain : Chain) (capture : Capture) : Type 0 where
+  pub chain_right : HasChain chain_name files chain
+  pub capture_right : HasCapture capture_name files capture
+
+-- These, and a script for both.
 pub record AreInputs (names : Named) (files : Files) (chain : Chain) (capture : Capture)
     (script : ScriptShape) : Type 0 where
-  pub chain_right : HasChain names.chain files chain
-  pub capture_right : HasCapture names.capture files capture
+  pub setup : IsSetup names.chain names.capture files chain capture
   pub script_right : HasScript names.script files chain (length capture.packets) script
 
 -- the schedule by which a chain is run: the events of the file that is named, and none where none is

@@ -14,8 +14,9 @@ use Rattle.ftc.specs.declared.status.Status.{Status}
 use Rattle.ftc.specs.declared.status.Status.TheVariants as status
 use Rattle.ftc.specs.declared.watching.WatchNames.{WatchNames}
 use Rattle.ftc.specs.Output.{MayHold, SameElsewhere}
-use Rattle.ftc.specs.Texts.{ring_of, HasChain, HasCapture, HasScript}
-use Rattle.ftc.specs.Refused.{IsTextRefused, IsWrongChain, IsWrongCapture}
+use Rattle.ftc.specs.Texts.{ring_of, IsSetup, HasScript}
+use Rattle.ftc.specs.Refused.{IsTextRefused, IsSetupRefused}
+use Rattle.ftc.specs.Ending.{EndsAs}
 
 -- the names of the files of a watch
 pub record WatchNamed : Type 0 where
@@ -46,8 +47,7 @@ pub record HasBeats (name : List ℕ) (files : Files) (ring : RingShape) (packet
 pub record AreBeats (names : WatchNamed) (files : Files) (beats : BeatsShape) : Type 0 where
   pub chain : Chain
   pub capture : Capture
-  pub chain_right : HasChain names.chain files chain
-  pub capture_right : HasCapture names.capture files capture
+  pub setup : IsSetup names.chain names.capture files chain capture
   pub beats_right : HasBeats names.beats files (ring_of chain) (length capture.packets) beats
 
 abbrev pub IsWrongBeats : RingShape → ℕ → List ℕ → Status → Type 0
@@ -58,11 +58,9 @@ IsWrongBeats ring packets text other = ⊥
 -- a text is refused, or it is right and one behind it is refused
 abbrev pub IsWatchRefused : Type 0 → WatchNamed → Files → Status → Type 0
 IsWatchRefused sound names files ending =
-    IsTextRefused sound files names.chain IsWrongChain ending
-    ⊎ ((chain : Chain) × HasChain names.chain files chain
-    × (IsTextRefused sound files names.capture IsWrongCapture ending
-    ⊎ ((capture : Capture) × HasCapture names.capture files capture × IsTextRefused sound files names.beats
-    (IsWrongBeats (ring_of chain) (length capture.packets)) ending)))
+    IsSetupRefused sound names.chain names.capture files ending
+    ⊎ ((chain : Chain) × (capture : Capture) × IsSetup names.chain names.capture files chain capture
+    × IsTextRefused sound files names.beats (IsWrongBeats (ring_of chain) (length capture.packets)) ending)
 
 -- ---- what it leaves
 
@@ -111,12 +109,8 @@ pub record IsWatchedShort (limit : ℕ) (names : WatchNamed) (old new : Files) :
   pub given : AreBeats names old beats
   pub made : AreMadeShort names.script (script_made limit beats) (summary_of (watching limit beats)) old new
 
--- How a watch with these names ends. One that fails has changed nothing yet, or was cut short. Where the desk is
--- sound, it fails only where the first text that is not right is missing.
+-- How a watch with these names ends.
 abbrev pub WatchEnds : Type 0 → ℕ → WatchNamed → Files → Files → Status → Type 0
-WatchEnds sound limit names old new status.Done = IsWatched limit names old new
-WatchEnds sound limit names old new status.DeskFault =
-    (IsWatchRefused sound names old status.DeskFault × SameFiles old new) ⊎ (IsWatchedShort limit names old new
-    × (sound → ⊥))
-WatchEnds sound limit names old new status.NoMemory = SameFiles old new ⊎ IsWatchedShort limit names old new
-WatchEnds sound limit names old new refused = IsWatchRefused sound names old refused × SameFiles old new
+WatchEnds sound limit names old new =
+    EndsAs sound (IsWatched limit names old new) (IsWatchRefused sound names old) (SameFiles old new)
+    (IsWatchedShort limit names old new)

@@ -1,6 +1,6 @@
 //! Fetching and reading the files of a run that somebody made.
 
-ghost use Rattle.std.specs.Prelude.{◌≡◌, ◌≢◌, ◌≤◌, length, Err, IfOk, IfErr};
+ghost use Rattle.std.specs.Prelude.{◌≡◌, length, Err, IfOk, IfErr};
 ghost use Rattle.ftc_outside.specs.Desk.{SameFiles, HasServed};
 ghost use Rattle.ftc_script.specs.Script.{IsScript};
 ghost use Rattle.ftc.specs.Answers.{IsJournalAnswer, IsCheckAnswer};
@@ -36,7 +36,6 @@ pub fn fetch_journal<D: Desk>(alloc: Global, name: &str, desk: &mut D) -> Result
     ensures accepted { D.tells desk.old → IfOk result (λ journal. HasJournal name.now (D.file desk.old) journal.items) }
     ensures refused { D.tells desk.old → IfErr result (IsTextRefused (D.sound desk.old)
         (D.file desk.old) name.now IsWrongJournal) }
-    ensures known { IfErr result (λ ending. ending ≢ Status.Usage) }
     ensures answer { IfErr result IsJournalAnswer }
     ensures files { D.tells desk.old → SameFiles (D.file desk.old) (D.file desk.new) }
     ensures served { HasServed D.tells D.sound D.faults (result ≡ Err Status.DeskFault) desk.old desk.new }
@@ -60,7 +59,6 @@ pub fn read_files<D: Desk>(
     ensures right { IfOk result (λ files. IsScript files.script) }
     ensures refused { D.tells desk.old → IfErr result (IsCheckRefused (D.sound desk.old) (named_of names.entry)
         (D.file desk.old)) }
-    ensures known { IfErr result (λ ending. ending ≢ Status.Usage) }
     ensures answer { IfErr result IsCheckAnswer }
     ensures files { D.tells desk.old → SameFiles (D.file desk.old) (D.file desk.new) }
     ensures served { HasServed D.tells D.sound D.faults (result ≡ Err Status.DeskFault) desk.old desk.new }

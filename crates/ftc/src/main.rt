@@ -6,6 +6,7 @@ mod drive;
 mod fates;
 mod files;
 mod judge;
+mod laws;
 mod making;
 mod numbers;
 mod output;

@@ -158,7 +158,6 @@ pub fn make_capture<D: Desk>(
     requires apart { name.now ≢ codes "-" }
     ensures ends { D.tells desk.old → MakeEnds (D.sound desk.old) packets seed name.now (D.file desk.old)
         (D.file desk.new) result }
-    ensures known { result ≢ Status.Usage }
     ensures answer { IsMakeAnswer result }
     ensures served { HasServed D.tells D.sound D.faults (result ≡ Status.DeskFault) desk.old desk.new }
 {

@@ -1,13 +1,13 @@
 //! The port table of a translator, from the texts of a run to the lines that are told.
 
-ghost use Rattle.std.specs.Prelude.{◌≡◌, ◌≢◌, ◌≤◌, Err, IfOk, IfErr};
+ghost use Rattle.std.specs.Prelude.{◌≡◌, Err, IfOk, IfErr};
 ghost use Rattle.ftc_outside.specs.Desk.{SameFiles, HasServed};
 ghost use Rattle.ftc.specs.Answers.{IsPortsAnswer};
 ghost use Rattle.ftc.specs.Porting.{ports_by, IsTableIn, ArePortsRefused, PortsEnd};
 
 use crate::files::fetch_journal;
 use crate::status::Status;
-use crate::texts::{fetch_capture, fetch_chain};
+use crate::texts::{Setup, read_setup};
 use ftc_audit::{PortLines, ports, ports_text};
 use ftc_base::ServerId;
 use ftc_machine::trace_of;
@@ -33,13 +33,12 @@ fn read_table<D: Desk>(
     ensures accepted { D.tells desk.old → IfOk result (IsTableIn (ports_by names.entry) server (D.file desk.old)) }
     ensures refused { D.tells desk.old → IfErr result (ArePortsRefused (D.sound desk.old) (ports_by names.entry) server
         (D.file desk.old)) }
-    ensures known { IfErr result (λ ending. ending ≢ Status.Usage) }
     ensures answer { IfErr result IsPortsAnswer }
     ensures files { D.tells desk.old → SameFiles (D.file desk.old) (D.file desk.new) }
     ensures served { HasServed D.tells D.sound D.faults (result ≡ Err Status.DeskFault) desk.old desk.new }
 {
-    let spec = fetch_chain(alloc, names.chain, desk)?;
-    let capture = fetch_capture(alloc, names.capture, desk)?;
+    let setup = read_setup(alloc, names.chain, names.capture, desk)?;
+    let Setup { spec, capture } = setup;
     let journal = fetch_journal(alloc, names.journal, desk)?;
     let trace = trace_of(alloc, &journal)?;
     match ports(alloc, &spec, &capture.packets, &trace, server) {
@@ -57,7 +56,6 @@ pub fn tell_ports<D: Desk>(
 ) -> Status
     ensures ends { D.tells desk.old → PortsEnd (D.sound desk.old) (ports_by names.entry) server (D.file desk.old)
         (D.file desk.new) result }
-    ensures known { result ≢ Status.Usage }
     ensures answer { IsPortsAnswer result }
     ensures served { HasServed D.tells D.sound D.faults (result ≡ Status.DeskFault) desk.old desk.new }
 {

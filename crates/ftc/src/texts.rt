@@ -1,13 +1,13 @@
 //! Fetching and reading the texts of a run.
 
-ghost use Rattle.std.specs.Prelude.{◌≡◌, ◌≢◌, ◌≤◌, length, Err, IfOk, IfErr};
+ghost use Rattle.std.specs.Prelude.{◌≡◌, length, Err, IfOk, IfErr};
 ghost use Rattle.ftc_outside.specs.Desk.{SameFiles, HasServed};
 ghost use Rattle.ftc_script.specs.Script.{IsScript};
 ghost use Rattle.ftc.specs.Answers.{IsInputAnswer, IsScriptAnswer, IsReadingAnswer, IsRunAnswer};
 ghost use Rattle.ftc_words.specs.Shown.{named_of, shown_mode};
-ghost use Rattle.ftc.specs.Texts.{ring_of, HasChain, HasCapture, HasScript, HasSchedule, AreInputs, AreTexts};
+ghost use Rattle.ftc.specs.Texts.{ring_of, HasChain, HasCapture, HasScript, HasSchedule, IsSetup, AreInputs, AreTexts};
 ghost use Rattle.ftc.specs.Refused.{IsTextRefused, IsWrongChain, IsWrongCapture, IsWrongScript, IsScheduleRefused};
-ghost use Rattle.ftc.specs.Refused.{IsInputRefused, IsRunRefused};
+ghost use Rattle.ftc.specs.Refused.{IsSetupRefused, IsInputRefused, IsRunRefused};
 
 use crate::status::{Status, schedule_status};
 use ftc_conf::read_chain;
@@ -19,6 +19,13 @@ use ftc_protocol::ring_of;
 use ftc_script::{Script, accepted, read_script};
 use ftc_words::{Mode, Names};
 use std::alloc::Global;
+
+/// What a chain and a capture say.
+#[derive(Drop)]
+pub struct Setup {
+    pub spec: ChainSpec,
+    pub capture: Capture,
+}
 
 /// What a chain, a capture and a script say.
 #[derive(Drop)]
@@ -38,11 +45,10 @@ pub struct Texts {
 }
 
 /// Fetches and reads the chain.
-pub fn fetch_chain<D: Desk>(alloc: Global, name: &str, desk: &mut D) -> Result<ChainSpec, Status>
+fn fetch_chain<D: Desk>(alloc: Global, name: &str, desk: &mut D) -> Result<ChainSpec, Status>
     ensures accepted { D.tells desk.old → IfOk result (HasChain name.now (D.file desk.old)) }
     ensures refused { D.tells desk.old → IfErr result (IsTextRefused (D.sound desk.old)
         (D.file desk.old) name.now IsWrongChain) }
-    ensures known { IfErr result (λ ending. ending ≢ Status.Usage) }
     ensures answer { IfErr result IsInputAnswer }
     ensures files { D.tells desk.old → SameFiles (D.file desk.old) (D.file desk.new) }
     ensures served { HasServed D.tells D.sound D.faults (result ≡ Err Status.DeskFault) desk.old desk.new }
@@ -53,11 +59,10 @@ pub fn fetch_chain<D: Desk>(alloc: Global, name: &str, desk: &mut D) -> Result<C
 }
 
 /// Fetches and reads the capture.
-pub fn fetch_capture<D: Desk>(alloc: Global, name: &str, desk: &mut D) -> Result<Capture, Status>
+fn fetch_capture<D: Desk>(alloc: Global, name: &str, desk: &mut D) -> Result<Capture, Status>
     ensures accepted { D.tells desk.old → IfOk result (HasCapture name.now (D.file desk.old)) }
     ensures refused { D.tells desk.old → IfErr result (IsTextRefused (D.sound desk.old)
         (D.file desk.old) name.now IsWrongCapture) }
-    ensures known { IfErr result (λ ending. ending ≢ Status.Usage) }
     ensures answer { IfErr result IsInputAnswer }
     ensures files { D.tells desk.old → SameFiles (D.file desk.old) (D.file desk.new) }
     ensures served { HasServed D.tells D.sound D.faults (result ≡ Err Status.DeskFault) desk.old desk.new }
@@ -67,8 +72,28 @@ pub fn fetch_capture<D: Desk>(alloc: Global, name: &str, desk: &mut D) -> Result
     Ok(capture)
 }
 
+/// Fetches and reads the chain and then the capture, as each command does that reads texts.
+pub fn read_setup<D: Desk>(
+    alloc: Global,
+    chain: &str,
+    capture: &str,
+    desk: &mut D,
+) -> Result<Setup, Status>
+    ensures accepted { D.tells desk.old → IfOk result (λ setup. IsSetup chain.now capture.now (D.file desk.old)
+        setup.spec setup.capture) }
+    ensures refused { D.tells desk.old → IfErr result (IsSetupRefused (D.sound desk.old) chain.now capture.now
+        (D.file desk.old)) }
+    ensures answer { IfErr result IsInputAnswer }
+    ensures files { D.tells desk.old → SameFiles (D.file desk.old) (D.file desk.new) }
+    ensures served { HasServed D.tells D.sound D.faults (result ≡ Err Status.DeskFault) desk.old desk.new }
+{
+    let spec = fetch_chain(alloc, chain, desk)?;
+    let capture = fetch_capture(alloc, capture, desk)?;
+    Ok(Setup { spec, capture })
+}
+
 /// Fetches and reads the script of a run of this chain on so many packets.
-pub fn fetch_script<D: Desk>(
+fn fetch_script<D: Desk>(
     alloc: Global,
     name: &str,
     spec: &ChainSpec,
@@ -81,7 +106,6 @@ pub fn fetch_script<D: Desk>(
     ensures right { IfOk result IsScript }
     ensures refused { D.tells desk.old → IfErr result (IsTextRefused (D.sound desk.old) (D.file desk.old) name.now
         (IsWrongScript (ring_of spec.now) packets)) }
-    ensures known { IfErr result (λ ending. ending ≢ Status.Usage) }
     ensures answer { IfErr result IsScriptAnswer }
     ensures files { D.tells desk.old → SameFiles (D.file desk.old) (D.file desk.new) }
     ensures served { HasServed D.tells D.sound D.faults (result ≡ Err Status.DeskFault) desk.old desk.new }
@@ -101,13 +125,12 @@ pub fn read_inputs<D: Desk>(alloc: Global, names: Names<'_>, desk: &mut D) -> Re
     ensures right { IfOk result (λ inputs. IsScript inputs.script) }
     ensures refused { D.tells desk.old → IfErr result (IsInputRefused (D.sound desk.old) (named_of names.entry)
         (D.file desk.old)) }
-    ensures known { IfErr result (λ ending. ending ≢ Status.Usage) }
     ensures answer { IfErr result IsReadingAnswer }
     ensures files { D.tells desk.old → SameFiles (D.file desk.old) (D.file desk.new) }
     ensures served { HasServed D.tells D.sound D.faults (result ≡ Err Status.DeskFault) desk.old desk.new }
 {
-    let spec = fetch_chain(alloc, names.chain, desk)?;
-    let capture = fetch_capture(alloc, names.capture, desk)?;
+    let setup = read_setup(alloc, names.chain, names.capture, desk)?;
+    let Setup { spec, capture } = setup;
     let packets = capture.packets.len() as u32;
     let script = fetch_script(alloc, names.script, &spec, packets, desk)?;
     Ok(Inputs {
@@ -123,7 +146,6 @@ fn fetch_schedule<D: Desk>(alloc: Global, mode: Mode<'_>, desk: &mut D) -> Resul
         (D.file desk.old) schedule.items) }
     ensures refused { D.tells desk.old → IfErr result (IsScheduleRefused (D.sound desk.old) (shown_mode mode.entry)
         (D.file desk.old)) }
-    ensures known { IfErr result (λ ending. ending ≢ Status.Usage) }
     ensures answer { IfErr result IsRunAnswer }
     ensures files { D.tells desk.old → SameFiles (D.file desk.old) (D.file desk.new) }
     ensures served { HasServed D.tells D.sound D.faults (result ≡ Err Status.DeskFault) desk.old desk.new }
@@ -151,7 +173,6 @@ pub fn read_texts<D: Desk>(
     ensures packets { IfOk result (λ texts. texts.script.packets ≡ length texts.capture.packets) }
     ensures refused { D.tells desk.old → IfErr result (IsRunRefused (D.sound desk.old) (named_of names.entry)
         (shown_mode mode.entry) (D.file desk.old)) }
-    ensures known { IfErr result (λ ending. ending ≢ Status.Usage) }
     ensures answer { IfErr result IsRunAnswer }
     ensures files { D.tells desk.old → SameFiles (D.file desk.old) (D.file desk.new) }
     ensures served { HasServed D.tells D.sound D.faults (result ≡ Err Status.DeskFault) desk.old desk.new }

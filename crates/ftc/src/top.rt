@@ -1,6 +1,6 @@
 //! A command, from its words to the files that it leaves.
 
-ghost use Rattle.std.specs.Prelude.{◌≡◌, ◌≢◌, ◌≤◌, ◌↔◌, ◌⊎◌, ⊤, true, Some, None};
+ghost use Rattle.std.specs.Prelude.{◌≡◌, ◌↔◌, ◌⊎◌, ⊤, true, Some, None};
 ghost use Rattle.ftc_outside.specs.Desk.{Rose, HasServed};
 ghost use Rattle.ftc_words.specs.Shown.{named_of, shown_mode, shown};
 ghost use Rattle.std.specs.List.{list_all};
@@ -13,6 +13,7 @@ ghost use Rattle.ftc.specs.Done.{Ends};
 ghost use Rattle.ftc.specs.Ended.{asked, IsAnswer, HasEnded, IsQuiet, HasTexts, HasFiles, HasRightRun, WasLeft};
 
 use crate::judge::judge;
+use crate::laws::{run_laws, text_laws};
 use crate::making::make_capture;
 use crate::porting::{PortNames, tell_ports};
 use crate::running::run_texts;
@@ -20,11 +21,8 @@ use crate::status::Status;
 use crate::texts::read_texts;
 use crate::watching::{WatchNames, watch_beats};
 use ftc_base::{NoMemory, ServerId};
-use ftc_check::{one_verdict, right_files, right_runs};
-use ftc_journal::{faults, spellings};
 use ftc_outside::{Desk, Gate};
-use ftc_pcap::{one_fault, one_reading};
-use ftc_protocol::{every_moment, losses, what_a_run_released};
+use ftc_protocol::what_a_run_released;
 use ftc_stream::{Seen, Taps};
 use ftc_words::{Command, Mode, Names, read_command};
 use std::alloc::Global;
@@ -45,15 +43,10 @@ fn run_names<R: AllocGlobal + Threads + Wait + Sync, D: Desk, G: Gate>(
     ensures ends { D.tells desk.old → Ends (D.sound desk.old) (named_of names.entry) (shown_mode mode.entry)
         (⟦<Taps as Seen>⟧.faces taps.old) (⟦<Taps as Seen>⟧.faces taps.new) (D.file desk.old) (D.file desk.new)
         result }
-    ensures known { result ≢ Status.Usage }
     ensures answer { IsRunAnswer result }
     ensures served { HasServed D.tells D.sound D.faults (result ≡ Status.DeskFault) desk.old desk.new }
 {
-    spellings();
-    right_files();
-    right_runs();
-    losses();
-    every_moment();
+    run_laws();
     what_a_run_released();
     let texts = match read_texts(rt.alloc(), names, mode, desk) {
         Ok(texts) => texts,
@@ -77,7 +70,6 @@ fn run_command<R: AllocGlobal + Threads + Wait + Sync, D: Desk, G: Gate>(
     requires distinct { are_distinct (files_of (shown command.now)) ≡ true }
     requires named { list_all is_name (named_by (shown command.now)) ≡ true }
     requires within { IsWithin (shown command.now) }
-    ensures known { result ≢ Status.Usage }
     ensures answer { IsAnswer (Some (shown command.now)) result }
     ensures ends { D.tells desk.old → HasEnded (D.sound desk.old) (Some (shown command.now))
         (⟦<Taps as Seen>⟧.faces taps.old) (⟦<Taps as Seen>⟧.faces taps.new) (D.file desk.old) (D.file desk.new)
@@ -93,11 +85,7 @@ fn run_command<R: AllocGlobal + Threads + Wait + Sync, D: Desk, G: Gate>(
     ensures agrees { D.tells desk.old → WasLeft (Some (shown command.now)) (D.file desk.old) → IsYesOrRefused result }
     ensures served { HasServed D.tells D.sound D.faults (result ≡ Status.DeskFault) desk.old desk.new }
 {
-    one_reading();
-    one_fault();
-    spellings();
-    faults();
-    one_verdict();
+    text_laws();
     let alloc = rt.alloc();
     match command {
         Command::Run { names, mode } => run_names(rt, *names, *mode, desk, gate, taps),

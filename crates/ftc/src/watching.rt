@@ -10,7 +10,7 @@ ghost use Rattle.ftc.specs.Watching.{AreMadeShort, WatchEnds};
 
 use crate::output::write_text;
 use crate::status::Status;
-use crate::texts::{fetch_capture, fetch_chain};
+use crate::texts::{Setup, read_setup};
 use ftc_outside::{Desk, DeskError};
 use ftc_protocol::ring_of;
 use ftc_ring::Ring;
@@ -39,7 +39,6 @@ fn fetch_beats<D: Desk>(
     ensures packets { IfOk result (λ beats. beats.packets ≡ packets) }
     ensures refused { D.tells desk.old → IfErr result (IsTextRefused (D.sound desk.old) (D.file desk.old) name.now
         (IsWrongBeats ring.now packets)) }
-    ensures known { IfErr result (λ ending. ending ≢ Status.Usage) }
     ensures answer { IfErr result IsWatchAnswer }
     ensures files { D.tells desk.old → SameFiles (D.file desk.old) (D.file desk.new) }
     ensures served { HasServed D.tells D.sound D.faults (result ≡ Err Status.DeskFault) desk.old desk.new }
@@ -58,13 +57,12 @@ fn read_watched<D: Desk>(
     ensures accepted { D.tells desk.old → IfOk result (AreBeats (watched_by names.entry) (D.file desk.old)) }
     ensures refused { D.tells desk.old → IfErr result (IsWatchRefused (D.sound desk.old) (watched_by names.entry)
         (D.file desk.old)) }
-    ensures known { IfErr result (λ ending. ending ≢ Status.Usage) }
     ensures answer { IfErr result IsWatchAnswer }
     ensures files { D.tells desk.old → SameFiles (D.file desk.old) (D.file desk.new) }
     ensures served { HasServed D.tells D.sound D.faults (result ≡ Err Status.DeskFault) desk.old desk.new }
 {
-    let spec = fetch_chain(alloc, names.chain, desk)?;
-    let capture = fetch_capture(alloc, names.capture, desk)?;
+    let setup = read_setup(alloc, names.chain, names.capture, desk)?;
+    let Setup { spec, capture } = setup;
     let packets = capture.packets.len() as u32;
     let beats = fetch_beats(alloc, names.beats, &ring_of(&spec), packets, desk)?;
     Ok(beats)
@@ -97,7 +95,6 @@ pub fn watch_beats<D: Desk>(alloc: Global, names: WatchNames<'_>, limit: u8, des
     requires limit { 1 ≤ limit }
     ensures ends { D.tells desk.old → WatchEnds (D.sound desk.old) limit (watched_by names.entry) (D.file desk.old)
         (D.file desk.new) result }
-    ensures known { result ≢ Status.Usage }
     ensures answer { IsWatchAnswer result }
     ensures served { HasServed D.tells D.sound D.faults (result ≡ Status.DeskFault) desk.old desk.new }
 {

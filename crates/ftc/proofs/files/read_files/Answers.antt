@@ -1,17 +1,16 @@
-use Rattle.std.proofs.Common.{◌≡◌, ◌∙◌, sym, rules, inl, Some, IfErr}
+use Rattle.std.proofs.Common.{◌≡◌, ◌∙◌, sym, rules, Some, IfErr}
 use Rattle.std.proofs.lemmas.Result.{IfErr-weaker}
 use Rattle.ftc_outside.specs.Desk.{Files, SameFiles}
 use Rattle.ftc_words.specs.Shown.{named_of}
 use Rattle.ftc.specs.Refused.{IsTextRefused, IsWrongJournal, IsNeverWrong, IsInputRefused}
-use Rattle.ftc.proofs.Refusing.{refused_before, journal_before, out_refused, journal_refused, report_refused}
+use Rattle.ftc.proofs.Refusing.{refused_first, refused_before, journal_stays, out_refused, journal_refused}
+use Rattle.ftc.proofs.Refusing.{report_refused}
 use Rattle.ftc.proofs.files.read_files.Goals as goal
 
 pub returns-in_err-inputs-clause-refused : goal.returns-in_err-inputs-clause-refused
 returns-in_err-inputs-clause-refused g c = λ t.
-    let refused : IfErr c.from_residual.result
-    (IsInputRefused (g.D.Desk.sound c.args.desk.now) (named_of c.args.names) (g.D.Desk.file c.args.desk.now)) =
-    search (rules, c.read_inputs.ensures.refused t) in
-    IfErr-weaker c.from_residual.result _ _ (λ ending is. inl is) refused
+    refused_first c.from_residual.result (IsInputRefused (g.D.Desk.sound c.args.desk.now) (named_of c.args.names)
+    (g.D.Desk.file c.args.desk.now)) _ (search (rules, c.read_inputs.ensures.refused t))
 
 pub returns-in_err-out-clause-refused : goal.returns-in_err-out-clause-refused
 returns-in_err-out-clause-refused g c = λ t.
@@ -54,7 +53,8 @@ returns-in_err-report-clause-refused g c = λ t.
     sym (to_read c.args.names.out.now) ∙ c.in_ok-out.ensures.bytes t-read in
     let judged : Files = g.D.Desk.file c.fetch_journal.new.desk in
     let to_judged : SameFiles old judged = λ name. c.fetch_journal.ensures.files t-fetched name ∙ to_fetched name in
-    let journal_right = journal_before _ _ _ _ to_fetched (c.in_ok-journal.ensures.accepted t-fetched) in
+    let journal_right = journal_stays c.args.names.journal.now fetched old c.in_ok-journal.journal.items
+    (sym (to_fetched c.args.names.journal.now)) (c.in_ok-journal.ensures.accepted t-fetched) in
     let refused : IfErr c.from_residual-in_err-report.result
     (IsTextRefused (g.D.Desk.sound c.fetch_journal.new.desk) judged c.args.names.report.now IsNeverWrong) =
     search (rules, c.fetch-2.ensures.absent) in

@@ -36,10 +36,10 @@ returns-in-Ok-Yes-clause-judges g c = λ tells.
         checked = c.in-Ok.ensures.accepted tells;
         verdict_right = verdict;
       };
-      sound = sound_throughout c.every_moment.ensures setting is files.journal.items verdict.whole.run;
-      visited = c.right_runs.ensures.visited setting is files.capture files.out files.journal.items files.report
+      sound = sound_throughout c.run_laws.ensures.moments setting is files.journal.items verdict.whole.run;
+      visited = c.run_laws.ensures.visited setting is files.capture files.out files.journal.items files.report
           verdict;
-      settled = λ packet below. c.right_runs.ensures.settled setting is files.capture files.out files.journal.items
+      settled = λ packet below. c.run_laws.ensures.settled setting is files.capture files.out files.journal.items
           files.report verdict packet (rw (bytes_count files.capture.packets) below);
-      causes = λ packet number below. c.losses.ensures.place setting files.journal.items packet number;
+      causes = λ packet number below. c.run_laws.ensures.lost setting files.journal.items packet number;
     }

@@ -1,17 +1,15 @@
-use Rattle.std.proofs.Common.{rules, inl, IfErr}
+use Rattle.std.proofs.Common.{rules, IfErr}
 use Rattle.std.proofs.lemmas.Result.{IfErr-weaker}
 use Rattle.ftc_outside.specs.Desk.{Files, SameFiles}
 use Rattle.ftc_words.specs.Shown.{named_of, shown_mode}
 use Rattle.ftc.specs.Refused.{IsInputRefused, IsScheduleRefused}
-use Rattle.ftc.proofs.Refusing.{schedule_refused, schedule_refused_before, schedule_before}
+use Rattle.ftc.proofs.Refusing.{refused_first, schedule_refused, schedule_refused_before, schedule_before}
 use Rattle.ftc.proofs.texts.read_texts.Goals as goal
 
 pub returns-in_err-inputs-clause-refused : goal.returns-in_err-inputs-clause-refused
 returns-in_err-inputs-clause-refused g c = λ t.
-    let refused : IfErr c.from_residual.result
-    (IsInputRefused (g.D.Desk.sound c.args.desk.now) (named_of c.args.names) (g.D.Desk.file c.args.desk.now)) =
-    search (rules, c.read_inputs.ensures.refused t) in
-    IfErr-weaker c.from_residual.result _ _ (λ ending is. inl is) refused
+    refused_first c.from_residual.result (IsInputRefused (g.D.Desk.sound c.args.desk.now) (named_of c.args.names)
+    (g.D.Desk.file c.args.desk.now)) _ (search (rules, c.read_inputs.ensures.refused t))
 
 pub returns-in_err-schedule-clause-refused : goal.returns-in_err-schedule-clause-refused
 returns-in_err-schedule-clause-refused g c = λ t.

@@ -6,7 +6,7 @@ use Rattle.ftc_words.specs.Command.{are_distinct, files_of, named_by, IsWithin}
 use Rattle.ftc_words.specs.Shown.{named_of, shown_mode, shown}
 use Rattle.ftc.specs.Porting.{port_names, PortsEnd}
 use Rattle.ftc.specs.Ended.{HasTexts, HasFiles, HasRightRun, WasLeft}
-use Rattle.ftc.proofs.Agreeing.{Laws, agrees, completes, judges_all}
+use Rattle.ftc.proofs.Agreeing.{agrees, completes, judges_all}
 use Rattle.ftc.proofs.DistinctLemmas.{run_differs}
 use Rattle.ftc.proofs.MakeLemmas.{made_apart, make_completes}
 use Rattle.ftc.proofs.PortLemmas.{ports_complete, some_is}
@@ -29,59 +29,32 @@ run_names-requires g c = (
 
 pub returns-in-Run-clause-complete : goal.returns-in-Run-clause-complete
 returns-in-Run-clause-complete g c = λ tells texts still.
-    let laws : Laws = record {
-      one_capture = c.one_reading.ensures;
-      no_fault = c.one_fault.ensures.none;
-      one_journal = c.spellings.ensures.one;
-      no_journal_fault = c.faults.ensures.none;
-      one_verdict = c.one_verdict.ensures;
-    } in
     let (chain, capture, script, schedule, are) =
     subst (λ (command : Command). HasTexts (Some (shown command))
     (g.D.Desk.file c.args.desk.now)) c.in-Run.is texts in
-    completes laws _ _ (g.D.Desk.file c.args.desk.now) chain capture script schedule are _ _ _ _ c.run_names.result
+    completes c.text_laws.ensures _ _ _ chain capture script schedule are _ _ _ _ c.run_names.result
     (c.run_names.ensures.ends tells) (λ failed. still (c.run_names.ensures.served.rose failed))
 
 pub returns-in-Check-clause-complete_check : goal.returns-in-Check-clause-complete_check
 returns-in-Check-clause-complete_check g c = λ tells files still.
-    let laws : Laws = record {
-      one_capture = c.one_reading.ensures;
-      no_fault = c.one_fault.ensures.none;
-      one_journal = c.spellings.ensures.one;
-      no_journal_fault = c.faults.ensures.none;
-      one_verdict = c.one_verdict.ensures;
-    } in
     let are = subst (λ (command : Command). HasFiles (Some (shown command))
     (g.D.Desk.file c.args.desk.now)) c.in-Check.is files in
-    judges_all laws _ (g.D.Desk.file c.args.desk.now) are.chain are.capture are.script are.out are.journal are.report
-    are.checked _ c.judge.result (c.judge.ensures.judges tells)
+    judges_all c.text_laws.ensures _ (g.D.Desk.file c.args.desk.now) are.chain are.capture are.script are.out
+    are.journal are.report are.checked _ c.judge.result (c.judge.ensures.judges tells)
     (λ failed. still (c.judge.ensures.served.rose failed))
 
 pub returns-in-Check-clause-exact : goal.returns-in-Check-clause-exact
 returns-in-Check-clause-exact g c = λ tells files.
-    let laws : Laws = record {
-      one_capture = c.one_reading.ensures;
-      no_fault = c.one_fault.ensures.none;
-      one_journal = c.spellings.ensures.one;
-      no_journal_fault = c.faults.ensures.none;
-      one_verdict = c.one_verdict.ensures;
-    } in
     let right = subst (λ (command : Command). HasRightRun (Some (shown command))
     (g.D.Desk.file c.args.desk.now)) c.in-Check.is files in
-    agrees laws _ (g.D.Desk.file c.args.desk.now) right _ c.judge.result (c.judge.ensures.judges tells)
+    agrees c.text_laws.ensures _ (g.D.Desk.file c.args.desk.now) right _ c.judge.result (c.judge.ensures.judges tells)
 
 pub returns-in-Check-clause-agrees : goal.returns-in-Check-clause-agrees
 returns-in-Check-clause-agrees g c = λ tells files.
-    let laws : Laws = record {
-      one_capture = c.one_reading.ensures;
-      no_fault = c.one_fault.ensures.none;
-      one_journal = c.spellings.ensures.one;
-      no_journal_fault = c.faults.ensures.none;
-      one_verdict = c.one_verdict.ensures;
-    } in
     let left = subst (λ (command : Command). WasLeft (Some (shown command))
     (g.D.Desk.file c.args.desk.now)) c.in-Check.is files in
-    agrees laws _ (g.D.Desk.file c.args.desk.now) left.3.right _ c.judge.result (c.judge.ensures.judges tells)
+    agrees c.text_laws.ensures _ (g.D.Desk.file c.args.desk.now) left.3.right _ c.judge.result
+    (c.judge.ensures.judges tells)
 
 pub watch_beats-requires : goal.watch_beats-requires
 watch_beats-requires g c = record {
@@ -93,27 +66,13 @@ watch_beats-requires g c = record {
 
 pub returns-in-Watch-clause-complete : goal.returns-in-Watch-clause-complete
 returns-in-Watch-clause-complete g c = λ tells texts still.
-    let laws : Laws = record {
-      one_capture = c.one_reading.ensures;
-      no_fault = c.one_fault.ensures.none;
-      one_journal = c.spellings.ensures.one;
-      no_journal_fault = c.faults.ensures.none;
-      one_verdict = c.one_verdict.ensures;
-    } in
     let (beats, given) = subst
     (λ (command : Command). HasTexts (Some (shown command)) (g.D.Desk.file c.args.desk.now)) c.in-Watch.is texts in
-    watch_completes laws _ (g.D.Desk.file c.args.desk.now) beats given _ _ _ c.watch_beats.result
+    watch_completes c.text_laws.ensures _ (g.D.Desk.file c.args.desk.now) beats given _ _ _ c.watch_beats.result
     (c.watch_beats.ensures.ends tells) (λ failed. still (c.watch_beats.ensures.served.rose failed))
 
 pub returns-in-Ports-clause-complete : goal.returns-in-Ports-clause-complete
 returns-in-Ports-clause-complete g c = λ tells texts still.
-    let laws : Laws = record {
-      one_capture = c.one_reading.ensures;
-      no_fault = c.one_fault.ensures.none;
-      one_journal = c.spellings.ensures.one;
-      no_journal_fault = c.faults.ensures.none;
-      one_verdict = c.one_verdict.ensures;
-    } in
     let (lines, given) = subst
     (λ (command : Command). HasTexts (Some (shown command)) (g.D.Desk.file c.args.desk.now)) c.in-Ports.is texts in
     let names = port_names c.in-Ports.chain.now c.in-Ports.capture.now c.in-Ports.journal.now in
@@ -122,8 +81,8 @@ returns-in-Ports-clause-complete g c = λ tells texts still.
     let ends = subst (λ (server : ℕ). PortsEnd (g.D.Desk.sound c.args.desk.now) names server
     (g.D.Desk.file c.args.desk.now)
     (g.D.Desk.file c.tell_ports.new.desk) c.tell_ports.result) same (c.tell_ports.ensures.ends tells) in
-    ports_complete laws names c.in-Ports.server (g.D.Desk.file c.args.desk.now) lines given _ _ c.tell_ports.result ends
-    (λ failed. still (c.tell_ports.ensures.served.rose failed))
+    ports_complete c.text_laws.ensures names c.in-Ports.server (g.D.Desk.file c.args.desk.now) lines given _ _
+    c.tell_ports.result ends (λ failed. still (c.tell_ports.ensures.served.rose failed))
 
 pub make_capture-requires : goal.make_capture-requires
 make_capture-requires g c =

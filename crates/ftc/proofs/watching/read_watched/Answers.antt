@@ -1,32 +1,29 @@
-use Rattle.std.proofs.Common.{◌∙◌, rules, length, IfErr}
+use Rattle.std.proofs.Common.{rules, length, IfErr}
 use Rattle.std.proofs.lemmas.Result.{IfErr-weaker}
 use Rattle.ftc_outside.specs.Desk.{Files, SameFiles}
 use Rattle.ftc.specs.Texts.{ring_of}
-use Rattle.ftc.specs.Refused.{IsTextRefused}
+use Rattle.ftc.specs.Refused.{IsTextRefused, IsSetupRefused}
 use Rattle.ftc.specs.Watching.{watched_by, IsWrongBeats}
-use Rattle.ftc.proofs.Refusing.{refused_before, capture_before}
+use Rattle.ftc.proofs.Refusing.{refused_first, refused_before}
 use Rattle.ftc.proofs.WatchLemmas.{beats_refused}
 use Rattle.ftc.proofs.watching.read_watched.Goals as goal
+
+pub returns-in_err-setup-clause-refused : goal.returns-in_err-setup-clause-refused
+returns-in_err-setup-clause-refused g c = λ t.
+    refused_first c.from_residual.result (IsSetupRefused (g.D.Desk.sound c.args.desk.now) c.args.names.chain.now
+    c.args.names.capture.now (g.D.Desk.file c.args.desk.now)) _ (search (rules, c.read_setup.ensures.refused t))
 
 pub returns-in_err-beats-clause-refused : goal.returns-in_err-beats-clause-refused
 returns-in_err-beats-clause-refused g c = λ t.
     let old : Files = g.D.Desk.file c.args.desk.now in
-    let first : Files = g.D.Desk.file c.fetch_chain.new.desk in
-    let second : Files = g.D.Desk.file c.fetch_capture.new.desk in
-    let t-first = c.fetch_chain.ensures.served.tells_on t in
-    let t-second = c.fetch_capture.ensures.served.tells_on t-first in
-    let to_first : SameFiles old first = c.fetch_chain.ensures.files t in
-    let to_second : SameFiles old second = λ name. c.fetch_capture.ensures.files t-first name ∙ to_first name in
-    let refused : IfErr c.from_residual-in_err-beats.result (IsTextRefused
-    (g.D.Desk.sound c.fetch_capture.new.desk) second c.args.names.beats.now (IsWrongBeats
-    (ring_of c.in_ok-spec.spec) (length c.in_ok-capture.capture.packets))) = search
-    (rules, c.fetch_beats.ensures.refused t-second) in
-    IfErr-weaker c.from_residual-in_err-beats.result _ _ (λ ending is. beats_refused (g.D.Desk.sound c.args.desk.now)
-    (watched_by c.args.names) old c.in_ok-spec.spec c.in_ok-capture.capture ending
-    (c.in_ok-spec.ensures.accepted t)
-    (capture_before c.args.names.capture.now old first c.in_ok-capture.capture to_first
-    (c.in_ok-capture.ensures.accepted t-first))
-    (refused_before (g.D.Desk.sound c.args.desk.now)
-    (g.D.Desk.sound c.fetch_capture.new.desk) old second c.args.names.beats.now (IsWrongBeats
-    (ring_of c.in_ok-spec.spec) (length c.in_ok-capture.capture.packets)) ending
-    (λ s. c.fetch_capture.ensures.served.sound_on (c.fetch_chain.ensures.served.sound_on s)) to_second is)) refused
+    let read : Files = g.D.Desk.file c.read_setup.new.desk in
+    let to_read : SameFiles old read = c.read_setup.ensures.files t in
+    let setup = c.in_ok-setup.setup in
+    let refused : IfErr c.from_residual-in_err-beats.result
+    (IsTextRefused (g.D.Desk.sound c.read_setup.new.desk) read c.args.names.beats.now
+    (IsWrongBeats (ring_of setup.spec) (length setup.capture.packets))) =
+    search (rules, c.fetch_beats.ensures.refused (c.read_setup.ensures.served.tells_on t)) in
+    IfErr-weaker c.from_residual-in_err-beats.result _ _
+    (λ ending is. beats_refused _ (watched_by c.args.names) old _ _ ending (c.in_ok-setup.ensures.accepted t)
+    (refused_before _ _ old read c.args.names.beats.now (IsWrongBeats (ring_of setup.spec)
+    (length setup.capture.packets)) ending c.read_setup.ensures.served.sound_on to_read is)) refused
