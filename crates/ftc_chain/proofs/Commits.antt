@@ -29,7 +29,7 @@ use Rattle.ftc_network.specs.Stand.{IsNetwork}
 use Rattle.ftc_chain.specs.declared.course.Course.{Course}
 use Rattle.ftc_chain.specs.declared.given.Given.{Given}
 use Rattle.ftc_chain.specs.ChainRun.{ChainRun}
-use Rattle.ftc_chain.specs.Course.{IsCourse, IsCourseResting, RunsOnce, HasReleased, HasRoomed, HasMade, state_by}
+use Rattle.ftc_chain.specs.Course.{IsCourse, IsCourseResting, RunsOnce, HasReleased, HasCourseRoomed, HasMade, state_by}
 use Rattle.ftc_chain.specs.Doing.{setting_by, HasDone}
 use Rattle.ftc_chain.specs.Slots.{HasCommittedAt, CommitsAt}
 use Rattle.ftc_chain.proofs.AtRest.{events_are}
@@ -129,7 +129,7 @@ done_at given old mid new worker server packet rests inside others stay asks end
 module _ (given : Given) (old room : Course) (mid : Network) (run : ChainRun) (worker server : ℕ)
     (answer : CommitAnswer)
     (same : run_of given old ≡ run) (rests : ∥ IsCourseResting (setting_by given) old ∥₁)
-    (roomed : HasRoomed old room)
+    (roomed : HasCourseRoomed old room)
     (ends : SlotEndsVisit (server_in room.network.servers.items server)
     (server_in mid.servers.items server) worker answer)
     (others : (other : ℕ) → other ≢ server →
@@ -168,7 +168,7 @@ where_ok (Err fault) Fact ok fact = absurd cc
 
 module _ (given : Given) (old room : Course) (mid : Network) (events : EventList) (new : Course)
     (worker server packet : ℕ) (rests : ∥ IsCourseResting (setting_by given) old ∥₁)
-    (roomed : HasRoomed old room)
+    (roomed : HasCourseRoomed old room)
     (grown : events.items ≡ room.journal.items ++ event.Visit server packet worker ∷ [])
     (runs : runs_in (head_at old.network server) worker ≢ None)
     (named : Some packet ≡ packet_of (runs_in (head_at old.network server) worker))

@@ -23,7 +23,7 @@ use Rattle.ftc_protocol.specs.State.{ChainState, opening}
 use Rattle.ftc_serial.specs.Packets.{bytes_of_packets}
 use Rattle.ftc_chain.specs.declared.course.Course.{Course}
 use Rattle.ftc_chain.specs.declared.given.Given.{Given}
-use Rattle.ftc_chain.specs.Course.{IsCourse, IsCourseResting, HasReleased, HasRoomed, HasMade, state_by}
+use Rattle.ftc_chain.specs.Course.{IsCourse, IsCourseResting, HasReleased, HasCourseRoomed, HasMade, state_by}
 use Rattle.ftc_chain.specs.Doing.{HasDone, setting_by}
 use Rattle.ftc_chain.specs.Outlet.{Outgoing, IsOutlet}
 use Rattle.ftc_chain.proofs.Outlets.{few_drained, released_kept, same_front, still_out}
@@ -151,7 +151,7 @@ pub did_between : (given : Given) (slot : ℕ) (job : Job) (old room mid : Cours
     IsLegalJob (setting_by given) (state_by (setting_by given) old.journal.items) job →
     IsLegal (setting_by given) (state_by (setting_by given) old.journal.items)
     (event_of (setting_by given) (state_by (setting_by given) old.journal.items) slot job) →
-    HasRoomed old room → mid.outlet ≡ room.outlet → mid.journal.items ≡ room.journal.items ++ event ∷ [] →
+    HasCourseRoomed old room → mid.outlet ≡ room.outlet → mid.journal.items ≡ room.journal.items ++ event ∷ [] →
     HasDone (setting_by given) slot job event room.network mid.network → ∥ IsBetween given slot job old mid ∥₁
 did_between given slot job old room mid event is may legal roomed same_outlet grown done =
     let setting : Setting = setting_by given in
@@ -173,7 +173,7 @@ pub stepped : (given : Given) (slot : ℕ) (job : Job) (old room mid new : Cours
     ∥ IsLegalJob (setting_in run) (chain_state run) job ∥₁ →
     ((setting : Setting) (state : ChainState) → IsLegalJob setting state job →
     IsLegal setting state (event_of setting state slot job)) →
-    HasRoomed old room → mid.outlet ≡ room.outlet → mid.journal.items ≡ room.journal.items ++ event ∷ [] →
+    HasCourseRoomed old room → mid.outlet ≡ room.outlet → mid.journal.items ≡ room.journal.items ++ event ∷ [] →
     HasDone (setting_by given) slot job event room.network mid.network →
     ((setting : Setting) → IsCourse setting mid → HasReleased setting mid new) →
     ((setting : Setting) (state : ChainState) (events : List Event) → AreReleases setting state events →
@@ -210,7 +210,7 @@ still_rests setting old new same waiting drained stands is = record {
 }
 
 -- the same where room was made in its journal, and its network then stands for what it stood for
-pub roomed_rests : (given : Given) {old room : Course} (mid : Network) → HasRoomed old room →
+pub roomed_rests : (given : Given) {old room : Course} (mid : Network) → HasCourseRoomed old room →
     StandsStill room.network mid → ∥ IsCourseResting (setting_by given) old ∥₁ →
     ∥ IsCourseResting (setting_by given) (record { journal = room.journal; network = mid; outlet = room.outlet }) ∥₁
 roomed_rests given {old = old} {room = room} mid roomed stands rests =
@@ -220,5 +220,5 @@ roomed_rests given {old = old} {room = room} mid roomed stands rests =
     (λ state is. stands (setting_by given) state (subst (IsNetwork (setting_by given) state) (sym roomed.network) is)))
 
 -- no room was made
-pub unroomed : (course : Course) → HasRoomed course course
+pub unroomed : (course : Course) → HasCourseRoomed course course
 unroomed course = record { journal = refl; network = refl; waiting = refl; drained = refl }

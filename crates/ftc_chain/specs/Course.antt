@@ -33,7 +33,7 @@ pub record IsCourseResting (setting : Setting) (course : Course) : Type 0 where
   pub none_due : IsNoneDue setting (state_by setting course.journal.items)
 
 -- there may be more room, and nothing else differs
-pub record HasRoomed (old new : Course) : Type 0 where
+pub record HasCourseRoomed (old new : Course) : Type 0 where
   pub journal : new.journal.items ≡ old.journal.items
   pub network : new.network ≡ old.network
   pub waiting : new.outlet.waiting ≡ old.outlet.waiting

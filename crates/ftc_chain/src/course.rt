@@ -2,7 +2,7 @@
 
 ghost use Rattle.std.specs.Prelude.{◌≤◌, ◌<◌, ◌+◌, ◌-◌, ◌^◌, length, OnOk};
 ghost use Rattle.ftc_network.specs.Parts.{withheld_in};
-ghost use Rattle.ftc_chain.specs.Course.{HasRoomed};
+ghost use Rattle.ftc_chain.specs.Course.{HasCourseRoomed};
 
 use crate::outlet::Outlet;
 use ftc_base::NoMemory;
@@ -24,7 +24,7 @@ impl Course {
         ensures room { OnOk result (withheld_in self.old.network + 2 ≤ self.new.journal.spare) }
         ensures outlet { OnOk result (withheld_in self.old.network + 2 ≤ self.new.outlet.spare) }
         ensures few { OnOk result (length self.old.journal.items < 2 ^ 64 - 1) }
-        ensures same { HasRoomed self.old self.new }
+        ensures same { HasCourseRoomed self.old self.new }
     {
         if self.journal.len() as u64 == u64::MAX {
             return Err(NoMemory);
