@@ -1,4 +1,5 @@
-# `make demo` builds the program and runs it on the sample files; `make test` passes all checks.
+# `make demo` builds the program and runs it on the sample files; `make test` passes all checks. `make try` runs the main
+# sample before anything is proved.
 
 # A folder with further cases and their comparer, where one lies beside the checkout.
 CASES ?= ../shared/cases
@@ -9,7 +10,7 @@ JUDGED_SETS = middleboxes ring loss crash
 
 SOURCES := $(shell find crates crates.txt -name out -prune -o -type f -print)
 
-.PHONY: build demo test fmt edits lines wakes trial refusals bench install uninstall clean
+.PHONY: build demo try test fmt edits lines wakes trial refusals bench install uninstall clean
 
 # Where `make install` puts the program and its manual page.
 PREFIX ?= /usr/local
@@ -31,6 +32,17 @@ bin/ftc: $(SOURCES)
 
 demo: bin/ftc
 	./examples/demo bin/ftc out/demo
+
+# The sample in which a server crashes and comes back, run by a program that isn't proved and is thrown away: it is there
+# in a minute or two, where the first `make demo` proves everything first.
+CRASH = $(CURDIR)/examples/crash
+TRIED = $(CURDIR)/out/try
+try:
+	mkdir -p $(TRIED)
+	cd crates/ftc && rt try -- run $(CRASH)/chain $(CRASH)/script $(CRASH)/capture.pcap \
+		$(TRIED)/out.pcap $(TRIED)/journal $(TRIED)/report --alone $(CURDIR)/examples/schedule
+	cat $(TRIED)/report
+	@echo "out/try has the packets that came out, the journal and the report of this run; no proof stands behind it"
 
 # `rt ci` leaves the program that it proved, built and ran in its crate's folder: what follows tries that very program.
 test:
