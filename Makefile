@@ -51,6 +51,7 @@ test:
 	cp crates/ftc/out/ftc bin/ftc
 	edits/try --match
 	docs/reading
+	docs/names
 	$(MAKE) lines wakes
 	@if [ -x "$(CASES)/compare" ]; then \
 		FTC="$$PWD/bin/ftc" "$(CASES)/compare" examples/alone $(addprefix $(CASES)/,$(CASE_SETS)) && \
