@@ -14,6 +14,7 @@ use Rattle.ftc_base.proofs.EachOf.{all_push}
 use Rattle.ftc_script.specs.declared.fault.ScriptCause.{ScriptCause}
 use Rattle.ftc_script.specs.declared.fault.ScriptCause.TheVariants.{Order, Past, NotUp, NotDown, Link, TooLong}
 use Rattle.ftc_script.specs.declared.fault.ScriptFault.{ScriptFault}
+use Rattle.ftc_script.specs.declared.line.ScriptLine.{ScriptLine}
 use Rattle.ftc_script.specs.declared.line.ScriptLine.TheVariants.{Crash, Recover}
 use Rattle.ftc_script.specs.declared.line.LoseLine.{LoseLine}
 use Rattle.ftc_script.specs.declared.statement.Statement.{Statement}
@@ -22,6 +23,7 @@ use Rattle.ftc_script.specs.Steps.{all_live, with_at, last_of, IsInTurn, IsCrash
 use Rattle.ftc_script.specs.Script.{ScriptShape, IsScript, IsLose}
 use Rattle.ftc_base.specs.Reading.{◌>>=◌, ◌>>◌, unless}
 use Rattle.ftc_script.specs.Words.{statement_of}
+use Rattle.ftc_script.specs.Grammar.{crash_step, recover_step}
 use Rattle.ftc_script.specs.Grammar.{ScriptDraft, no_lines, live_in, with_step, with_lose, in_turn, unless_gone}
 use Rattle.ftc_script.specs.Grammar.{may_crash, may_recover, lose_line, add, line_step, fault_at, placed, down_of}
 use Rattle.ftc_script.specs.Grammar.{finished, finish, script_from, script_of, IsDraft}
@@ -124,6 +126,28 @@ recover_added ring packets draft at number server v is turn back = record {
   loses = is.loses;
 }
 
+crash_kept : (ring : RingShape) (packets : ℕ) (draft : ScriptDraft) (at number : ℕ) (step : ScriptLine) → IsRing ring →
+    IsDraft ring packets draft → crash_step ring packets draft at number ≡ Ok step →
+    IsDraft ring packets (with_step draft step)
+crash_kept ring packets draft at number step shape is e =
+    let one = both (in_turn ring packets (last_of 0 draft.steps) at number)
+    (λ server. may_crash ring (live_in draft) server >> Ok (Crash at server)) step e in
+    let two = both_of (may_crash ring (live_in draft) one.0) (Ok (Crash at one.0)) step one.2 in
+    let same : Crash at one.0 ≡ step = cc two.2 in
+    subst (λ line. IsDraft ring packets (with_step draft line)) same (crash_added ring packets draft at number one.0 is
+    one.1 (crash_passed ring (live_in draft) one.0 two.0 shape two.1))
+
+recover_kept : (ring : RingShape) (packets : ℕ) (draft : ScriptDraft) (at number : ℕ) (step : ScriptLine) →
+    IsDraft ring packets draft → recover_step ring packets draft at number ≡ Ok step →
+    IsDraft ring packets (with_step draft step)
+recover_kept ring packets draft at number step is e =
+    let one = both (in_turn ring packets (last_of 0 draft.steps) at number)
+    (λ server. may_recover (live_in draft) server >> Ok (Recover at server)) step e in
+    let two = both_of (may_recover (live_in draft) one.0) (Ok (Recover at one.0)) step one.2 in
+    let same : Recover at one.0 ≡ step = cc two.2 in
+    subst (λ line. IsDraft ring packets (with_step draft line)) same
+    (recover_added ring packets draft at number one.0 two.0 is one.1 two.1)
+
 -- a line that is added keeps the draft one of a script
 pub add_keeps : (ring : RingShape) (packets : ℕ) (draft : ScriptDraft) (place : ℕ) (statement : Statement)
     (next : ScriptDraft) → IsRing ring → IsDraft ring packets draft → add ring packets draft place statement ≡ Ok next →
@@ -131,29 +155,13 @@ pub add_keeps : (ring : RingShape) (packets : ℕ) (draft : ScriptDraft) (place 
 add_keeps ring packets draft place said.Nothing next shape is e = let same : draft ≡ next =
     cc in subst (IsDraft ring packets) same is
 add_keeps ring packets draft place (said.Crash at number) next shape is e =
-    let one = both (in_turn ring packets (last_of 0 draft.steps) at number)
-    (λ server. may_crash ring (live_in draft) server >> Ok (with_step draft (Crash at server))) next e in
-    let two = both_of (may_crash ring (live_in draft) one.0) (Ok (with_step draft (Crash at one.0))) next one.2 in
-    let turn = in_turn_passed ring packets (last_of 0 draft.steps) at number one.0 one.1 in
-    let crash = crash_passed ring (live_in draft) one.0 two.0 shape two.1 in
-    let same : with_step draft (Crash at one.0) ≡ next = cc two.2 in
-    subst (IsDraft ring packets) same
-    (record {
-      steps = steps_push ring packets 0 all_live draft.steps (Crash at one.0) is.steps (turn.1, crash);
-      loses = is.loses;
-    })
+    let one = both (crash_step ring packets draft at number) (λ step. Ok (with_step draft step)) next e in
+    let same : with_step draft one.0 ≡ next = cc one.2 in
+    subst (IsDraft ring packets) same (crash_kept ring packets draft at number one.0 shape is one.1)
 add_keeps ring packets draft place (said.Recover at number) next shape is e =
-    let one = both (in_turn ring packets (last_of 0 draft.steps) at number)
-    (λ server. may_recover (live_in draft) server >> Ok (with_step draft (Recover at server))) next e in
-    let two = both_of (may_recover (live_in draft) one.0) (Ok (with_step draft (Recover at one.0))) next one.2 in
-    let turn = in_turn_passed ring packets (last_of 0 draft.steps) at number one.0 one.1 in
-    let back = recover_passed (live_in draft) one.0 two.0 two.1 in
-    let same : with_step draft (Recover at one.0) ≡ next = cc two.2 in
-    subst (IsDraft ring packets) same
-    (record {
-      steps = steps_push ring packets 0 all_live draft.steps (Recover at one.0) is.steps (turn.1, back);
-      loses = is.loses;
-    })
+    let one = both (recover_step ring packets draft at number) (λ step. Ok (with_step draft step)) next e in
+    let same : with_step draft one.0 ≡ next = cc one.2 in
+    subst (IsDraft ring packets) same (recover_kept ring packets draft at number one.0 is one.1)
 add_keeps ring packets draft place (said.Lose link origin) next shape is e =
     let one = both (lose_line ring packets place link origin) (λ line. Ok (with_lose draft line)) next e in
     let lose = lose_passed ring packets place link origin one.0 one.1 in
@@ -226,18 +234,14 @@ add_few : (ring : RingShape) (packets : ℕ) (draft : ScriptDraft) (place : ℕ)
 add_few ring packets draft place said.Nothing next e = let same : draft ≡ next =
     cc in subst (λ (d : ScriptDraft). length d.steps ≤ length draft.steps + 1) same (omega arith)
 add_few ring packets draft place (said.Crash at number) next e =
-    let one = both (in_turn ring packets (last_of 0 draft.steps) at number)
-    (λ server. may_crash ring (live_in draft) server >> Ok (with_step draft (Crash at server))) next e in
-    let two = both_of (may_crash ring (live_in draft) one.0) (Ok (with_step draft (Crash at one.0))) next one.2 in
-    let same : with_step draft (Crash at one.0) ≡ next = cc two.2 in
-    let more = one_more draft.steps (Crash at one.0) in
+    let one = both (crash_step ring packets draft at number) (λ step. Ok (with_step draft step)) next e in
+    let same : with_step draft one.0 ≡ next = cc one.2 in
+    let more = one_more draft.steps one.0 in
     subst (λ (d : ScriptDraft). length d.steps ≤ length draft.steps + 1) same (omega (arith, more))
 add_few ring packets draft place (said.Recover at number) next e =
-    let one = both (in_turn ring packets (last_of 0 draft.steps) at number)
-    (λ server. may_recover (live_in draft) server >> Ok (with_step draft (Recover at server))) next e in
-    let two = both_of (may_recover (live_in draft) one.0) (Ok (with_step draft (Recover at one.0))) next one.2 in
-    let same : with_step draft (Recover at one.0) ≡ next = cc two.2 in
-    let more = one_more draft.steps (Recover at one.0) in
+    let one = both (recover_step ring packets draft at number) (λ step. Ok (with_step draft step)) next e in
+    let same : with_step draft one.0 ≡ next = cc one.2 in
+    let more = one_more draft.steps one.0 in
     subst (λ (d : ScriptDraft). length d.steps ≤ length draft.steps + 1) same (omega (arith, more))
 add_few ring packets draft place (said.Lose link origin) next e =
     let one = both (lose_line ring packets place link origin) (λ line. Ok (with_lose draft line)) next e in

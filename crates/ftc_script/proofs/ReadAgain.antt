@@ -23,7 +23,7 @@ use Rattle.ftc_script.specs.declared.statement.Statement.{Statement}
 use Rattle.ftc_script.specs.declared.statement.Statement.TheVariants as said
 use Rattle.ftc_script.specs.Steps.{all_live, with_at, live_after, live_after_all, last_of, IsStep, AreSteps}
 use Rattle.ftc_script.specs.Script.{ScriptShape, IsScript, IsLose}
-use Rattle.ftc_base.specs.Reading.{◌>>◌, unless}
+use Rattle.ftc_base.specs.Reading.{◌>>=◌, ◌>>◌, unless}
 use Rattle.ftc_script.specs.Words.{statement_of}
 use Rattle.ftc_script.specs.Grammar.{ScriptDraft, no_lines, live_in, with_step, with_lose, unless_gone, may_crash, add}
 use Rattle.ftc_script.specs.Grammar.{line_step, placed, down_of, finish, script_from, script_of}
@@ -96,7 +96,7 @@ crash_added ring packets last live draft place at server shape same alike is =
       within,
       entered,
       ordered,
-    ) (ap (λ (r : Result (Unit {0}) ScriptCause). r >> Ok (with_step draft (Crash at server))) here)
+    ) (ap (λ (r : Result (Unit {0}) ScriptCause). (r >> Ok (Crash at server)) >>= λ step. Ok (with_step draft step)) here)
 
 recover_added : (ring : RingShape) (packets last : ℕ) (live : ℕ → Bool) (draft : ScriptDraft) (place at server : ℕ) →
     last ≡ last_of 0 draft.steps → live ≡ live_in draft → IsStep ring packets last live (Recover at server) →

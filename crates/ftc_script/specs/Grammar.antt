@@ -67,15 +67,25 @@ lose_line ring packets place number origin =
       origin = origin;
     })
 
+-- the crash of a server, in its turn
+abbrev pub crash_step : RingShape → ℕ → ScriptDraft → ℕ → ℕ → Result ScriptLine ScriptCause
+crash_step ring packets draft at number =
+    in_turn ring packets (last_of 0 draft.steps) at number >>= λ server.
+    may_crash ring (live_in draft) server >> Ok (Crash at server)
+
+-- the recovery of a server, in its turn
+abbrev pub recover_step : RingShape → ℕ → ScriptDraft → ℕ → ℕ → Result ScriptLine ScriptCause
+recover_step ring packets draft at number =
+    in_turn ring packets (last_of 0 draft.steps) at number >>= λ server.
+    may_recover (live_in draft) server >> Ok (Recover at server)
+
 -- the lines with one more, which stands at that place
 abbrev pub add : RingShape → ℕ → ScriptDraft → ℕ → Statement → Result ScriptDraft ScriptCause
 add ring packets draft place said.Nothing = Ok draft
-add ring packets draft place (said.Crash at number) =
-    in_turn ring packets (last_of 0 draft.steps) at number >>= λ server.
-    may_crash ring (live_in draft) server >> Ok (with_step draft (Crash at server))
-add ring packets draft place (said.Recover at number) =
-    in_turn ring packets (last_of 0 draft.steps) at number >>= λ server.
-    may_recover (live_in draft) server >> Ok (with_step draft (Recover at server))
+add ring packets draft place (said.Crash at number) = crash_step ring packets draft at number >>= λ step.
+    Ok (with_step draft step)
+add ring packets draft place (said.Recover at number) = recover_step ring packets draft at number >>= λ step.
+    Ok (with_step draft step)
 add ring packets draft place (said.Lose link origin) = lose_line ring packets place link origin >>= λ line.
     Ok (with_lose draft line)
 

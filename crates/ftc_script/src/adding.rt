@@ -4,6 +4,7 @@ ghost use Rattle.std.specs.Prelude.{◌≡◌, IfOk, OnOk};
 ghost use Rattle.ftc_base.specs.Refused.{IsReading};
 ghost use Rattle.ftc_script.specs.Steps.{last_of, IsCrash};
 ghost use Rattle.ftc_script.specs.Grammar.{live_in, server_in, in_turn, may_crash, may_recover, lose_line, add};
+ghost use Rattle.ftc_script.specs.Grammar.{crash_step, recover_step, with_step};
 ghost use Rattle.ftc_script.specs.Grammar.{IsDraft};
 
 use crate::draft::Draft;
@@ -93,6 +94,40 @@ fn lose_line(
     }
 }
 
+/// The crash of a server, in its turn.
+fn crash_step(
+    ring: &Ring,
+    packets: u32,
+    draft: &Draft,
+    at: PacketNo,
+    number: u32,
+) -> Result<ScriptLine, ScriptCause>
+    requires { IsDraft ring.now packets draft.now }
+    ensures value { result ≡ crash_step ring.now packets draft.now at number }
+    ensures bounds { IfOk result (λ step. IsDraft ring.now packets (with_step draft.now step)) }
+{
+    let server = in_turn(ring, packets, draft.last(), at, number)?;
+    may_crash(ring, draft, server)?;
+    Ok(ScriptLine::Crash { at, server })
+}
+
+/// The recovery of a server, in its turn.
+fn recover_step(
+    ring: &Ring,
+    packets: u32,
+    draft: &Draft,
+    at: PacketNo,
+    number: u32,
+) -> Result<ScriptLine, ScriptCause>
+    requires { IsDraft ring.now packets draft.now }
+    ensures value { result ≡ recover_step ring.now packets draft.now at number }
+    ensures bounds { IfOk result (λ step. IsDraft ring.now packets (with_step draft.now step)) }
+{
+    let server = in_turn(ring, packets, draft.last(), at, number)?;
+    may_recover(draft, server)?;
+    Ok(ScriptLine::Recover { at, server })
+}
+
 /// The lines with one more, which stands at that place.
 pub fn add(
     ring: &Ring,
@@ -105,21 +140,14 @@ pub fn add(
     ensures value { IsReading result (add ring.now packets draft place statement) }
     ensures bounds { IfOk result (IsDraft ring.now packets) }
 {
-    match statement {
-        Statement::Nothing => Ok(draft),
-        Statement::Crash { at, server } => {
-            let server = in_turn(ring, packets, draft.last(), at, server)?;
-            may_crash(ring, &draft, server)?;
-            Ok(draft.with_step(ScriptLine::Crash { at, server })?)
-        }
-        Statement::Recover { at, server } => {
-            let server = in_turn(ring, packets, draft.last(), at, server)?;
-            may_recover(&draft, server)?;
-            Ok(draft.with_step(ScriptLine::Recover { at, server })?)
-        }
+    let step = match statement {
+        Statement::Nothing => return Ok(draft),
+        Statement::Crash { at, server } => crash_step(ring, packets, &draft, at, server)?,
+        Statement::Recover { at, server } => recover_step(ring, packets, &draft, at, server)?,
         Statement::Lose { link, origin } => {
             let line = lose_line(ring, packets, place, link, origin)?;
-            Ok(draft.with_lose(line)?)
+            return Ok(draft.with_lose(line)?);
         }
-    }
+    };
+    Ok(draft.with_step(step)?)
 }
