@@ -182,6 +182,8 @@ impl Network {
 
     /// A server that is down begins anew with what its two live neighbours have. The answer is the visits that this
     /// undoes.
+    // A recovery is rare and needs a large frame, for which each event would pay where it is inlined.
+    #[inline(never)]
     pub fn recover(
         &mut self,
         alloc: Global,
