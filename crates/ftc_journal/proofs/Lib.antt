@@ -1,4 +1,3 @@
-pub mod Grouping
 pub mod Joining
 pub mod Parts
 pub mod Letters

@@ -1,35 +1,55 @@
 //! The line of one event.
 
-ghost use Rattle.std.specs.Prelude.{◌≡◌, ◌++◌, OnOk, IfOk, string_bytes};
+ghost use Rattle.std.specs.Prelude.{◌≡◌, ◌++◌, OnOk};
 ghost use Rattle.std.specs.List.{flat_map};
-ghost use Rattle.ftc_journal.specs.Text.{spaced_name, words_of};
+ghost use Rattle.ftc_journal.specs.Text.{spaced, spaced_name, words_of};
 
 use crate::event::{Event, VisitNames};
-use std::alloc::{AllocError, Global};
+use ftc_base::{Bytes, NoMemory};
+use itoa::Buffer;
 
-/// Adds each visit of the list, with a space before it.
-fn push_names(alloc: Global, text: &mut String, names: &VisitNames) -> Result<(), AllocError>
-    ensures { OnOk result (string_bytes text.new ≡ string_bytes text.old ++ flat_map spaced_name names.now) }
+/// Adds a number, with a space before it.
+fn append_spaced(number: u32, out: &mut Bytes) -> Result<(), NoMemory>
+    ensures { OnOk result (out.new ≡ out.old ++ spaced number) }
 {
-    for name in names.as_slice() {
-        let server = name.server.number();
-        let packet = name.packet;
-        let piece = format!(in alloc; " {server}:{packet}")?;
-        text.push_str(piece.as_str())?;
+    let mut digits = Buffer::new();
+    out.append(b" ")?;
+    out.append(digits.format(number).as_bytes())
+}
+
+/// Adds the first word of a line, and the numbers behind it.
+fn append_numbers(first: &[u8], numbers: &[u32], out: &mut Bytes) -> Result<(), NoMemory>
+    ensures { OnOk result (out.new ≡ (out.old ++ first.now) ++ flat_map spaced numbers.now) }
+{
+    out.append(first)?;
+    for number in numbers {
+        append_spaced(*number, out)?;
     }
     Ok(())
 }
 
-/// The words of an event, without a line feed.
+/// Adds each visit of the list, with a space before it.
+fn append_names(names: &VisitNames, out: &mut Bytes) -> Result<(), NoMemory>
+    ensures { OnOk result (out.new ≡ out.old ++ flat_map spaced_name names.now) }
+{
+    let mut digits = Buffer::new();
+    for name in names.as_slice() {
+        append_spaced(u32::from(name.server.number()), out)?;
+        out.append(b":")?;
+        out.append(digits.format(name.packet).as_bytes())?;
+    }
+    Ok(())
+}
+
+/// Adds the words of an event, without a line feed.
 #[tactic(auto, unfolding(crate::specs::Text::words_of))]
-pub fn words(alloc: Global, event: &Event) -> Result<String, AllocError>
-    ensures { IfOk result (λ text. string_bytes text ≡ words_of event.now) }
+pub fn append_words(event: &Event, out: &mut Bytes) -> Result<(), NoMemory>
+    ensures { OnOk result (out.new ≡ out.old ++ words_of event.now) }
 {
     match event {
-        Event::Enter { packet } => format!(in alloc; "enter {packet}"),
+        Event::Enter { packet } => append_numbers(b"enter", &[*packet], out),
         Event::Take { link, origin } => {
-            let link = link.number();
-            format!(in alloc; "take {link} {origin}")
+            append_numbers(b"take", &[u32::from(link.number()), *origin], out)
         }
         Event::Apply {
             server,
@@ -37,43 +57,31 @@ pub fn words(alloc: Global, event: &Event) -> Result<String, AllocError>
             group,
             packet,
         } => {
-            let server = server.number();
-            let group = group.number();
-            format!(in alloc; "apply {server} {origin} {group} {packet}")
+            let (server, group) = (u32::from(server.number()), u32::from(group.number()));
+            append_numbers(b"apply", &[server, *origin, group, *packet], out)
         }
         Event::Visit {
             server,
             packet,
             worker,
         } => {
-            let server = server.number();
-            let worker = worker.number();
-            format!(in alloc; "visit {server} {packet} {worker}")
+            let (server, worker) = (u32::from(server.number()), u32::from(worker.number()));
+            append_numbers(b"visit", &[server, *packet, worker], out)
         }
         Event::Pass { server, origin } => {
-            let server = server.number();
-            format!(in alloc; "pass {server} {origin}")
+            append_numbers(b"pass", &[u32::from(server.number()), *origin], out)
         }
         Event::Lose { server, origin } => {
-            let server = server.number();
-            format!(in alloc; "lose {server} {origin}")
+            append_numbers(b"lose", &[u32::from(server.number()), *origin], out)
         }
-        Event::Carry { origin } => format!(in alloc; "carry {origin}"),
-        Event::Crash { server } => {
-            let server = server.number();
-            format!(in alloc; "crash {server}")
-        }
+        Event::Carry { origin } => append_numbers(b"carry", &[*origin], out),
+        Event::Crash { server } => append_numbers(b"crash", &[u32::from(server.number())], out),
         Event::Recover { server, undone } => {
-            let server = server.number();
-            let mut text = format!(in alloc; "recover {server}")?;
-            push_names(alloc, &mut text, undone)?;
-            Ok(text)
+            append_numbers(b"recover", &[u32::from(server.number())], out)?;
+            append_names(undone, out)
         }
-        Event::Pull { link } => {
-            let link = link.number();
-            format!(in alloc; "pull {link}")
-        }
-        Event::Propagate { origin } => format!(in alloc; "propagate {origin}"),
-        Event::Release { packet } => format!(in alloc; "release {packet}"),
+        Event::Pull { link } => append_numbers(b"pull", &[u32::from(link.number())], out),
+        Event::Propagate { origin } => append_numbers(b"propagate", &[*origin], out),
+        Event::Release { packet } => append_numbers(b"release", &[*packet], out),
     }
 }

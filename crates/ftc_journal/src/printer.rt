@@ -5,17 +5,16 @@ ghost use Rattle.ftc_journal.specs.Text.{line_of, spelling};
 
 use crate::event::Event;
 use crate::journal::Journal;
-use crate::line::words;
+use crate::line::append_words;
 use ftc_base::{Bytes, NoMemory};
 use std::alloc::Global;
 
 /// Adds the line of an event.
-fn append_line(alloc: Global, event: &Event, out: &mut Bytes) -> Result<(), NoMemory>
+fn append_line(event: &Event, out: &mut Bytes) -> Result<(), NoMemory>
     ensures { OnOk result (out.new ≡ out.old ++ line_of event.now) }
 {
-    let mut line = words(alloc, event)?;
-    line.push('\n')?;
-    out.append(line.as_bytes())
+    append_words(event, out)?;
+    out.append(b"\n")
 }
 
 /// The text of a journal: the header line `ftc-journal 2`, and a line for each event. Each line ends
@@ -26,7 +25,7 @@ pub fn print(alloc: Global, journal: &Journal) -> Result<Bytes, NoMemory>
     let mut out = Bytes::new(alloc);
     out.append(b"ftc-journal 2\n")?;
     for event in journal.as_slice() {
-        append_line(alloc, event, &mut out)?;
+        append_line(event, &mut out)?;
     }
     Ok(out)
 }

@@ -1,9 +1,0 @@
--- the visits so far have been added
-use Rattle.std.proofs.Common.{◌≡◌, ◌++◌, string_bytes, take}
-use Rattle.std.specs.List.{flat_map}
-use Rattle.ftc_journal.specs.Text.{spaced_name}
-use Rattle.ftc_journal.proofs.line.push_names.Given as goal
-
-abbrev pub invariant-loop-name : goal.invariant-loop-name
-invariant-loop-name l = string_bytes l.text ≡ string_bytes l.fn.text
-    ++ flat_map spaced_name (take l.name-index l.name-items)
