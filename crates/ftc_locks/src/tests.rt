@@ -43,6 +43,19 @@ fn leave(rt: &impl Abort, table: &mut LockTable, number: u8)
     table.free_all(worker(rt, number));
 }
 
+/// The answer is the wanted one.
+fn is(rt: &impl Abort, answer: Acquired, wanted: Acquired) {
+    assert_eq!(rt; answer, wanted);
+}
+
+/// These workers hold a partition, and one of them to change it or none.
+fn is_held(rt: &impl Abort, table: &LockTable, partition: u8, by: WorkerSet, exclusive: bool)
+    requires { partition < table.now.partitions }
+{
+    assert_eq!(rt; table.holders(partition), by);
+    assert_eq!(rt; table.exclusive(partition), exclusive);
+}
+
 #[test]
 fn an_older_worker_wounds_two(rt: HostRuntime) {
     let mut table = empty();
@@ -50,13 +63,11 @@ fn an_older_worker_wounds_two(rt: HostRuntime) {
     let _ = ask(&rt, &mut table, 2, 1, false);
     let _ = ask(&rt, &mut table, 3, 1, false);
     let both = WorkerSet::new().with(2).with(3);
-    assert_eq!(rt; table.holders(1), both);
-    assert!(rt; !table.exclusive(1));
+    is_held(&rt, &table, 1, both, false);
     let answer = ask(&rt, &mut table, 1, 1, true);
-    assert_eq!(rt; answer, Acquired::Granted { wounded: both });
-    assert_eq!(rt; table.holders(1), WorkerSet::new().with(1));
-    assert_eq!(rt; table.holders(0), WorkerSet::new());
-    assert!(rt; table.exclusive(1) && !table.exclusive(0));
+    is(&rt, answer, Acquired::Granted { wounded: both });
+    is_held(&rt, &table, 1, WorkerSet::new().with(1), true);
+    is_held(&rt, &table, 0, WorkerSet::new(), false);
     assert_eq!(rt; table.partitions(), 4);
 }
 
@@ -68,13 +79,13 @@ fn a_younger_worker_waits_for_the_oldest(rt: HostRuntime) {
     let _ = ask(&rt, &mut table, 1, 1, false);
     let (first, second) = (worker(&rt, 1), worker(&rt, 2));
     let answer = ask(&rt, &mut table, 3, 1, true);
-    assert_eq!(rt; answer, Acquired::Blocked { holder: first });
+    is(&rt, answer, Acquired::Blocked { holder: first });
     leave(&rt, &mut table, 1);
     let answer = ask(&rt, &mut table, 3, 1, true);
-    assert_eq!(rt; answer, Acquired::Blocked { holder: second });
+    is(&rt, answer, Acquired::Blocked { holder: second });
     leave(&rt, &mut table, 2);
     let answer = ask(&rt, &mut table, 3, 1, true);
     let wounded = WorkerSet::new();
-    assert_eq!(rt; answer, Acquired::Granted { wounded });
-    assert_eq!(rt; table.holders(1), WorkerSet::new().with(3));
+    is(&rt, answer, Acquired::Granted { wounded });
+    is_held(&rt, &table, 1, WorkerSet::new().with(3), true);
 }
