@@ -14,7 +14,7 @@ pub type VisitNames = Items<VisitName>;
 
 /// One step of a run. A link is named by the server that it leaves, a group by its head, and a message
 /// by its origin: the number of the packet with which it began, or a number behind all packets.
-#[derive(Debug, Drop)]
+#[derive(Drop)]
 pub enum Event {
     /// A packet comes to server 0.
     Enter {

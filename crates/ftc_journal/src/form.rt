@@ -10,14 +10,14 @@ use crate::limits::FIRST_SERVERS;
 use ftc_base::limits::MOST_SERVERS;
 
 /// Which header a text has.
-#[derive(Clone, Copy, Debug, PartialEq, Eq)]
+#[derive(Clone, Copy)]
 pub enum Version {
     First,
     Second,
 }
 
 /// An event with one number.
-#[derive(Clone, Copy, Debug, PartialEq, Eq)]
+#[derive(Clone, Copy)]
 pub enum Single {
     Enter,
     Carry,
@@ -28,7 +28,7 @@ pub enum Single {
 }
 
 /// An event with a server or a link, and an origin.
-#[derive(Clone, Copy, Debug, PartialEq, Eq)]
+#[derive(Clone, Copy)]
 pub enum Double {
     Take,
     Pass,
@@ -36,7 +36,7 @@ pub enum Double {
 }
 
 /// What the first word of a line tells.
-#[derive(Clone, Copy, Debug, PartialEq, Eq)]
+#[derive(Clone, Copy)]
 pub enum Form {
     Single(Single),
     Double(Double),

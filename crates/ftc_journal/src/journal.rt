@@ -9,7 +9,7 @@ use std::alloc::Global;
 use std::marker::Model;
 
 /// Events in the order in which they happened, numbered from 0.
-#[derive(Debug, Drop)]
+#[derive(Drop)]
 pub struct Journal {
     events: Vec<Event>,
 }

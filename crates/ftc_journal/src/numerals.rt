@@ -11,7 +11,7 @@ use ftc_base::{Items, Lexical, Refuse, number, split_part};
 use std::alloc::Global;
 
 /// The numbers of an undone visit.
-#[derive(Clone, Copy, Debug, PartialEq, Eq)]
+#[derive(Clone, Copy)]
 pub struct NameFigures {
     pub server: Option<u32>,
     pub packet: Option<u32>,
