@@ -4,14 +4,14 @@ use ftc_firewall::FirewallRule;
 use ftc_mbox::Rules;
 
 /// The number of the line `f F`, and where that line stands.
-#[derive(Clone, Copy, Debug, PartialEq, Eq)]
+#[derive(Clone, Copy)]
 pub struct Failures {
     pub number: u8,
     pub line: u64,
 }
 
 /// A chain of which some lines are read.
-#[derive(Debug, Drop)]
+#[derive(Drop)]
 pub struct Draft {
     pub failures: Option<Failures>,
     pub partitions: Option<u8>,

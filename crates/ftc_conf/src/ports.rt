@@ -9,7 +9,7 @@ use crate::values::{cut, has_byte, number_from_to, number_word};
 use crate::words::is_same;
 
 /// The ports from the first to the last.
-#[derive(Clone, Copy, Debug, PartialEq, Eq)]
+#[derive(Clone, Copy)]
 pub struct PortRange {
     pub first: u16,
     pub last: u16,

@@ -4,7 +4,7 @@ use ftc_firewall::FireLine;
 use ftc_mbox::Rule;
 
 /// The form of a line of the middleboxes, which its first word tells.
-#[derive(Clone, Copy, Debug, PartialEq, Eq)]
+#[derive(Clone, Copy)]
 pub enum Form {
     Pass,
     Monitor,
@@ -17,7 +17,7 @@ pub enum Form {
 }
 
 /// What a line says.
-#[derive(Debug, Drop)]
+#[derive(Drop)]
 pub enum Statement {
     /// Nothing: it is a comment, or it has no words.
     Nothing,

@@ -7,14 +7,17 @@ use super::*;
 use ftc_base::Refuse;
 use ftc_mbox::ChainSpec;
 use std::alloc::{AllocError, Global};
+use std::process::Abort;
 use std::test::Fail;
 
 /// A text and what is wrong with it: the line and the number of the cause.
 type Case = (&'static str, Option<(u64, u8)>);
 
-/// The failures, the partitions and the count of rules of a chain, or what is wrong with its text.
-/// Memory that is refused counts as line 0.
-fn parts_of(read: Result<ChainSpec, Refuse<ChainFault>>) -> Result<(u8, u8, usize), (u64, u8)> {
+/// The failures, the partitions and the count of rules of a chain, or the line and the number of the cause.
+type Told = Result<(u8, u8, usize), (u64, u8)>;
+
+/// What is told of a chain, or what is wrong with its text. Memory that is refused counts as line 0.
+fn parts_of(read: Result<ChainSpec, Refuse<ChainFault>>) -> Told {
     match read {
         Ok(chain) => Ok((
             chain.failures(),
@@ -36,6 +39,27 @@ fn fault_behind(alloc: Global, lines: &[u8]) -> Result<Option<(u64, u8)>, AllocE
     let mut text = b"f 0\npartitions 4\n".to_vec(alloc)?;
     text.extend_from_slice(lines)?;
     Ok(fault_of(alloc, text.as_slice()))
+}
+
+/// What is told of a text of a front, a piece so many times, and an end.
+fn parts_of_many(
+    alloc: Global,
+    front: &str,
+    piece: &str,
+    times: u8,
+    end: &str,
+) -> Result<Told, AllocError> {
+    let mut text = front.as_bytes().to_vec(alloc)?;
+    for _ in 0..times {
+        text.extend_from_slice(piece.as_bytes())?;
+    }
+    text.extend_from_slice(end.as_bytes())?;
+    Ok(parts_of(read_chain(alloc, text.as_slice())))
+}
+
+/// Compares what is wrong with a text.
+fn is_wrong(rt: &impl Abort, text: &str, told: Option<(u64, u8)>, wanted: Option<(u64, u8)>) {
+    assert_eq!(rt; told, wanted, "{text}");
 }
 
 const WHOLE_TEXTS: [Case; 16] = [
@@ -60,7 +84,7 @@ const WHOLE_TEXTS: [Case; 16] = [
 #[test]
 fn whole_texts(rt: HostRuntime) {
     for (text, wanted) in WHOLE_TEXTS {
-        assert_eq!(rt; fault_of(rt.alloc(), text.as_bytes()), wanted, "{text}");
+        is_wrong(&rt, text, fault_of(rt.alloc(), text.as_bytes()), wanted);
     }
 }
 
@@ -131,56 +155,67 @@ const MIDDLEBOXES: [Case; 40] = [
 #[test]
 fn middleboxes(rt: HostRuntime) -> Result<(), Fail> {
     for (lines, wanted) in MIDDLEBOXES {
-        assert_eq!(rt;
-            fault_behind(rt.alloc(), lines.as_bytes())?,
-            wanted,
-            "{lines}"
-        );
+        let told = fault_behind(rt.alloc(), lines.as_bytes())?;
+        is_wrong(&rt, lines, told, wanted);
     }
     Ok(())
 }
 
 #[test]
 fn a_comment_may_hold_any_byte(rt: HostRuntime) -> Result<(), Fail> {
-    let lines = b"# \xc3\xff\npass\n";
-    assert_eq!(rt; fault_behind(rt.alloc(), lines)?, None);
-    assert_eq!(rt; fault_behind(rt.alloc(), b"pass \xc3\n")?, Some((3, 1)));
+    let told = fault_behind(rt.alloc(), b"# \xc3\xff\npass\n")?;
+    is_wrong(&rt, "a comment", told, None);
+    let told = fault_behind(rt.alloc(), b"pass \xc3\n")?;
+    is_wrong(&rt, "a line", told, Some((3, 1)));
     Ok(())
 }
 
-#[test]
-fn seventeen_servers(rt: HostRuntime) -> Result<(), Fail> {
-    let mut lines = b"".to_vec(rt.alloc())?;
-    for _ in 0..15 {
-        lines.extend_from_slice(b"pass\n")?;
-    }
-    lines.extend_from_slice(b"spare\n")?;
-    assert_eq!(rt; fault_behind(rt.alloc(), lines.as_slice())?, None);
-    lines.extend_from_slice(b"spare 8\n")?;
-    assert_eq!(rt; fault_behind(rt.alloc(), lines.as_slice())?, Some((19, 9)));
-    Ok(())
-}
+/// Texts with as many servers, lines of a firewall and backends as there may be, and with one more: a front, a piece
+/// and how many times it stands there, an end, and what is wrong.
+const MANY: [(&str, &str, u8, &str, Option<(u64, u8)>); 6] = [
+    ("f 0\npartitions 4\n", "pass\n", 15, "spare\n", None),
+    (
+        "f 0\npartitions 4\n",
+        "pass\n",
+        15,
+        "spare\nspare 8\n",
+        Some((19, 9)),
+    ),
+    (
+        "f 0\npartitions 4\nfirewall\n",
+        "allow any any any any\n",
+        64,
+        "",
+        None,
+    ),
+    (
+        "f 0\npartitions 4\nfirewall\n",
+        "allow any any any any\n",
+        64,
+        "deny\n",
+        Some((68, 10)),
+    ),
+    (
+        "f 0\npartitions 4\nbalance 1.2.3.4:80 to 1.1.1.1",
+        ",1.1.1.1",
+        15,
+        "",
+        None,
+    ),
+    (
+        "f 0\npartitions 4\nbalance 1.2.3.4:80 to 1.1.1.1",
+        ",1.1.1.1",
+        15,
+        ",x",
+        Some((3, 10)),
+    ),
+];
 
 #[test]
-fn sixty_five_firewall_lines(rt: HostRuntime) -> Result<(), Fail> {
-    let mut lines = b"firewall\n".to_vec(rt.alloc())?;
-    for _ in 0..64 {
-        lines.extend_from_slice(b"allow any any any any\n")?;
+fn one_more_than_there_may_be(rt: HostRuntime) -> Result<(), Fail> {
+    for (front, piece, times, end, wanted) in MANY {
+        let told = parts_of_many(rt.alloc(), front, piece, times, end)?;
+        is_wrong(&rt, end, told.err(), wanted);
     }
-    assert_eq!(rt; fault_behind(rt.alloc(), lines.as_slice())?, None);
-    lines.extend_from_slice(b"deny\n")?;
-    assert_eq!(rt; fault_behind(rt.alloc(), lines.as_slice())?, Some((68, 10)));
-    Ok(())
-}
-
-#[test]
-fn seventeen_backends(rt: HostRuntime) -> Result<(), Fail> {
-    let mut line = b"balance 1.2.3.4:80 to 1.1.1.1".to_vec(rt.alloc())?;
-    for _ in 0..15 {
-        line.extend_from_slice(b",1.1.1.1")?;
-    }
-    assert_eq!(rt; fault_behind(rt.alloc(), line.as_slice())?, None);
-    line.extend_from_slice(b",x")?;
-    assert_eq!(rt; fault_behind(rt.alloc(), line.as_slice())?, Some((3, 10)));
     Ok(())
 }

@@ -75,18 +75,34 @@ fn is_that_balancer(rule: &Rule) -> bool {
     }
 }
 
+/// The monitor of `EVERY_KIND`, which counts in 16 groups.
+fn is_that_monitor(rule: &Rule) -> bool {
+    matches!(rule, Rule::Monitor { groups: 16 })
+}
+
+fn passes(rule: &Rule) -> bool {
+    matches!(rule, Rule::Pass)
+}
+
+/// Which rules are those of `EVERY_KIND`; none where there are more or fewer.
+fn those_rules(rules: &[Rule]) -> [bool; 6] {
+    match rules {
+        [nat, firewall, balancer, monitor, pass, spare] => [
+            is_that_nat(nat),
+            is_that_firewall(firewall),
+            is_that_balancer(balancer),
+            is_that_monitor(monitor),
+            passes(pass),
+            passes(spare),
+        ],
+        _ => [false; 6],
+    }
+}
+
 #[test]
 fn every_kind(rt: HostRuntime) -> Result<(), Fail> {
     let chain = read_chain(rt.alloc(), EVERY_KIND).ok().ok_or("refused")?;
-    assert_eq!(rt; chain.failures(), 0);
-    assert_eq!(rt; chain.partitions(), 16);
-    let rules = chain.rules().as_slice();
-    assert_eq!(rt; rules.len(), 6);
-    assert!(rt; is_that_nat(&rules[0]));
-    assert!(rt; is_that_firewall(&rules[1]));
-    assert!(rt; is_that_balancer(&rules[2]));
-    assert!(rt; matches!(rules[3], Rule::Monitor { groups: 16 }));
-    assert!(rt; matches!(rules[4], Rule::Pass));
-    assert!(rt; matches!(rules[5], Rule::Pass));
+    assert_eq!(rt; (chain.failures(), chain.partitions()), (0, 16));
+    assert_eq!(rt; those_rules(chain.rules().as_slice()), [true; 6]);
     Ok(())
 }

@@ -1,12 +1,17 @@
 //! Chains of which servers may be down.
 
-use super::parts_of;
+use super::{Told, parts_of, parts_of_many};
 use crate::{read_chain, read_chain_within};
+use std::process::Abort;
 use std::test::Fail;
 
-/// A text, and the failures, the partitions and the count of rules of its chain, or the line and the
-/// number of the cause.
-type Case = (&'static str, Result<(u8, u8, usize), (u64, u8)>);
+/// A text, and what has to be told of it.
+type Case = (&'static str, Told);
+
+/// Compares what is told of a text.
+fn is_told(rt: &impl Abort, text: &str, told: Told, wanted: Told) {
+    assert_eq!(rt; told, wanted, "{text}");
+}
 
 const WHOLE_GRAMMAR: [Case; 9] = [
     ("f 1\npartitions 4\npass\nmonitor 8\n", Ok((1, 4, 2))),
@@ -30,21 +35,16 @@ const WHOLE_GRAMMAR: [Case; 9] = [
 fn whole_grammar(rt: HostRuntime) {
     for (text, wanted) in WHOLE_GRAMMAR {
         let told = parts_of(read_chain(rt.alloc(), text.as_bytes()));
-        assert_eq!(rt; told, wanted, "{text}");
+        is_told(&rt, text, told, wanted);
     }
 }
 
 #[test]
 fn fifteen_of_sixteen_servers(rt: HostRuntime) -> Result<(), Fail> {
-    let mut text = b"f 15\npartitions 4\n".to_vec(rt.alloc())?;
-    for _ in 0..15 {
-        text.extend_from_slice(b"pass\n")?;
+    for (end, wanted) in [("", Err((1, 11))), ("spare\n", Ok((15, 4, 16)))] {
+        let told = parts_of_many(rt.alloc(), "f 15\npartitions 4\n", "pass\n", 15, end)?;
+        is_told(&rt, end, told, wanted);
     }
-    let told = parts_of(read_chain(rt.alloc(), text.as_slice()));
-    assert_eq!(rt; told, Err((1, 11)));
-    text.extend_from_slice(b"spare\n")?;
-    let told = parts_of(read_chain(rt.alloc(), text.as_slice()));
-    assert_eq!(rt; told, Ok((15, 4, 16)));
     Ok(())
 }
 
@@ -60,16 +60,19 @@ const NO_FAILURES: [Case; 5] = [
 fn within_no_failures(rt: HostRuntime) {
     for (text, wanted) in NO_FAILURES {
         let told = parts_of(read_chain_within(rt.alloc(), text.as_bytes(), 0));
-        assert_eq!(rt; told, wanted, "{text}");
+        is_told(&rt, text, told, wanted);
     }
 }
 
+const ONE_FAILURE: [Case; 2] = [
+    ("f 1\npartitions 4\npass\npass\npass\n", Ok((1, 4, 3))),
+    ("f 2\npartitions 4\npass\npass\npass\n", Err((1, 11))),
+];
+
 #[test]
 fn within_one_failure(rt: HostRuntime) {
-    let one = b"f 1\npartitions 4\npass\npass\npass\n";
-    let two = b"f 2\npartitions 4\npass\npass\npass\n";
-    let told = parts_of(read_chain_within(rt.alloc(), one, 1));
-    assert_eq!(rt; told, Ok((1, 4, 3)));
-    let told = parts_of(read_chain_within(rt.alloc(), two, 1));
-    assert_eq!(rt; told, Err((1, 11)));
+    for (text, wanted) in ONE_FAILURE {
+        let told = parts_of(read_chain_within(rt.alloc(), text.as_bytes(), 1));
+        is_told(&rt, text, told, wanted);
+    }
 }
