@@ -4,6 +4,7 @@ ghost use Rattle.std.specs.Prelude.{◌≡◌, ◌≢◌, true, None, IfSome, If
 ghost use Rattle.std.specs.List.{list_all};
 ghost use Rattle.ftc_words.specs.Given.{is_name, texts_of};
 ghost use Rattle.ftc_words.specs.Shown.{shown};
+ghost use Rattle.ftc_words.specs.Form.{has_form};
 ghost use Rattle.ftc_words.specs.Command.{command_of, is_built, are_distinct, files_of, named_by, IsWithin};
 
 use crate::command::Command;
@@ -28,6 +29,16 @@ pub fn command_of<'a>(words: &[&'a str]) -> Option<Command<'a>>
     }
 }
 
+/// Lets clap take all words. It refuses them for want of memory alone.
+fn take_all<'a>(alloc: Global, words: &'a [&'a str]) -> Result<(), NoMemory>
+    requires { has_form (texts_of words.now) ≡ true }
+{
+    match matches_of(alloc, words) {
+        Ok(_) => Ok(()),
+        Err(_) => Err(NoMemory),
+    }
+}
+
 /// The same, after clap has read the words as well, but for `--move` and its values. It refuses a command's words
 /// for want of memory alone.
 pub fn read_command<'a>(alloc: Global, words: &[&'a str]) -> Result<Option<Command<'a>>, NoMemory>
@@ -43,8 +54,6 @@ pub fn read_command<'a>(alloc: Global, words: &[&'a str]) -> Result<Option<Comma
         return Ok(None);
     };
     let handed = without_move(alloc, words)?;
-    match matches_of(alloc, &handed) {
-        Ok(_) => Ok(Some(command)),
-        Err(_) => Err(NoMemory),
-    }
+    take_all(alloc, &handed)?;
+    Ok(Some(command))
 }

@@ -1,20 +1,115 @@
+ghost use Rattle.std.specs.Prelude.{◌≡◌, true};
+ghost use Rattle.ftc_words.specs.Given.{texts_of};
+ghost use Rattle.ftc_words.specs.Form.{has_form};
+
 use crate::command::{Command, Mode};
 use crate::forms::spelled;
+use crate::matches::{matches_of, without_move};
 use crate::reading::{command_of, read_command};
+use clap::{ArgMatches, Error};
+use std::alloc::Global;
+use std::fmt::Debug;
 use std::process::Abort;
 use std::test::Fail;
+
+/// Compares two values.
+fn same<T: Copy + Debug + PartialEq>(rt: &impl Abort, told: T, wanted: T) {
+    assert_eq!(rt; told, wanted);
+}
+
+/// The files of a run; empty names where the command is none.
+fn files_of<'a>(command: &Option<Command<'a>>) -> [&'a str; 6] {
+    match command {
+        Some(Command::Run { names, .. }) => [
+            names.chain,
+            names.script,
+            names.capture,
+            names.out,
+            names.journal,
+            names.report,
+        ],
+        _ => [""; 6],
+    }
+}
+
+/// Compares the files of a run.
+fn is_of_files(rt: &impl Abort, command: &Option<Command<'_>>) {
+    same(rt, files_of(command), ["c", "s", "p", "o", "j", "r"]);
+}
+
+/// How many workers have a run, or none.
+fn workers_of(command: &Option<Command<'_>>) -> Option<u8> {
+    match command {
+        Some(
+            Command::Run {
+                mode: Mode::Workers { count },
+                ..
+            },
+        ) => Some(*count),
+        _ => None,
+    }
+}
+
+/// The schedule of a run, or none.
+fn schedule_of<'a>(command: &Option<Command<'a>>) -> Option<&'a str> {
+    match command {
+        Some(
+            Command::Run {
+                mode: Mode::Alone { schedule, .. },
+                ..
+            },
+        ) => Some(*schedule),
+        _ => None,
+    }
+}
+
+/// The planned move of a run, or none: the server and the file.
+fn move_of<'a>(command: &Option<Command<'a>>) -> Option<(u8, &'a str)> {
+    match command {
+        Some(
+            Command::Run {
+                mode: Mode::Alone {
+                    moved: Some(moved),
+                    ..
+                },
+                ..
+            },
+        ) => Some((moved.server, moved.file)),
+        _ => None,
+    }
+}
+
+/// What is made, or none: the packets, the seed and the capture.
+fn made_of<'a>(command: &Option<Command<'a>>) -> Option<(u32, u32, &'a str)> {
+    match command {
+        Some(
+            Command::Make {
+                packets,
+                seed,
+                capture,
+            },
+        ) => Some((*packets, *seed, *capture)),
+        _ => None,
+    }
+}
+
+/// What clap has of the workers, of the schedule and of the other words, if it took them.
+fn clap_texts_of<'a>(matches: &Result<ArgMatches<'a>, Error>) -> [Option<&'a str>; 3] {
+    match matches {
+        Ok(matches) => [
+            matches.get_str("workers"),
+            matches.get_str("alone"),
+            matches.get_str("names"),
+        ],
+        Err(_) => [None; 3],
+    }
+}
 
 #[test]
 fn a_run_is_read(rt: HostRuntime) -> Result<(), Fail> {
     let words = ["run", "c", "s", "p", "o", "j", "r"];
-    match read_command(rt.alloc(), &words)? {
-        Some(Command::Run { names, .. }) => {
-            assert_eq!(rt; names.chain, "c");
-            assert_eq!(rt; names.capture, "p");
-            assert_eq!(rt; names.report, "r");
-        }
-        _ => assert!(rt; false),
-    }
+    let command = read_command(rt.alloc(), &words)?;
+    is_of_files(&rt, &command);
     Ok(())
 }
 
@@ -23,26 +118,10 @@ fn options_stand_anywhere_behind_the_command(rt: HostRuntime) {
     let words = [
         "run", "c", "--move", "15", "f", "s", "p", "o", "j", "--alone", "e", "r",
     ];
-    match spelled(&words) {
-        Some(Command::Run { names, mode }) => {
-            assert_eq!(rt; names.script, "s");
-            assert_eq!(rt; names.report, "r");
-            match mode {
-                Mode::Alone { schedule, moved } => {
-                    assert_eq!(rt; schedule, "e");
-                    match moved {
-                        Some(moved) => {
-                            assert_eq!(rt; moved.server, 15);
-                            assert_eq!(rt; moved.file, "f");
-                        }
-                        None => assert!(rt; false),
-                    }
-                }
-                _ => assert!(rt; false),
-            }
-        }
-        _ => assert!(rt; false),
-    }
+    let command = spelled(&words);
+    is_of_files(&rt, &command);
+    same(&rt, schedule_of(&command), Some("e"));
+    same(&rt, move_of(&command), Some((15, "f")));
 }
 
 #[test]
@@ -59,7 +138,7 @@ fn words_of_commands(rt: HostRuntime) {
         &["watch", "1", "c", "p", "1", "s"],
     ];
     for words in cases {
-        assert!(rt; spelled(words).is_some());
+        same(&rt, spelled(words).is_some(), true);
     }
 }
 
@@ -122,7 +201,7 @@ fn words_of_no_command(rt: HostRuntime) {
         &["watch", "01", "c", "p", "b", "s"],
     ];
     for words in cases {
-        assert!(rt; spelled(words).is_none());
+        same(&rt, spelled(words).is_none(), true);
     }
 }
 
@@ -131,65 +210,52 @@ fn a_planned_move_is_not_built(rt: HostRuntime) -> Result<(), Fail> {
     let words = [
         "run", "c", "s", "p", "o", "j", "r", "--alone", "e", "--move", "1", "f",
     ];
-    assert!(rt; command_of(&words).is_none());
-    assert!(rt; read_command(rt.alloc(), &words)?.is_none());
+    let read = read_command(rt.alloc(), &words)?;
+    same(
+        &rt,
+        [command_of(&words).is_none(), read.is_none()],
+        [true, true],
+    );
     Ok(())
 }
 
 #[test]
 fn a_run_by_workers_is_read(rt: HostRuntime) -> Result<(), Fail> {
     let words = ["run", "c", "s", "--workers", "32", "p", "o", "j", "r"];
-    match read_command(rt.alloc(), &words)? {
-        Some(
-            Command::Run {
-                names,
-                mode: Mode::Workers { count },
-            },
-        ) => {
-            assert_eq!(rt; names.capture, "p");
-            assert_eq!(rt; count, 32);
-        }
-        _ => assert!(rt; false),
-    }
+    let command = read_command(rt.alloc(), &words)?;
+    is_of_files(&rt, &command);
+    same(&rt, workers_of(&command), Some(32));
     Ok(())
 }
 
 #[test]
 fn a_run_by_a_schedule_is_read(rt: HostRuntime) -> Result<(), Fail> {
     let words = ["run", "--alone", "e", "c", "s", "p", "o", "j", "r"];
-    match read_command(rt.alloc(), &words)? {
-        Some(
-            Command::Run {
-                names,
-                mode: Mode::Alone { schedule, moved },
-            },
-        ) => {
-            assert_eq!(rt; names.chain, "c");
-            assert_eq!(rt; schedule, "e");
-            assert!(rt; moved.is_none());
-        }
-        _ => assert!(rt; false),
-    }
+    let command = read_command(rt.alloc(), &words)?;
+    is_of_files(&rt, &command);
+    same(&rt, schedule_of(&command), Some("e"));
+    same(&rt, move_of(&command), None);
     Ok(())
 }
 
 #[test]
 fn a_make_is_read(rt: HostRuntime) -> Result<(), Fail> {
-    match read_command(rt.alloc(), &["make", "100000", "4294967295", "p"])? {
-        Some(
-            Command::Make {
-                packets,
-                seed,
-                capture,
-            },
-        ) => {
-            assert_eq!(rt; packets, 100_000);
-            assert_eq!(rt; seed, u32::MAX);
-            assert_eq!(rt; capture, "p");
-        }
-        _ => assert!(rt; false),
-    }
+    let command = read_command(rt.alloc(), &["make", "100000", "4294967295", "p"])?;
+    same(&rt, made_of(&command), Some((100_000, u32::MAX, "p")));
     Ok(())
+}
+
+/// Hands clap words with both options, and compares what it has of them.
+fn are_taken<'a>(rt: &impl Abort, alloc: Global, handed: &'a [&'a str])
+    requires { has_form (texts_of handed.now) ≡ true }
+{
+    same(rt, handed.len(), 9);
+    let matches = matches_of(alloc, handed);
+    same(
+        rt,
+        clap_texts_of(&matches),
+        [Some("4"), Some("e"), Some("c")],
+    );
 }
 
 /// What clap is handed of words with every option.
@@ -209,15 +275,7 @@ fn clap_takes_what_is_left(rt: HostRuntime) -> Result<(), Fail> {
         "e",
         "o",
     ];
-    let handed = crate::matches::without_move(rt.alloc(), &words)?;
-    assert_eq!(rt; handed.len(), 9);
-    match crate::matches::matches_of(rt.alloc(), &handed) {
-        Ok(matches) => {
-            assert_eq!(rt; matches.get_str("workers"), Some("4"));
-            assert_eq!(rt; matches.get_str("alone"), Some("e"));
-            assert_eq!(rt; matches.get_str("names"), Some("c"));
-        }
-        Err(_) => assert!(rt; false),
-    }
+    let handed = without_move(rt.alloc(), &words)?;
+    are_taken(&rt, rt.alloc(), &handed);
     Ok(())
 }
