@@ -9,7 +9,7 @@ use ftc_ring::Ring;
 use std::marker::Model;
 
 /// The ticks of a beats text in order. They were accepted for their ring and their count of packets.
-#[derive(Debug, Drop)]
+#[derive(Drop)]
 pub struct Beats {
     ring: Ring,
     packets: u32,

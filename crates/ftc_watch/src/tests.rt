@@ -5,6 +5,7 @@ use ftc_base::Refuse;
 use ftc_ring::Ring;
 use std::alloc::Global;
 use std::process::Abort;
+use std::test::Fail;
 
 /// A text for so many servers, of which so many may be down, and so many packets, and what is wrong with
 /// it: the line and the number of the cause.
@@ -26,6 +27,11 @@ fn place_of(answer: Result<Beats, Refuse<BeatsFault>>) -> Option<(u32, u8)> {
         Some(Refuse::Bad(fault)) => Some((fault.line, fault.cause as u8)),
         _ => None,
     }
+}
+
+/// Compares what is wrong with a text.
+fn is_wrong(rt: &impl Abort, text: &str, told: Option<(u32, u8)>, wanted: Option<(u32, u8)>) {
+    assert_eq!(rt; told, wanted, "{text}");
 }
 
 const READINGS: [Reading; 32] = [
@@ -88,28 +94,35 @@ fn beats_are_read_or_their_first_fault_is_named(rt: HostRuntime) {
     for (text, (servers, failures, packets), place) in READINGS {
         let ring = Ring::new(servers, failures).expect(&rt, "a ring");
         let answer = read_beats(rt.alloc(), text.as_bytes(), &ring, packets);
-        assert_eq!(rt; place_of(answer), place);
+        is_wrong(&rt, text, place_of(answer), place);
     }
 }
 
-/// Beats with so many ticks without a beat.
-fn silent(rt: &impl Abort, alloc: Global, ticks: u32, last: &str) -> Option<(u32, u8)> {
+/// Beats with so many ticks without a beat, and an end.
+fn silent(alloc: Global, ticks: u32, last: &str) -> Result<String, Fail> {
     let mut text = String::new(alloc);
-    text.push_str("ftc-beats 1\n").expect(rt, "memory");
+    text.push_str("ftc-beats 1\n")?;
     for _ in 0..ticks {
-        text.push_str("tick 0\n").expect(rt, "memory");
+        text.push_str("tick 0\n")?;
     }
-    text.push_str(last).expect(rt, "memory");
-    let ring = Ring::new(2, 1).expect(rt, "a ring");
-    place_of(read_beats(alloc, text.as_bytes(), &ring, 2))
+    text.push_str(last)?;
+    Ok(text)
 }
 
 #[test]
-fn the_tick_behind_the_last_that_may_be_is_too_many(rt: HostRuntime) {
-    assert_eq!(rt; silent(&rt, rt.alloc(), 1000, ""), None);
-    assert_eq!(rt; silent(&rt, rt.alloc(), 1001, ""), Some((1002, 6)));
-    assert_eq!(rt; silent(&rt, rt.alloc(), 1000, "x"), Some((1002, 6)));
-    assert_eq!(rt; silent(&rt, rt.alloc(), 999, "x"), Some((1001, 2)));
+fn the_tick_behind_the_last_that_may_be_is_too_many(rt: HostRuntime) -> Result<(), Fail> {
+    let ring = Ring::new(2, 1).expect(&rt, "a ring");
+    for (ticks, last, wanted) in [
+        (1000, "", None),
+        (1001, "", Some((1002, 6))),
+        (1000, "x", Some((1002, 6))),
+        (999, "x", Some((1001, 2))),
+    ] {
+        let text = silent(rt.alloc(), ticks, last)?;
+        let answer = read_beats(rt.alloc(), text.as_bytes(), &ring, 2);
+        is_wrong(&rt, last, place_of(answer), wanted);
+    }
+    Ok(())
 }
 
 const WATCHINGS: [Watching; 11] = [
@@ -203,14 +216,24 @@ fn watched(alloc: Global, text: &str, ring: &Ring, packets: u32, limit: u8) -> O
     }
 }
 
+/// Compares how many servers were fenced and refused.
+fn counts(rt: &impl Abort, told: &Watched, fenced: u32, refused: u32) {
+    assert_eq!(rt; (told.fenced, told.refused), (fenced, refused));
+}
+
+/// Compares the script and the held lines.
+fn makes(rt: &impl Abort, told: &Watched, script: &str, held: &str) {
+    assert!(rt; told.script.as_slice() == script.as_bytes());
+    assert!(rt; told.held.as_slice() == held.as_bytes());
+}
+
 #[test]
 fn beats_make_the_script_and_the_held_lines(rt: HostRuntime) {
     for (text, (servers, failures, packets, limit), script, held, (fenced, refused)) in WATCHINGS {
         let ring = Ring::new(servers, failures).expect(&rt, "a ring");
         let told = watched(rt.alloc(), text, &ring, packets, limit).expect(&rt, "right beats");
-        assert!(rt; told.script.as_slice() == script.as_bytes());
-        assert!(rt; told.held.as_slice() == held.as_bytes());
-        assert_eq!(rt; (told.fenced, told.refused), (fenced, refused));
+        makes(&rt, &told, script, held);
+        counts(&rt, &told, fenced, refused);
     }
 }
 

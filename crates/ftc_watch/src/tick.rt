@@ -3,7 +3,7 @@
 use ftc_base::{PacketNo, ServerSet};
 
 /// The servers that have beaten since the tick before, when so many packets have entered.
-#[derive(Clone, Copy, Debug, PartialEq, Eq)]
+#[derive(Clone, Copy)]
 pub struct Tick {
     pub at: PacketNo,
     pub servers: ServerSet,

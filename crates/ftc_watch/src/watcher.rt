@@ -18,7 +18,7 @@ use std::marker::Model;
 const SERVERS: usize = MOST_SERVERS as usize;
 
 /// Which servers are down, how many ticks each has missed, and the lines so far.
-#[derive(Debug, Drop)]
+#[derive(Drop)]
 pub struct Watcher {
     down: ServerSet,
     missed: [u8; SERVERS],

@@ -16,7 +16,7 @@ use ftc_script::Statement;
 use std::alloc::Global;
 
 /// What comes of the beats.
-#[derive(Debug, Drop)]
+#[derive(Drop)]
 pub struct Watched {
     /// The script: a crash of each server that was silent and could be spared, and its recovery.
     pub script: Bytes,
