@@ -28,7 +28,7 @@ pub trait Tap: Drop {
 }
 
 /// Counts packets and bytes, and never leaves.
-#[derive(Debug, Drop)]
+#[derive(Drop)]
 pub struct CountTap {
     packets: u64,
     bytes: u64,
@@ -85,7 +85,7 @@ impl Tap for CountTap {
 }
 
 /// Keeps all records, and never leaves. Contracts see the list of them.
-#[derive(Debug, Drop)]
+#[derive(Drop)]
 pub struct ListTap {
     list: ReleasedList,
 }

@@ -1,6 +1,7 @@
 use crate::{CountTap, Desk, DeskError, FailingDesk, FileDesk, ListTap, MemoryDesk, Tap};
-use ftc_base::{Bytes, NoMemory};
+use ftc_base::{NoMemory, PacketNo};
 use std::alloc::Global;
+use std::process::Abort;
 use std::test::Fail;
 use std::{fs, process};
 
@@ -59,58 +60,69 @@ fn first_wrong<D: Desk>(alloc: Global, desk: &mut D, table: &[Line<'_>]) -> Opti
     None
 }
 
-#[test]
-fn a_desk_in_memory_keeps_files_by_name(rt: HostRuntime) -> Result<(), Fail> {
-    let alloc = rt.alloc();
+/// Makes the calls of a table, and compares what came of each.
+fn goes<D: Desk>(rt: &impl Abort, alloc: Global, desk: &mut D, table: &[Line<'_>]) {
+    assert_eq!(rt; first_wrong(alloc, desk, table), None);
+}
+
+/// A desk with a file `a`.
+fn desk_with_a(alloc: Global) -> Result<MemoryDesk, NoMemory> {
     let mut desk = MemoryDesk::new(alloc);
     desk.put("a", b"one")?;
-    let table: [Line<'_>; 11] = [
-        (Call::Make, "b", b"", Came::Done),
-        (Call::Append, "b", b"tw", Came::Done),
-        (Call::Append, "b", b"o", Came::Done),
-        (Call::Append, "-", b"shown", Came::Done),
-        (Call::Fetch, "a", b"one", Came::Done),
-        (Call::Fetch, "b", b"two", Came::Done),
-        (Call::Fetch, "-", b"shown", Came::Done),
-        (Call::Make, "b", b"", Came::Done),
-        (Call::Fetch, "b", b"", Came::Done),
-        (Call::Fetch, "c", b"", Came::Failed),
-        (Call::Append, "c", b"x", Came::Failed),
-    ];
-    assert_eq!(rt; first_wrong(alloc, &mut desk, &table), None);
-    assert_eq!(rt; desk.get("b"), Some(b"".as_slice()));
-    assert_eq!(rt; desk.get("c"), None);
+    Ok(desk)
+}
+
+const NAMED: [Line<'static>; 11] = [
+    (Call::Make, "b", b"", Came::Done),
+    (Call::Append, "b", b"tw", Came::Done),
+    (Call::Append, "b", b"o", Came::Done),
+    (Call::Append, "-", b"shown", Came::Done),
+    (Call::Fetch, "a", b"one", Came::Done),
+    (Call::Fetch, "b", b"two", Came::Done),
+    (Call::Fetch, "-", b"shown", Came::Done),
+    (Call::Make, "b", b"", Came::Done),
+    (Call::Fetch, "b", b"", Came::Done),
+    (Call::Fetch, "c", b"", Came::Failed),
+    (Call::Append, "c", b"x", Came::Failed),
+];
+
+/// Compares a file of a desk.
+fn holds(rt: &impl Abort, desk: &MemoryDesk, name: &str, wanted: Option<&[u8]>) {
+    assert_eq!(rt; desk.get(name), wanted);
+}
+
+#[test]
+fn a_desk_in_memory_keeps_files_by_name(rt: HostRuntime) -> Result<(), Fail> {
+    let mut desk = desk_with_a(rt.alloc())?;
+    goes(&rt, rt.alloc(), &mut desk, &NAMED);
+    holds(&rt, &desk, "b", Some(b""));
+    holds(&rt, &desk, "c", None);
     Ok(())
 }
+
+/// Of these calls the second and the fifth fail.
+const LISTED: [Line<'static>; 7] = [
+    (Call::Fetch, "a", b"one", Came::Done),
+    (Call::Make, "a", b"", Came::Failed),
+    (Call::Fetch, "a", b"one", Came::Done),
+    (Call::Append, "a", b"!", Came::Done),
+    (Call::Append, "a", b"?", Came::Failed),
+    (Call::Append, "a", b"!", Came::Done),
+    (Call::Fetch, "a", b"one!!", Came::Done),
+];
 
 #[test]
 fn the_listed_calls_fail_and_change_nothing(rt: HostRuntime) -> Result<(), Fail> {
-    let alloc = rt.alloc();
-    let mut inner = MemoryDesk::new(alloc);
-    inner.put("a", b"one")?;
-    let mut desk = FailingDesk::new(alloc, inner, &[1, 4])?;
-    let table: [Line<'_>; 7] = [
-        (Call::Fetch, "a", b"one", Came::Done),
-        (Call::Make, "a", b"", Came::Failed),
-        (Call::Fetch, "a", b"one", Came::Done),
-        (Call::Append, "a", b"!", Came::Done),
-        (Call::Append, "a", b"?", Came::Failed),
-        (Call::Append, "a", b"!", Came::Done),
-        (Call::Fetch, "a", b"one!!", Came::Done),
-    ];
-    assert_eq!(rt; first_wrong(alloc, &mut desk, &table), None);
-    assert_eq!(rt; desk.inner().get("a"), Some(b"one!!".as_slice()));
+    let inner = desk_with_a(rt.alloc())?;
+    let mut desk = FailingDesk::new(rt.alloc(), inner, &[1, 4])?;
+    goes(&rt, rt.alloc(), &mut desk, &LISTED);
+    holds(&rt, desk.inner(), "a", Some(b"one!!"));
     Ok(())
 }
 
-#[test]
-fn a_real_file_is_made_and_added_to_and_fetched(rt: HostRuntime) -> Result<(), Fail> {
-    let alloc = rt.alloc();
-    let id = process::id(rt.process());
-    let text = format!(in alloc; "/tmp/ftc-desk-test-{id}")?;
-    let name = text.as_str();
-    let mut desk = FileDesk::new(&rt);
-    let table: [Line<'_>; 7] = [
+/// The calls on a file that is not there yet.
+fn calls_on<'a>(name: &'a str) -> [Line<'a>; 7] {
+    [
         (Call::Fetch, name, b"", Came::Failed),
         (Call::Make, name, b"", Came::Done),
         (Call::Append, name, b"ab", Came::Done),
@@ -118,13 +130,19 @@ fn a_real_file_is_made_and_added_to_and_fetched(rt: HostRuntime) -> Result<(), F
         (Call::Fetch, name, b"abc", Came::Done),
         (Call::Make, name, b"", Came::Done),
         (Call::Fetch, name, b"", Came::Done),
-    ];
-    assert_eq!(rt; first_wrong(alloc, &mut desk, &table), None);
+    ]
+}
+
+#[test]
+fn a_real_file_is_made_and_added_to_and_fetched(rt: HostRuntime) -> Result<(), Fail> {
+    let id = process::id(rt.process());
+    let text = format!(in rt.alloc(); "/tmp/ftc-desk-test-{id}")?;
+    let name = text.as_str();
+    let mut desk = FileDesk::new(&rt);
+    goes(&rt, rt.alloc(), &mut desk, &calls_on(name));
     fs::remove_file(&rt, name)?;
-    assert_eq!(rt;
-        make(alloc, &mut desk, Call::Append, name, b"d"),
-        Came::Failed
-    );
+    let gone: [Line<'_>; 1] = [(Call::Append, name, b"d", Came::Failed)];
+    goes(&rt, rt.alloc(), &mut desk, &gone);
     Ok(())
 }
 
@@ -135,43 +153,63 @@ fn standard_output_needs_no_make(rt: HostRuntime) -> Result<(), Fail> {
     Ok(())
 }
 
-/// Tells a tap of two packets, and gives its line.
-fn line_after_two<T: Tap>(alloc: Global, tap: &mut T) -> Result<Bytes, NoMemory> {
+/// Compares the line of a tap.
+fn says<T: Tap>(rt: &impl Abort, alloc: Global, tap: &T, wanted: &[u8]) -> Result<(), NoMemory> {
+    let line = tap.line(alloc)?;
+    assert_eq!(rt; line.as_slice(), wanted);
+    Ok(())
+}
+
+/// Tells a tap of two packets.
+fn tell_two<T: Tap>(alloc: Global, tap: &mut T) -> Result<(), NoMemory> {
     tap.see(alloc, 4, b"abc")?;
     tap.see(alloc, 2, b"de")?;
-    tap.line(alloc)
+    Ok(())
+}
+
+/// Compares the lines of a tap before and behind two packets.
+fn says_before_and_behind<T: Tap>(
+    rt: &impl Abort,
+    alloc: Global,
+    tap: &mut T,
+    before: &[u8],
+    behind: &[u8],
+) -> Result<(), NoMemory> {
+    says(rt, alloc, tap, before)?;
+    tell_two(alloc, tap)?;
+    says(rt, alloc, tap, behind)
 }
 
 #[test]
-fn taps_say_in_a_line_what_they_were_told(rt: HostRuntime) -> Result<(), Fail> {
-    let alloc = rt.alloc();
-    let mut counts = CountTap::new();
-    assert_eq!(rt;
-        counts.line(alloc)?.as_slice(),
-        b"packets 0 bytes 0".as_slice()
-    );
-    let line = line_after_two(alloc, &mut counts)?;
-    assert_eq!(rt; line.as_slice(), b"packets 2 bytes 5".as_slice());
-    let mut list = ListTap::new(alloc);
-    assert_eq!(rt; list.line(alloc)?.as_slice(), b"list 0".as_slice());
-    let line = line_after_two(alloc, &mut list)?;
-    assert_eq!(rt; line.as_slice(), b"list 2".as_slice());
+fn a_count_says_how_many_packets_and_bytes(rt: HostRuntime) -> Result<(), Fail> {
+    let mut tap = CountTap::new();
+    let (before, behind) = (b"packets 0 bytes 0", b"packets 2 bytes 5");
+    says_before_and_behind(&rt, rt.alloc(), &mut tap, before, behind)?;
     Ok(())
 }
 
 #[test]
+fn a_list_says_how_many_packets(rt: HostRuntime) -> Result<(), Fail> {
+    let mut tap = ListTap::new(rt.alloc());
+    says_before_and_behind(&rt, rt.alloc(), &mut tap, b"list 0", b"list 2")?;
+    Ok(())
+}
+
+/// Compares the packets that a list was told of.
+fn was_told(rt: &impl Abort, tap: &ListTap, wanted: &[(PacketNo, &[u8])]) {
+    let list = tap.list().as_slice();
+    assert_eq!(rt; list.len(), wanted.len());
+    for (item, (packet, bytes)) in list.iter().zip(wanted) {
+        assert_eq!(rt; (item.packet, item.bytes.as_slice()), (*packet, *bytes));
+    }
+}
+
+#[test]
 fn a_list_tap_keeps_numbers_and_bytes_in_order(rt: HostRuntime) -> Result<(), Fail> {
-    let alloc = rt.alloc();
-    let mut tap = ListTap::new(alloc);
-    assert!(rt; tap.see(alloc, 4, b"abc")?);
-    assert!(rt; tap.see(alloc, 2, b"")?);
-    let [first, second] = tap.list().as_slice() else {
-        assert!(rt; false, "two records were told");
-        return Ok(());
-    };
-    assert_eq!(rt; first.packet, 4);
-    assert_eq!(rt; first.bytes.as_slice(), b"abc".as_slice());
-    assert_eq!(rt; second.packet, 2);
-    assert_eq!(rt; second.bytes.as_slice(), b"".as_slice());
+    let mut tap = ListTap::new(rt.alloc());
+    let first = tap.see(rt.alloc(), 4, b"abc")?;
+    let second = tap.see(rt.alloc(), 2, b"")?;
+    assert!(rt; first && second);
+    was_told(&rt, &tap, &[(4, b"abc"), (2, b"")]);
     Ok(())
 }
