@@ -13,7 +13,7 @@ use std::alloc::Global;
 use std::marker::Model;
 
 /// The lines so far. A contract sees the two lists.
-#[derive(Debug, Drop)]
+#[derive(Drop)]
 pub struct Draft {
     steps: Items<ScriptLine>,
     loses: Items<LoseLine>,

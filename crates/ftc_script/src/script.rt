@@ -10,7 +10,7 @@ use std::marker::Model;
 
 /// The crashes and recoveries of a run in order, and the messages that links lose. It was accepted for
 /// its ring and its count of packets.
-#[derive(Debug, Drop)]
+#[derive(Drop)]
 pub struct Script {
     ring: Ring,
     packets: u32,

@@ -3,7 +3,7 @@
 use ftc_base::PacketNo;
 
 /// What a line says, before it is tested whether the ring has the server or the link.
-#[derive(Clone, Copy, Debug, PartialEq, Eq)]
+#[derive(Clone, Copy)]
 pub enum Statement {
     /// Nothing: it is a comment, or it has no words.
     Nothing,

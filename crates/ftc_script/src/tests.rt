@@ -18,6 +18,11 @@ fn fault_in(answer: Result<Script, Refuse<ScriptFault>>) -> Option<ScriptFault> 
     }
 }
 
+/// The server of that number, which is below 16.
+fn server(rt: &impl Abort, number: u8) -> ServerId {
+    ServerId::new(number).expect(rt, "a server")
+}
+
 /// What is wrong with a script for three servers, of which one may be down, and one packet.
 fn fault_of(rt: &impl Abort, alloc: Global, text: &[u8]) -> Option<ScriptFault> {
     let ring = Ring::new(3, 1).expect(rt, "a ring");
@@ -30,6 +35,11 @@ fn place_of(fault: Option<ScriptFault>) -> Option<(u32, u8)> {
         Some(fault) => Some((fault.line, fault.cause.code())),
         None => None,
     }
+}
+
+/// Compares what is wrong with a text.
+fn is_wrong(rt: &impl Abort, text: &str, told: Option<(u32, u8)>, wanted: Option<(u32, u8)>) {
+    assert_eq!(rt; told, wanted, "{text}");
 }
 
 const SCRIPTS: [Case; 22] = [
@@ -63,65 +73,65 @@ const SCRIPTS: [Case; 22] = [
 #[test]
 fn the_first_faulty_line_is_named(rt: HostRuntime) {
     for (text, wanted) in SCRIPTS {
-        assert_eq!(rt;
-            place_of(fault_of(&rt, rt.alloc(), text.as_bytes())),
-            wanted,
-            "{text}"
-        );
+        let fault = fault_of(&rt, rt.alloc(), text.as_bytes());
+        is_wrong(&rt, text, place_of(fault), wanted);
     }
 }
 
 #[test]
 fn the_smallest_group_and_server_are_named(rt: HostRuntime) {
-    let group = ServerId::new(1).expect(&rt, "a group");
-    let gone = fault_of(&rt, rt.alloc(), b"at 0 crash 1\nat 0 crash 2\n");
-    assert_eq!(rt;
-        gone,
-        Some(ScriptFault {
-            line: 2,
-            cause: ScriptCause::GroupGone { group }
-        })
-    );
-    let server = ServerId::new(2).expect(&rt, "a server");
-    assert_eq!(rt;
-        fault_of(&rt, rt.alloc(), b"at 0 crash 2"),
-        Some(ScriptFault {
-            line: 2,
-            cause: ScriptCause::LeftDown { server }
-        })
-    );
+    let (group, server) = (server(&rt, 1), server(&rt, 2));
+    for (text, cause) in [
+        (
+            "at 0 crash 1\nat 0 crash 2\n",
+            ScriptCause::GroupGone { group },
+        ),
+        ("at 0 crash 2", ScriptCause::LeftDown { server }),
+    ] {
+        let wanted = ScriptFault { line: 2, cause };
+        assert_eq!(rt; fault_of(&rt, rt.alloc(), text.as_bytes()), Some(wanted));
+    }
 }
+
+/// Compares the steps of `TOLD`.
+fn has_steps(rt: &impl Abort, script: &Script) {
+    let server = server(rt, 1);
+    assert_eq!(rt; script.steps(), 2);
+    assert!(rt; script.steps() == 2 && script.step(0) == ScriptLine::Crash { at: 1, server });
+    assert!(rt; script.steps() == 2 && script.step(1).at() == 2);
+}
+
+/// Compares what `TOLD` loses.
+fn has_losses(rt: &impl Abort, script: &Script) {
+    let (one, two) = (server(rt, 1), server(rt, 2));
+    let told = [
+        script.loses(two, 1),
+        script.loses(one, 0),
+        script.loses(one, 1),
+    ];
+    assert_eq!(rt; told, [Some(1), Some(6), None]);
+}
+
+const TOLD: &[u8] = b"lose 2 1\nat 1 crash 1\n# twice\nlose 2 1\nat 2 recover 1\nlose 1 0\n";
 
 #[test]
 fn an_accepted_script_tells_its_lines(rt: HostRuntime) -> Result<(), Fail> {
     let ring = Ring::new(3, 1).expect(&rt, "a ring");
-    let (one, two) = (
-        ServerId::new(1).expect(&rt, "a server"),
-        ServerId::new(2).expect(&rt, "a server"),
-    );
-    let text = b"lose 2 1\nat 1 crash 1\n# twice\nlose 2 1\nat 2 recover 1\nlose 1 0\n".as_slice();
-    let Ok(script) = read_script(rt.alloc(), text, &ring, 2) else {
+    let Ok(script) = read_script(rt.alloc(), TOLD, &ring, 2) else {
         return Err(Fail::new("refused"));
     };
-    assert_eq!(rt; script.steps(), 2);
-    assert!(rt; script.steps() == 2 && script.step(0) == ScriptLine::Crash { at: 1, server: one });
-    assert!(rt; script.steps() == 2 && script.step(1).at() == 2);
-    assert_eq!(rt; script.loses(two, 1), Some(1));
-    assert_eq!(rt; script.loses(one, 0), Some(6));
-    assert_eq!(rt; script.loses(one, 1), None);
-    assert_eq!(rt; *script.ring(), ring);
-    assert_eq!(rt; script.packets(), 2);
+    has_steps(&rt, &script);
+    has_losses(&rt, &script);
+    assert_eq!(rt; (*script.ring(), script.packets()), (ring, 2));
     Ok(())
 }
 
 #[test]
 fn a_script_may_be_too_long(rt: HostRuntime) -> Result<(), Fail> {
-    let mut text = vec![in rt.alloc(); b' '; 1_048_577]?;
-    assert_eq!(rt;
-        place_of(fault_of(&rt, rt.alloc(), text.as_slice())),
-        Some((1, 9))
-    );
-    text.truncate(1_048_576);
-    assert_eq!(rt; place_of(fault_of(&rt, rt.alloc(), text.as_slice())), None);
+    for (letters, wanted) in [(1_048_577, Some((1, 9))), (1_048_576, None)] {
+        let text = vec![in rt.alloc(); b' '; letters]?;
+        let fault = fault_of(&rt, rt.alloc(), text.as_slice());
+        is_wrong(&rt, "spaces", place_of(fault), wanted);
+    }
     Ok(())
 }
