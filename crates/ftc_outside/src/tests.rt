@@ -1,5 +1,5 @@
 use crate::{CountTap, Desk, DeskError, FailingDesk, FileDesk, ListTap, MemoryDesk, Tap};
-use ftc_base::{NoMemory, PacketNo};
+use ftc_base::{NoMemory, PacketNo, Released};
 use std::alloc::Global;
 use std::process::Abort;
 use std::test::Fail;
@@ -195,21 +195,29 @@ fn a_list_says_how_many_packets(rt: HostRuntime) -> Result<(), Fail> {
     Ok(())
 }
 
-/// Compares the packets that a list was told of.
-fn was_told(rt: &impl Abort, tap: &ListTap, wanted: &[(PacketNo, &[u8])]) {
-    let list = tap.list().as_slice();
-    assert_eq!(rt; list.len(), wanted.len());
-    for (item, (packet, bytes)) in list.iter().zip(wanted) {
-        assert_eq!(rt; (item.packet, item.bytes.as_slice()), (*packet, *bytes));
-    }
+/// Compares the number and the bytes of a packet.
+fn is_item(rt: &impl Abort, item: &Released, packet: PacketNo, bytes: &[u8]) {
+    assert_eq!(rt; item.packet, packet);
+    assert_eq!(rt; item.bytes.as_slice(), bytes);
+}
+
+/// Compares the two packets that a list was told of.
+fn was_told(rt: &impl Abort, tap: &ListTap) {
+    let [first, second] = tap.list().as_slice() else {
+        panic!(rt; "two packets were told");
+    };
+    is_item(rt, first, 4, b"abc");
+    is_item(rt, second, 2, b"");
 }
 
 #[test]
 fn a_list_tap_keeps_numbers_and_bytes_in_order(rt: HostRuntime) -> Result<(), Fail> {
     let mut tap = ListTap::new(rt.alloc());
-    let first = tap.see(rt.alloc(), 4, b"abc")?;
-    let second = tap.see(rt.alloc(), 2, b"")?;
-    assert!(rt; first && second);
-    was_told(&rt, &tap, &[(4, b"abc"), (2, b"")]);
+    let stays = [
+        tap.see(rt.alloc(), 4, b"abc")?,
+        tap.see(rt.alloc(), 2, b"")?,
+    ];
+    assert_eq!(rt; stays, [true, true]);
+    was_told(&rt, &tap);
     Ok(())
 }
