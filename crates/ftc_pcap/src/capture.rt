@@ -4,7 +4,7 @@ use crate::packets::Packets;
 use thiserror::Error;
 
 /// A capture file.
-#[derive(Debug, Drop)]
+#[derive(Drop)]
 pub struct Capture {
     /// The file's first 24 bytes: magic, version, zone, sigfigs, snaplen and link type.
     pub header: [u8; 24],

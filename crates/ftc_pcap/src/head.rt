@@ -10,7 +10,7 @@ use ftc_base::{Bytes, NoMemory};
 pub const HEAD_BYTES: usize = 16;
 
 /// The numbers of a head: the two of the stamp, and the captured and the original length.
-#[derive(Clone, Copy, Debug, PartialEq, Eq)]
+#[derive(Clone, Copy)]
 pub struct Head {
     pub seconds: u32,
     pub fraction: u32,

@@ -9,7 +9,7 @@ use std::alloc::Global;
 use std::marker::Model;
 
 /// A record of a capture.
-#[derive(Debug, Drop)]
+#[derive(Drop)]
 pub struct Packet {
     /// When it was captured, in seconds since the epoch.
     pub seconds: u32,
@@ -22,7 +22,7 @@ pub struct Packet {
 }
 
 /// Packets in file order, numbered from 0. A contract sees the list of them.
-#[derive(Debug, Drop)]
+#[derive(Drop)]
 pub struct Packets {
     list: Vec<Packet>,
 }
