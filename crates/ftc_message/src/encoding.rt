@@ -43,8 +43,23 @@ fn append_packet(packet: &Option<Bytes>, out: &mut Bytes) -> Result<(), NoMemory
     }
 }
 
-/// The frame that spells the message.
+/// Adds the frame that spells the message. Where memory is refused, some of its bytes may have been added.
 #[tactic(auto, unfolding(crate::specs::Spelling::spelling))]
+fn add_message(message: &Message, out: &mut Bytes) -> Result<(), NoMemory>
+    requires { IsWellFormed message.now }
+    ensures spelled { OnOk result (out.new ≡ out.old ++ spelling message.now) }
+    ensures typed { OnOk result (IsTyped message.now) }
+{
+    out.append(&MAGIC)?;
+    out.append(&[kind(&message.packet)])?;
+    append_word(message.origin, out)?;
+    append_packet(&message.packet, out)?;
+    add_logs(&message.logs, out)?;
+    add_needs(&message.needs, out)?;
+    add_commits(&message.commits, out)
+}
+
+/// The frame that spells the message.
 pub fn encode(alloc: Global, message: &Message) -> Result<Bytes, NoMemory>
     requires { IsWellFormed message.now }
     ensures spelled { IfOk result (λ frame. frame ≡ spelling message.now) }
@@ -52,12 +67,6 @@ pub fn encode(alloc: Global, message: &Message) -> Result<Bytes, NoMemory>
     ensures typed { OnOk result (IsTyped message.now) }
 {
     let mut out = Bytes::from_vec(Vec::with_capacity(alloc, USUAL_FRAME)?);
-    out.append(&MAGIC)?;
-    out.append(&[kind(&message.packet)])?;
-    append_word(message.origin, &mut out)?;
-    append_packet(&message.packet, &mut out)?;
-    add_logs(&message.logs, &mut out)?;
-    add_needs(&message.needs, &mut out)?;
-    add_commits(&message.commits, &mut out)?;
+    add_message(message, &mut out)?;
     Ok(out)
 }
