@@ -1,9 +1,10 @@
 use crate::{Page, PutFault, Sink, Taps, Writer, put, ring};
 use ftc_base::limits::MOST_CAPTURED;
-use ftc_base::{Bytes, NoMemory, PacketNo, Refuse, Released};
+use ftc_base::{Bytes, Items, NoMemory, PacketNo, Refuse, Released};
 use ftc_outside::{CountTap, Desk, FailingDesk, ListTap, MemoryDesk, Tap};
 use ftc_pcap::{Capture, CaptureFault, read_capture};
 use std::alloc::Global;
+use std::process::Abort;
 use std::test::Fail;
 
 /// A header, and the head of a packet of 42 bytes, all captured, at second 1.
@@ -59,14 +60,20 @@ impl Tap for PoorTap {
     }
 }
 
-/// A capture of so many times the same packet.
-fn capture_of(alloc: Global, packets: usize) -> Result<Capture, Refuse<CaptureFault>> {
+/// The text of a capture of so many times the same packet.
+fn text_of(alloc: Global, packets: u8) -> Result<Bytes, NoMemory> {
     let mut text = Bytes::new(alloc);
     text.append(&HEADER)?;
     for _ in 0..packets {
         text.append(&HEAD)?;
         text.append(&FRAME)?;
     }
+    Ok(text)
+}
+
+/// A capture of so many times the same packet.
+fn capture_of(alloc: Global, packets: u8) -> Result<Capture, Refuse<CaptureFault>> {
+    let text = text_of(alloc, packets)?;
     read_capture(alloc, text.as_slice())
 }
 
@@ -83,27 +90,29 @@ fn desk_with_out(alloc: Global) -> Result<MemoryDesk, NoMemory> {
     Ok(desk)
 }
 
-/// Whether the file `out` is the header and so many records of the packet.
-fn has_records(desk: &MemoryDesk, records: u8) -> bool {
-    match desk.get("out") {
-        Some(held) => held.len() == 24 + 58 * usize::from(records) && held.starts_with(&HEADER),
-        None => false,
-    }
+/// Compares the file `out` with the header and so many records of the packet.
+fn has_records(rt: &impl Abort, alloc: Global, desk: &MemoryDesk, records: u8) -> Result<(), Fail> {
+    let wanted = text_of(alloc, records)?;
+    assert_eq!(rt; desk.get("out"), Some(wanted.as_slice()));
+    Ok(())
 }
 
-/// Whether the lines of the taps are these.
-fn lines_are(alloc: Global, taps: &Taps, wanted: &[&[u8]]) -> Result<bool, NoMemory> {
+/// The lines of the taps, each with a line feed.
+fn lines_of(alloc: Global, taps: &Taps) -> Result<Bytes, NoMemory> {
     let lines = taps.lines(alloc)?;
-    if lines.len() != wanted.len() {
-        return Ok(false);
+    let mut text = Bytes::new(alloc);
+    for line in lines.as_slice() {
+        text.append(line.as_slice())?;
+        text.append(b"\n")?;
     }
-    Ok(
-        lines
-            .as_slice()
-            .iter()
-            .zip(wanted)
-            .all(|(line, text)| line.as_slice() == *text),
-    )
+    Ok(text)
+}
+
+/// Compares the lines of the taps.
+fn have_lines(rt: &impl Abort, alloc: Global, taps: &Taps, wanted: &str) -> Result<(), Fail> {
+    let text = lines_of(alloc, taps)?;
+    assert_eq!(rt; text.as_slice(), wanted.as_bytes());
+    Ok(())
 }
 
 /// Puts the packet of that number.
@@ -118,178 +127,229 @@ fn put_packet<D: Desk>(
     put(alloc, &item, capture, "out", desk, taps)
 }
 
-/// Writes what the writer's ring shows.
-fn write<D: Desk>(
+/// Puts packets one after another, and compares the lines of the taps behind each, and then the file `out`.
+fn tells(
+    rt: &impl Abort,
     alloc: Global,
-    writer: &mut Writer,
-    capture: &Capture,
-    desk: &mut D,
     taps: &mut Taps,
-) -> Result<u32, PutFault> {
-    writer.write_some(alloc, capture, "out", desk, taps)
+    steps: &[(PacketNo, &str)],
+) -> Result<(), Fail> {
+    let capture = capture_of(alloc, 3)?;
+    let mut desk = desk_with_out(alloc)?;
+    let mut records = 0u8;
+    for (packet, lines) in steps {
+        let answer = put_packet(alloc, *packet, &capture, &mut desk, taps);
+        assert_eq!(rt; answer, Ok(()));
+        have_lines(rt, alloc, taps, *lines)?;
+        records = records.saturating_add(1);
+    }
+    has_records(rt, alloc, &desk, records)
 }
 
 #[test]
 fn a_record_is_appended_and_told(rt: HostRuntime) -> Result<(), Fail> {
     let alloc = rt.alloc();
-    let capture = capture_of(alloc, 1)?;
-    let mut desk = desk_with_out(alloc)?;
     let mut list: Vec<Box<dyn Tap + Send>> = Vec::new(alloc);
     list.push(Box::new(alloc, ListTap::new(alloc))?)?;
     list.push(Box::new(alloc, CountTap::new())?)?;
     let mut taps = Taps::new(list);
-    put_packet(alloc, 0, &capture, &mut desk, &mut taps)?;
-    assert!(rt; lines_are(alloc, &taps, &[b"list 1", b"packets 1 bytes 42"])?);
-    let mut wanted = Bytes::new(alloc);
-    wanted.append(&HEADER)?;
-    wanted.append(&HEAD)?;
-    wanted.append(&FRAME)?;
-    assert_eq!(rt; desk.get("out"), Some(wanted.as_slice()));
-    Ok(())
+    tells(
+        &rt,
+        alloc,
+        &mut taps,
+        &[(0, "list 1\npackets 1 bytes 42\n")],
+    )
 }
 
 #[test]
 fn a_tap_leaves_and_the_others_stay(rt: HostRuntime) -> Result<(), Fail> {
     let alloc = rt.alloc();
-    let capture = capture_of(alloc, 3)?;
-    let mut desk = desk_with_out(alloc)?;
     let mut list: Vec<Box<dyn Tap + Send>> = Vec::new(alloc);
     list.push(Box::new(alloc, LeavingTap { told: false })?)?;
     list.push(Box::new(alloc, ListTap::new(alloc))?)?;
     list.push(Box::new(alloc, LeavingTap { told: true })?)?;
     list.push(Box::new(alloc, CountTap::new())?)?;
     let mut taps = Taps::new(list);
-    put_packet(alloc, 2, &capture, &mut desk, &mut taps)?;
-    assert!(rt; lines_are(alloc, &taps, &[b"", b"list 1", b"packets 1 bytes 42"])?);
-    put_packet(alloc, 0, &capture, &mut desk, &mut taps)?;
-    assert!(rt; lines_are(alloc, &taps, &[b"list 2", b"packets 2 bytes 84"])?);
-    put_packet(alloc, 1, &capture, &mut desk, &mut taps)?;
-    assert!(rt; lines_are(alloc, &taps, &[b"list 3", b"packets 3 bytes 126"])?);
-    assert!(rt; has_records(&desk, 3));
-    Ok(())
+    let steps = [
+        (2, "\nlist 1\npackets 1 bytes 42\n"),
+        (0, "list 2\npackets 2 bytes 84\n"),
+        (1, "list 3\npackets 3 bytes 126\n"),
+    ];
+    tells(&rt, alloc, &mut taps, &steps)
+}
+
+/// Puts an item that has no record, and compares the file `out` and the line of a list.
+fn passes_over(
+    rt: &impl Abort,
+    alloc: Global,
+    taps: &mut Taps,
+    item: &Released,
+) -> Result<(), Fail> {
+    let capture = capture_of(alloc, 2)?;
+    let mut desk = desk_with_out(alloc)?;
+    let answer = put(alloc, item, &capture, "out", &mut desk, taps);
+    assert_eq!(rt; answer, Ok(()));
+    has_records(rt, alloc, &desk, 0)?;
+    have_lines(rt, alloc, taps, "list 0\n")
+}
+
+/// An item of one byte more than a record may have.
+fn long_item(alloc: Global) -> Result<Released, Fail> {
+    let long = vec![in alloc; 0u8; MOST_CAPTURED + 1]?;
+    Ok(Released {
+        packet: 1,
+        bytes: Bytes::from_vec(long),
+    })
 }
 
 #[test]
 fn items_without_a_record_are_passed_over(rt: HostRuntime) -> Result<(), Fail> {
     let alloc = rt.alloc();
-    let capture = capture_of(alloc, 2)?;
-    let mut desk = desk_with_out(alloc)?;
     let mut list: Vec<Box<dyn Tap + Send>> = Vec::new(alloc);
     list.push(Box::new(alloc, ListTap::new(alloc))?)?;
     let mut taps = Taps::new(list);
-    put_packet(alloc, 2, &capture, &mut desk, &mut taps)?;
-    let long = vec![in alloc; 0u8; MOST_CAPTURED + 1]?;
-    let item = Released {
-        packet: 1,
-        bytes: Bytes::from_vec(long),
-    };
-    put(alloc, &item, &capture, "out", &mut desk, &mut taps)?;
-    assert!(rt; has_records(&desk, 0));
-    assert!(rt; lines_are(alloc, &taps, &[b"list 0"])?);
+    passes_over(&rt, alloc, &mut taps, &released(alloc, 2)?)?;
+    passes_over(&rt, alloc, &mut taps, &long_item(alloc)?)
+}
+
+/// Puts a packet where that is refused, and compares why.
+fn is_refused<D: Desk>(
+    rt: &impl Abort,
+    alloc: Global,
+    desk: &mut D,
+    taps: &mut Taps,
+    wanted: PutFault,
+) -> Result<(), Fail> {
+    let capture = capture_of(alloc, 1)?;
+    let answer = put_packet(alloc, 0, &capture, desk, taps);
+    assert_eq!(rt; answer, Err(wanted));
     Ok(())
+}
+
+#[test]
+fn a_file_that_is_missing_is_told_to_no_tap(rt: HostRuntime) -> Result<(), Fail> {
+    let alloc = rt.alloc();
+    let mut list: Vec<Box<dyn Tap + Send>> = Vec::new(alloc);
+    list.push(Box::new(alloc, ListTap::new(alloc))?)?;
+    let mut taps = Taps::new(list);
+    let mut empty = MemoryDesk::new(alloc);
+    is_refused(&rt, alloc, &mut empty, &mut taps, PutFault::Failed)?;
+    assert_eq!(rt; empty.get("out"), None);
+    have_lines(&rt, alloc, &taps, "list 0\n")
 }
 
 #[test]
 fn a_fault_of_the_desk_is_told_to_no_tap(rt: HostRuntime) -> Result<(), Fail> {
     let alloc = rt.alloc();
-    let capture = capture_of(alloc, 1)?;
     let mut list: Vec<Box<dyn Tap + Send>> = Vec::new(alloc);
     list.push(Box::new(alloc, ListTap::new(alloc))?)?;
     let mut taps = Taps::new(list);
-    let mut empty = MemoryDesk::new(alloc);
-    let answer = put_packet(alloc, 0, &capture, &mut empty, &mut taps);
-    assert_eq!(rt; answer, Err(PutFault::Failed));
-    assert_eq!(rt; empty.get("out"), None);
-    let inner = desk_with_out(alloc)?;
-    let mut failing = FailingDesk::new(alloc, inner, &[0])?;
-    let answer = put_packet(alloc, 0, &capture, &mut failing, &mut taps);
-    assert_eq!(rt; answer, Err(PutFault::Failed));
-    assert!(rt; has_records(failing.inner(), 0));
-    assert!(rt; lines_are(alloc, &taps, &[b"list 0"])?);
-    Ok(())
+    let mut failing = FailingDesk::new(alloc, desk_with_out(alloc)?, &[0])?;
+    is_refused(&rt, alloc, &mut failing, &mut taps, PutFault::Failed)?;
+    has_records(&rt, alloc, failing.inner(), 0)?;
+    have_lines(&rt, alloc, &taps, "list 0\n")
 }
 
 #[test]
 fn a_tap_without_memory_ends_the_telling(rt: HostRuntime) -> Result<(), Fail> {
     let alloc = rt.alloc();
-    let capture = capture_of(alloc, 1)?;
-    let mut desk = desk_with_out(alloc)?;
     let mut list: Vec<Box<dyn Tap + Send>> = Vec::new(alloc);
     list.push(Box::new(alloc, LeavingTap { told: true })?)?;
     list.push(Box::new(alloc, ListTap::new(alloc))?)?;
     list.push(Box::new(alloc, PoorTap)?)?;
     list.push(Box::new(alloc, CountTap::new())?)?;
     let mut taps = Taps::new(list);
-    let answer = put_packet(alloc, 0, &capture, &mut desk, &mut taps);
-    assert_eq!(rt; answer, Err(PutFault::NoMemory));
-    assert!(rt; has_records(&desk, 1));
-    assert!(rt; lines_are(alloc, &taps, &[b"list 1", b"", b"packets 0 bytes 0"])?);
+    let mut desk = desk_with_out(alloc)?;
+    is_refused(&rt, alloc, &mut desk, &mut taps, PutFault::NoMemory)?;
+    has_records(&rt, alloc, &desk, 1)?;
+    have_lines(&rt, alloc, &taps, "list 1\n\npackets 0 bytes 0\n")
+}
+
+/// Writes what the writer's ring shows of a capture of three packets, and compares what is answered.
+fn writes<D: Desk>(
+    rt: &impl Abort,
+    alloc: Global,
+    writer: &mut Writer,
+    desk: &mut D,
+    taps: &mut Taps,
+    wanted: Result<u32, PutFault>,
+) -> Result<(), Fail> {
+    let capture = capture_of(alloc, 3)?;
+    let answer = writer.write_some(alloc, &capture, "out", desk, taps);
+    assert_eq!(rt; answer, wanted);
+    Ok(())
+}
+
+/// The numbers of the packets that were put.
+fn numbers_of(alloc: Global, writer: Writer) -> Result<Items<PacketNo>, NoMemory> {
+    let put = writer.into_put();
+    let mut numbers = Items::new(alloc);
+    for item in put.as_slice() {
+        numbers.push(item.packet)?;
+    }
+    Ok(numbers)
+}
+
+/// Compares these numbers.
+fn has_put(
+    rt: &impl Abort,
+    alloc: Global,
+    writer: Writer,
+    wanted: &[PacketNo],
+) -> Result<(), Fail> {
+    let numbers = numbers_of(alloc, writer)?;
+    assert_eq!(rt; numbers.as_slice(), wanted);
     Ok(())
 }
 
 #[test]
 fn what_is_sent_is_put_in_order(rt: HostRuntime) -> Result<(), Fail> {
     let alloc = rt.alloc();
-    let capture = capture_of(alloc, 3)?;
     let mut desk = desk_with_out(alloc)?;
     let mut taps = Taps::new(Vec::new(alloc));
     let (mut sender, mut writer) = ring(alloc, 3)?;
-    let first = write(alloc, &mut writer, &capture, &mut desk, &mut taps)?;
-    assert_eq!(rt; first, 0);
+    writes(&rt, alloc, &mut writer, &mut desk, &mut taps, Ok(0))?;
     sender.send(released(alloc, 2)?);
     sender.send(released(alloc, 0)?);
-    let second = write(alloc, &mut writer, &capture, &mut desk, &mut taps)?;
-    assert_eq!(rt; second, 2);
+    writes(&rt, alloc, &mut writer, &mut desk, &mut taps, Ok(2))?;
     sender.send(released(alloc, 1)?);
-    let third = write(alloc, &mut writer, &capture, &mut desk, &mut taps)?;
-    assert_eq!(rt; third, 1);
-    assert!(rt; has_records(&desk, 3));
-    let put = writer.into_put();
-    let [one, two, three] = put.as_slice() else {
-        assert!(rt; false, "three items were put");
-        return Ok(());
-    };
-    assert_eq!(rt; [one.packet, two.packet, three.packet], [2, 0, 1]);
-    Ok(())
+    writes(&rt, alloc, &mut writer, &mut desk, &mut taps, Ok(1))?;
+    has_put(&rt, alloc, writer, &[2, 0, 1])?;
+    has_records(&rt, alloc, &desk, 3)
+}
+
+/// A ring for three items, and as many sent; the end that writes.
+fn three_sent(alloc: Global) -> Result<Writer, NoMemory> {
+    let (mut sender, writer) = ring(alloc, 3)?;
+    sender.send(released(alloc, 0)?);
+    sender.send(released(alloc, 1)?);
+    sender.send(released(alloc, 2)?);
+    Ok(writer)
 }
 
 #[test]
 fn the_item_of_a_refused_put_is_not_listed(rt: HostRuntime) -> Result<(), Fail> {
     let alloc = rt.alloc();
-    let capture = capture_of(alloc, 3)?;
-    let inner = desk_with_out(alloc)?;
-    let mut desk = FailingDesk::new(alloc, inner, &[1])?;
     let mut list: Vec<Box<dyn Tap + Send>> = Vec::new(alloc);
     list.push(Box::new(alloc, ListTap::new(alloc))?)?;
     let mut taps = Taps::new(list);
-    let (mut sender, mut writer) = ring(alloc, 3)?;
-    sender.send(released(alloc, 0)?);
-    sender.send(released(alloc, 1)?);
-    sender.send(released(alloc, 2)?);
-    let answer = write(alloc, &mut writer, &capture, &mut desk, &mut taps);
-    assert_eq!(rt; answer, Err(PutFault::Failed));
-    assert!(rt; has_records(desk.inner(), 1));
-    assert!(rt; lines_are(alloc, &taps, &[b"list 1"])?);
-    let put = writer.into_put();
-    let [one] = put.as_slice() else {
-        assert!(rt; false, "one item was put");
-        return Ok(());
-    };
-    assert_eq!(rt; one.packet, 0);
-    Ok(())
+    let mut desk = FailingDesk::new(alloc, desk_with_out(alloc)?, &[1])?;
+    let mut writer = three_sent(alloc)?;
+    let wanted = Err(PutFault::Failed);
+    writes(&rt, alloc, &mut writer, &mut desk, &mut taps, wanted)?;
+    has_put(&rt, alloc, writer, &[0])?;
+    has_records(&rt, alloc, desk.inner(), 1)?;
+    have_lines(&rt, alloc, &taps, "list 1\n")
 }
 
 #[test]
 fn a_ring_for_nothing_writes_nothing(rt: HostRuntime) -> Result<(), Fail> {
     let alloc = rt.alloc();
-    let capture = capture_of(alloc, 0)?;
     let mut desk = desk_with_out(alloc)?;
     let mut taps = Taps::new(Vec::new(alloc));
     let (_sender, mut writer) = ring(alloc, 0)?;
-    let written = write(alloc, &mut writer, &capture, &mut desk, &mut taps)?;
-    assert_eq!(rt; written, 0);
-    assert!(rt; has_records(&desk, 0));
-    Ok(())
+    writes(&rt, alloc, &mut writer, &mut desk, &mut taps, Ok(0))?;
+    has_records(&rt, alloc, &desk, 0)
 }
 
 /// Writes until a call writes nothing.
@@ -318,20 +378,24 @@ fn write_page<D: Desk>(
     write_all(&mut page)
 }
 
-#[test]
-fn a_page_is_written_as_any_sink(rt: HostRuntime) -> Result<(), Fail> {
-    let alloc = rt.alloc();
-    let capture = capture_of(alloc, 2)?;
-    let mut desk = desk_with_out(alloc)?;
-    let mut list: Vec<Box<dyn Tap + Send>> = Vec::new(alloc);
-    list.push(Box::new(alloc, CountTap::new())?)?;
-    let mut taps = Taps::new(list);
+/// A ring for two items, and as many sent; the end that writes.
+fn two_sent(alloc: Global) -> Result<Writer, NoMemory> {
     let (mut sender, writer) = ring(alloc, 2)?;
     sender.send(released(alloc, 1)?);
     sender.send(released(alloc, 0)?);
-    let written = write_page(alloc, writer, &capture, &mut desk, &mut taps)?;
-    assert_eq!(rt; written, 2);
-    assert!(rt; has_records(&desk, 2));
-    assert!(rt; lines_are(alloc, &taps, &[b"packets 2 bytes 84"])?);
-    Ok(())
+    Ok(writer)
+}
+
+#[test]
+fn a_page_is_written_as_any_sink(rt: HostRuntime) -> Result<(), Fail> {
+    let alloc = rt.alloc();
+    let mut list: Vec<Box<dyn Tap + Send>> = Vec::new(alloc);
+    list.push(Box::new(alloc, CountTap::new())?)?;
+    let mut taps = Taps::new(list);
+    let mut desk = desk_with_out(alloc)?;
+    let capture = capture_of(alloc, 2)?;
+    let written = write_page(alloc, two_sent(alloc)?, &capture, &mut desk, &mut taps);
+    assert_eq!(rt; written, Ok(2));
+    has_records(&rt, alloc, &desk, 2)?;
+    have_lines(&rt, alloc, &taps, "packets 2 bytes 84\n")
 }
