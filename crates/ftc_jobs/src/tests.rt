@@ -9,11 +9,12 @@ use ftc_mbox::Rule;
 use ftc_message::{Logs, Message, Needs};
 use ftc_network::Network;
 use ftc_ring::Ring;
-use ftc_script::read_script;
+use ftc_script::{Script, read_script};
 use ftc_server::{Server, Work};
 use ftc_vector::Commits;
 use ftc_visits::MadeVisits;
 use std::alloc::Global;
+use std::process::Abort;
 use std::test::Fail;
 
 /// A message with nothing but that packet.
@@ -93,21 +94,86 @@ fn running_pair(alloc: Global, packet: Bytes) -> Result<Network, NoMemory> {
     network_with(alloc, first, false)
 }
 
+/// The script of a text, for two servers and so many packets.
+fn script_of(alloc: Global, text: &[u8], packets: u32) -> Result<Script, Fail> {
+    let ring = Ring::new(2, 1).unwrap();
+    match read_script(alloc, text, &ring, packets) {
+        Ok(script) => Ok(script),
+        Err(_) => Err(Fail::new("refused")),
+    }
+}
+
+/// A network, a script, and how many packets there are.
+#[derive(Clone, Copy)]
+struct Given<'a> {
+    network: &'a Network,
+    script: &'a Script,
+    packets: u32,
+}
+
+/// That is the first job.
+fn is_first(rt: &impl Abort, given: Given<'_>, job: Option<Job>) {
+    let first = first_job(given.network, given.script, given.packets);
+    assert_eq!(rt; first, job);
+}
+
+/// These are the first visit that no slot runs, and the first job that is no visit.
+fn are_beside(rt: &impl Abort, given: Given<'_>, visit: Option<Job>, other: Option<Job>) {
+    let free = free_visit(given.network, given.script);
+    let found = (free, other_job(given.network, given.script, given.packets));
+    assert_eq!(rt; found, (visit, other));
+}
+
+/// Each of the jobs is legal, or isn't.
+fn are_legal(rt: &impl Abort, given: Given<'_>, jobs: &[(Job, bool)]) {
+    for (job, legal) in jobs {
+        let found = is_legal(given.network, given.script, given.packets, job);
+        assert_eq!(rt; found, *legal, "{job:?}");
+    }
+}
+
+/// These are all the jobs that no slot runs.
+fn are_all(
+    rt: &impl Abort,
+    alloc: Global,
+    given: Given<'_>,
+    expected: &[Job],
+) -> Result<(), NoMemory> {
+    let jobs = all_jobs(alloc, given.network, given.script, given.packets)?;
+    assert!(rt; jobs.as_slice() == expected);
+    Ok(())
+}
+
+/// The visit of packet 0 at server 0.
+fn first_visit() -> Job {
+    let server = ServerId::new(0).unwrap();
+    Job::Visit { server, packet: 0 }
+}
+
+/// The entry of a packet.
+fn enter(packet: PacketNo) -> Job {
+    Job::Enter { packet }
+}
+
 #[test]
 fn a_packet_enters_and_then_nothing_is_left(rt: HostRuntime) -> Result<(), Fail> {
     let mut network = pair(rt.alloc(), None, false)?;
-    let ring = Ring::new(2, 1).unwrap();
-    let Ok(script) = read_script(rt.alloc(), b"", &ring, 1) else {
-        return Err(Fail::new("refused"));
+    let script = script_of(rt.alloc(), b"", 1)?;
+    let given = Given {
+        network: &network,
+        script: &script,
+        packets: 1,
     };
-    let enter = Job::Enter { packet: 0 };
-    assert_eq!(rt; first_job(&network, &script, 1), Some(enter));
-    assert_eq!(rt; other_job(&network, &script, 1), Some(enter));
-    assert_eq!(rt; free_visit(&network, &script), None);
-    assert!(rt; is_legal(&network, &script, 1, &enter));
-    assert!(rt; !is_legal(&network, &script, 1, &Job::Enter { packet: 1 }));
+    is_first(&rt, given, Some(enter(0)));
+    are_beside(&rt, given, None, Some(enter(0)));
+    are_legal(&rt, given, &[(enter(0), true), (enter(1), false)]);
     network.entered = 1;
-    assert_eq!(rt; first_job(&network, &script, 1), None);
+    let given = Given {
+        network: &network,
+        script: &script,
+        packets: 1,
+    };
+    is_first(&rt, given, None);
     Ok(())
 }
 
@@ -115,58 +181,82 @@ fn a_packet_enters_and_then_nothing_is_left(rt: HostRuntime) -> Result<(), Fail>
 fn a_held_packet_is_visited_before_others_enter(rt: HostRuntime) -> Result<(), Fail> {
     let mut network = pair(rt.alloc(), Some(Bytes::new(rt.alloc())), false)?;
     network.entered = 1;
-    let ring = Ring::new(2, 1).unwrap();
-    let Ok(script) = read_script(rt.alloc(), b"lose 0 0", &ring, 2) else {
-        return Err(Fail::new("refused"));
+    let script = script_of(rt.alloc(), b"lose 0 0", 2)?;
+    let given = Given {
+        network: &network,
+        script: &script,
+        packets: 2,
     };
     let server = ServerId::new(0).unwrap();
-    let visit = Job::Visit { server, packet: 0 };
-    let enter = Job::Enter { packet: 1 };
-    assert_eq!(rt; first_job(&network, &script, 2), Some(visit));
-    assert_eq!(rt; free_visit(&network, &script), Some(visit));
-    assert_eq!(rt; other_job(&network, &script, 2), Some(enter));
-    assert!(rt; is_legal(&network, &script, 2, &visit));
-    assert!(rt; !is_legal(&network, &script, 2, &Job::Lose { server, origin: 0 }));
-    assert!(rt; is_legal(&network, &script, 2, &enter));
+    let lose = Job::Lose { server, origin: 0 };
+    is_first(&rt, given, Some(first_visit()));
+    are_beside(&rt, given, Some(first_visit()), Some(enter(1)));
+    let jobs = [(first_visit(), true), (lose, false), (enter(1), true)];
+    are_legal(&rt, given, &jobs);
+    Ok(())
+}
+
+/// The script that has server 1 crash and recover.
+fn crash_script(alloc: Global) -> Result<Script, Fail> {
+    script_of(alloc, b"at 0 crash 1\nat 0 recover 1\n", 1)
+}
+
+#[test]
+fn a_line_of_the_script_comes_first(rt: HostRuntime) -> Result<(), Fail> {
+    let network = pair(rt.alloc(), None, false)?;
+    let script = crash_script(rt.alloc())?;
+    let given = Given {
+        network: &network,
+        script: &script,
+        packets: 1,
+    };
+    let server = ServerId::new(1).unwrap();
+    is_first(&rt, given, Some(Job::Crash { server }));
+    are_legal(&rt, given, &[(Job::Recover { server }, false)]);
     Ok(())
 }
 
 #[test]
 fn pulls_come_before_lines_of_the_script(rt: HostRuntime) -> Result<(), Fail> {
-    let network = pair(rt.alloc(), None, false)?;
-    let ring = Ring::new(2, 1).unwrap();
-    let text = b"at 0 crash 1\nat 0 recover 1\n".as_slice();
-    let Ok(script) = read_script(rt.alloc(), text, &ring, 1) else {
-        return Err(Fail::new("refused"));
+    let torn = pair(rt.alloc(), None, true)?;
+    let script = crash_script(rt.alloc())?;
+    let given = Given {
+        network: &torn,
+        script: &script,
+        packets: 1,
     };
     let (link, server) = (ServerId::new(0).unwrap(), ServerId::new(1).unwrap());
-    let crash = Job::Crash { server };
-    assert_eq!(rt; first_job(&network, &script, 1), Some(crash));
-    assert!(rt; !is_legal(&network, &script, 1, &Job::Recover { server }));
-    let torn = pair(rt.alloc(), None, true)?;
-    assert_eq!(rt; first_job(&torn, &script, 1), Some(Job::Pull { link }));
-    assert!(rt; is_legal(&torn, &script, 1, &crash));
+    is_first(&rt, given, Some(Job::Pull { link }));
+    are_legal(&rt, given, &[(Job::Crash { server }, true)]);
+    Ok(())
+}
+
+#[test]
+fn a_visit_that_no_slot_runs_is_listed(rt: HostRuntime) -> Result<(), Fail> {
+    let mut idle = pair(rt.alloc(), Some(Bytes::new(rt.alloc())), false)?;
+    idle.entered = 1;
+    let script = script_of(rt.alloc(), b"", 1)?;
+    let given = Given {
+        network: &idle,
+        script: &script,
+        packets: 1,
+    };
+    are_all(&rt, rt.alloc(), given, &[first_visit()])?;
     Ok(())
 }
 
 #[test]
 fn a_visit_that_a_slot_runs_is_left_out(rt: HostRuntime) -> Result<(), Fail> {
-    let ring = Ring::new(2, 1).unwrap();
-    let Ok(script) = read_script(rt.alloc(), b"", &ring, 1) else {
-        return Err(Fail::new("refused"));
-    };
-    let server = ServerId::new(0).unwrap();
-    let visit = Job::Visit { server, packet: 0 };
-    let mut idle = pair(rt.alloc(), Some(Bytes::new(rt.alloc())), false)?;
-    idle.entered = 1;
-    let jobs = all_jobs(rt.alloc(), &idle, &script, 1)?;
-    assert!(rt; jobs.as_slice() == [visit].as_slice());
     let mut running = running_pair(rt.alloc(), Bytes::new(rt.alloc()))?;
     running.entered = 1;
-    let jobs = all_jobs(rt.alloc(), &running, &script, 1)?;
-    assert!(rt; jobs.as_slice().is_empty());
-    assert_eq!(rt; free_visit(&running, &script), None);
-    assert_eq!(rt; other_job(&running, &script, 1), None);
-    assert!(rt; is_legal(&running, &script, 1, &visit));
+    let script = script_of(rt.alloc(), b"", 1)?;
+    let given = Given {
+        network: &running,
+        script: &script,
+        packets: 1,
+    };
+    are_all(&rt, rt.alloc(), given, &[])?;
+    are_beside(&rt, given, None, None);
+    are_legal(&rt, given, &[(first_visit(), true)]);
     Ok(())
 }

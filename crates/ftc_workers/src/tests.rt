@@ -18,6 +18,7 @@ use ftc_ring::Ring;
 use ftc_script::{Script, accepted, read_script};
 use ftc_stream::{PutFault, Taps};
 use std::alloc::{AllocError, Global};
+use std::process::Abort;
 use std::sync::atomic::{AtomicBool, AtomicU64, Ordering};
 use std::sync::{Arc, Wait};
 use std::test::Fail;
@@ -112,12 +113,7 @@ struct Parts {
 }
 
 impl Parts {
-    /// The script has no lines.
-    fn new(alloc: Global, spec: ChainSpec, packets: u16) -> Result<Parts, Fail> {
-        Parts::with(alloc, spec, packets, b"")
-    }
-
-    fn with(alloc: Global, spec: ChainSpec, packets: u16, script: &[u8]) -> Result<Parts, Fail> {
+    fn new(alloc: Global, spec: ChainSpec, packets: u16, script: &[u8]) -> Result<Parts, Fail> {
         let Ok(capture) = capture_of(alloc, packets) else {
             return Err(Fail::new("the capture is right"));
         };
@@ -164,22 +160,24 @@ fn ran_over<R: AllocGlobal + Threads + Wait + Sync, G: Gate>(
     }
 }
 
-/// The same from the first event on.
-fn run_parts<R: AllocGlobal + Threads + Wait + Sync, G: Gate>(
+/// The same from the first event on, over so many packets and a script.
+fn run_chain<R: AllocGlobal + Threads + Wait + Sync, G: Gate>(
     rt: &R,
-    parts: &Parts,
+    spec: ChainSpec,
+    texts: (u16, &[u8]),
     workers: u8,
     gate: &G,
-) -> Result<Ran, NoMemory>
+) -> Result<Ran, Fail>
     requires { (1 ≤ workers) × (workers ≤ MOST_THREADS) }
 {
+    let (packets, script) = texts;
+    let parts = Parts::new(rt.alloc(), spec, packets, script)?;
     Ok(ran_over(rt, parts.chain(rt.alloc())?, workers, gate))
 }
 
 #[test]
 fn three_workers_make_six_visits(rt: HostRuntime) -> Result<(), Fail> {
-    let parts = Parts::new(rt.alloc(), three_monitors(rt.alloc())?, 2)?;
-    let ended = run_parts(&rt, &parts, 3, &OpenGate)?;
+    let ended = run_chain(&rt, three_monitors(rt.alloc())?, (2, b""), 3, &OpenGate)?;
     let expected = Ran {
         finished: true,
         commits: 6,
@@ -198,8 +196,7 @@ const MANY: Ran = Ran {
 
 #[test]
 fn many_packets_go_through(rt: HostRuntime) -> Result<(), Fail> {
-    let parts = Parts::new(rt.alloc(), three_monitors(rt.alloc())?, 200)?;
-    let ended = run_parts(&rt, &parts, 4, &OpenGate)?;
+    let ended = run_chain(&rt, three_monitors(rt.alloc())?, (200, b""), 4, &OpenGate)?;
     assert_eq!(rt; ended, MANY);
     Ok(())
 }
@@ -216,8 +213,7 @@ impl Gate for SlowGate {
 
 #[test]
 fn many_packets_pass_a_gate_that_holds(rt: HostRuntime) -> Result<(), Fail> {
-    let parts = Parts::new(rt.alloc(), three_monitors(rt.alloc())?, 200)?;
-    let ended = run_parts(&rt, &parts, 8, &SlowGate)?;
+    let ended = run_chain(&rt, three_monitors(rt.alloc())?, (200, b""), 8, &SlowGate)?;
     assert_eq!(rt; ended, MANY);
     Ok(())
 }
@@ -225,8 +221,7 @@ fn many_packets_pass_a_gate_that_holds(rt: HostRuntime) -> Result<(), Fail> {
 #[test]
 fn workers_go_on_beside_a_down_server(rt: HostRuntime) -> Result<(), Fail> {
     let script = b"at 10 crash 1\nat 50 recover 1\n";
-    let parts = Parts::with(rt.alloc(), three_monitors(rt.alloc())?, 60, script)?;
-    let ended = run_parts(&rt, &parts, 4, &SlowGate)?;
+    let ended = run_chain(&rt, three_monitors(rt.alloc())?, (60, script), 4, &SlowGate)?;
     assert!(rt; ended.finished);
     assert_eq!(rt; u64::from(ended.visits), ended.commits);
     Ok(())
@@ -254,15 +249,13 @@ impl Gate for Meeting {
 
 #[test]
 fn two_visits_are_open_at_once(rt: HostRuntime) -> Result<(), Fail> {
-    let parts = Parts::new(rt.alloc(), one_monitor(rt.alloc())?, 2)?;
     let gate = Meeting {
         come: AtomicU64::new(0),
         seen: AtomicU64::new(0),
     };
-    let ended = run_parts(&rt, &parts, 2, &gate)?;
-    assert!(rt; ended.finished);
-    assert_eq!(rt; ended.commits, 2);
-    assert_eq!(rt; gate.seen.load(Ordering::SeqCst), 2);
+    let ended = run_chain(&rt, one_monitor(rt.alloc())?, (2, b""), 2, &gate)?;
+    let seen = gate.seen.load(Ordering::SeqCst);
+    assert_eq!(rt; (ended.finished, ended.commits, seen), (true, 2, 2));
     Ok(())
 }
 
@@ -288,14 +281,20 @@ fn do_first(chain: &mut Chain<'_>, worker: WorkerId) -> bool {
     }
 }
 
+/// A packet enters, and the slot begins its visit. The answer is whether the slot runs then.
+fn begins_first(chain: &mut Chain<'_>, slot: WorkerId) -> bool {
+    do_first(chain, slot) && do_first(chain, slot) && chain.answers(slot).is_some()
+}
+
 /// A slot begins the first visit, and then a worker runs. None where the slot doesn't run then.
 fn ran_behind<R: AllocGlobal + Threads + Wait + Sync>(
     rt: &R,
-    parts: &Parts,
+    spec: ChainSpec,
     slot: WorkerId,
-) -> Result<Option<Ran>, NoMemory> {
+) -> Result<Option<Ran>, Fail> {
+    let parts = Parts::new(rt.alloc(), spec, 2, b"")?;
     let mut chain = parts.chain(rt.alloc())?;
-    if !do_first(&mut chain, slot) || !do_first(&mut chain, slot) || chain.answers(slot).is_none() {
+    if !begins_first(&mut chain, slot) {
         return Ok(None);
     }
     Ok(Some(ran_over(rt, chain, 1, &OpenGate)))
@@ -303,9 +302,8 @@ fn ran_behind<R: AllocGlobal + Threads + Wait + Sync>(
 
 #[test]
 fn slots_that_run_give_up_first(rt: HostRuntime) -> Result<(), Fail> {
-    let parts = Parts::new(rt.alloc(), one_monitor(rt.alloc())?, 2)?;
     let slot = WorkerId::new(40).expect(&rt, "a slot");
-    let ended = ran_behind(&rt, &parts, slot)?;
+    let ended = ran_behind(&rt, one_monitor(rt.alloc())?, slot)?;
     let expected = Ran {
         finished: true,
         commits: 2,
@@ -346,18 +344,20 @@ struct Wrote {
     put: usize,
 }
 
-/// So many workers run over a chain, and what they release is appended to `out`.
-fn write_parts<R: AllocGlobal + Threads + Wait + Sync, G: Gate, D: Desk>(
+/// So many workers run over a chain and so many packets, and what they release is appended to `out`.
+fn write_chain<R: AllocGlobal + Threads + Wait + Sync, G: Gate, D: Desk>(
     rt: &R,
-    parts: &Parts,
+    spec: ChainSpec,
+    packets: u16,
     workers: u8,
     gate: &G,
     desk: &mut D,
     taps: &mut Taps,
-) -> Result<Wrote, NoMemory>
+) -> Result<Wrote, Fail>
     requires { (1 ≤ workers) × (workers ≤ MOST_THREADS) }
 {
     let alloc = rt.alloc();
+    let parts = Parts::new(alloc, spec, packets, b"")?;
     let chain = parts.chain(alloc)?;
     let written = run_to(
         rt,
@@ -387,13 +387,26 @@ fn first_line(alloc: Global, taps: &Taps) -> Result<Bytes, Fail> {
     Ok(lines.at(0).copy()?)
 }
 
+/// The file `out` is so long, and the line of the first tap is that.
+fn is_written(
+    rt: &impl Abort,
+    alloc: Global,
+    desk: &MemoryDesk,
+    taps: &Taps,
+    (length, line): (usize, &[u8]),
+) -> Result<(), Fail> {
+    let first = first_line(alloc, taps)?;
+    assert_eq!(rt; (out_len(desk), first.as_slice()), (length, line));
+    Ok(())
+}
+
 #[test]
 fn what_is_released_is_written(rt: HostRuntime) -> Result<(), Fail> {
     let alloc = rt.alloc();
-    let parts = Parts::new(alloc, three_monitors(alloc)?, 20)?;
     let mut desk = desk_with_out(alloc)?;
     let mut taps = one_list(alloc)?;
-    let ended = write_parts(&rt, &parts, 3, &OpenGate, &mut desk, &mut taps)?;
+    let spec = three_monitors(alloc)?;
+    let ended = write_chain(&rt, spec, 20, 3, &OpenGate, &mut desk, &mut taps)?;
     let expected = Wrote {
         result: Ok(()),
         finished: true,
@@ -401,23 +414,18 @@ fn what_is_released_is_written(rt: HostRuntime) -> Result<(), Fail> {
         put: 20,
     };
     assert_eq!(rt; ended, expected);
-    assert_eq!(rt; out_len(&desk), 24 + 20 * 58);
-    assert_eq!(rt; first_line(alloc, &taps)?.as_slice(), b"list 20".as_slice());
-    Ok(())
+    is_written(&rt, alloc, &desk, &taps, (24 + 20 * 58, b"list 20"))
 }
 
 #[test]
 fn a_fault_ends_the_workers(rt: HostRuntime) -> Result<(), Fail> {
     let alloc = rt.alloc();
-    let parts = Parts::new(alloc, three_monitors(alloc)?, 20)?;
     let mut desk = FailingDesk::new(alloc, desk_with_out(alloc)?, &[1])?;
     let mut taps = one_list(alloc)?;
-    let ended = write_parts(&rt, &parts, 3, &OpenGate, &mut desk, &mut taps)?;
-    assert_eq!(rt; ended.result, Err(PutFault::Failed));
-    assert_eq!(rt; ended.put, 1);
-    assert_eq!(rt; out_len(desk.inner()), 24 + 58);
-    assert_eq!(rt; first_line(alloc, &taps)?.as_slice(), b"list 1".as_slice());
-    Ok(())
+    let spec = three_monitors(alloc)?;
+    let ended = write_chain(&rt, spec, 20, 3, &OpenGate, &mut desk, &mut taps)?;
+    assert_eq!(rt; (ended.result, ended.put), (Err(PutFault::Failed), 1));
+    is_written(&rt, alloc, desk.inner(), &taps, (24 + 58, b"list 1"))
 }
 
 /// A tap that raises a flag when it is told packet 0.
@@ -472,20 +480,28 @@ fn one_flag(alloc: Global, flag: Arc<AtomicBool, Global>) -> Result<Taps, AllocE
     Ok(Taps::new(list))
 }
 
+/// Two workers write two packets behind this gate and beside these taps. The answer is how they ended.
+fn wrote_two<R: AllocGlobal + Threads + Wait + Sync>(
+    rt: &R,
+    gate: &FlagGate,
+    taps: &mut Taps,
+) -> Result<Wrote, Fail> {
+    let mut desk = desk_with_out(rt.alloc())?;
+    let spec = one_monitor(rt.alloc())?;
+    write_chain(rt, spec, 2, 2, gate, &mut desk, taps)
+}
+
 #[test]
 fn a_packet_is_written_while_another_waits(rt: HostRuntime) -> Result<(), Fail> {
     let alloc = rt.alloc();
-    let parts = Parts::new(alloc, one_monitor(alloc)?, 2)?;
     let flag = Arc::new(alloc, AtomicBool::new(false))?;
     let gate = FlagGate {
         flag: Arc::try_clone(&flag)?,
         seen: AtomicBool::new(false),
     };
     let mut taps = one_flag(alloc, flag)?;
-    let mut desk = desk_with_out(alloc)?;
-    let ended = write_parts(&rt, &parts, 2, &gate, &mut desk, &mut taps)?;
-    assert_eq!(rt; ended.result, Ok(()));
-    assert!(rt; gate.seen.load(Ordering::SeqCst));
-    assert_eq!(rt; ended.put, 2);
+    let ended = wrote_two(&rt, &gate, &mut taps)?;
+    let seen = gate.seen.load(Ordering::SeqCst);
+    assert_eq!(rt; (ended.result, seen, ended.put), (Ok(()), true, 2));
     Ok(())
 }
