@@ -6,7 +6,7 @@ use ftc_base::{Bytes, NoMemory, ServerId};
 use ftc_message::{Logs, Message, Needs, Seen, encode};
 use ftc_vector::Commits;
 use std::alloc::Global;
-use std::test::Fail;
+use std::process::Abort;
 
 /// A message with a packet of two bytes, and nothing else.
 fn message(alloc: Global, origin: u32) -> Result<Message, NoMemory>
@@ -23,47 +23,100 @@ fn message(alloc: Global, origin: u32) -> Result<Message, NoMemory>
     })
 }
 
-#[test]
-fn sent_and_taken_in_order(rt: HostRuntime) -> Result<(), Fail> {
-    let from = ServerId::new(2).ok_or("a server")?;
-    let mut link = Link::new(rt.alloc(), from);
-    let (four, five) = (message(rt.alloc(), 4)?, message(rt.alloc(), 5)?);
-    assert_eq!(rt; link.from(), from);
-    assert_eq!(rt; link.oldest(), None);
-    assert_eq!(rt; link.send(rt.alloc(), &four, None, true)?, Sent::Sent);
-    assert_eq!(rt; link.send(rt.alloc(), &five, None, true)?, Sent::Sent);
+/// The message of that origin is sent, which ends so.
+fn is_sent(
+    rt: &impl Abort,
+    alloc: Global,
+    link: &mut Link,
+    origin: u32,
+    lost: Option<u32>,
+    up: bool,
+    wanted: Sent,
+) {
+    let message = message(alloc, origin).expect(rt, "memory");
+    let sent = link.send(alloc, &message, lost, up).expect(rt, "memory");
+    assert_eq!(rt; sent, wanted);
+}
+
+/// Whether it is the message of that origin.
+fn is_message(message: &Message, origin: u32) -> bool {
+    match &message.packet {
+        Some(packet) => message.origin == origin && packet.as_slice() == [0xaa, 0xbb].as_slice(),
+        None => false,
+    }
+}
+
+/// Whether the message of that origin is taken.
+fn takes(link: &mut Link, alloc: Global, origin: u32) -> Result<bool, NoMemory> {
+    match link.take(alloc)? {
+        Some(message) => Ok(is_message(&message, origin)),
+        None => Ok(false),
+    }
+}
+
+/// The message of that origin is taken.
+fn is_taken(rt: &impl Abort, alloc: Global, link: &mut Link, origin: u32) {
+    assert_eq!(rt; takes(link, alloc, origin).ok(), Some(true));
+}
+
+/// A link on which the messages 4 and 5 are queued.
+fn two_queued(rt: &impl Abort, alloc: Global) -> Link {
+    let mut link = Link::new(alloc, ServerId::new(2).unwrap());
+    is_sent(rt, alloc, &mut link, 4, None, true, Sent::Sent);
+    is_sent(rt, alloc, &mut link, 5, None, true, Sent::Sent);
+    link
+}
+
+/// Nothing was sent on a link from server 2.
+fn is_new(rt: &impl Abort, link: &Link) {
+    assert_eq!(rt; (link.from().number(), link.oldest()), (2, None));
+}
+
+/// Two messages are queued, the oldest of which is 4 and has no logs.
+fn has_two(rt: &impl Abort, link: &Link) {
     assert!(rt; !link.gap());
     assert_eq!(rt;
         (link.oldest(), link.logs(), link.len()),
         (Some(4), Some(0), 2)
     );
-    assert_eq!(rt; link.take(rt.alloc())?.ok_or("the first")?.origin, 4);
-    let taken = link.take(rt.alloc())?.ok_or("the second")?;
-    assert_eq!(rt; taken.origin, 5);
-    assert_eq!(rt;
-        taken.packet.ok_or("a packet")?.as_slice(),
-        [0xaa, 0xbb].as_slice()
-    );
-    assert!(rt; link.take(rt.alloc())?.is_none());
-    Ok(())
+}
+
+/// Nothing is left to take.
+fn is_empty(rt: &impl Abort, alloc: Global, link: &mut Link) {
+    let taken = link.take(alloc).expect(rt, "memory");
+    assert!(rt; taken.is_none());
 }
 
 #[test]
-fn lost_and_down_leave_a_gap(rt: HostRuntime) -> Result<(), Fail> {
-    let mut link = Link::new(rt.alloc(), ServerId::new(0).ok_or("a server")?);
-    let four = message(rt.alloc(), 4)?;
+fn sent_and_taken_in_order(rt: HostRuntime) {
+    is_new(&rt, &Link::new(rt.alloc(), ServerId::new(2).unwrap()));
+    let mut link = two_queued(&rt, rt.alloc());
+    has_two(&rt, &link);
+    is_taken(&rt, rt.alloc(), &mut link, 4);
+    is_taken(&rt, rt.alloc(), &mut link, 5);
+    is_empty(&rt, rt.alloc(), &mut link);
+}
+
+/// Nothing is queued behind a gap.
+fn is_gap(rt: &impl Abort, link: &Link) {
     assert_eq!(rt;
-        link.send(rt.alloc(), &four, Some(3), false)?,
-        Sent::Lost { line: 3 }
+        (link.gap(), link.oldest(), link.logs()),
+        (true, None, None)
     );
-    assert!(rt; link.gap() && link.oldest().is_none());
+}
+
+#[test]
+fn lost_and_down_leave_a_gap(rt: HostRuntime) {
+    let mut link = Link::new(rt.alloc(), ServerId::new(0).unwrap());
+    let lost = Sent::Lost { line: 3 };
+    is_sent(&rt, rt.alloc(), &mut link, 4, Some(3), false, lost);
+    is_gap(&rt, &link);
     link.set_gap(false);
-    assert_eq!(rt; link.send(rt.alloc(), &four, None, false)?, Sent::Down);
-    assert!(rt; link.gap() && link.oldest().is_none());
-    assert_eq!(rt; link.send(rt.alloc(), &four, None, true)?, Sent::Sent);
+    is_sent(&rt, rt.alloc(), &mut link, 4, None, false, Sent::Down);
+    is_gap(&rt, &link);
+    is_sent(&rt, rt.alloc(), &mut link, 4, None, true, Sent::Sent);
     link.clear();
-    assert!(rt; link.gap() && link.logs().is_none());
-    Ok(())
+    is_gap(&rt, &link);
 }
 
 /// The frame of a message.
@@ -71,41 +124,34 @@ fn frame_of(alloc: Global, origin: u32) -> Result<Bytes, NoMemory> {
     encode(alloc, &message(alloc, origin)?)
 }
 
-/// What is seen of it.
-fn seen_of(alloc: Global, origin: u32) -> Result<Seen, Fail> {
-    let frame = frame_of(alloc, origin)?;
-    Ok(Seen::make(alloc, frame.as_slice()).ok().ok_or("a frame")?)
+/// The oldest frame is that of the message of that origin.
+fn shows(rt: &impl Abort, alloc: Global, link: &Link, origin: u32) {
+    let frame = frame_of(alloc, origin).expect(rt, "memory");
+    assert!(rt; link.frame() == Some(frame.as_slice()));
 }
 
-/// A link on which the messages 4 and 5 are queued.
-fn two_queued(alloc: Global) -> Result<Link, Fail> {
-    let mut link = Link::new(alloc, ServerId::new(2).ok_or("a server")?);
-    link.send(alloc, &message(alloc, 4)?, None, true)?;
-    link.send(alloc, &message(alloc, 5)?, None, true)?;
-    Ok(link)
-}
-
-/// Whether the oldest frame is that one.
-fn shows(link: &Link, frame: &Bytes) -> bool {
-    link.frame() == Some(frame.as_slice())
-}
-
-/// The origin of the message that is taken.
-fn taken(link: &mut Link, alloc: Global, seen: Seen) -> Result<Option<u32>, NoMemory> {
-    match link.take_seen(alloc, seen)? {
-        Some(message) => Ok(Some(message.origin)),
-        None => Ok(None),
+/// The origin of the message that is taken, where the frame of message 5 was seen.
+fn taken_seen(rt: &impl Abort, link: &mut Link, alloc: Global) -> Option<u32> {
+    let frame = frame_of(alloc, 5).expect(rt, "memory");
+    let seen = Seen::make(alloc, frame.as_slice()).expect(rt, "a frame");
+    let taken = link.take_seen(alloc, seen).expect(rt, "memory");
+    match &taken {
+        Some(message) => Some(message.origin),
+        None => None,
     }
 }
 
+/// The message of that origin is taken, where the frame of message 5 was seen.
+fn is_taken_seen(rt: &impl Abort, alloc: Global, link: &mut Link, origin: u32) {
+    assert_eq!(rt; taken_seen(rt, link, alloc), Some(origin));
+}
+
 #[test]
-fn seen_frames_are_taken_where_they_are_the_oldest(rt: HostRuntime) -> Result<(), Fail> {
-    let mut link = two_queued(rt.alloc())?;
-    let (stranger, seen) = (seen_of(rt.alloc(), 5)?, seen_of(rt.alloc(), 5)?);
-    assert!(rt; shows(&link, &frame_of(rt.alloc(), 4)?));
-    assert_eq!(rt; taken(&mut link, rt.alloc(), stranger)?, Some(4));
-    assert!(rt; shows(&link, &frame_of(rt.alloc(), 5)?));
-    assert_eq!(rt; taken(&mut link, rt.alloc(), seen)?, Some(5));
+fn seen_frames_are_taken_where_they_are_the_oldest(rt: HostRuntime) {
+    let mut link = two_queued(&rt, rt.alloc());
+    shows(&rt, rt.alloc(), &link, 4);
+    is_taken_seen(&rt, rt.alloc(), &mut link, 4);
+    shows(&rt, rt.alloc(), &link, 5);
+    is_taken_seen(&rt, rt.alloc(), &mut link, 5);
     assert!(rt; link.frame().is_none());
-    Ok(())
 }

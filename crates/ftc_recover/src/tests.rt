@@ -10,7 +10,7 @@ use ftc_message::Log;
 use ftc_replica::{Kept, Replica};
 use ftc_vector::{Marks, Vector};
 use std::alloc::Global;
-use std::test::Fail;
+use std::process::Abort;
 
 /// The number of one partition.
 fn marks(partition: u8, number: u64) -> Marks
@@ -118,35 +118,73 @@ fn value_at(replica: &Replica, partition: u8) -> Option<Value> {
     replica.store().get(&Key::new(&[partition]).unwrap())
 }
 
-#[test]
-fn an_equal_replica(rt: HostRuntime) -> Result<(), Fail> {
-    let mut from = Replica::new(rt.alloc(), 4);
+/// A replica to which three logs were applied.
+fn applied(rt: &impl Abort, alloc: Global) -> Result<Replica, NoMemory> {
+    let mut replica = Replica::new(alloc, 4);
+    three_are_applied(rt, &mut replica)?;
+    Ok(replica)
+}
+
+/// Three logs are applied in their order.
+fn three_are_applied(rt: &impl Abort, replica: &mut Replica) -> Result<(), NoMemory> {
     for log in [log(7, 2, 0), log(5, 1, 0), log(6, 1, 1)] {
-        assert!(rt; apply(&mut from, &log)?);
+        assert!(rt; apply(replica, &log)?);
     }
-    let copy = fetch_one(rt.alloc(), from.store(), from.vector(), from.kept())?;
-    assert!(rt; copy.vector() == from.vector() && are(copy.kept(), &[7, 5, 6]));
-    assert_eq!(rt; (copy.vector().at(1), copy.vector().at(2)), (2, 1));
-    assert_eq!(rt; copy.store().partitions(), 4);
-    assert_eq!(rt; value_at(&copy, 1), Value::new(&[6]));
-    assert_eq!(rt; value_at(&copy, 2), Value::new(&[7]));
-    assert_eq!(rt; value_at(&copy, 3), None);
+    Ok(())
+}
+
+/// A replica has what the three logs put at the keys of the partitions.
+fn has_values(rt: &impl Abort, replica: &Replica) {
+    assert_eq!(rt;
+        [value_at(replica, 1), value_at(replica, 2)],
+        [Value::new(&[6]), Value::new(&[7])]
+    );
+}
+
+/// A replica has the vector of another, and kept the logs of these packets.
+fn is_equal(rt: &impl Abort, replica: &Replica, other: &Replica, origins: &[u32]) {
+    assert!(rt; replica.vector() == other.vector() && are(replica.kept(), origins));
+}
+
+#[test]
+fn an_equal_replica(rt: HostRuntime) {
+    let from = applied(&rt, rt.alloc()).expect(&rt, "memory");
+    let copy = fetch_one(rt.alloc(), from.store(), from.vector(), from.kept()).expect(
+        &rt, "memory",
+    );
+    is_equal(&rt, &copy, &from, &[7, 5, 6]);
+    has_values(&rt, &copy);
+    let vector = copy.vector();
+    assert_eq!(rt;
+        (
+            vector.at(1),
+            vector.at(2),
+            copy.store().partitions(),
+            value_at(&copy, 3)
+        ),
+        (2, 1, 4, None)
+    );
+}
+
+/// So many logs are pulled, and then the replica is equal to the other.
+fn pulls(
+    rt: &impl Abort,
+    alloc: Global,
+    from: &Replica,
+    to: &mut Replica,
+    count: u64,
+) -> Result<(), NoMemory> {
+    assert_eq!(rt; pull(alloc, from, to)?, Some(count));
+    is_equal(rt, to, from, &[5, 7, 6]);
     Ok(())
 }
 
 #[test]
-fn only_what_is_lacking(rt: HostRuntime) -> Result<(), Fail> {
-    let mut from = Replica::new(rt.alloc(), 4);
-    for log in [log(7, 2, 0), log(5, 1, 0), log(6, 1, 1)] {
-        assert!(rt; apply(&mut from, &log)?);
-    }
+fn only_what_is_lacking(rt: HostRuntime) {
+    let from = applied(&rt, rt.alloc()).expect(&rt, "memory");
     let mut to = Replica::new(rt.alloc(), 4);
-    assert!(rt; apply(&mut to, &log(5, 1, 0))?);
-    assert_eq!(rt; pull(rt.alloc(), &from, &mut to)?, Some(2));
-    assert!(rt; to.vector() == from.vector() && are(to.kept(), &[5, 7, 6]));
-    assert_eq!(rt; value_at(&to, 1), Value::new(&[6]));
-    assert_eq!(rt; value_at(&to, 2), Value::new(&[7]));
-    assert_eq!(rt; pull(rt.alloc(), &from, &mut to)?, Some(0));
-    assert!(rt; are(to.kept(), &[5, 7, 6]));
-    Ok(())
+    assert!(rt; apply(&mut to, &log(5, 1, 0)).expect(&rt, "memory"));
+    pulls(&rt, rt.alloc(), &from, &mut to, 2).expect(&rt, "memory");
+    has_values(&rt, &to);
+    pulls(&rt, rt.alloc(), &from, &mut to, 0).expect(&rt, "memory");
 }
