@@ -102,84 +102,141 @@ fn logged(commit: &HeadCommit, partition: u8) -> Option<u64> {
     }
 }
 
+/// Two workers, and a key that both ask for.
+#[derive(Drop)]
+struct Rivals {
+    first: WorkerId,
+    second: WorkerId,
+    key: Key,
+}
+
+/// Workers 1 and 2, and a key of partition 2.
+fn two_rivals(rt: &impl Abort) -> Rivals {
+    Rivals {
+        first: worker(rt, 1),
+        second: worker(rt, 2),
+        key: key(rt),
+    }
+}
+
+/// Both begin, the first with packet 10 and the second with packet 11.
+fn both_begin(rt: &impl Abort, head: &mut Head, rivals: &Rivals) {
+    assert_eq!(rt; begin(head, rivals.first, 10), Some(0));
+    assert_eq!(rt; begin(head, rivals.second, 11), Some(1));
+}
+
+/// A worker asks for the key, to change it or not, and has that answer.
+fn is_answered(
+    rt: &impl Abort,
+    head: &mut Head,
+    worker: WorkerId,
+    key: &Key,
+    change: bool,
+    wanted: ReadAnswer,
+) {
+    assert_eq!(rt; read(head, worker, key, change), wanted);
+}
+
+/// A worker ends without writes, and its log has that number of partition 2.
+fn ends(rt: &impl Abort, head: &mut Head, worker: WorkerId, number: u64) {
+    let commit = finish(head, worker);
+    assert_eq!(rt; logged(&commit, 2), Some(number));
+}
+
+/// The second worker has the key, and is wounded by the first, which is older.
+fn second_is_wounded(rt: &impl Abort, head: &mut Head, rivals: &Rivals) {
+    let Rivals { first, second, key } = rivals;
+    is_answered(rt, head, *second, key, true, ReadAnswer::Value(None));
+    is_answered(rt, head, *first, key, true, ReadAnswer::Value(None));
+    assert_eq!(rt; head.wounded(*second), Some(*first));
+    let wounded = ReadAnswer::Wounded { by: *first };
+    is_answered(rt, head, *second, key, true, wounded);
+    assert_eq!(rt; head.wounded(*second), None);
+    let blocked = ReadAnswer::Blocked { holder: *first };
+    is_answered(rt, head, *second, key, true, blocked);
+}
+
+/// The first worker puts a value.
+fn first_puts(rt: &impl Abort, head: &mut Head, rivals: &Rivals, value: Value) {
+    let commit = put(head, rivals.first, &rivals.key, value);
+    assert!(rt; matches!(commit, HeadCommit::Done(Some(_))));
+    assert_eq!(rt; head.store().get(&rivals.key), Some(value));
+}
+
 #[test]
 fn an_older_transaction_wounds_a_younger_one(rt: HostRuntime) {
     let mut head = new_head(&rt, rt.alloc());
-    let (first, second, key) = (worker(&rt, 1), worker(&rt, 2), key(&rt));
-    assert_eq!(rt; begin(&mut head, first, 10), Some(0));
-    assert_eq!(rt; begin(&mut head, second, 11), Some(1));
+    let (rivals, value) = (two_rivals(&rt), one(&rt));
+    both_begin(&rt, &mut head, &rivals);
+    second_is_wounded(&rt, &mut head, &rivals);
+    first_puts(&rt, &mut head, &rivals, value);
+    let there = ReadAnswer::Value(Some(value));
+    is_answered(&rt, &mut head, rivals.second, &rivals.key, true, there);
+    ends(&rt, &mut head, rivals.second, 1);
+    let again = finish(&mut head, rivals.second);
     assert_eq!(rt;
-        read(&mut head, second, &key, true),
-        ReadAnswer::Value(None)
+        (head.vector().at(2), matches!(again, HeadCommit::Idle)),
+        (1, true)
     );
-    assert_eq!(rt; read(&mut head, first, &key, true), ReadAnswer::Value(None));
-    assert_eq!(rt; head.wounded(second), Some(first));
-    assert_eq!(rt;
-        read(&mut head, second, &key, true),
-        ReadAnswer::Wounded { by: first }
-    );
-    assert_eq!(rt; head.wounded(second), None);
-    assert_eq!(rt;
-        read(&mut head, second, &key, true),
-        ReadAnswer::Blocked { holder: first }
-    );
-    let value = one(&rt);
-    assert!(rt;
-        matches!(
-            put(&mut head, first, &key, value),
-            HeadCommit::Done(Some(_))
-        )
-    );
-    assert_eq!(rt; head.store().get(&key), Some(value));
-    assert_eq!(rt;
-        read(&mut head, second, &key, true),
-        ReadAnswer::Value(Some(value))
-    );
-    assert_eq!(rt; logged(&finish(&mut head, second), 2), Some(1));
-    assert_eq!(rt; head.vector().at(2), 1);
-    assert!(rt; matches!(finish(&mut head, second), HeadCommit::Idle));
+}
+
+/// The first worker has the key, and the second is blocked until the first ends.
+fn second_is_blocked(rt: &impl Abort, head: &mut Head, rivals: &Rivals) {
+    let Rivals { first, second, key } = rivals;
+    is_answered(rt, head, *first, key, true, ReadAnswer::Value(None));
+    let blocked = ReadAnswer::Blocked { holder: *first };
+    is_answered(rt, head, *second, key, true, blocked);
+    ends(rt, head, *first, 0);
+    is_answered(rt, head, *second, key, true, ReadAnswer::Value(None));
 }
 
 #[test]
 fn a_younger_transaction_is_blocked(rt: HostRuntime) {
     let mut head = new_head(&rt, rt.alloc());
-    let (first, second, key) = (worker(&rt, 1), worker(&rt, 2), key(&rt));
-    assert_eq!(rt; begin(&mut head, first, 10), Some(0));
-    assert_eq!(rt; begin(&mut head, second, 11), Some(1));
-    assert_eq!(rt; read(&mut head, first, &key, true), ReadAnswer::Value(None));
-    assert_eq!(rt;
-        read(&mut head, second, &key, true),
-        ReadAnswer::Blocked { holder: first }
+    let rivals = two_rivals(&rt);
+    both_begin(&rt, &mut head, &rivals);
+    second_is_blocked(&rt, &mut head, &rivals);
+    head.quit(rivals.second);
+    is_answered(
+        &rt,
+        &mut head,
+        rivals.second,
+        &rivals.key,
+        true,
+        ReadAnswer::Idle,
     );
-    assert_eq!(rt; logged(&finish(&mut head, first), 2), Some(0));
-    assert_eq!(rt;
-        read(&mut head, second, &key, true),
-        ReadAnswer::Value(None)
-    );
-    head.quit(second);
-    assert_eq!(rt; read(&mut head, second, &key, true), ReadAnswer::Idle);
-    assert_eq!(rt; begin(&mut head, second, 12), Some(0));
+    assert_eq!(rt; begin(&mut head, rivals.second, 12), Some(0));
+}
+
+/// Both workers read the key.
+fn both_read(rt: &impl Abort, head: &mut Head, rivals: &Rivals) {
+    for worker in [rivals.first, rivals.second] {
+        is_answered(
+            rt,
+            head,
+            worker,
+            &rivals.key,
+            false,
+            ReadAnswer::Value(None),
+        );
+    }
+}
+
+/// A worker runs that packet, of which a commit without writes would make a log.
+fn runs(rt: &impl Abort, head: &Head, worker: WorkerId, packet: Option<PacketNo>) {
+    assert_eq!(rt; head.packet(worker), packet);
+    assert_eq!(rt; foreseen(head, worker).map(|log| log.origin()), packet);
 }
 
 #[test]
 fn readers_share_a_partition(rt: HostRuntime) {
     let mut head = new_head(&rt, rt.alloc());
-    let (first, second, key) = (worker(&rt, 1), worker(&rt, 2), key(&rt));
-    assert_eq!(rt; begin(&mut head, first, 10), Some(0));
-    assert_eq!(rt; begin(&mut head, second, 11), Some(1));
-    assert_eq!(rt;
-        read(&mut head, first, &key, false),
-        ReadAnswer::Value(None)
-    );
-    assert_eq!(rt;
-        read(&mut head, second, &key, false),
-        ReadAnswer::Value(None)
-    );
-    assert_eq!(rt; head.packet(second), Some(11));
-    assert_eq!(rt; foreseen(&head, second).map(|log| log.origin()), Some(11));
-    assert_eq!(rt; logged(&finish(&mut head, second), 2), Some(0));
-    assert_eq!(rt; head.packet(second), None);
-    assert!(rt; foreseen(&head, second).is_none());
-    assert_eq!(rt; logged(&finish(&mut head, first), 2), Some(0));
+    let rivals = two_rivals(&rt);
+    both_begin(&rt, &mut head, &rivals);
+    both_read(&rt, &mut head, &rivals);
+    runs(&rt, &head, rivals.second, Some(11));
+    ends(&rt, &mut head, rivals.second, 0);
+    runs(&rt, &head, rivals.second, None);
+    ends(&rt, &mut head, rivals.first, 0);
     assert_eq!(rt; head.vector().at(2), 0);
 }
