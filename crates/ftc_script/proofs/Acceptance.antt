@@ -126,8 +126,8 @@ recover_added ring packets draft at number server v is turn back = record {
   loses = is.loses;
 }
 
-crash_kept : (ring : RingShape) (packets : ℕ) (draft : ScriptDraft) (at number : ℕ) (step : ScriptLine) → IsRing ring →
-    IsDraft ring packets draft → crash_step ring packets draft at number ≡ Ok step →
+crash_kept : (ring : RingShape) (packets : ℕ) (draft : ScriptDraft) (at number : ℕ) (step : ScriptLine) →
+    IsRing ring → IsDraft ring packets draft → crash_step ring packets draft at number ≡ Ok step →
     IsDraft ring packets (with_step draft step)
 crash_kept ring packets draft at number step shape is e =
     let one = both (in_turn ring packets (last_of 0 draft.steps) at number)

@@ -96,7 +96,9 @@ crash_added ring packets last live draft place at server shape same alike is =
       within,
       entered,
       ordered,
-    ) (ap (λ (r : Result (Unit {0}) ScriptCause). (r >> Ok (Crash at server)) >>= λ step. Ok (with_step draft step)) here)
+    )
+    (ap (λ (r : Result (Unit {0}) ScriptCause). (r >> Ok (Crash at server)) >>= λ step.
+    Ok (with_step draft step)) here)
 
 recover_added : (ring : RingShape) (packets last : ℕ) (live : ℕ → Bool) (draft : ScriptDraft) (place at server : ℕ) →
     last ≡ last_of 0 draft.steps → live ≡ live_in draft → IsStep ring packets last live (Recover at server) →
