@@ -41,7 +41,7 @@ fn lent<'a>(alloc: Global, texts: &'a [String]) -> Result<Vec<&'a str>, AllocErr
     Ok(words)
 }
 
-/// The program's words. None where there was no memory.
+/// The program's words. None where there was no memory, or a word is no UTF-8.
 fn given_words(rt: &HostRuntime) -> Option<Vec<String>> {
     let args = env::args(rt).ok()?;
     args.skip(1).collect::<Vec<String>>(rt.alloc()).ok()
