@@ -20,7 +20,7 @@ impl MachineState {
     {
         let last = ServerId::new(self.ring.servers() - 1).unwrap();
         match self.footprint(name) {
-            Some(footprint) => footprint.is_had_by(&self.knows_of(last, name.server)),
+            Some(footprint) => self.has_known(last, name.server, footprint),
             None => true,
         }
     }
@@ -42,7 +42,9 @@ impl MachineState {
     fn is_due(&self, withheld: &Withheld) -> bool
         ensures { result ≡ is_due_by self.now (known_last self.now) withheld.now }
     {
-        (0..self.ring.servers()).all(|group| self.is_need_met(withheld, group))
+        // What the last server writes is known at its tail the latest, so most packets are found to wait there.
+        self.is_need_met(withheld, self.ring.servers() - 1)
+            && (0..self.ring.servers()).all(|group| self.is_need_met(withheld, group))
     }
 
     /// Whether the place of the buffer has a packet that is due.
