@@ -142,65 +142,67 @@ fn words_of_commands(rt: HostRuntime) {
     }
 }
 
+/// Words that spell no command.
+const NO_COMMANDS: [&[&str]; 26] = [
+    &[],
+    &["run"],
+    &["Run", "c", "s", "p", "o", "j", "r"],
+    &["run", "c", "s", "p", "o", "j"],
+    &["run", "c", "s", "p", "o", "j", "r", "x"],
+    &["run", "c", "s", "p", "o", "j", "j"],
+    &["run", "c", "s", "p", "o", "j", ""],
+    &["run", "c", "s", "p", "o", "j", "-"],
+    &["run", "c", "s", "p", "o", "j", "r", "--"],
+    &["run", "c", "s", "p", "o", "j", "r", "--workers"],
+    &["run", "c", "s", "p", "o", "j", "r", "--workers=4"],
+    &["run", "c", "s", "p", "o", "j", "r", "--workers", "33"],
+    &["run", "c", "s", "p", "o", "j", "r", "--workers", "0"],
+    &[
+        "run",
+        "c",
+        "s",
+        "p",
+        "o",
+        "j",
+        "r",
+        "--workers",
+        "4",
+        "--workers",
+        "4",
+    ],
+    &[
+        "run",
+        "c",
+        "s",
+        "p",
+        "o",
+        "j",
+        "r",
+        "--workers",
+        "4",
+        "--alone",
+        "e",
+    ],
+    &["run", "c", "s", "p", "o", "j", "r", "--alone", "-e"],
+    &["run", "c", "s", "p", "o", "j", "r", "--alone", "c"],
+    &["run", "c", "s", "p", "o", "j", "r", "--move", "1", "f"],
+    &[
+        "run", "c", "s", "p", "o", "j", "r", "--alone", "e", "--move", "16", "f",
+    ],
+    &[
+        "run", "c", "s", "p", "o", "j", "r", "--alone", "e", "--move", "1", "e",
+    ],
+    &["--workers", "4", "run", "c", "s", "p", "o", "j", "r"],
+    &["check", "c", "s", "p", "o", "j", "r", "--alone", "e"],
+    &["make", "0", "0", "p"],
+    &["make", "100001", "0", "p"],
+    &["ports", "c", "p", "j", "16"],
+    &["watch", "01", "c", "p", "b", "s"],
+];
+
 #[test]
 fn words_of_no_command(rt: HostRuntime) {
-    let cases: [&[&str]; 26] = [
-        &[],
-        &["run"],
-        &["Run", "c", "s", "p", "o", "j", "r"],
-        &["run", "c", "s", "p", "o", "j"],
-        &["run", "c", "s", "p", "o", "j", "r", "x"],
-        &["run", "c", "s", "p", "o", "j", "j"],
-        &["run", "c", "s", "p", "o", "j", ""],
-        &["run", "c", "s", "p", "o", "j", "-"],
-        &["run", "c", "s", "p", "o", "j", "r", "--"],
-        &["run", "c", "s", "p", "o", "j", "r", "--workers"],
-        &["run", "c", "s", "p", "o", "j", "r", "--workers=4"],
-        &["run", "c", "s", "p", "o", "j", "r", "--workers", "33"],
-        &["run", "c", "s", "p", "o", "j", "r", "--workers", "0"],
-        &[
-            "run",
-            "c",
-            "s",
-            "p",
-            "o",
-            "j",
-            "r",
-            "--workers",
-            "4",
-            "--workers",
-            "4",
-        ],
-        &[
-            "run",
-            "c",
-            "s",
-            "p",
-            "o",
-            "j",
-            "r",
-            "--workers",
-            "4",
-            "--alone",
-            "e",
-        ],
-        &["run", "c", "s", "p", "o", "j", "r", "--alone", "-e"],
-        &["run", "c", "s", "p", "o", "j", "r", "--alone", "c"],
-        &["run", "c", "s", "p", "o", "j", "r", "--move", "1", "f"],
-        &[
-            "run", "c", "s", "p", "o", "j", "r", "--alone", "e", "--move", "16", "f",
-        ],
-        &[
-            "run", "c", "s", "p", "o", "j", "r", "--alone", "e", "--move", "1", "e",
-        ],
-        &["--workers", "4", "run", "c", "s", "p", "o", "j", "r"],
-        &["check", "c", "s", "p", "o", "j", "r", "--alone", "e"],
-        &["make", "0", "0", "p"],
-        &["make", "100001", "0", "p"],
-        &["ports", "c", "p", "j", "16"],
-        &["watch", "01", "c", "p", "b", "s"],
-    ];
-    for words in cases {
+    for words in NO_COMMANDS {
         same(&rt, spelled(words).is_none(), true);
     }
 }
