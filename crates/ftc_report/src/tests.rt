@@ -2,7 +2,8 @@ ghost use Rattle.std.specs.Prelude.{◌≡◌, IfOk, length};
 
 use crate::stores::value_text;
 use crate::{out_of, print, report};
-use ftc_base::{Bytes, Items, Lines, Released, ReleasedList, ServerId, Value};
+use ftc_base::limits::MOST_RECORDS;
+use ftc_base::{Bytes, Items, Lines, NoMemory, Refuse, Released, ReleasedList, ServerId, Value};
 use ftc_journal::{Journal, read};
 use ftc_machine::replay;
 use ftc_mbox::{ChainSpec, Rule};
@@ -10,9 +11,8 @@ use ftc_pcap::{Capture, Packet, Packets};
 use ftc_protocol::{Fate, Fates, ring_of};
 use ftc_ring::Ring;
 use ftc_script::{Script, accepted, read_script};
-use ftc_serial::Serial;
+use ftc_serial::{NotWaiting, Serial};
 use std::alloc::Global;
-use std::process::Abort;
 use std::test::Fail;
 
 /// UDP datagrams without content: from 10.0.0.5 and from 10.0.0.6.
@@ -27,30 +27,37 @@ const DATAGRAMS: [[u8; 42]; 2] = [
     ],
 ];
 
-fn bytes_of(alloc: Global, text: &[u8]) -> Result<Bytes, Fail> {
+fn bytes_of(alloc: Global, text: &[u8]) -> Result<Bytes, NoMemory> {
     let mut bytes = Bytes::new(alloc);
     bytes.append(text)?;
     Ok(bytes)
 }
 
-fn packets_of(alloc: Global, rt: &impl Abort) -> Result<Packets, Fail> {
+/// Adds a packet of 42 bytes.
+fn add(packets: &mut Packets, alloc: Global, datagram: &[u8; 42]) -> Result<(), NoMemory> {
+    if packets.len() >= MOST_RECORDS {
+        return Err(NoMemory);
+    }
+    let mut bytes = Bytes::new(alloc);
+    bytes.append(datagram)?;
+    packets.push(Packet {
+        seconds: 1,
+        fraction: 0,
+        original: 42,
+        bytes,
+    })
+}
+
+fn packets_of(alloc: Global) -> Result<Packets, NoMemory> {
     let mut packets = Packets::new(alloc);
-    for datagram in DATAGRAMS {
-        let bytes = bytes_of(alloc, datagram.as_slice())?;
-        assert!(rt; bytes.len() < 100);
-        assert!(rt; packets.len() < 10);
-        packets.push(Packet {
-            seconds: 1,
-            fraction: 0,
-            original: 42,
-            bytes,
-        })?;
+    for datagram in &DATAGRAMS {
+        add(&mut packets, alloc, datagram)?;
     }
     Ok(packets)
 }
 
 /// A monitor of eight groups, and a middlebox that passes everything, each with a replica or none.
-fn chain_of(alloc: Global, is_replicated: bool) -> Result<ChainSpec, Fail> {
+fn chain_of(alloc: Global, is_replicated: bool) -> Result<ChainSpec, NoMemory> {
     let mut rules = Items::new(alloc);
     rules.push(Rule::Monitor { groups: 8 })?;
     rules.push(Rule::Pass)?;
@@ -61,11 +68,7 @@ fn chain_of(alloc: Global, is_replicated: bool) -> Result<ChainSpec, Fail> {
     }
 }
 
-fn server(rt: &impl Abort, number: u8) -> ServerId {
-    ServerId::new(number).expect(rt, "a server")
-}
-
-fn fates_of(alloc: Global, fates: &[Fate]) -> Result<Fates, Fail> {
+fn fates_of(alloc: Global, fates: &[Fate]) -> Result<Fates, NoMemory> {
     let mut list = Fates::new(alloc);
     for fate in fates {
         list.push(*fate)?;
@@ -73,7 +76,7 @@ fn fates_of(alloc: Global, fates: &[Fate]) -> Result<Fates, Fail> {
     Ok(list)
 }
 
-fn taps_of(alloc: Global, texts: &[&str]) -> Result<Lines, Fail> {
+fn taps_of(alloc: Global, texts: &[&str]) -> Result<Lines, NoMemory> {
     let mut taps = Lines::new(alloc);
     for text in texts {
         taps.push(bytes_of(alloc, text.as_bytes())?)?;
@@ -81,31 +84,51 @@ fn taps_of(alloc: Global, texts: &[&str]) -> Result<Lines, Fail> {
     Ok(taps)
 }
 
+/// The serial chain after both packets visited the monitor, and the first of them the middlebox behind it, which
+/// released it.
+fn visited(alloc: Global) -> Result<Serial, Fail> {
+    let mut serial = Serial::new(alloc, &chain_of(alloc, false)?, &packets_of(alloc)?)?;
+    for (server, packet) in [(0, 0), (0, 1), (1, 0)] {
+        if let Some(server) = ServerId::new(server) {
+            is_made(serial.visit(server, packet))?;
+        }
+    }
+    is_made(serial.release(0))?;
+    Ok(serial)
+}
+
+/// A step has to be made.
+fn is_made(answer: Result<(), Refuse<NotWaiting>>) -> Result<(), Fail> {
+    match answer {
+        Ok(()) => Ok(()),
+        Err(_) => Err(Fail::new("the step may be made")),
+    }
+}
+
+/// The report of these fates and taps over that chain.
+fn printed(alloc: Global, fates: &[Fate], taps: &[&str]) -> Result<Bytes, Fail> {
+    let (fates, taps) = (fates_of(alloc, fates)?, taps_of(alloc, taps)?);
+    Ok(print(alloc, &fates, &visited(alloc)?, &taps)?)
+}
+
 #[test]
 fn each_line_is_in_its_place(rt: HostRuntime) -> Result<(), Fail> {
-    let alloc = rt.alloc();
-    let mut serial = Serial::new(alloc, &chain_of(alloc, false)?, &packets_of(alloc, &rt)?)?;
-    let (first, second) = (server(&rt, 0), server(&rt, 1));
-    assert!(rt; serial.visit(first, 0).is_ok());
-    assert!(rt; serial.visit(first, 1).is_ok());
-    assert!(rt; serial.visit(second, 0).is_ok());
-    assert!(rt; serial.release(0).is_ok());
     let fates = [
         Fate::Released,
-        Fate::Filtered { server: second },
+        Fate::Filtered {
+            server: ServerId::new(1).expect(&rt, "a server"),
+        },
         Fate::Lost { event: 12 },
         Fate::Inside,
         Fate::Lost { event: 0 },
     ];
-    let fates = fates_of(alloc, fates.as_slice())?;
-    let taps = taps_of(alloc, ["packets 3 bytes 126", "list 3"].as_slice())?;
+    let text = printed(rt.alloc(), &fates, &["packets 3 bytes 126", "list 3"])?;
     // 10 + 0 + 0 + 5 is 7 modulo 8, and with a 6 it is 0.
     let expected = b"ftc-report 1\npackets 5\nreleased 1\nfiltered 1\nlost 2\nfate 0 released\n\
         fate 1 filtered 1\nfate 2 lost 12\nfate 3 inside\nfate 4 lost 0\nstore 0 2\n\
         key 6d0000 0000000000000001\nkey 6d0007 0000000000000001\nstore 1 0\n\
-        tap packets 3 bytes 126\ntap list 3\n"
-        .as_slice();
-    assert_eq!(rt; print(alloc, &fates, &serial, &taps)?.as_slice(), expected);
+        tap packets 3 bytes 126\ntap list 3\n";
+    assert_eq!(rt; text.as_slice(), expected.as_slice());
     Ok(())
 }
 
@@ -171,44 +194,55 @@ fn reported(
     }
 }
 
-#[test]
-fn an_undone_visit_is_not_reported(rt: HostRuntime) -> Result<(), Fail> {
-    let alloc = rt.alloc();
-    let spec = chain_of(alloc, true)?;
-    let packets = packets_of(alloc, &rt)?;
-    let ring = ring_of(&spec);
+/// The report of the run with the crash, for that chain and those packets.
+fn reported_crash(alloc: Global, spec: &ChainSpec, packets: &Packets) -> Result<Bytes, Fail> {
+    let ring = ring_of(spec);
     let lines = "at 1 crash 0\nat 1 recover 0\n";
     let script = script_of(alloc, lines, &ring, packets.len() as u32)?;
-    let Ok(journal) = read(alloc, CRASH) else {
-        return Err(Fail::new("the journal is right"));
-    };
-    let text = reported(alloc, &spec, &packets, &script, &journal)?;
-    // 10 + 0 + 0 + 6 is 0 modulo 8.
-    let expected =
-        b"ftc-report 1\npackets 2\nreleased 1\nfiltered 0\nlost 1\nfate 0 lost 2\nfate 1 released\n\
-        store 0 1\nkey 6d0000 0000000000000001\nstore 1 0\n"
-            .as_slice();
-    assert_eq!(rt; text.as_slice(), expected);
-    Ok(())
+    match read(alloc, CRASH) {
+        Ok(journal) => reported(alloc, spec, packets, &script, &journal),
+        Err(_) => Err(Fail::new("the journal is right")),
+    }
 }
 
 #[test]
-fn released_packets_have_their_own_stamps(rt: HostRuntime) -> Result<(), Fail> {
+fn an_undone_visit_is_not_reported(rt: HostRuntime) -> Result<(), Fail> {
     let alloc = rt.alloc();
-    let packets = packets_of(alloc, &rt)?;
-    assert!(rt; packets.len() > 1);
+    let text = reported_crash(alloc, &chain_of(alloc, true)?, &packets_of(alloc)?)?;
+    // 10 + 0 + 0 + 6 is 0 modulo 8.
+    let expected =
+        b"ftc-report 1\npackets 2\nreleased 1\nfiltered 0\nlost 1\nfate 0 lost 2\nfate 1 released\n\
+        store 0 1\nkey 6d0000 0000000000000001\nstore 1 0\n";
+    assert_eq!(rt; text.as_slice(), expected.as_slice());
+    Ok(())
+}
+
+/// OUT of a big-endian capture of both packets, of which the second was released as two bytes.
+fn out_of_second(alloc: Global) -> Result<Bytes, Fail> {
     let capture = Capture {
         header: [7; 24],
         big: true,
-        packets,
+        packets: packets_of(alloc)?,
     };
-    let bytes = bytes_of(alloc, &[8, 9])?;
-    assert!(rt; bytes.len() < 100);
+    if capture.packets.len() != 2 {
+        return Err(Fail::new("there are two packets"));
+    }
+    let mut bytes = Bytes::new(alloc);
+    bytes.append(&[8, 9])?;
     let mut released = ReleasedList::new(alloc);
     released.push(Released { packet: 1, bytes })?;
-    let mut expected = bytes_of(alloc, &[7; 24])?;
-    expected.append(&[0, 0, 0, 1, 0, 0, 0, 0, 0, 0, 0, 2, 0, 0, 0, 42, 8, 9])?;
-    let out = out_of(alloc, &capture, &released)?;
-    assert_eq!(rt; out.as_slice(), expected.as_slice());
+    Ok(out_of(alloc, &capture, &released)?)
+}
+
+/// The header, and the record with the packet's stamp and length as it was captured.
+const OUT_OF_SECOND: [u8; 42] = [
+    7, 7, 7, 7, 7, 7, 7, 7, 7, 7, 7, 7, 7, 7, 7, 7, 7, 7, 7, 7, 7, 7, 7, 7, 0, 0, 0, 1, 0, 0, 0, 0,
+    0, 0, 0, 2, 0, 0, 0, 42, 8, 9,
+];
+
+#[test]
+fn released_packets_have_their_own_stamps(rt: HostRuntime) -> Result<(), Fail> {
+    let out = out_of_second(rt.alloc())?;
+    assert_eq!(rt; out.as_slice(), OUT_OF_SECOND.as_slice());
     Ok(())
 }

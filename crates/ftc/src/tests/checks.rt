@@ -125,43 +125,45 @@ fn a_report_that_is_checked(rt: HostRuntime) -> Result<(), Fail> {
     Ok(())
 }
 
+/// Files that are no texts of their kind, with what a check says of each.
+const REFUSED: [(&str, &[u8], Status); 4] = [
+    (
+        "chain",
+        b"f 3\npartitions 4\nmonitor 8\nmonitor 8\nmonitor 8\n",
+        Status::Chain {
+            line: 1,
+            cause: ChainCause::Replicas,
+        },
+    ),
+    (
+        "script",
+        b"at 1 crash 3\n",
+        Status::Script {
+            line: 1,
+            cause: ScriptCause::Link,
+        },
+    ),
+    (
+        "journal",
+        b"ftc-journal 2\nenter 0\nenter\n",
+        Status::Journal {
+            line: 3,
+            cause: JournalCause::Word,
+        },
+    ),
+    (
+        "journal",
+        b"ftc-journal 2\nenter 0",
+        Status::Journal {
+            line: 2,
+            cause: JournalCause::Cut,
+        },
+    ),
+];
+
 #[test]
 fn texts_that_are_refused(rt: HostRuntime) -> Result<(), Fail> {
-    let cases: [(&str, &[u8], Status); 4] = [
-        (
-            "chain",
-            b"f 3\npartitions 4\nmonitor 8\nmonitor 8\nmonitor 8\n",
-            Status::Chain {
-                line: 1,
-                cause: ChainCause::Replicas,
-            },
-        ),
-        (
-            "script",
-            b"at 1 crash 3\n",
-            Status::Script {
-                line: 1,
-                cause: ScriptCause::Link,
-            },
-        ),
-        (
-            "journal",
-            b"ftc-journal 2\nenter 0\nenter\n",
-            Status::Journal {
-                line: 3,
-                cause: JournalCause::Word,
-            },
-        ),
-        (
-            "journal",
-            b"ftc-journal 2\nenter 0",
-            Status::Journal {
-                line: 2,
-                cause: JournalCause::Cut,
-            },
-        ),
-    ];
-    for (name, text, ending) in cases {
+    for (name, text, ending) in REFUSED {
         let mut desk = ring_desk(&rt, &[0, 1, 2, 3, 4, 5, 6])?;
         desk.put(name, text)?;
         assert_eq!(rt; run(&rt, &CHECK, &mut desk), ending, "{name}");

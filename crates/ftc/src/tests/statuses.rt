@@ -11,112 +11,111 @@ use ftc_script::ScriptCause;
 use ftc_watch::BeatsCause;
 use std::test::Fail;
 
+/// Each status with its exit code and its line.
+const STATUSES: [(Status, u8, &[u8]); 16] = [
+    (Status::Done, 0, b""),
+    (
+        Status::Usage,
+        2,
+        b"usage: ftc run CHAIN SCRIPT CAPTURE OUT JOURNAL REPORT [--workers N | --alone SCHEDULE]",
+    ),
+    (
+        Status::Chain {
+            line: 40,
+            cause: ChainCause::SpareOrder,
+        },
+        3,
+        b"chain: line 40: cause 13",
+    ),
+    (
+        Status::Capture {
+            at: 24,
+            cause: CaptureCause::Cut,
+        },
+        3,
+        b"capture: byte 24: cause 5",
+    ),
+    (
+        Status::Script {
+            line: 1,
+            cause: ScriptCause::Word,
+        },
+        3,
+        b"script: line 1: cause 1",
+    ),
+    (
+        Status::Schedule {
+            line: 1,
+            cause: JournalCause::Header,
+        },
+        3,
+        b"schedule: line 1: cause 1",
+    ),
+    (
+        Status::Journal {
+            line: 3,
+            cause: JournalCause::Range,
+        },
+        3,
+        b"journal: line 3: cause 3",
+    ),
+    (
+        Status::Beats {
+            line: 1002,
+            cause: BeatsCause::TooMany,
+        },
+        3,
+        b"beats: line 1002: cause 6",
+    ),
+    (Status::DeskFault, 4, b"desk: failed"),
+    (Status::NoMemory, 5, b"memory: refused"),
+    (
+        Status::Check {
+            verdict: Checked::NotRun { event: 21 },
+        },
+        6,
+        b"check: event 21",
+    ),
+    (
+        Status::Check {
+            verdict: Checked::Unfinished,
+        },
+        6,
+        b"check: unfinished",
+    ),
+    (
+        Status::Check {
+            verdict: Checked::OutDiffers { at: 81 },
+        },
+        6,
+        b"check: out byte 81",
+    ),
+    (
+        Status::Check {
+            verdict: Checked::ReportDiffers { at: 0 },
+        },
+        6,
+        b"check: report byte 0",
+    ),
+    (
+        Status::Ports {
+            cause: PortsCause::NotNat,
+        },
+        7,
+        b"ports: not a nat",
+    ),
+    (
+        Status::Ports {
+            cause: PortsCause::BadStep { place: 12 },
+        },
+        7,
+        b"ports: step 12",
+    ),
+];
+
 #[test]
 fn codes_and_lines(rt: HostRuntime) -> Result<(), Fail> {
-    let chain = ChainCause::SpareOrder;
-    let capture = CaptureCause::Cut;
-    let script = ScriptCause::Word;
-    let cases: [(Status, u8, &[u8]); 16] = [
-        (Status::Done, 0, b""),
-        (
-            Status::Usage,
-            2,
-            b"usage: ftc run CHAIN SCRIPT CAPTURE OUT JOURNAL REPORT [--workers N | --alone SCHEDULE]",
-        ),
-        (
-            Status::Chain {
-                line: 40,
-                cause: chain,
-            },
-            3,
-            b"chain: line 40: cause 13",
-        ),
-        (
-            Status::Capture {
-                at: 24,
-                cause: capture,
-            },
-            3,
-            b"capture: byte 24: cause 5",
-        ),
-        (
-            Status::Script {
-                line: 1,
-                cause: script,
-            },
-            3,
-            b"script: line 1: cause 1",
-        ),
-        (
-            Status::Schedule {
-                line: 1,
-                cause: JournalCause::Header,
-            },
-            3,
-            b"schedule: line 1: cause 1",
-        ),
-        (
-            Status::Journal {
-                line: 3,
-                cause: JournalCause::Range,
-            },
-            3,
-            b"journal: line 3: cause 3",
-        ),
-        (
-            Status::Beats {
-                line: 1002,
-                cause: BeatsCause::TooMany,
-            },
-            3,
-            b"beats: line 1002: cause 6",
-        ),
-        (Status::DeskFault, 4, b"desk: failed"),
-        (Status::NoMemory, 5, b"memory: refused"),
-        (
-            Status::Check {
-                verdict: Checked::NotRun { event: 21 },
-            },
-            6,
-            b"check: event 21",
-        ),
-        (
-            Status::Check {
-                verdict: Checked::Unfinished,
-            },
-            6,
-            b"check: unfinished",
-        ),
-        (
-            Status::Check {
-                verdict: Checked::OutDiffers { at: 81 },
-            },
-            6,
-            b"check: out byte 81",
-        ),
-        (
-            Status::Check {
-                verdict: Checked::ReportDiffers { at: 0 },
-            },
-            6,
-            b"check: report byte 0",
-        ),
-        (
-            Status::Ports {
-                cause: PortsCause::NotNat,
-            },
-            7,
-            b"ports: not a nat",
-        ),
-        (
-            Status::Ports {
-                cause: PortsCause::BadStep { place: 12 },
-            },
-            7,
-            b"ports: step 12",
-        ),
-    ];
-    for (status, code, line) in cases {
+    for (status, code, line) in STATUSES {
         assert_eq!(rt; status.code(), code);
         assert_eq!(rt; status.line(rt.alloc())?.as_slice(), line);
     }
