@@ -1,4 +1,4 @@
-// Whether the checksums of a packet are right.
+//! Whether the checksums of a packet are right.
 
 ghost use Rattle.std.specs.Prelude.{◌≡◌, ◌≤◌, ◌⊎◌, ◌↔◌, true, length, MatchOption, IsTrue};
 ghost use Rattle.ftc_packet.specs.Check.{AreSumsRight, HasNoChecksum, IsRight, IsWhole, header_sum};

@@ -1,4 +1,4 @@
-// The flow that a packet belongs to.
+//! The flow that a packet belongs to.
 
 ghost use Rattle.std.specs.Prelude.{◌≡◌, ◌≤◌, ◌↔◌, length, MatchOption, IsTrue};
 ghost use Rattle.ftc_packet.specs.Flow.{IsFlow, flow_found, flow_in};

@@ -1,4 +1,4 @@
-// Laws of the definitions that contracts cite, each the contract of a function that does nothing.
+//! Laws of the definitions that contracts cite, each the contract of a function that does nothing.
 
 ghost use Rattle.std.specs.Prelude.{◌≡◌};
 ghost use Rattle.ftc_packet.specs.Laws.{FlowsAreFound, UpdatesRecompute, UpdatesStayRight};

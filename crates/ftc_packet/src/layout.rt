@@ -1,4 +1,4 @@
-// Where the fields of a packet stand, and its words of 16 bits.
+//! Where the fields of a packet stand, and its words of 16 bits.
 
 ghost use Rattle.std.specs.Prelude.{◌≡◌, ◌+◌, ◌*◌, ◌<◌, ◌≤◌, length};
 ghost use Rattle.ftc_packet.specs.Layout.{address_at as address_of, checksum_place as place_of_checksum};

@@ -1,4 +1,4 @@
-// Another address and port for one end of a packet's flow.
+//! Another address and port for one end of a packet's flow.
 
 ghost use Rattle.std.specs.Prelude.{◌≡◌, ◌+◌, ◌/◌, ◌%◌, ◌<◌, length};
 ghost use Rattle.ftc_packet.specs.Check.{IsRight};

@@ -1,4 +1,4 @@
-// One's complement sums of words of 16 bits, which the checksums of IPv4, TCP and UDP are made of.
+//! One's complement sums of words of 16 bits, which the checksums of IPv4, TCP and UDP are made of.
 
 ghost use Rattle.std.specs.Prelude.{◌≡◌, ◌+◌, sum};
 ghost use Rattle.ftc_packet.specs.Sum.{ones_complement, updated_checksum, words};

@@ -1,4 +1,4 @@
-//! The header of a capture.
+//! The header of a capture, in the classic libpcap format (pcap-savefile(5)).
 
 ghost use Rattle.std.specs.Prelude.{◌≡◌, ◌≤◌, length, IfOk, IfErr, Some};
 ghost use Rattle.ftc_pcap.specs.Grammar.{is_magic, magic_order, header_cause, IsHeader};
@@ -15,11 +15,20 @@ const MICROSECONDS: u32 = 0xa1b2_c3d4;
 /// The magic number of a capture whose stamps are in nanoseconds.
 const NANOSECONDS: u32 = 0xa1b2_3c4d;
 
+/// Where the major version stands, in two bytes.
+const MAJOR_AT: usize = 4;
+
 /// The major version that is read.
 const MAJOR: u16 = 2;
 
+/// Where the minor version stands, in two bytes.
+const MINOR_AT: usize = 6;
+
 /// The minor version that is read.
 const MINOR: u16 = 4;
+
+/// Where the link type stands, in four bytes.
+const LINK_TYPE_AT: usize = 20;
 
 /// The link type of Ethernet frames.
 const ETHERNET: u32 = 1;
@@ -59,10 +68,10 @@ pub fn header_order(header: &[u8]) -> Result<bool, CaptureCause>
     if header.len() < HEADER_BYTES {
         return Err(CaptureCause::Cut);
     }
-    if short_of(big, &header[4..]) != MAJOR || short_of(big, &header[6..]) != MINOR {
+    if short_of(big, &header[MAJOR_AT..]) != MAJOR || short_of(big, &header[MINOR_AT..]) != MINOR {
         return Err(CaptureCause::Version);
     }
-    if number_of(big, &header[20..]) != ETHERNET {
+    if number_of(big, &header[LINK_TYPE_AT..]) != ETHERNET {
         return Err(CaptureCause::LinkType);
     }
     Ok(big)
