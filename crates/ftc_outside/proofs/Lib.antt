@@ -1,3 +1,2 @@
-pub mod Exits
 pub mod Calls
 pub mod Plain

@@ -7,7 +7,7 @@ use crate::desk::{Desk, DeskError};
 use ftc_base::Bytes;
 use std::alloc::Global;
 use std::fs::OpenOptions;
-use std::io::{Read, Write};
+use std::io::{self, Read, Write};
 use std::rt::Files;
 
 /// The greatest file that is fetched, in bytes.
@@ -45,33 +45,16 @@ fn read_all<F: Read>(alloc: Global, file: &mut F) -> Result<Option<Bytes>, DeskE
     Ok(None)
 }
 
-/// Writes all of the piece, and tells whether it could.
-fn write_piece<W: Write>(file: &mut W, piece: &[u8]) -> bool {
-    let mut rest = piece;
-    while !rest.is_empty() {
-        match file.write(rest) {
-            Ok(count) if count > 0 => rest = rest.split_at(count).1,
-            _ => return false,
-        }
-    }
-    true
-}
-
-/// Prints all of the piece, and tells whether it could.
-fn print_piece<R: Print>(rt: &R, piece: &[u8]) -> bool {
-    let mut rest = piece;
-    while !rest.is_empty() {
-        match rt.write_some(rest) {
-            Ok(count) if count > 0 => rest = rest.split_at(count).1,
-            _ => return false,
-        }
-    }
-    true
+/// Adds the bytes at the end of the file, which has to be there.
+fn append_to<R: Files>(rt: &R, name: &str, bytes: &[u8]) -> io::Result<()> {
+    let mut file = OpenOptions::new().append(true).open(rt, name)?;
+    file.write_all(bytes)
 }
 
 impl<R: Files + Print + Drop> FileDesk<R> {
     ghost use Rattle.ftc_outside.specs.Files.{file_faults};
 
+    /// A desk over the files and the standard output of this runtime, of which no call has failed yet.
     pub fn new(rt: R) -> FileDesk<R>
         ensures faults { file_faults result ≡ 0 }
     {
@@ -120,14 +103,14 @@ impl<R: Files + Print + Drop> Desk for FileDesk<R> {
     }
 
     fn append(&mut self, _alloc: Global, name: &str, bytes: &[u8]) -> Result<(), DeskError> {
-        let done = if name == "-" {
-            print_piece(&self.rt, bytes)
+        let written = if name == "-" {
+            self.rt.write_all(bytes)
         } else {
-            match OpenOptions::new().append(true).open(&self.rt, name) {
-                Ok(mut file) => write_piece(&mut file, bytes),
-                Err(_) => false,
-            }
+            append_to(&self.rt, name, bytes)
         };
-        if done { Ok(()) } else { Err(self.fail()) }
+        match written {
+            Ok(()) => Ok(()),
+            Err(_) => Err(self.fail()),
+        }
     }
 }
