@@ -5,7 +5,7 @@ ghost use Rattle.ftc_base.specs.declared.limits.TheConstants.{MOST_THREADS};
 ghost use Rattle.ftc_stream.specs.Ending.{Ended};
 
 use crate::office::close;
-use crate::shared::{Shared, end, free, wait_to_write, write};
+use crate::shared::{Shared, begin_writing, end, wait_to_write, wake_blocked};
 use crate::spreading::spread;
 use crate::tally::{Run, Tally};
 use ftc_outside::Gate;
@@ -25,7 +25,7 @@ fn write_while<L: Run, R: Wait, S: Sink>(
     ensures ended { Ended S.went S.broke result sink.old sink.new }
 {
     for _ in rt.forever() {
-        let ended = write(rt, shared);
+        let ended = begin_writing(rt, shared);
         let count = sink.write_some()?;
         if ended {
             return Ok(());
@@ -49,7 +49,7 @@ fn write_beside<L: Run, R: Wait, S: Sink>(
     let result = write_while(rt, shared, sink);
     if result.is_err() {
         close(rt, &shared.office);
-        free(shared);
+        wake_blocked(shared);
     }
     result
 }

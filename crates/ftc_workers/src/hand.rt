@@ -1,7 +1,7 @@
 //! What a leader has at hand.
 
-use crate::desk::Planned;
 use crate::latch::Begun;
+use crate::seat::Planned;
 use ftc_base::WorkerId;
 use std::alloc::Global;
 use std::collections::VecDeque;

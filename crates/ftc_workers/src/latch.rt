@@ -212,7 +212,7 @@ impl<'a, L: Run> Latch<'a, L> {
         }
     }
 
-    /// Makes a step, or begins a visit in a worker's own slot. What that runs is given up first.
+    /// Makes a step, or begins a visit in this worker's slot. What that runs is given up first.
     pub fn find(&mut self, worker: WorkerId) -> Found {
         if self.chain.answers(worker).is_some() {
             quit(&mut self.chain, worker);
@@ -290,7 +290,7 @@ impl<'a, L: Run> Latch<'a, L> {
     }
 
     /// The writer begins to write. True where all workers ended.
-    pub fn write(&mut self) -> bool {
+    pub fn begin_writing(&mut self) -> bool {
         self.batch.begin();
         self.ended
     }

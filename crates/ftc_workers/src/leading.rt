@@ -2,11 +2,11 @@
 
 ghost use Rattle.std.specs.Prelude.{◌≡◌};
 
-use crate::desk::Planned;
 use crate::hand::Hand;
 use crate::latch::{Begun, Copied, Found};
 use crate::office::{close, give, give_up, ring_leader, take_back, wait_as_leader, wait_for_visit};
-use crate::shared::{Search, Turn, commit, drop_visit, find, free, take, tell_of_rest};
+use crate::seat::Planned;
+use crate::shared::{Progress, Search, commit, drop_visit, find, take, tell_of_rest, wake_blocked};
 use crate::tally::{Run, Tally};
 use crate::visiting::Worker;
 use ftc_mbox::Rules;
@@ -58,12 +58,12 @@ impl<'a, 'b, L: Run, R: Wait, G: Gate> Worker<'a, 'b, L, R, G> {
     {
         hand.set_freed(true);
         match commit(self.rt, self.shared, planned.slot, &planned.plan, mine) {
-            Turn::Asks | Turn::Blocked => self.begin_again(planned, hand),
-            Turn::Over => {
+            Progress::Asks | Progress::Blocked => self.begin_again(planned, hand),
+            Progress::Over => {
                 self.shared.office.slots.free(planned.slot);
                 true
             }
-            Turn::NoMemory => {
+            Progress::NoMemory => {
                 drop_visit(self.rt, self.shared, planned.slot);
                 false
             }
@@ -152,7 +152,7 @@ impl<'a, 'b, L: Run, R: Wait, G: Gate> Worker<'a, 'b, L, R, G> {
             Found::Stepped => Led::On,
             Found::Freed => {
                 hand.set_freed(true);
-                free(self.shared);
+                wake_blocked(self.shared);
                 Led::On
             }
             Found::Copied(copied) => led_if(self.take(copied)),

@@ -1,7 +1,7 @@
-//! Who leads, the desks at which the others wait for a visit or for the lead, and the slots of their visits.
+//! Who leads, the seats at which the others wait for a visit or for the lead, and the slots of their visits.
 
-use crate::desk::{Desk, Planned};
 use crate::lead::Lead;
+use crate::seat::{Planned, Seat};
 use crate::slots::Slots;
 use ftc_base::WorkerId;
 use ftc_base::limits::MOST_THREADS;
@@ -29,12 +29,12 @@ pub enum Duty {
     End,
 }
 
-/// Who leads, a desk for each worker, and as many slots as workers.
+/// Who leads, a seat for each worker, and as many slots as workers.
 #[derive(Drop)]
 pub struct Office {
     lead: Lead,
-    desks: [Desk; MOST_THREADS as usize],
-    /// How many of the desks are used, from the first one on.
+    seats: [Seat; MOST_THREADS as usize],
+    /// How many of the seats are used, from the first one on.
     workers: u8,
     /// How many workers have come and aren't gone.
     present: AtomicU32,
@@ -46,7 +46,7 @@ impl Office {
     pub fn new(workers: u8) -> Office {
         Office {
             lead: Lead::new(),
-            desks: array::from_fn(|_| Desk::new()),
+            seats: array::from_fn(|_| Seat::new()),
             workers,
             present: AtomicU32::new(0),
             slots: Slots::new(workers),
@@ -63,12 +63,12 @@ impl Office {
         self.lead.is_of(worker)
     }
 
-    /// The desks that are used.
-    fn desks(&self) -> &[Desk] {
-        let desks = self.desks.as_slice();
-        match desks.get(..usize::from(self.workers)) {
+    /// The seats that are used.
+    fn seats(&self) -> &[Seat] {
+        let seats = self.seats.as_slice();
+        match seats.get(..usize::from(self.workers)) {
             Some(used) => used,
-            None => desks,
+            None => seats,
         }
     }
 
@@ -77,16 +77,16 @@ impl Office {
         self.present.load(Ordering::SeqCst)
     }
 
-    /// A worker's desk.
-    fn desk(&self, worker: WorkerId) -> Option<&Desk> {
-        self.desks().get(usize::from(worker.number()))
+    /// A worker's seat.
+    fn seat(&self, worker: WorkerId) -> Option<&Seat> {
+        self.seats().get(usize::from(worker.number()))
     }
 
-    /// The desk of a worker that waits for a visit.
-    fn free_desk(&self) -> Option<&Desk> {
-        for desk in self.desks() {
-            if desk.is_free() {
-                return Some(desk);
+    /// The seat of a worker that waits for a visit.
+    fn free_seat(&self) -> Option<&Seat> {
+        for seat in self.seats() {
+            if seat.is_free() {
+                return Some(seat);
             }
         }
         None
@@ -95,9 +95,9 @@ impl Office {
 
 /// Wakes the first worker that sleeps.
 fn wake_one<R: Wait>(rt: &R, office: &Office) {
-    for desk in office.desks() {
-        if desk.sleeps() {
-            desk.ring(rt);
+    for seat in office.seats() {
+        if seat.sleeps() {
+            seat.ring(rt);
             return;
         }
     }
@@ -105,24 +105,24 @@ fn wake_one<R: Wait>(rt: &R, office: &Office) {
 
 /// Wakes all workers.
 fn wake_all<R: Wait>(rt: &R, office: &Office) {
-    for desk in office.desks() {
-        desk.ring(rt);
+    for seat in office.seats() {
+        seat.ring(rt);
     }
 }
 
 /// The chain changed without the leader, or may now: it looks again.
 pub fn ring_leader<R: Wait>(rt: &R, office: &Office) {
     if let Some(leader) = office.lead.leader() {
-        if let Some(desk) = office.desk(leader) {
-            desk.ring(rt);
+        if let Some(seat) = office.seat(leader) {
+            seat.ring(rt);
         }
     }
 }
 
 /// A worker waits for a visit, and the leader is told.
 pub fn wait_for_visit<R: Wait>(rt: &R, office: &Office, worker: WorkerId) {
-    if let Some(desk) = office.desk(worker) {
-        desk.set_free(true);
+    if let Some(seat) = office.seat(worker) {
+        seat.set_free(true);
         ring_leader(rt, office);
     }
 }
@@ -141,13 +141,13 @@ pub fn give_up<R: Wait>(rt: &R, office: &Office, worker: WorkerId) {
 }
 
 /// A worker is given nothing any more. The visit that it was given and hasn't made is left.
-pub fn leave_desk<R: Wait>(rt: &R, office: &Office, worker: WorkerId) -> Option<Planned> {
-    office.desk(worker)?.leave(rt)
+pub fn leave_seat<R: Wait>(rt: &R, office: &Office, worker: WorkerId) -> Option<Planned> {
+    office.seat(worker)?.leave(rt)
 }
 
 /// The visit of a worker that leaves which passed the gate and isn't committed.
 pub fn take_own_back<R: Wait>(rt: &R, office: &Office, worker: WorkerId) -> Option<Planned> {
-    office.desk(worker)?.take_back(rt)
+    office.seat(worker)?.take_back(rt)
 }
 
 /// A worker is here no more, and all others look again.
@@ -164,18 +164,18 @@ pub fn close<R: Wait>(rt: &R, office: &Office) {
 }
 
 /// What a worker is to do now, if anything. What was given to it comes before it leads.
-fn duty_now<R: Wait>(rt: &R, office: &Office, worker: WorkerId, desk: &Desk) -> Option<Duty> {
+fn duty_now<R: Wait>(rt: &R, office: &Office, worker: WorkerId, seat: &Seat) -> Option<Duty> {
     if office.is_over() {
         return Some(Duty::End);
     }
-    if let Some(planned) = desk.take(rt) {
+    if let Some(planned) = seat.take(rt) {
         return Some(Duty::Pass(planned));
     }
     if !office.lead.take(worker) {
         return None;
     }
-    desk.set_free(false);
-    match desk.take(rt) {
+    seat.set_free(false);
+    match seat.take(rt) {
         Some(planned) => {
             give_up(rt, office, worker);
             Some(Duty::Pass(planned))
@@ -184,30 +184,30 @@ fn duty_now<R: Wait>(rt: &R, office: &Office, worker: WorkerId, desk: &Desk) -> 
     }
 }
 
-/// Whether there may be something to do at a desk: looks some times.
-fn glance(office: &Office, desk: &Desk) -> bool {
+/// Whether there may be something to do at a seat: looks some times.
+fn glance(office: &Office, seat: &Seat) -> bool {
     for _ in 0..GLANCES {
-        if desk.is_given() || !office.lead.is_taken() || office.is_over() {
+        if seat.is_given() || !office.lead.is_taken() || office.is_over() {
             return true;
         }
     }
     false
 }
 
-/// Looks for something to do at a worker's desk, and sleeps where nothing comes.
+/// Looks for something to do at a worker's seat, and sleeps where nothing comes.
 pub fn wait_for_duty<R: Wait>(rt: &R, office: &Office, worker: WorkerId) -> Duty {
-    let Some(desk) = office.desk(worker) else {
+    let Some(seat) = office.seat(worker) else {
         return Duty::End;
     };
     for _ in 0..LOOKS {
-        if glance(office, desk) {
-            if let Some(duty) = duty_now(rt, office, worker, desk) {
+        if glance(office, seat) {
+            if let Some(duty) = duty_now(rt, office, worker, seat) {
                 return duty;
             }
         }
         yield_now();
     }
-    desk.sleep(rt, &office.lead);
+    seat.sleep(rt, &office.lead);
     Duty::Nothing
 }
 
@@ -217,31 +217,31 @@ pub fn wait_as_leader<R: Wait>(rt: &R, office: &Office, worker: WorkerId, turns:
         yield_now();
         return;
     }
-    if let Some(desk) = office.desk(worker) {
-        desk.sleep(rt, &office.lead);
+    if let Some(seat) = office.seat(worker) {
+        seat.sleep(rt, &office.lead);
     }
 }
 
 /// The leader gives a visit to the first worker that waits. It comes back where none does.
 pub fn give<R: Wait>(rt: &R, office: &Office, planned: Planned) -> Result<(), Planned> {
-    match office.free_desk() {
-        Some(desk) => desk.give(rt, planned),
+    match office.free_seat() {
+        Some(seat) => seat.give(rt, planned),
         None => Err(planned),
     }
 }
 
 /// A worker's visit passed the gate, and the leader is told.
 pub fn put_back<R: Wait>(rt: &R, office: &Office, worker: WorkerId, done: Planned) {
-    if let Some(desk) = office.desk(worker) {
-        desk.put_back(rt, done);
+    if let Some(seat) = office.seat(worker) {
+        seat.put_back(rt, done);
         ring_leader(rt, office);
     }
 }
 
 /// A visit that passed the gate.
 pub fn take_back<R: Wait>(rt: &R, office: &Office) -> Option<Planned> {
-    for desk in office.desks() {
-        let done = desk.take_back(rt);
+    for seat in office.seats() {
+        let done = seat.take_back(rt);
         if done.is_some() {
             return done;
         }

@@ -1,9 +1,9 @@
 //! How a leader prepares visits for other workers.
 
-use crate::desk::Planned;
 use crate::hand::Hand;
 use crate::latch::Begun;
-use crate::shared::{Turn, drop_visit, look, read};
+use crate::seat::Planned;
+use crate::shared::{Progress, drop_visit, look, read};
 use crate::tally::Run;
 use crate::visiting::{Worker, rule_of};
 use ftc_base::{Answers, Ask, NoMemory};
@@ -48,10 +48,10 @@ impl<'a, 'b, L: Run, R: Wait, G: Gate> Worker<'a, 'b, L, R, G> {
                 return self.plan(rule, &begun, &answers);
             };
             match read(self.rt, self.shared, begun.slot, &key, &mut answers) {
-                Turn::Asks => {}
-                Turn::Blocked => return Ok(Prepared::Blocked(begun)),
-                Turn::Over => return Ok(Prepared::Over),
-                Turn::NoMemory => return Err(NoMemory),
+                Progress::Asks => {}
+                Progress::Blocked => return Ok(Prepared::Blocked(begun)),
+                Progress::Over => return Ok(Prepared::Over),
+                Progress::NoMemory => return Err(NoMemory),
             }
         }
         Ok(Prepared::Blocked(begun))

@@ -1,17 +1,17 @@
-//! The one latch, the workers' desks, and what tells of changes.
+//! The one latch, the workers' seats, and what tells of changes.
 //!
 //! One worker leads: it alone looks for jobs, and makes the steps. Before an open gate it makes the visits too. Before
 //! a gate that may hold a visit it prepares visits for the others: it begins one, reads for it, makes the plan, and has
-//! it ready for the next worker that waits, on whose desk it puts it. The worker passes the gate and puts it back, and
+//! it ready for the next worker that waits, at whose seat it puts it. The worker passes the gate and puts it back, and
 //! the leader commits it. So what lies under the latch stays near one processor, and mostly nobody but the leader wants
 //! it. Where the leader is held itself, by a gate or by an older transaction, it leads no more, and the next worker
 //! that is awake does. So wherever a job can be done a worker is awake that looks for it, or comes to.
 
 ghost use Rattle.std.specs.Prelude.{◌≡◌, ◌<◌, ◌+◌};
 
-use crate::desk::Planned;
 use crate::latch::{Begun, Found, Latch};
-use crate::office::{Office, depart, give_up, leave_desk, take_own_back};
+use crate::office::{Office, depart, give_up, leave_seat, take_own_back};
+use crate::seat::Planned;
 use crate::tally::{Run, Tally};
 use ftc_base::{Answer, Answers, Key, NoMemory, PacketNo, ServerId, WorkerId};
 use ftc_mbox::{Plan, Rules};
@@ -79,7 +79,7 @@ impl<'a, L: Run> Shared<'a, L> {
 
 /// How a visit goes on.
 #[derive(Clone, Copy, Debug, PartialEq, Eq)]
-pub enum Turn {
+pub enum Progress {
     /// The rule is asked.
     Asks,
     /// The slot runs nothing any more.
@@ -91,13 +91,13 @@ pub enum Turn {
 }
 
 /// The rule is asked after the answers of what a slot runs, where it runs something.
-fn turn_of<L: Run>(latch: &Latch<'_, L>, worker: WorkerId, answers: &mut Answers) -> Turn {
+fn progress_of<L: Run>(latch: &Latch<'_, L>, worker: WorkerId, answers: &mut Answers) -> Progress {
     match latch.answers(worker) {
         Some(others) => {
             *answers = others;
-            Turn::Asks
+            Progress::Asks
         }
-        None => Turn::Over,
+        None => Progress::Over,
     }
 }
 
@@ -166,7 +166,7 @@ pub fn look<L: Run, R: Wait>(
 }
 
 /// Slots may have become idle: those that were blocked ask again.
-pub fn free<L: Run>(shared: &Shared<'_, L>) {
+pub fn wake_blocked<L: Run>(shared: &Shared<'_, L>) {
     shared.freed.notify_all();
 }
 
@@ -191,14 +191,14 @@ fn try_read<L: Run>(
     slot: WorkerId,
     key: &Key,
     answers: &mut Answers,
-) -> Turn {
+) -> Progress {
     match latch.read(slot, key) {
         ReadAnswer::Value(value) => match answers.try_push(Answer { key: *key, value }) {
-            Ok(()) => Turn::Asks,
-            Err(_) => turn_of(latch, slot, answers),
+            Ok(()) => Progress::Asks,
+            Err(_) => progress_of(latch, slot, answers),
         },
-        ReadAnswer::Blocked { .. } => Turn::Blocked,
-        _ => turn_of(latch, slot, answers),
+        ReadAnswer::Blocked { .. } => Progress::Blocked,
+        _ => progress_of(latch, slot, answers),
     }
 }
 
@@ -209,7 +209,7 @@ pub fn read<L: Run, R: Wait>(
     slot: WorkerId,
     key: &Key,
     answers: &mut Answers,
-) -> Turn {
+) -> Progress {
     let mut latch = shared.lock(rt);
     try_read(&mut latch, slot, key, answers)
 }
@@ -223,15 +223,15 @@ pub fn read_or_wait<L: Run, R: Wait>(
     slot: WorkerId,
     key: &Key,
     answers: &mut Answers,
-) -> Turn {
+) -> Progress {
     let mut latch = shared.lock(rt);
     match try_read(&mut latch, slot, key, answers) {
-        Turn::Blocked => {
+        Progress::Blocked => {
             give_up(rt, &shared.office, worker);
             let _latch = shared.freed.wait(rt, latch);
-            Turn::Asks
+            Progress::Asks
         }
-        turn => turn,
+        progress => progress,
     }
 }
 
@@ -242,7 +242,7 @@ fn try_commit<L: Run, R: Wait>(
     slot: WorkerId,
     plan: &Plan,
     mine: &mut Tally<L>,
-) -> Turn
+) -> Progress
     requires { 0 < mine.old.share.parts }
     ensures { mine.new.share.parts ≡ mine.old.share.parts }
 {
@@ -250,9 +250,9 @@ fn try_commit<L: Run, R: Wait>(
     let answer = latch.commit(slot, plan, mine);
     shared.tell(&mut latch);
     match answer {
-        CommitAnswer::Done | CommitAnswer::Idle => Turn::Over,
-        CommitAnswer::NoMemory => Turn::NoMemory,
-        _ => Turn::Asks,
+        CommitAnswer::Done | CommitAnswer::Idle => Progress::Over,
+        CommitAnswer::NoMemory => Progress::NoMemory,
+        _ => Progress::Asks,
     }
 }
 
@@ -263,19 +263,19 @@ pub fn commit<L: Run, R: Wait>(
     slot: WorkerId,
     plan: &Plan,
     mine: &mut Tally<L>,
-) -> Turn
+) -> Progress
     requires { 0 < mine.old.share.parts }
     ensures { mine.new.share.parts ≡ mine.old.share.parts }
 {
-    let turn = try_commit(rt, shared, slot, plan, mine);
-    free(shared);
-    turn
+    let progress = try_commit(rt, shared, slot, plan, mine);
+    wake_blocked(shared);
+    progress
 }
 
 /// A slot gives up what it runs, and those that it blocked ask again.
 pub fn quit<L: Run, R: Wait>(rt: &R, shared: &Shared<'_, L>, slot: WorkerId) {
     shared.lock(rt).leave(slot);
-    free(shared);
+    wake_blocked(shared);
 }
 
 /// A visit is given up, and its slot is free for another one.
@@ -293,7 +293,7 @@ fn drop_left<L: Run, R: Wait>(rt: &R, shared: &Shared<'_, L>, left: Option<Plann
 
 /// The worker ends: it gives up what it was given and what isn't committed, and all others look again.
 pub fn leave<L: Run, R: Wait>(rt: &R, shared: &Shared<'_, L>, worker: WorkerId) {
-    drop_left(rt, shared, leave_desk(rt, &shared.office, worker));
+    drop_left(rt, shared, leave_seat(rt, &shared.office, worker));
     drop_left(rt, shared, take_own_back(rt, &shared.office, worker));
     depart(rt, &shared.office, worker);
 }
@@ -305,8 +305,8 @@ pub fn end<L: Run, R: Wait>(rt: &R, shared: &Shared<'_, L>) {
 }
 
 /// The writer begins to write. True where all workers ended.
-pub fn write<L: Run, R: Wait>(rt: &R, shared: &Shared<'_, L>) -> bool {
-    shared.lock(rt).write()
+pub fn begin_writing<L: Run, R: Wait>(rt: &R, shared: &Shared<'_, L>) -> bool {
+    shared.lock(rt).begin_writing()
 }
 
 /// The writer wrote all that it saw, and waits until it is told to write.

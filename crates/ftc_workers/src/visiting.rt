@@ -2,10 +2,10 @@
 
 ghost use Rattle.std.specs.Prelude.{◌≡◌};
 
-use crate::desk::Planned;
 use crate::latch::Begun;
 use crate::office::{Duty, arrive, give_up, put_back, wait_for_duty};
-use crate::shared::{Shared, Turn, commit, leave, read_or_wait, rules};
+use crate::seat::Planned;
+use crate::shared::{Progress, Shared, commit, leave, read_or_wait, rules};
 use crate::tally::{Run, Tally};
 use ftc_base::{Answers, Ask, WorkerId};
 use ftc_mbox::{Plan, Rule, Rules, ask};
@@ -13,7 +13,7 @@ use ftc_outside::Gate;
 use std::alloc::Global;
 use std::sync::Wait;
 
-/// The worker of a number, with what it shares with the others and the gate that it passes. It sits at the desk of that
+/// The worker of a number, with what it shares with the others and the gate that it passes. It sits at the seat of that
 /// number, and the visits that it finds itself are in the slot of that number, where that is free.
 #[derive(Drop)]
 pub struct Worker<'a, 'b, L: Run, R, G> {
@@ -44,23 +44,35 @@ impl<'a, 'b, L: Run, R: Wait, G: Gate> Worker<'a, 'b, L, R, G> {
     }
 
     /// Plans how a visit ends, passes the gate and commits. Where the slot has to begin again, no answer is left.
-    fn finish(&self, rule: &Rule, begun: &Begun, answers: &mut Answers, mine: &mut Tally<L>) -> Turn
+    fn finish(
+        &self,
+        rule: &Rule,
+        begun: &Begun,
+        answers: &mut Answers,
+        mine: &mut Tally<L>,
+    ) -> Progress
         requires { mine.old.share.parts ≡ 1 }
         ensures { mine.new.share.parts ≡ 1 }
     {
         let Ok(Some(plan)) = Plan::make(self.alloc, rule, begun.bytes.as_slice(), answers) else {
-            return Turn::NoMemory;
+            return Progress::NoMemory;
         };
         self.pass(begun, mine.count);
-        let turn = commit(self.rt, self.shared, begun.slot, &plan, mine);
-        if turn == Turn::Asks {
+        let progress = commit(self.rt, self.shared, begun.slot, &plan, mine);
+        if progress == Progress::Asks {
             *answers = Answers::new();
         }
-        turn
+        progress
     }
 
     /// Asks the rule, and does what it says.
-    fn go_on(&self, rule: &Rule, begun: &Begun, answers: &mut Answers, mine: &mut Tally<L>) -> Turn
+    fn go_on(
+        &self,
+        rule: &Rule,
+        begun: &Begun,
+        answers: &mut Answers,
+        mine: &mut Tally<L>,
+    ) -> Progress
         requires { mine.old.share.parts ≡ 1 }
         ensures { mine.new.share.parts ≡ 1 }
     {
@@ -84,9 +96,9 @@ impl<'a, 'b, L: Run, R: Wait, G: Gate> Worker<'a, 'b, L, R, G> {
         let mut answers = Answers::new();
         for _ in self.rt.forever() {
             match self.go_on(rule, begun, &mut answers, mine) {
-                Turn::Asks | Turn::Blocked => {}
-                Turn::Over => return true,
-                Turn::NoMemory => return false,
+                Progress::Asks | Progress::Blocked => {}
+                Progress::Over => return true,
+                Progress::NoMemory => return false,
             }
         }
         unreachable!()

@@ -52,9 +52,9 @@ fn run_named<'a, L: Run + Send + Sync, R: Threads + Wait + Sync, G: Gate>(
     Worked { chain, commits }
 }
 
-/// Runs so many workers over the chain until each has ended, and hands the chain back. Worker i uses slot i. First all
-/// slots give up what they run. The journal of the chain that comes back has as many visits as that of the chain handed
-/// in and the commits together, and the chain is of the same middleboxes, packets and script.
+/// Runs so many workers over the chain until each has ended, and hands the chain back. First all slots give up what
+/// they run. The journal of the chain that comes back has as many visits as that of the chain handed in and the commits
+/// together, and the chain is of the same middleboxes, packets and script.
 pub fn run<'a, R: Threads + Wait + Sync, G: Gate>(
     rt: &R,
     alloc: Global,

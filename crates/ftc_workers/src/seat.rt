@@ -1,4 +1,4 @@
-//! A worker's desk, where the leader puts a visit for it, and from where the leader takes it back.
+//! A worker's seat, where the leader puts a visit for it, and from where the leader takes it back.
 
 use crate::lead::Lead;
 use ftc_base::{PacketNo, ServerId, WorkerId};
@@ -15,7 +15,7 @@ pub struct Planned {
     pub plan: Box<Plan>,
 }
 
-/// What lies on a desk.
+/// What lies at a seat.
 #[derive(Drop)]
 struct Tray {
     /// For the worker.
@@ -26,9 +26,9 @@ struct Tray {
     is_left: bool,
 }
 
-/// A worker's desk.
+/// A worker's seat.
 #[derive(Drop)]
-pub struct Desk {
+pub struct Seat {
     tray: Mutex<Tray>,
     bell: Condvar,
     /// The bell was rung since the worker slept last.
@@ -43,10 +43,10 @@ pub struct Desk {
     is_done: AtomicBool,
 }
 
-impl Desk {
+impl Seat {
     /// Nobody sits here yet, and nothing lies here.
-    pub fn new() -> Desk {
-        Desk {
+    pub fn new() -> Seat {
+        Seat {
             tray: Mutex::new(Tray {
                 given: None,
                 done: None,
