@@ -1,5 +1,6 @@
 -- What a check says of files that are those of one run: nothing but Yes.
 use Rattle.std.proofs.Common.{◌≡◌, ◌∙◌, ◌⊎◌, inl, inr, refl, sym, subst, ℕ, List, length, Some, Result, Ok, Err}
+use Rattle.std.proofs.lemmas.Option.{same_Some}
 use Rattle.ftc_outside.specs.Tap.{Face}
 use Rattle.ftc_outside.specs.Desk.{Files}
 use Rattle.ftc_pcap.specs.Grammar.{Spells}
@@ -34,9 +35,6 @@ not_both told value fault right wrong = cc
 
 pub ok_once : {A F : Type 0} (told : Result A F) (one other : A) → told ≡ Ok one → told ≡ Ok other → one ≡ other
 ok_once told one other is also = cc
-
-pub some_once : {A : Type 0} (one other : A) → Some one ≡ Some other → one ≡ other
-some_once one other same = cc
 
 -- a text that is right is refused for the desk or for memory alone
 pub not_refused : (sound : Type 0) (files : Files) (name : List ℕ) (IsWrong : List ℕ → Status →
@@ -157,12 +155,12 @@ module _ (laws : TextLaws) (chain_name capture_name : List ℕ) (files : Files) 
   chain_reads : (text : List ℕ) → files chain_name ≡ Some text → chain_of text ≡ Ok chain
   chain_reads text file =
       let has = setup.chain_right in
-      subst (λ (t : List ℕ). chain_of t ≡ Ok chain) (some_once has.text text (sym has.file ∙ file)) has.right
+      subst (λ (t : List ℕ). chain_of t ≡ Ok chain) (same_Some has.text text (sym has.file ∙ file)) has.right
 
   capture_reads : (text : List ℕ) → files capture_name ≡ Some text → Spells text capture
   capture_reads text file =
       let has = setup.capture_right in
-      subst (λ (t : List ℕ). Spells t capture) (some_once has.text text (sym has.file ∙ file)) has.right
+      subst (λ (t : List ℕ). Spells t capture) (same_Some has.text text (sym has.file ∙ file)) has.right
 
   pub chain_is : (other : Chain) → HasChain chain_name files other → other ≡ chain
   chain_is other has = ok_once (chain_of has.text) other chain has.right (chain_reads has.text has.file)
@@ -185,7 +183,7 @@ module _ (laws : TextLaws) (names : Named) (files : Files) (chain : Chain) (capt
       files names.script ≡ Some text → script_of (ring_of other) (length taken.packets) text ≡ Ok script
   script_reads other taken text is also file =
       let has = inputs.script_right in
-      let same = some_once text has.text (sym file ∙ has.file) in
+      let same = same_Some text has.text (sym file ∙ has.file) in
       rw (is, also, same) has.right
 
   -- none of the three is refused, but for the desk or for memory
@@ -207,7 +205,7 @@ module _ (laws : TextLaws) (names : Named) (files : Files) (chain : Chain) (capt
   journal_reads : (text : List ℕ) → files names.journal ≡ Some text → IsSpelling journal text
   journal_reads text file =
       let has = checked.journal_right in
-      subst (IsSpelling journal) (some_once has.text text (sym has.file ∙ file)) has.right
+      subst (IsSpelling journal) (same_Some has.text text (sym has.file ∙ file)) has.right
 
   -- none of the six is refused, but for the desk or for memory
   refused_once : (sound : Type 0) (ending : Status) → (ending ≡ status.DeskFault → ⊥) →
@@ -268,11 +266,11 @@ module _ (laws : TextLaws) (names : Named) (files : Files) (chain : Chain) (capt
       ok_once _ judged.script script spelled.right
       (script_reads laws names files chain capture script checked.inputs judged.chain judged.capture spelled.text
       of_chain of_capture spelled.file) in
-      let of_out = some_once judged.out out (sym judged.checked.out_file ∙ checked.out_file) in
+      let of_out = same_Some judged.out out (sym judged.checked.out_file ∙ checked.out_file) in
       let read = judged.checked.journal_right in
       let of_journal : judged.journal ≡ journal =
       laws.one_journal read.text judged.journal journal read.right (journal_reads read.text read.file) in
-      let of_report = some_once judged.report report (sym judged.checked.report_file ∙ checked.report_file) in
+      let of_report = same_Some judged.report report (sym judged.checked.report_file ∙ checked.report_file) in
       laws.one_verdict (setting_of chain
       (bytes_of_packets capture.packets) script) capture out journal report verdict Yes
       (same_verdict judged.chain chain judged.capture capture judged.script script judged.out out judged.journal journal
@@ -314,7 +312,7 @@ module _ (laws : TextLaws) (names : Named) (mode : Mode) (files : Files) (chain 
   schedule_once sound (alone name move) has ending no-fault refused =
       not_refused sound files name IsWrongSchedule ending
       (λ text file. no_schedule laws text schedule
-      (subst (IsSpelling schedule) (some_once has.text text (sym has.file ∙ file)) has.right) ending)
+      (subst (IsSpelling schedule) (same_Some has.text text (sym has.file ∙ file)) has.right) ending)
       no-fault refused
 
   run_refused_once : (sound : Type 0) (ending : Status) → (ending ≡ status.DeskFault → ⊥) →

@@ -74,7 +74,3 @@ module _ (law : NonePassedOver) (capture : Capture) (put rest released : List Re
 pub told_anew : (put released : List Released) (taps left : List Face) → AreLeft released taps left →
     AreToldBehind put released taps left
 told_anew put released taps left told first before = (put, left_on put released first taps left before told)
-
-pub on_ok_more : {A E : Type 0} (r : Result A E) (P Q : Type 0) → (P → Q) → OnOk r P → OnOk r Q
-on_ok_more (Ok x) P Q more held = more held
-on_ok_more (Err e) P Q more held = tt

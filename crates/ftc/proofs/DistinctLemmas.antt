@@ -5,16 +5,9 @@ use Rattle.std.specs.Prelude.{slice_get}
 use Rattle.std.specs.List.{list_any}
 use Rattle.std.specs.Str.{bytes_eq}
 use Rattle.std.proofs.lemmas.Slice.Eq.{bytes_eq-Decides}
+use Rattle.ftc_base.proofs.Bools.{and_one, and_other}
 use Rattle.ftc_words.specs.Command.{Named, Mode, plain, workers, alone, run, are_distinct, six_of, files_of}
 use Rattle.ftc.specs.Writing.{AreDifferent}
-
-both_left : (a b : Bool) → (a && b) ≡ true → a ≡ true
-both_left true b is = refl
-both_left false b is = cc
-
-both_right : (a b : Bool) → (a && b) ≡ true → b ≡ true
-both_right true b is = is
-both_right false b is = cc
 
 neither : (a b : Bool) → not (a || b) ≡ true → a ≢ true
 neither true b is e = cc
@@ -36,10 +29,10 @@ differs w v (u ∷ us) (suc place) none there same =
 
 first_differs : (w v : List ℕ) (ws : List (List ℕ)) (place : ℕ) → are_distinct (w ∷ ws) ≡ true →
     slice_get ws place ≡ Some v → w ≢ v
-first_differs w v ws place distinct there = differs w v ws place (both_left _ (are_distinct ws) distinct) there
+first_differs w v ws place distinct there = differs w v ws place (and_one _ (are_distinct ws) distinct) there
 
 rest_distinct : (w : List ℕ) (ws : List (List ℕ)) → are_distinct (w ∷ ws) ≡ true → are_distinct ws ≡ true
-rest_distinct w ws distinct = both_right (not (list_any (bytes_eq w) ws)) (are_distinct ws) distinct
+rest_distinct w ws distinct = and_other (not (list_any (bytes_eq w) ws)) (are_distinct ws) distinct
 
 six_differ : (a b c d e f : List ℕ) → are_distinct (a ∷ b ∷ c ∷ d ∷ e ∷ f ∷ []) ≡ true →
     AreDifferent (record { chain = a; script = b; capture = c; out = d; journal = e; report = f })

@@ -75,10 +75,6 @@ piece_cut f xs place x front was old now is cut sofar =
     ++ flat_map f xs) sofar (ap (λ (bytes : List ℕ). front ++ bytes) (parted f xs place x is) ∙ sym
     (append_assoc front (flat_map f (take place xs)) (f x ++ flat_map f (drop (suc place) xs)))) cut
 
-pub on_err : {A E : Type 0} (r : Result A E) (P : Type 0) → P → OnErr r P
-on_err (Ok x) P p = tt
-on_err (Err e) P p = p
-
 pub nothing_more : (whole : List ℕ) → whole ≡ [] ++ (whole ++ [])
 nothing_more whole = simp append-nil refl
 

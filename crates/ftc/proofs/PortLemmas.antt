@@ -2,6 +2,7 @@
 use Rattle.std.proofs.Common.{◌≡◌, ◌∙◌, ◌⊎◌, inl, inr, refl, sym, subst, ap, ℕ, zero, suc, List, [], ◌∷◌, ◌++◌, take}
 use Rattle.std.proofs.Common.{Option, Some, None, Err}
 use Rattle.std.specs.Prelude.{unwrap_or, IfSome, IsSome, option_and_then}
+use Rattle.std.proofs.lemmas.Option.{same_Some}
 use Rattle.ftc_audit.specs.Table.{IsCause}
 use Rattle.ftc_audit.specs.declared.cause.PortsCause.{PortsCause}
 use Rattle.ftc_audit.specs.declared.cause.PortsCause.TheVariants as cause
@@ -32,14 +33,14 @@ use Rattle.ftc.specs.Watching.{standard_output}
 use Rattle.ftc.specs.Porting.{PortNamed, IsTableIn, HasNoTable, ArePortsRefused, ArePortsTold, ArePortsCutShort}
 use Rattle.ftc.specs.Porting.{PortsEnd}
 use Rattle.ftc.specs.Laws.{TextLaws}
-use Rattle.ftc.proofs.Agreeing.{not_refused, some_once, no_journal, chain_is, capture_is, setup_once}
+use Rattle.ftc.proofs.Agreeing.{not_refused, no_journal, chain_is, capture_is, setup_once}
 use Rattle.ftc.proofs.Endings.{refused_ends, done_or_memory}
 use Rattle.ftc.proofs.Refusing.{setup_isnt_done}
 
 -- the number of a server that there is
 pub some_is : (found : Option ℕ) (one number : ℕ) → found ≡ Some one → IfSome found (λ id. id ≡ number) → one ≡ number
 some_is None one number is told = cc
-some_is (Some id) one number is told = sym (some_once id one is) ∙ told
+some_is (Some id) one number is told = sym (same_Some id one is) ∙ told
 
 -- ---- refusals
 
@@ -129,7 +130,7 @@ first_illegal rules start [] zero is = let there = is.there in cc
 first_illegal rules start [] (suc place) is = let there = is.there in cc
 first_illegal rules start (step ∷ steps) zero is =
     let here : serial_step rules start step ≡ None =
-    rw (some_once start is.reached is.before, some_once step is.step is.there) is.illegal in
+    rw (same_Some start is.reached is.before, same_Some step is.step is.there) is.illegal in
     rw here refl
 first_illegal rules start (step ∷ steps) (suc place) is =
     through (serial_step rules start step) (λ next. serial_run rules next (take place steps))
@@ -149,7 +150,7 @@ module _ (laws : TextLaws) (names : PortNamed) (server : ℕ) (files : Files) (l
   text_of_journal : (text : List ℕ) → files names.journal ≡ Some text → IsSpelling given.journal text
   text_of_journal text file =
       let has = given.journal_right in
-      subst (IsSpelling given.journal) (some_once has.text text (sym has.file ∙ file)) has.right
+      subst (IsSpelling given.journal) (same_Some has.text text (sym has.file ∙ file)) has.right
 
   the_journal : (other : List Event) → HasJournal names.journal files other → other ≡ given.journal
   the_journal other has = laws.one_journal has.text other given.journal has.right

@@ -3,6 +3,7 @@ use Rattle.std.proofs.Common.{◌≡◌, ◌≢◌, ◌∙◌, ◌⊎◌, inl, i
 use Rattle.std.proofs.Common.{[], ◌∷◌, ◌++◌, append-nil, take, length, Option, Some, Result, Ok, Err, codes}
 use Rattle.std.specs.Prelude.{unwrap_or}
 use Rattle.std.specs.List.{list_all}
+use Rattle.std.proofs.lemmas.Option.{same_Some}
 use Rattle.ftc_outside.specs.Desk.{Files, SameFiles, SameButAt, GrewAt, MayHaveGrownAt}
 use Rattle.ftc_outside.specs.declared.desk.DeskError.{DeskError}
 use Rattle.ftc_outside.specs.declared.desk.DeskError.TheVariants as desk
@@ -14,6 +15,7 @@ use Rattle.ftc_watch.specs.Beats.{BeatsShape}
 use Rattle.ftc_watch.specs.Grammar.{beats_of, ticks_of}
 use Rattle.ftc_watch.specs.declared.tick.Tick.{Tick}
 use Rattle.ftc_watch.specs.declared.fault.BeatsFault.{BeatsFault}
+use Rattle.ftc_base.proofs.Bools.{and_other}
 use Rattle.ftc_base.specs.Reading.{◌>>=◌}
 use Rattle.ftc_watch.specs.Watch.{Watching}
 use Rattle.ftc_watch.specs.Lines.{crashes_in, held_text, summary, summary_of}
@@ -27,22 +29,18 @@ use Rattle.ftc.specs.Refused.{IsTextRefused}
 use Rattle.ftc.specs.Watching.{WatchNamed, standard_output, HasBeats, AreBeats, IsWrongBeats, IsWatchRefused, AreMade}
 use Rattle.ftc.specs.Watching.{AreMadeShort, watching, script_made, script_read, IsWatched, IsWatchedShort, WatchEnds}
 use Rattle.ftc.specs.Laws.{TextLaws}
-use Rattle.ftc.proofs.Agreeing.{not_refused, not_both, some_once, chain_is, capture_is, setup_once}
+use Rattle.ftc.proofs.Agreeing.{not_refused, not_both, chain_is, capture_is, setup_once}
 use Rattle.ftc.proofs.Endings.{refused_ends, done_or_memory}
 use Rattle.ftc.proofs.Refusing.{setup_isnt_done}
-
-last_named : (a b : Bool) → (a && b) ≡ true → b ≡ true
-last_named true b is = is
-last_named false b is = cc
 
 -- a name is not that of standard output
 pub no_output : (chain capture beats script : List ℕ) → list_all is_name
     (chain ∷ capture ∷ beats ∷ script ∷ []) ≡ true → script ≢ codes "-"
 no_output chain capture beats script named same =
     let all : list_all is_name (chain ∷ capture ∷ beats ∷ codes "-" ∷ []) ≡ true = rw same at named in
-    let behind_chain = last_named (is_name chain) (list_all is_name (capture ∷ beats ∷ codes "-" ∷ [])) all in
-    let behind_capture = last_named (is_name capture) (list_all is_name (beats ∷ codes "-" ∷ [])) behind_chain in
-    let behind_beats : false ≡ true = last_named (is_name beats) (list_all is_name (codes "-" ∷ [])) behind_capture in
+    let behind_chain = and_other (is_name chain) (list_all is_name (capture ∷ beats ∷ codes "-" ∷ [])) all in
+    let behind_capture = and_other (is_name capture) (list_all is_name (beats ∷ codes "-" ∷ [])) behind_chain in
+    let behind_beats : false ≡ true = and_other (is_name beats) (list_all is_name (codes "-" ∷ [])) behind_capture in
     cc
 
 -- ---- refusals
@@ -232,7 +230,7 @@ module _ (laws : TextLaws) (names : WatchNamed) (files : Files) (beats : BeatsSh
       → files names.beats ≡ Some text → beats_of (ring_of other) (length taken.packets) text ≡ Ok beats
   beats_read other taken text is also file =
       let has = given.beats_right in
-      let same = some_once text has.text (sym file ∙ has.file) in
+      let same = same_Some text has.text (sym file ∙ has.file) in
       rw (is, also, same) has.right
 
   refused_once : (sound : Type 0) (ending : Status) → (ending ≡ status.DeskFault → ⊥)

@@ -12,10 +12,6 @@ use Rattle.ftc.specs.Writing.{AreApart, AreWritten, AreTextsWritten, AreTextsCut
 pub whole_is_front : (old new : Option (List ℕ)) (bytes : List ℕ) → new ≡ Some bytes → MayHold old new bytes
 whole_is_front old new bytes is = inr (bytes, is, ([], sym (append-nil bytes)))
 
-pub on_err_more : {A E : Type 0} (r : Result A E) (P Q : Type 0) → (P → Q) → OnErr r P → OnErr r Q
-on_err_more (Ok x) P Q more held = tt
-on_err_more (Err e) P Q more held = more held
-
 -- ---- the journal and the report
 
 module _ (names : Named) (apart : AreApart names) (journal : List ℕ) (report : List (List ℕ) → List ℕ)

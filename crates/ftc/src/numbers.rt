@@ -2,8 +2,7 @@
 
 ghost use Rattle.std.specs.Prelude.{◌≤◌, ◌<◌};
 ghost use Rattle.std.specs.List.{AllByRecursion};
-ghost use Rattle.ftc_base.specs.declared.limits.TheConstants.{MOST_SERVERS, MOST_SLOTS};
-ghost use Rattle.ftc_journal.specs.declared.limits.TheConstants.{MOST_NUMBER};
+ghost use Rattle.ftc_base.specs.declared.limits.TheConstants.{MOST_SERVERS, MOST_SLOTS, MOST_NUMBER};
 ghost use Rattle.ftc_journal.specs.declared.form.Version.TheVariants as version;
 ghost use Rattle.ftc_journal.specs.Spelling.{IsEvent, IsVisitName};
 

@@ -28,9 +28,7 @@ fn add_record(
     ensures err { OnErr result (piece.new ≡ piece.old) }
 {
     let bytes = released.bytes.as_slice();
-    let mut record = Bytes::new(alloc);
-    write_packet(alloc, capture, released.packet, bytes, &mut record)?;
-    piece.append(record.as_slice())
+    write_packet(alloc, capture, released.packet, bytes, piece)
 }
 
 /// Adds a long piece to the file, and goes on with an empty one.

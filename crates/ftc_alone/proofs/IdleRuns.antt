@@ -8,6 +8,7 @@ use Rattle.ftc_txn.specs.Head.{HeadState}
 use Rattle.ftc_network.specs.Slots.{runs_in, IsIdleHead}
 use Rattle.ftc_chain.specs.ChainRun.{ChainRun}
 use Rattle.ftc_chain.specs.Slots.{head_in, IsIdle, AreIdle, IsButHeads, HeadsStay, OthersStay, HeadsAfter}
+use Rattle.ftc_chain.proofs.HeadsKept.{idle_runs}
 
 -- where all heads are as they were
 stay_idle : (old new : ChainRun) (worker : ℕ) → HeadsStay old new → IsIdle old worker → IsIdle new worker
@@ -22,16 +23,12 @@ but_one_idle old new worker server here others idle at = elim (cases_eq at serve
   | inr differs ↦ ap (λ (head : Option HeadState). runs_in head worker) (others at differs) ∙ idle at
 ]
 
-idle_head : (head : Option HeadState) (worker : ℕ) → IsIdleHead head → runs_in head worker ≡ None
-idle_head None worker idle = absurd idle
-idle_head (Some head) worker idle = idle worker
-
 idle_after : (done : Job) (old new : ChainRun) (worker : ℕ) → HeadsAfter done old new → IsIdle old worker →
     IsIdle new worker
 idle_after (job.Crash server) old new worker (down, others) =
     but_one_idle old new worker server (ap (λ (head : Option HeadState). runs_in head worker) down) others
 idle_after (job.Recover server) old new worker (idle, others) =
-    but_one_idle old new worker server (idle_head (head_in new server) worker idle) others
+    but_one_idle old new worker server (idle_runs (head_in new server) worker idle) others
 idle_after (job.Enter packet) old new worker stay = stay_idle old new worker stay
 idle_after (job.Take link origin) old new worker stay = stay_idle old new worker stay
 idle_after (job.Apply server origin group packet) old new worker stay = stay_idle old new worker stay
@@ -50,7 +47,7 @@ idle_stepped (Ok value) done old new heads same idle worker below =
 idle_stepped (Err fault) done old new heads same idle worker below = subst AreIdle (sym same) idle worker below
 
 -- nothing at all differs
-same_but : (old new : ChainRun) → new ≡ old → IsButHeads old new
+pub same_but : (old new : ChainRun) → new ≡ old → IsButHeads old new
 same_but old new same =
     same ∙ ap (λ (heads : List (Option HeadState)). record old { heads = heads })
     (ap (λ (run : ChainRun). run.heads) (sym same))

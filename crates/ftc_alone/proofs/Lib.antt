@@ -1,5 +1,5 @@
 mod FinishSteps
-mod IdleRuns
+pub mod IdleRuns
 mod Listed
 mod PlayedParts
 mod Results

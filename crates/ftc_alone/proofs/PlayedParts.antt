@@ -2,6 +2,7 @@
 use Rattle.std.proofs.Common.{◌≡◌, ◌++◌, ◌+◌, ◌<◌, inl, inr, ℕ, zero, suc, arith, length, take, drop, get_or, List, []}
 use Rattle.std.proofs.Common.{◌∷◌, Some, refl, sym, ap, subst, ◌∙◌}
 use Rattle.std.proofs.lemmas.List.{append_assoc, append-nil, take-append-drop}
+use Rattle.std.proofs.lemmas.Option.{same_Some}
 use Rattle.ftc_journal.specs.declared.event.Event.{Event}
 use Rattle.ftc_journal.specs.declared.job.Job.{Job}
 use Rattle.ftc_journal.specs.Job.{job_of}
@@ -13,33 +14,12 @@ use Rattle.ftc_protocol.specs.Next.{next}
 use Rattle.ftc_protocol.specs.Run.{state_after}
 use Rattle.ftc_protocol.specs.Setting.{Setting, IsSetting}
 use Rattle.ftc_protocol.specs.State.{ChainState, opening}
+use Rattle.ftc_protocol.proofs.UniqueDrive.{play_on}
 use Rattle.ftc_chain.specs.Course.{HasMade}
 use Rattle.ftc_chain.specs.Slots.{IsButHeads}
 use Rattle.ftc_alone.specs.Alone.{IsSameGiven, IsInFinish, IsInDrive, HasPlayed, HasPlayedSome}
 
 -- ---- two parts of a schedule
-
-joined : (c : Setting) (one other : List Event) (s : ChainState) (events more : List Event) → IsPlay c s one events →
-    IsPlay c (state_after c s events) other more → IsPlay c s (one ++ other) (events ++ more)
-joined c [] other s events more none after =
-    subst (λ (es : List Event). IsPlay c (state_after c s es) other more →
-    IsPlay c s other (es ++ more)) (sym none) (λ is. is) after
-joined c (event ∷ one) other s events more (inl x) after =
-    let made : Event = event_of c s (slot_of event) x.0 in
-    let end : state_after c s events ≡ state_after c (state_after c (next c s made) x.1) x.2 =
-    ap (state_after c s) x.6 ∙ state_on c x.1 x.2 (next c s made) in
-    inl (
-      x.0,
-      x.1,
-      x.2 ++ more,
-      x.3,
-      x.4,
-      x.5,
-      ap (λ (es : List Event). es ++ more) x.6 ∙ ap (λ (es : List Event). made ∷ es) (append_assoc x.1 x.2 more),
-      joined c one other (state_after c (next c s made) x.1) x.2 more x.7
-          (subst (λ (t : ChainState). IsPlay c t other more) end after),
-    )
-joined c (event ∷ one) other s events more (inr x) after = inr (x.0, joined c one other s events more x.1 after)
 
 -- the same of runs
 pub played_on : (one other : List Event) (first now new : ChainRun) → HasPlayed one first now →
@@ -51,7 +31,7 @@ played_on one other first now new front more =
     let on = state_on c first.journal front.played (opening c) in
     record {
       played = front.played ++ there.played;
-      play = joined c one other (chain_state first) front.played there.played front.play
+      play = play_on c one other (chain_state first) front.played there.played front.play
           (subst (λ (t : ChainState). IsPlay c t other there.played) on there.play);
       grown = there.grown ∙ ap (λ (es : List Event). record first { journal = es; heads = new.heads })
           (append_assoc first.journal front.played there.played);
@@ -78,9 +58,6 @@ played_one event job old new is legal made =
           ∙ ap (λ (es : List Event). record old { journal = old.journal ++ happened ∷ es; heads = new.heads })
           (sym (append-nil made.releases));
     }
-
-pub one_job : (one other : Job) → Some one ≡ Some other → one ≡ other
-one_job one other same = cc
 
 pub passed_over : (event : Event) (now : ChainRun) → IsPassedOver (setting_in now) (chain_state now) event →
     HasPlayed (event ∷ []) now now

@@ -6,6 +6,7 @@ use Rattle.ftc_balance.specs.Balance.{client_key}
 use Rattle.ftc_balance.specs.Bounds.{IsBalanceRule}
 use Rattle.ftc_store.specs.Store.{Content}
 use Rattle.std.specs.List.{AllByRecursion}
+use Rattle.std.proofs.lemmas.Option.{same_Some}
 use Rattle.ftc_mbox.specs.Bounds.{IsRule}
 use Rattle.ftc_mbox.specs.declared.rule.Rule.{Rule}
 use Rattle.ftc_mbox.specs.declared.rule.Rule.TheVariants.{Balance}
@@ -24,9 +25,6 @@ key_of line = client_key line.protocol line.address line.port
 same_key : (one other : ClientLine) → SameClient one other → key_of one ≡ key_of other
 same_key one other same = rw (same.protocol, same.address, same.port) refl
 
-some_once : (one other : ℕ) → Some one ≡ Some other → one ≡ other
-some_once one other same = cc
-
 pub one_backend : (rules : List Rule) (packets : List (List ℕ)) (steps : List Step) (server : ℕ) (rule : BalanceRule)
     (one other : ClientLine) → AllByRecursion IsRule rules → slice_get rules server ≡ Some (Balance rule)
     → Gave (client_line_of rule) server (visits rules (serial_opening packets) steps) one
@@ -41,4 +39,4 @@ one_backend rules packets steps server rule one other all known gave given same 
     (client_line_of rule) Holds HasBackend kept rules server known one start steps tt gave in
     let too : HasBackend content other = ends_given (Balance rule)
     (client_line_of rule) Holds HasBackend kept rules server known other start steps tt given in
-    some_once one.backend other.backend (sym has ∙ (ap (backend_at content) (same_key one other same) ∙ too))
+    same_Some one.backend other.backend (sym has ∙ (ap (backend_at content) (same_key one other same) ∙ too))

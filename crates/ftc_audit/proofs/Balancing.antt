@@ -33,6 +33,7 @@ use Rattle.ftc_audit.proofs.Runs.{IsKept}
 use Rattle.ftc_audit.proofs.Keys.{at_put, off_put}
 use Rattle.ftc_audit.proofs.Asked.{of_flow, ends_at_once, ends_after_one, ends_after_two, writes_told, packet_told}
 use Rattle.ftc_audit.proofs.Quiet as quiet
+use Rattle.ftc_audit.proofs.Bytes.{below}
 
 -- the backend at a key
 abbrev pub backend_at : Content → List ℕ → Option ℕ
@@ -53,11 +54,6 @@ line_with flow backend =
 -- of a balancer's store nothing else is asked
 abbrev pub Holds : Content → Type 0
 Holds content = Unit {0}
-
-below : (most : ℕ) (xs : List ℕ) (place : ℕ) → AllByRecursion (λ x. x ≤ most) xs → slice_index xs place ≤ most
-below most [] place all = omega arith
-below most (x ∷ xs) zero all = all.0
-below most (x ∷ xs) (suc place) all = below most xs place all.1
 
 -- the packet that goes on shows the backend
 shown : (packet : List ℕ) (flow : Flow) (address port : ℕ) → flow_found packet ≡ Some flow

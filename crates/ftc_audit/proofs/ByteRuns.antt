@@ -15,6 +15,7 @@ use Rattle.ftc_base.specs.declared.ask.Change.TheVariants.{Keep, Source, Destina
 use Rattle.ftc_base.specs.declared.ask.Verdict.{Verdict}
 use Rattle.ftc_base.specs.declared.ask.Verdict.TheVariants.{Forward, Filter}
 use Rattle.ftc_base.specs.declared.ask.Write.{Write}
+use Rattle.ftc_base.proofs.EachOf.{all_push}
 use Rattle.ftc_packet.specs.Layout.{AreBytes}
 use Rattle.ftc_store.specs.Store.{Content, changed, written}
 use Rattle.ftc_mbox.specs.declared.rule.Rule.{Rule}
@@ -41,11 +42,6 @@ IsKept content = (key : List ℕ) → IsValue (get content key)
 abbrev Fits : Asked → Type 0
 Fits told = FitsVerdict told.end.verdict × AreValues told.end.writes.items
 
-all_last : {A : Type 0} (P : A → Type 0) (xs : List A) (x : A) → AllByRecursion P xs → P x
-    → AllByRecursion P (xs ++ x ∷ [])
-all_last P [] x all is = (is, tt)
-all_last P (y ∷ ys) x all is = (all.0, all_last P ys x all.1 is)
-
 asked_fits : (rule : Rule) → IsRule rule → (packet : List ℕ) → AreBytes packet → (content : Content) → IsKept content
     → (left : ℕ) (answers : List Answer) → AreAnswers answers → Fits (asked_from rule packet content left answers)
 unfolding asked_from
@@ -60,7 +56,7 @@ asked_fits rule is packet bytes content kept (suc left) answers are =
       | Finish end ↦ ended answers end
     ])) [
       | Read key change ↦ λ _. asked_fits rule is packet bytes content kept left (answers ++ answer_at content key ∷ [])
-          (all_last (λ (answer : Answer). IsValue answer.value) answers (answer_at content key) are (kept key))
+          (all_push (λ (answer : Answer). IsValue answer.value) answers (answer_at content key) are (kept key))
       | Finish end ↦ λ fits. fits
     ] (ask_fits rule is packet bytes answers are)
 

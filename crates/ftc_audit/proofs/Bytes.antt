@@ -39,6 +39,7 @@ use Rattle.ftc_mbox.specs.Ask.{ask, ask_of, ask_of_flow}
 use Rattle.ftc_mbox.specs.Monitor.{monitor_ask}
 use Rattle.ftc_packet.proofs.Numbers.{updated_checksum_most}
 use Rattle.ftc_packet.proofs.FlowsFound.{flows_are_found}
+use Rattle.ftc_packet.proofs.RightSums.{word_most}
 
 byte_set : (xs : List ℕ) (at value k : ℕ) → value < 256 → AreBytes xs → slice_index (slice_set xs at value) k < 256
 byte_set [] at value k few are = are k
@@ -51,11 +52,6 @@ word_set : (bytes : List ℕ) (at word : ℕ) → word ≤ 65535 → AreBytes by
 unfolding with_word
 word_set bytes at word few are = λ k. byte_set _ (at + 1) (word % 256) k (omega arith) (λ j. byte_set bytes at
     (word / 256) j (omega arith) are)
-
--- words of bytes have 16 bits
-pub word_fits : (bytes : List ℕ) (at : ℕ) → AreBytes bytes → word_at bytes at ≤ 65535
-unfolding word_at
-word_fits bytes at are = omega (arith, are at, are (at + 1))
 
 address_checksum_fits : (checksum : ℕ) (bytes : List ℕ) (at address : ℕ) → checksum ≤ 65535
     → updated_for_address checksum bytes at address ≤ 65535
@@ -75,7 +71,7 @@ written_fits protocol before after few =
 header_checksum_fits : (bytes : List ℕ) (end : _) (address : ℕ) → AreBytes bytes
     → new_header_checksum bytes end address ≤ 65535
 unfolding new_header_checksum
-header_checksum_fits bytes end address are = address_checksum_fits _ bytes _ address (word_fits bytes _ are)
+header_checksum_fits bytes end address are = address_checksum_fits _ bytes _ address (word_most bytes _ are)
 
 transport_checksum_fits : (bytes : List ℕ) (end : _) (address port : ℕ) → AreBytes bytes
     → new_transport_checksum bytes end address port ≤ 65535
@@ -87,7 +83,7 @@ transport_checksum_fits bytes end address port are =
     let ported = word_at bytes (transport_start bytes + port_place end) in
     written_fits (protocol_of bytes) before (updated_checksum addressed ported port)
     (updated_checksum_most addressed ported port (address_checksum_fits before bytes (address_place end) address
-    (word_fits bytes at are)))
+    (word_most bytes at are)))
 
 -- a packet with another end
 pub end_set : (bytes : List ℕ) (end : _) (address port : ℕ) → address ≤ 4294967295 → port ≤ 65535 → AreBytes bytes
@@ -259,7 +255,7 @@ nat_fits rule is flow answers are =
 
 -- ---- balancers
 
-below : (most : ℕ) (xs : List ℕ) (place : ℕ) → AllByRecursion (λ x. x ≤ most) xs → slice_index xs place ≤ most
+pub below : (most : ℕ) (xs : List ℕ) (place : ℕ) → AllByRecursion (λ x. x ≤ most) xs → slice_index xs place ≤ most
 below most [] place all = omega arith
 below most (x ∷ xs) zero all = all.0
 below most (x ∷ xs) (suc place) all = below most xs place all.1
@@ -326,7 +322,7 @@ flow_ask_fits (Balance rule) is flow port answers are = balance_fits rule is flo
 
 port_fits : (bytes : List ℕ) → AreBytes bytes → (flow_in bytes).destination_port ≤ 65535
 unfolding flow_in
-port_fits bytes are = word_fits bytes _ are
+port_fits bytes are = word_most bytes _ are
 
 pub ask_fits : (rule : Rule) → IsRule rule → (packet : List ℕ) → AreBytes packet → (answers : List Answer)
     → AreAnswers answers → FitsAsk (ask rule packet answers)

@@ -16,6 +16,7 @@ use Rattle.ftc_serial.specs.Serial.{State, Entry, Visited, Given, entry_of, afte
 use Rattle.ftc_serial.specs.Entries.{IsRightEntry}
 use Rattle.ftc_serial.proofs.Functions.{with_at_cases}
 use Rattle.ftc_serial.proofs.Legal.{visit_legal, told_legal}
+use Rattle.ftc_serial.proofs.AnyOf.{any_front, any_behind}
 use Rattle.ftc_audit.specs.declared.line.PortLine.{PortLine}
 use Rattle.ftc_audit.specs.Visits.{Seen, Gave, waiting_bytes, seen_at, visits}
 use Rattle.ftc_audit.specs.Ports.{port_line_of}
@@ -36,14 +37,6 @@ ends_there rules state (step ∷ steps) end is =
       | None ↦ λ none. absurd (cc)
       | Some entry ↦ λ some. ends_there rules (after (length rules) state entry) steps end some
     ] is
-
-any_front : {A : Type 0} (P : A → Type 0) (xs ys : List A) → AnyOf P xs → AnyOf P (xs ++ ys)
-any_front P [] ys any = absurd any
-any_front P (x ∷ xs) ys any = elim any [ inl here ↦ inl here | inr more ↦ inr (any_front P xs ys more) ]
-
-any_behind : {A : Type 0} (P : A → Type 0) (xs ys : List A) → AnyOf P ys → AnyOf P (xs ++ ys)
-any_behind P [] ys any = any
-any_behind P (x ∷ xs) ys any = inr (any_behind P xs ys any)
 
 -- a visit of the run gave the line of this key and this value
 pub record IsOf (rule : NatRule) (server : ℕ) (run : List Seen) (key value : List ℕ) : Type 0 where

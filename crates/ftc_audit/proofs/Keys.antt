@@ -25,9 +25,5 @@ off_put content key value q differs =
     ∙ ap (λ (same : Bool). cond same (Some value) (get content q))
     (false_from_ne_true _ (λ same. differs ((bytes_eq-Decides q key).0 (sym (is_same q key) ∙ same))))
 
--- two keys tie exactly where they are equal
-pub tied : (q key : List ℕ) → eq_by_cmp (slice_cmp nat_cmp) q key ≡ true → q ≡ key
-tied q key ties = (bytes_eq-Decides q key).0 (sym (is_same q key) ∙ ties)
-
 pub tied_to_itself : (key : List ℕ) → eq_by_cmp (slice_cmp nat_cmp) key key ≡ true
 tied_to_itself key = is_same key key ∙ (bytes_eq-Decides key key).1 refl

@@ -7,6 +7,7 @@ use Rattle.std.specs.List.Sorted.{IsPermutation, IsNonDecreasing, IsNonDecreasin
 use Rattle.std.proofs.lemmas.List.{get_or-map, length-map}
 use Rattle.std.proofs.lemmas.List.Sorted.{IsPermutation-map}
 use Rattle.std.proofs.lemmas.Map.Keys.{IsDistinct-IsPermutation, IsStrictlyIncreasing-from_distinct}
+use Rattle.ftc_base.proofs.Numbers.{eqb-swap}
 use Rattle.ftc_serial.specs.Words.{AnyOf}
 
 pub any_of_contains : {A : Type 0} (xs : List A) (x : A) → Contains xs x → AnyOf (λ y. y ≡ x) xs
@@ -62,9 +63,6 @@ of_item {B = B} f (x ∷ xs) y any =
     ] refl
 
 -- numbers of items that don't fall and are distinct rise, in whatever order the items were before
-flipped : (x y : ℕ) → (x == y) ≡ (y == x)
-flipped x y = grind arith
-
 falls_nowhere : {X : Type 0} (n : X → ℕ) (xs : List X) → IsNonDecreasingBy n xs → IsNonDecreasing (map n xs)
 falls_nowhere n [] rises i j d order within = absurd (omega (arith, within))
 falls_nowhere n (x ∷ xs) rises i j d order within =
@@ -78,7 +76,7 @@ falls_nowhere n (x ∷ xs) rises i j d order within =
 pub distinct_moved : {X : Type 0} (n : X → ℕ) (xs ys : List X) → IsPermutation xs ys
     → IsDistinct (λ x y. x == y) (map n xs) → IsDistinct (λ x y. x == y) (map n ys)
 distinct_moved n xs ys moved distinct =
-    IsDistinct-IsPermutation (λ x y. x == y) flipped (map n xs) (map n ys) (IsPermutation-map n xs ys moved) distinct
+    IsDistinct-IsPermutation (λ x y. x == y) eqb-swap (map n xs) (map n ys) (IsPermutation-map n xs ys moved) distinct
 
 pub rise : {X : Type 0} (n : X → ℕ) (xs : List X) → IsNonDecreasingBy n xs → IsDistinct (λ x y. x == y) (map n xs)
     → IsStrictlyIncreasing (map n xs)

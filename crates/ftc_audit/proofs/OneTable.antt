@@ -2,9 +2,9 @@
 use Rattle.std.proofs.Common.{◌≡◌, ◌<◌, ◌∙◌, inl, inr, refl, sym, ap, subst, ℕ, suc, List, [], ◌∷◌, map, add-one, arith}
 use Rattle.std.specs.List.{AllByRecursion}
 use Rattle.std.specs.List.Sorted.{IsStrictlyIncreasing}
+use Rattle.ftc_base.proofs.EachOf.{all-weaker}
 use Rattle.ftc_nat.specs.declared.rule.NatRule.{NatRule}
 use Rattle.ftc_serial.specs.Words.{AnyOf, EachLater}
-use Rattle.ftc_serial.proofs.Functions.{all_map}
 use Rattle.ftc_audit.specs.declared.line.PortLine.{PortLine}
 use Rattle.ftc_audit.specs.Visits.{Seen}
 use Rattle.ftc_audit.specs.Table.{IsPortTable}
@@ -25,7 +25,7 @@ each_rises (one ∷ two ∷ lines) rising =
     let rest : IsStrictlyIncreasing (map outside (two ∷ lines)) = λ k within. rw add-one (rw add-one at
     (rising (suc k) (omega (arith, within)))) in
     let later = each_rises (two ∷ lines) rest in
-    ((first, all_map (IsBelow two) (IsBelow one) (λ line above. omega (arith, first, above)) lines later.0), later)
+    ((first, all-weaker (IsBelow two) (IsBelow one) (λ line above. omega (arith, first, above)) lines later.0), later)
 
 above : (least : PortLine) (lines : List PortLine) → AllByRecursion (IsBelow least) lines → (line : PortLine)
     → AnyOf (λ other. other ≡ line) lines → least.outside < line.outside

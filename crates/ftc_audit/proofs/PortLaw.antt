@@ -17,6 +17,8 @@ use Rattle.ftc_nat.specs.Bounds.{IsNatRule}
 use Rattle.ftc_nat.specs.Nat.{outside_port_key, leaves}
 use Rattle.ftc_store.specs.Store.{Content}
 use Rattle.std.specs.List.{AllByRecursion}
+use Rattle.std.proofs.lemmas.Option.{same_Some}
+use Rattle.ftc_packet.proofs.RightSums.{word_most}
 use Rattle.ftc_mbox.specs.Bounds.{IsRule}
 use Rattle.ftc_mbox.specs.declared.rule.Rule.{Rule}
 use Rattle.ftc_mbox.specs.declared.rule.Rule.TheVariants.{Nat}
@@ -26,7 +28,6 @@ use Rattle.ftc_serial.specs.Serial.{serial_opening}
 use Rattle.ftc_audit.specs.declared.line.PortLine.{PortLine}
 use Rattle.ftc_audit.specs.Visits.{Seen, Gave, AreOfBytes, visits}
 use Rattle.ftc_audit.specs.Ports.{source_port, port_line_of_flow, port_line_of, SameInside}
-use Rattle.ftc_audit.proofs.Bytes.{word_fits}
 use Rattle.ftc_audit.proofs.ByteRuns.{rule_at, stay_bytes}
 use Rattle.ftc_audit.proofs.Runs.{end_of, ends_holding, ends_given}
 use Rattle.ftc_audit.proofs.Translating.{port_at, HasPort, Holds, translating}
@@ -69,7 +70,7 @@ flow_fits rule bytes (Some after) line flow are is told =
 source_fits : (bytes : List ℕ) → AreBytes bytes → ((flow_in bytes).source ≤ 4294967295)
     × ((flow_in bytes).source_port ≤ 65535)
 unfolding flow_in
-source_fits bytes are = (omega (arith, word_fits bytes 26 are, word_fits bytes 28 are), word_fits bytes _ are)
+source_fits bytes are = (omega (arith, word_most bytes 26 are, word_most bytes 28 are), word_most bytes _ are)
 
 -- the line of a packet of bytes
 line_fits : (rule : NatRule) (seen : Seen) (line : PortLine) → AreBytes seen.before → port_line_of rule seen ≡ Some line
@@ -157,9 +158,6 @@ same_inside one other fits also same = record {
 pub same_key : (one other : PortLine) → SameInside one other → key_of one ≡ key_of other
 same_key one other same = rw (same.protocol, same.address, same.port) refl
 
-some_once : (one other : ℕ) → Some one ≡ Some other → one ≡ other
-some_once one other same = cc
-
 -- an empty store has no port
 no_port : (key : List ℕ) (port : ℕ) → port_at empty key ≡ Some port → ⊥
 no_port key port has =
@@ -191,7 +189,7 @@ ports_apart rules packets steps server rule one other all bytes known gave given
     (Holds rule) HasPort kept rules server known one start steps empty_holds gave in
     let too : HasPort content other = ends_given (Nat rule) (port_line_of rule)
     (Holds rule) HasPort kept rules server known other start steps empty_holds given in (
-      λ same. some_once one.outside other.outside (sym has ∙ (ap (port_at content) (same_key one other same) ∙ too)),
+      λ same. same_Some one.outside other.outside (sym has ∙ (ap (port_at content) (same_key one other same) ∙ too)),
       λ equal. same_inside one other (gave_fits rule server (visits rules start steps) one are gave)
           (gave_fits rule server (visits rules start steps) other are given)
           (held.apart (key_of one) (key_of other) one.outside (_, refl) (_, refl) has (too ∙ ap Some (sym equal))),

@@ -10,7 +10,7 @@ use Rattle.std.specs.Cmp.Lexicographic.{slice_cmp}
 use Rattle.std.specs.FinMap.{entries, get, get-empty, is_sorted}
 use Rattle.std.specs.FinMap.Entries.{below_all}
 use Rattle.std.proofs.lemmas.Nat.{from_be_bytes-to_be_bytes_2, from_be_bytes-to_be_bytes_4}
-use Rattle.std.proofs.lemmas.Option.{slice_get_within}
+use Rattle.std.proofs.lemmas.Option.{slice_get_within, same_Some}
 use Rattle.std.proofs.lemmas.List.Sorted.{Contains-permutation, IsPermutation-sym}
 use Rattle.std.proofs.lemmas.Map.Keys.{IsDistinct-cons, IsDistinct-head, IsDistinct-tail}
 use Rattle.ftc_base.specs.Ask.{number_in}
@@ -44,9 +44,6 @@ use Rattle.ftc_audit.proofs.StoredPairs.{IsAt, front, behind, below_itself, in_o
 
 abbrev outside : PortLine → ℕ
 outside line = line.outside
-
-some_once : {A : Type 0} (one other : A) → Some one ≡ Some other → one ≡ other
-some_once one other same = cc
 
 -- a line's pair says the line
 read_back : (line : PortLine) → IsPortLine line → line.outside ≤ 65535
@@ -126,7 +123,7 @@ module _ (rules : List Rule) (packets : List (List ℕ)) (steps : List Step) (se
       → (key ≡ key_of line) × IsGiven line
   says key value line has told =
       let is = stored key value (key_begins key value line told) has in
-      let same : is.line ≡ line = some_once is.line line (sym (tells key value is) ∙ told) in
+      let same : is.line ≡ line = same_Some is.line line (sym (tells key value is) ∙ told) in
       (is.at ∙ ap key_of same, subst IsGiven same is.gave)
 
   has_line : (line : PortLine) → IsGiven line → HasPort content_then line

@@ -2,6 +2,7 @@
 use Rattle.std.proofs.Common.{◌≡◌, ◌∙◌, ◌⊎◌, sym, ap, ap₂, subst, ℕ, List, [], ◌∷◌, ◌++◌, length, Option, Some, None}
 use Rattle.std.proofs.Common.{inl, inr, refl}
 use Rattle.std.specs.Prelude.{slice_get}
+use Rattle.std.proofs.lemmas.Option.{same_Some}
 use Rattle.ftc_store.specs.Store.{Content, written}
 use Rattle.ftc_mbox.specs.declared.rule.Rule.{Rule}
 use Rattle.ftc_serial.specs.declared.step.Step.{Step}
@@ -11,10 +12,8 @@ use Rattle.ftc_serial.specs.Serial.{State, Entry, Visited, Given, entry_of, afte
 use Rattle.ftc_serial.specs.Entries.{IsRightEntry}
 use Rattle.ftc_serial.proofs.Functions.{with_at_cases}
 use Rattle.ftc_serial.proofs.Legal.{IsVisitLegal, visit_legal, told_legal}
+use Rattle.ftc_serial.proofs.AnyOf.{any_either}
 use Rattle.ftc_audit.specs.Visits.{Seen, Gave, waiting_bytes, seen_at, visits}
-
-some_once : {A : Type 0} (one other : A) → Some one ≡ Some other → one ≡ other
-some_once one other same = cc
 
 -- the state after the steps, up to the first that isn't legal
 abbrev pub end_of : List Rule → State → List Step → State
@@ -23,14 +22,6 @@ end_of rules state (step ∷ steps) =
     elim (entry_of rules state step) [
       | None ↦ state
       | Some entry ↦ end_of rules (after (length rules) state entry) steps
-    ]
-
-any_of_both : {A : Type 0} (P : A → Type 0) (xs ys : List A) → AnyOf P (xs ++ ys) → AnyOf P xs ⊎ AnyOf P ys
-any_of_both P [] ys any = inr any
-any_of_both P (x ∷ xs) ys any =
-    elim any [
-      | inl here ↦ inl (inl here)
-      | inr more ↦ elim (any_of_both P xs ys more) [ inl front ↦ inl (inr front) | inr behind ↦ inr behind ]
     ]
 
 -- A visit of a rule keeps what holds of its store, and what the store has of a line; and the store has the line of the
@@ -53,7 +44,7 @@ module _ (rule : Rule) {Line : Type 0} (line_of : Seen → Option Line) (Holds :
       (legal : IsVisitLegal rules state at packet outcome)
       → server ≡ at → taken rule legal.bytes (state.maps server) ≡ outcome
   outcome_is state at packet outcome legal same =
-      let rule_is = some_once rule legal.rule (sym known ∙ (ap (slice_get rules) same ∙ legal.known)) in
+      let rule_is = same_Some rule legal.rule (sym known ∙ (ap (slice_get rules) same ∙ legal.known)) in
       ap₂ (λ (r : Rule) (k : ℕ). taken r legal.bytes (state.maps k)) rule_is same ∙ sym legal.is
 
   -- the middlebox's store after a visit, its own or another's
@@ -159,7 +150,7 @@ module _ (rule : Rule) {Line : Type 0} (line_of : Seen → Option Line) (Holds :
             let legal = (told_legal rules state step entry told).0 in
             let next = after (length rules) state entry in
             let held = holds_on state entry legal holds in
-            elim (any_of_both _ (seen_at state entry) (visits rules next steps) some) [
+            elim (any_either _ (seen_at state entry) (visits rules next steps) some) [
               | inl now ↦ ends_having line next steps held (gives_on line state entry legal holds now)
               | inr later ↦ ends_given line next steps held later
             ]

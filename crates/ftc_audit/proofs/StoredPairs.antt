@@ -12,7 +12,8 @@ use Rattle.ftc_serial.specs.Words.{AnyOf}
 use Rattle.ftc_store.specs.Store.{Content}
 use Rattle.ftc_store.specs.Pairs.{key_value}
 use Rattle.ftc_store.specs.declared.pairs.Pair.{Pair}
-use Rattle.ftc_audit.proofs.Keys.{tied, tied_to_itself}
+use Rattle.ftc_serial.proofs.Alike.{eq_same}
+use Rattle.ftc_audit.proofs.Keys.{tied_to_itself}
 
 abbrev pub IsAt : List ℕ → List ℕ → Pair → Type 0
 IsAt key value pair = (pair.key ≡ key) × (pair.value ≡ value)
@@ -50,7 +51,7 @@ found_there (pair ∷ pairs) key value sorted (inr more) =
     elim (eq_by_cmp (slice_cmp nat_cmp) key pair.key) as (λ b. eq_by_cmp (slice_cmp nat_cmp) key pair.key ≡ b
     → cond b (Some pair.value) (find (slice_cmp nat_cmp) key (map key_value pairs)) ≡ Some value) [
       | true ↦ λ same. absurd (below_itself key (subst (λ (k : List ℕ). T (is_lt (slice_cmp nat_cmp k key)))
-          (sym (tied key pair.key same)) (below_any pair.key key value pairs (front _ _ sorted) more)))
+          (sym (eq_same key pair.key same)) (below_any pair.key key value pairs (front _ _ sorted) more)))
       | false ↦ λ _. found_there pairs key value (behind _ _ sorted) more
     ] refl
 
@@ -61,7 +62,7 @@ there_found (pair ∷ pairs) key value found =
     elim (eq_by_cmp (slice_cmp nat_cmp) key pair.key) as (λ b. eq_by_cmp (slice_cmp nat_cmp) key pair.key ≡ b
     → cond b (Some pair.value) (find (slice_cmp nat_cmp) key (map key_value pairs)) ≡ Some value
     → AnyOf (IsAt key value) (pair ∷ pairs)) [
-      | true ↦ λ same some. inl (sym (tied key pair.key same), cc)
+      | true ↦ λ same some. inl (sym (eq_same key pair.key same), cc)
       | false ↦ λ _ more. inr (there_found pairs key value more)
     ] refl found
 

@@ -7,10 +7,11 @@ use Rattle.std.proofs.lemmas.Bool.Decides.{nat_tests}
 use Rattle.std.proofs.lemmas.Fmt.{digits_decimal, digits_value-decimal, decimal_digit, first_decimal, decimal_nonempty}
 use Rattle.std.proofs.lemmas.Fmt.{decimal-digits_value}
 use Rattle.std.proofs.lemmas.Str.Parse.{IsNumeralModel, numerals_by_fold}
+use Rattle.std.proofs.lemmas.Bool.{not-true, and_parts}
 use Rattle.ftc_base.specs.Number.{number_of, is_numeral, is_digit, decimal_from}
 use Rattle.ftc_base.specs.declared.lexer.Lexical.TheVariants.{NotNumber, TooLarge}
 use Rattle.ftc_base.proofs.EachOf.{all-weaker}
-use Rattle.ftc_base.proofs.Separated.{both, not_true, Without}
+use Rattle.ftc_base.proofs.Separated.{Without}
 use Rattle.ftc_base.proofs.PlainWords.{IsLetter, IsPlainWord}
 
 abbrev pub IsDigit : ℕ → Type 0
@@ -35,7 +36,7 @@ digit-is_digit b digit = grind (arith, nat_tests)
 
 is_digit-digit : (b : ℕ) → is_digit b ≡ true → IsDigit b
 is_digit-digit b is =
-    let split = both (nat_le 48 b) (nat_le b 57) is in
+    let split = and_parts (nat_le 48 b) (nat_le b 57) is in
     (grind (arith, nat_tests, split.0), grind (arith, nat_tests, split.1))
 
 all_digits : (ds : List ℕ) → AllByRecursion IsDigit ds → list_all is_digit ds ≡ true
@@ -45,7 +46,7 @@ all_digits (d ∷ ds) all = rw (digit-is_digit d all.0, all_digits ds all.1) ref
 digits_all : (ds : List ℕ) → list_all is_digit ds ≡ true → AllByRecursion IsDigit ds
 digits_all [] all = tt
 digits_all (d ∷ ds) all =
-    let split = both (is_digit d) (list_all is_digit ds) all in (is_digit-digit d split.0, digits_all ds split.1)
+    let split = and_parts (is_digit d) (list_all is_digit ds) all in (is_digit-digit d split.0, digits_all ds split.1)
 
 numeral : (ds : List ℕ) → 1 ≤ length ds → AllByRecursion IsDigit ds → (get_or ds 0 0 ≡ 48 → length ds ≡ 1)
     → is_numeral ds ≡ true
@@ -66,8 +67,8 @@ numeral_is : (ds : List ℕ) → is_numeral ds ≡ true → IsWritten ds
 numeral_is [] e = absurd cc
 numeral_is (b ∷ []) e = record { some = omega arith; digits = (is_digit-digit b e, tt); alone = λ first. refl }
 numeral_is (b ∷ c ∷ ds) e =
-    let split = both (not (b == 48)) (list_all is_digit (b ∷ c ∷ ds)) e in
-    let other = not_true (b == 48) split.0 in
+    let split = and_parts (not (b == 48)) (list_all is_digit (b ∷ c ∷ ds)) e in
+    let other = not-true (b == 48) split.0 in
     record {
       some = omega arith;
       digits = digits_all (b ∷ c ∷ ds) split.1;
@@ -117,5 +118,5 @@ without_decimal separator n apart small = without_digits separator (decimal n) a
 pub plain_number : (n : ℕ) → n ≤ 4294967295 → IsPlainWord (decimal n)
 plain_number n small = record {
   some = some_digit n small;
-  letters = all-weaker IsDigit IsLetter (decimal n) (λ b digit. (omega arith, omega arith)) (digits n small);
+  letters = all-weaker IsDigit IsLetter (λ b digit. (omega arith, omega arith)) (decimal n) (digits n small);
 }

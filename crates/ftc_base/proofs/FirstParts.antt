@@ -2,7 +2,7 @@
 use Rattle.std.proofs.Common.{sym, subst, ◌∙◌, ◌≤◌, ◌-◌, length-drop, ◌≡◌, ◌≢◌, ℕ, ◌<◌, Bool, true, false, List, []}
 use Rattle.std.proofs.Common.{◌∷◌, length, take, drop, refl, ap, arith}
 use Rattle.std.specs.Prelude.{◌==◌}
-use Rattle.std.proofs.lemmas.List.{take_all}
+use Rattle.std.proofs.lemmas.List.{take_all, nil_from_length}
 use Rattle.std.specs.List.{onto_first}
 use Rattle.ftc_base.specs.Text.{is_blank, lines_of, words_of, begin_word, line_length, letters_length, blanks_length}
 
@@ -74,10 +74,6 @@ first_word (b ∷ c ∷ bs) letter some =
     first_word_tail b (c ∷ bs) (is_blank c) letter (first_word (c ∷ bs)) (λ d ds e. let same : d ≡ c = cc in
     rw same refl)
 
-pub empty : (xs : List ℕ) → length xs ≡ 0 → xs ≡ []
-empty [] e = refl
-empty (x ∷ xs) e = absurd (omega arith)
-
 pub not_empty : (xs : List ℕ) → 0 < length xs → xs ≢ []
 not_empty [] e h = omega arith
 not_empty (x ∷ xs) e h = cc
@@ -86,9 +82,9 @@ pub line_at_end : (text line rest : List ℕ) (n : ℕ) → n ≡ line_length te
     0 < length text → length rest ≡ 0 → lines_of text ≡ line ∷ lines_of rest
 line_at_end text line rest n n-is line-is rest-is some none =
     let h = first_line text (not_empty text some) in
-    let gone : drop (line_length text) text ≡ [] = sym (rw n-is at rest-is) ∙ empty rest none in
+    let gone : drop (line_length text) text ≡ [] = sym (rw n-is at rest-is) ∙ nil_from_length rest none in
     let h' = rw gone at h in
-    rw (empty rest none, line-is, n-is) h'
+    rw (nil_from_length rest none, line-is, n-is) h'
 
 pub line_before_feed : (text line rest : List ℕ) (n : ℕ) → n ≡ line_length text → line ≡ take n text →
     rest ≡ drop n text → 0 < length text → 1 ≤ length rest →

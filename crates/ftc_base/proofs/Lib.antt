@@ -7,3 +7,5 @@ pub mod Decimals
 pub mod Members
 pub mod Parts
 pub mod Firsts
+pub mod Results
+pub mod Bools

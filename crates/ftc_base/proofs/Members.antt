@@ -1,6 +1,6 @@
 -- The members of a set after a change.
-use Rattle.std.proofs.Common.{◌≡◌, ◌/◌, ◌-◌, ℕ, ◌<◌, ◌≤◌, ◌*◌, ◌%◌, ◌^◌, false, refl}
-use Rattle.std.proofs.Common.{arith}
+use Rattle.std.proofs.Common.{◌≡◌, ◌/◌, ◌-◌, ℕ, ◌<◌, ◌≤◌, ◌*◌, ◌%◌, ◌^◌, ◌∙◌, false, refl}
+use Rattle.std.proofs.Common.{sym, arith}
 use Rattle.std.specs.Prelude.{◌==◌, ◌||◌, ◌&&◌, not}
 use Rattle.std.specs.Int.{bit_at, bit_not, w64}
 use Rattle.std.specs.Int.RustNames.{bit_or, bit_and}
@@ -34,3 +34,7 @@ has-without set number member within small =
 pub same : (a b : ℕ) → ((member : ℕ) → has a member ≡ has b member) → a ≡ b
 unfolding has
 same a b alike = same_from_bits a b (λ i. grind (arith, nat_tests, alike i, bit_at-lt a i, bit_at-lt b i))
+
+-- a set without a member is 0
+pub no_member : (set : ℕ) → ((member : ℕ) → has set member ≡ false) → set ≡ 0
+no_member set none = same set 0 (λ member. none member ∙ sym (has-zero member))

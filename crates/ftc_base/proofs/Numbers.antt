@@ -1,9 +1,12 @@
--- Lemmas on the worth of digits.
+-- Lemmas on numbers and on the worth of digits.
 use Rattle.std.proofs.Common.{◌≡◌, ℕ, ◌+◌, ◌*◌, ◌-◌, ◌<◌, ◌≤◌, List, [], ◌∷◌, length, get_or, drop, true, Err, arith}
-use Rattle.std.proofs.Common.{drop-cons, add-one}
+use Rattle.std.proofs.Common.{drop-cons, add-one, ◌==◌}
 use Rattle.std.proofs.lemmas.Grind.{common_steps}
 use Rattle.ftc_base.specs.Number.{decimal_from, is_numeral, number_of}
 use Rattle.ftc_base.specs.declared.lexer.Lexical.TheVariants.{TooLarge}
+
+pub eqb-swap : (a b : ℕ) → (a == b) ≡ (b == a)
+eqb-swap a b = grind arith
 
 -- more digits never make it less
 pub decimal_from-grows : (n : ℕ) (ds : List ℕ) → n ≤ decimal_from n ds

@@ -3,9 +3,9 @@ use Rattle.std.proofs.Common.{◌≡◌, ◌≤◌, ℕ, Bool, true, false, List
 use Rattle.std.specs.Prelude.{◌==◌, ◌&&◌, nat_le, nat_lt}
 use Rattle.std.specs.List.{AllByRecursion, list_all, join_with_byte, onto_first}
 use Rattle.std.proofs.lemmas.Bool.Decides.{nat_tests}
+use Rattle.std.proofs.lemmas.Bool.{and_parts}
 use Rattle.ftc_base.specs.Text.{is_blank, lines_of, words_of, begin_word}
 use Rattle.ftc_base.proofs.EachOf.{all-append, all-weaker}
-use Rattle.ftc_base.proofs.Separated.{both}
 
 -- a byte of a word, and a byte of a line
 abbrev pub IsLetter : ℕ → Type 0
@@ -65,7 +65,7 @@ words_of-join (word ∷ next ∷ words) all =
     ∙ ap (λ (ws : List (List ℕ)). word ∷ ws) (words_of-join (next ∷ words) all.1)
 
 word_bytes : (word : List ℕ) → AllByRecursion IsLetter word → AllByRecursion IsLineByte word
-word_bytes word all = all-weaker IsLetter IsLineByte word letter_is_line_byte all
+word_bytes word all = all-weaker IsLetter IsLineByte letter_is_line_byte word all
 
 pub line_bytes-join : (words : List (List ℕ)) → AllByRecursion IsPlainWord words
     → AllByRecursion IsLineByte (join_with_byte 32 words)
@@ -82,11 +82,11 @@ is_plain word = nat_lt 0 (length word) && list_all (λ b. nat_le 33 b && nat_le 
 letters : (word : List ℕ) → list_all (λ b. nat_le 33 b && nat_le b 126) word ≡ true → AllByRecursion IsLetter word
 letters [] e = tt
 letters (b ∷ bs) e =
-    let split = both (nat_le 33 b && nat_le b 126) (list_all (λ b. nat_le 33 b && nat_le b 126) bs) e in
-    let first = both (nat_le 33 b) (nat_le b 126) split.0 in
+    let split = and_parts (nat_le 33 b && nat_le b 126) (list_all (λ b. nat_le 33 b && nat_le b 126) bs) e in
+    let first = and_parts (nat_le 33 b) (nat_le b 126) split.0 in
     ((grind (arith, nat_tests, first.0), grind (arith, nat_tests, first.1)), letters bs split.1)
 
 pub plain : (word : List ℕ) → is_plain word ≡ true → IsPlainWord word
 plain word e =
-    let split = both (nat_lt 0 (length word)) (list_all (λ b. nat_le 33 b && nat_le b 126) word) e in
+    let split = and_parts (nat_lt 0 (length word)) (list_all (λ b. nat_le 33 b && nat_le b 126) word) e in
     record { some = grind (arith, nat_tests, split.0); letters = letters word split.1 }

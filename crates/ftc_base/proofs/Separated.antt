@@ -2,17 +2,9 @@
 use Rattle.std.proofs.Common.{◌≡◌, ℕ, Bool, true, false, List, [], ◌∷◌, ◌++◌, refl, ap, ◌∙◌}
 use Rattle.std.specs.Prelude.{◌==◌, ◌&&◌, not}
 use Rattle.std.specs.List.{AllByRecursion, list_all, join_with_byte, onto_first}
+use Rattle.std.proofs.lemmas.Bool.{not-true, and_parts}
 use Rattle.ftc_base.specs.Endpoint.{parts_of}
 use Rattle.ftc_base.proofs.EachOf.{all-append}
-
-pub both : (s t : Bool) → (s && t) ≡ true → (s ≡ true) × (t ≡ true)
-both true true e = (refl, refl)
-both true false e = absurd cc
-both false t e = absurd cc
-
-pub not_true : (b : Bool) → not b ≡ true → b ≡ false
-not_true true e = absurd cc
-not_true false e = refl
 
 -- no byte of the part is the separator
 abbrev pub Without : ℕ → List ℕ → Type 0
@@ -27,8 +19,8 @@ pub written : (separator : ℕ) (word : List ℕ) → list_all (λ b. not (b == 
     → Without separator word
 written separator [] e = tt
 written separator (b ∷ bs) e =
-    let split = both (not (b == separator)) (list_all (λ b. not (b == separator)) bs) e in
-    (not_true (b == separator) split.0, written separator bs split.1)
+    let split = and_parts (not (b == separator)) (list_all (λ b. not (b == separator)) bs) e in
+    (not-true (b == separator) split.0, written separator bs split.1)
 
 pub parts_of-part : (separator : ℕ) (part rest : List ℕ) → (separator == separator) ≡ true → Without separator part
     → parts_of separator (part ++ separator ∷ rest) ≡ part ∷ parts_of separator rest

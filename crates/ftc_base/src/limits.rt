@@ -1,4 +1,4 @@
-//! The limits of a chain and of its texts. Each is the greatest number that is accepted.
+//! The limits of a chain and of its texts. What is named `MOST_` is the greatest number that is accepted.
 
 ghost use Rattle.std.specs.Prelude.{◌≡◌};
 
@@ -14,7 +14,7 @@ pub const MOST_SLOTS: u8 = 64;
 /// The slot in which a run on one thread makes its visits.
 pub const FINISHING_SLOT: u8 = 63;
 
-/// Numbers that a set may have as members: they are below this one.
+/// How many numbers a set may have as members: those below this one.
 pub const MOST_MEMBERS: u8 = 64;
 
 /// Worker threads.
@@ -44,6 +44,9 @@ pub const MOST_CAPTURE_BYTES: usize = 67_108_864;
 /// Bytes of a script.
 pub const MOST_SCRIPT_BYTES: usize = 1_048_576;
 
+/// A number that a word of a text spells.
+pub const MOST_NUMBER: u32 = 4_294_967_295;
+
 /// Lines of a firewall.
 pub const MOST_FIREWALL_LINES: usize = 64;
 
@@ -69,6 +72,7 @@ pub fn law_of_limits()
     ensures captured { MOST_CAPTURED ≡ 262144 }
     ensures capture { MOST_CAPTURE_BYTES ≡ 67108864 }
     ensures script { MOST_SCRIPT_BYTES ≡ 1048576 }
+    ensures number { MOST_NUMBER ≡ 4294967295 }
     ensures firewall { MOST_FIREWALL_LINES ≡ 64 }
     ensures backends { MOST_BACKENDS ≡ 16 }
     ensures groups { MOST_MONITOR_GROUPS ≡ 256 }

@@ -18,6 +18,8 @@ use Rattle.ftc_protocol.specs.Counts.{propagates_in, AreFew}
 use Rattle.ftc_protocol.specs.Run.{IsRun, state_after}
 use Rattle.ftc_protocol.specs.Setting.{Setting, IsSetting}
 use Rattle.ftc_protocol.specs.State.{ChainState, opening}
+use Rattle.ftc_protocol.proofs.OrderlyStates.{count_on}
+use Rattle.ftc_protocol.proofs.FewPropagates.{count_is}
 use Rattle.ftc_chain.specs.declared.course.Course.{Course}
 use Rattle.ftc_chain.specs.declared.given.Given.{Given}
 use Rattle.ftc_chain.specs.Course.{IsCourse, IsCourseResting, state_by}
@@ -29,35 +31,6 @@ use Rattle.ftc_chain.proofs.Rooms.{bytes_count}
 short_packets : (packets : List Packet) (size : ℕ) → size ≡ length packets → size ≤ MOST_RECORDS →
     length (bytes_of_packets packets) ≤ MOST_RECORDS
 short_packets packets size same few = let each = bytes_count packets in omega (arith, same, few, each)
-
--- messages that begin without a packet are counted
-propagates_on : (setting : Setting) (journal : List Event) (state : ChainState) →
-    (state_after setting state journal).propagates ≡ state.propagates + propagates_in journal
-propagates_on setting [] state = omega arith
-propagates_on setting (Propagate origin ∷ journal) state =
-    let rest = propagates_on setting journal (next setting state (Propagate origin)) in omega arith
-propagates_on setting (Enter packet ∷ journal) state =
-    propagates_on setting journal (next setting state (Enter packet))
-propagates_on setting (Take server packet ∷ journal) state =
-    propagates_on setting journal (next setting state (Take server packet))
-propagates_on setting (Apply server packet group visited ∷ journal) state =
-    propagates_on setting journal (next setting state (Apply server packet group visited))
-propagates_on setting (Visit server packet worker ∷ journal) state =
-    propagates_on setting journal (next setting state (Visit server packet worker))
-propagates_on setting (Pass server packet ∷ journal) state =
-    propagates_on setting journal (next setting state (Pass server packet))
-propagates_on setting (Lose server packet ∷ journal) state =
-    propagates_on setting journal (next setting state (Lose server packet))
-propagates_on setting (Carry packet ∷ journal) state =
-    propagates_on setting journal (next setting state (Carry packet))
-propagates_on setting (Crash server ∷ journal) state =
-    propagates_on setting journal (next setting state (Crash server))
-propagates_on setting (Recover server undone ∷ journal) state =
-    propagates_on setting journal (next setting state (Recover server undone))
-propagates_on setting (Pull server ∷ journal) state =
-    propagates_on setting journal (next setting state (Pull server))
-propagates_on setting (Release packet ∷ journal) state =
-    propagates_on setting journal (next setting state (Release packet))
 
 -- two proofs of what can't be are one
 pub none_is : (one other : ⊥) → one ≡ other
@@ -81,7 +54,7 @@ pub at_rest : (given : Given) (course : Course) (packets : ℕ) → packets ≡ 
 at_rest given course packets same short begun most is =
     let setting : Setting = setting_by given in
     let state : ChainState = state_by setting course.journal.items in
-    let number = propagates_on setting course.journal.items (opening setting) in
+    let number = count_is setting course.journal.items (opening setting) in
     let bound = begun setting is.course_is.right course.journal.items is.course_is.run in
     let few = most (short_packets given.packets.now packets same short) in
     record {
@@ -95,11 +68,6 @@ at_rest given course packets same short begun most is =
       loses = λ link origin. refl;
       room = omega (arith, number, bound, few);
     }
-
-count_on : (setting : Setting) (journal : List Event) (state : ChainState) →
-    (state_after setting state journal).events ≡ state.events + length journal
-count_on setting [] state = omega arith
-count_on setting (event ∷ journal) state = count_on setting journal (next setting state event) ∙ omega arith
 
 -- events are counted
 pub events_are : (setting : Setting) (journal : List Event) → (state_by setting journal).events ≡ length journal

@@ -161,11 +161,6 @@ module _ (given : Given) (old room : Course) (mid : Network) (run : ChainRun) (w
 
 -- ---- a commit that makes one
 
--- what holds where room was made holds where the call didn't fail
-pub where_ok : {A E : Type 0} (result : Result A E) (Fact : Type 0) → is_err result ≡ false → OnOk result Fact → Fact
-where_ok (Ok value) Fact ok fact = fact
-where_ok (Err fault) Fact ok fact = absurd cc
-
 module _ (given : Given) (old room : Course) (mid : Network) (events : EventList) (new : Course)
     (worker server packet : ℕ) (rests : ∥ IsCourseResting (setting_by given) old ∥₁)
     (roomed : HasCourseRoomed old room)

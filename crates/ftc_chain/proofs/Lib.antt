@@ -1,7 +1,7 @@
 mod AtRest
 mod Commits
 mod Drained
-mod HeadsKept
+pub mod HeadsKept
 mod HeadsSeen
 mod LinkFrames
 mod LiveMembers

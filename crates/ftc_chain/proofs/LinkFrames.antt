@@ -15,20 +15,17 @@ use Rattle.ftc_protocol.specs.Orderly.{IsOrderly}
 use Rattle.ftc_protocol.specs.Setting.{Setting, servers}
 use Rattle.ftc_protocol.specs.State.{ChainState}
 use Rattle.ftc_refinement.proofs.InTurn.{first_oldest}
-use Rattle.ftc_refinement.proofs.QueuedMessages.{at_test, queued_by}
-use Rattle.ftc_standing.proofs.Arriving.{there_here}
+use Rattle.ftc_refinement.proofs.QueuedMessages.{at_test}
+use Rattle.ftc_standing.proofs.Arriving.{there_here, is_none}
 use Rattle.ftc_standing.specs.Arrivals.{AreArrived}
 use Rattle.ftc_standing.specs.Stand.{IsSentAs, IsLink, since_of, origin_of}
 use Rattle.ftc_standing.specs.View.{is_queued_on, queued_on}
+use Rattle.ftc_standing.proofs.SamePlaces.{link_is}
 use Rattle.ftc_chain.specs.declared.course.Course.{Course}
 use Rattle.ftc_chain.specs.Course.{IsCourseResting, state_by}
 use Rattle.ftc_chain.specs.Frames.{IsOldestFrame, IsFrameOf}
 use Rattle.ftc_chain.proofs.AtRest.{none_is}
 use Rattle.ftc_chain.proofs.Releases.{is_run_state}
-
-no_item : {A : Type 0} (option : Option A) → ((item : A) → option ≡ Some item → ⊥) → option ≡ None
-no_item None cannot = refl
-no_item (Some item) cannot = absurd (cannot item refl)
 
 -- what is so of each item that there is
 pub if_told : {A : Type 0} (option : Option A) (P : A → Type 0) → ((item : A) → option ≡ Some item → P item) →
@@ -53,9 +50,9 @@ rests setting course is = record {
 -- nothing is queued on a link that the ring hasn't
 pub none_past : (setting : Setting) (state : ChainState) (link : ℕ) → IsOrderly setting state → servers setting ≤ link →
     IsFrameOf setting state link None
-none_past setting state link order past origin = no_item (queued_on state link origin) (λ message at.
+none_past setting state link order past origin = is_none (queued_on state link origin) (λ message at.
     let parts = at_test (is_queued_on link) (state.message origin) message at in
-    let inside = order.links origin link message parts.0 (queued_by link message.place parts.1) in
+    let inside = order.links origin link message parts.0 (link_is link message.place parts.1) in
     omega (arith, past, inside))
 
 -- as what the oldest frame is read

@@ -21,6 +21,7 @@ use Rattle.ftc_protocol.specs.Run.{IsRun, state_after}
 use Rattle.ftc_protocol.specs.Setting.{Setting}
 use Rattle.ftc_protocol.specs.State.{ChainState, opening}
 use Rattle.ftc_serial.specs.Packets.{bytes_of_packets}
+use Rattle.ftc_protocol.proofs.UniqueDrive.{no_release}
 use Rattle.ftc_chain.specs.declared.course.Course.{Course}
 use Rattle.ftc_chain.specs.declared.given.Given.{Given}
 use Rattle.ftc_chain.specs.Course.{IsCourse, IsCourseResting, HasReleased, HasCourseRoomed, HasMade, state_by}
@@ -51,12 +52,6 @@ with_events given journal drained heads = record {
   heads = heads;
 }
 
--- the event of a job is no release
-pub isnt_release : (setting : Setting) (state : ChainState) (slot : ℕ) (job : Job) →
-    is_release (event_of setting state slot job) ≡ false
-isnt_release setting state slot (Enter packet) = refl
-isnt_release setting state slot other = refl
-
 -- the state after a list of events and another
 state_both : (setting : Setting) (state : ChainState) (one other : List Event) →
     state_after setting state (one ++ other) ≡ state_after setting (state_after setting state one) other
@@ -84,7 +79,7 @@ module _ (given : Given) (slot : ℕ) (job : Job) (old mid new : Course) (is : I
       let event : Event = event_of setting state slot job in
       one_event setting old mid event is.course_is between.legal between.grown between.stands
       (subst (λ (records : List Released). IsOutlet records mid.outlet)
-      (sym (released_kept setting state event (isnt_release setting state slot job)))
+      (sym (released_kept setting state event (no_release setting state slot job)))
       (still_out (released_in state.trace) old.outlet mid.outlet between.waiting between.drained is.course_is.outlet))
 
   pub rests : ((state : ChainState) (events : List Event) → AreReleases (setting_by given) state events →

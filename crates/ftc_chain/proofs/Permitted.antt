@@ -82,8 +82,3 @@ pub within_of : (setting : Setting) (state : ChainState) (job : Job) → IsRunSt
     IsLegalJob setting state job → IsWithin setting job
 within_of setting state job run within legal = within run.journal run.right run.run
     (subst (λ (s : ChainState). IsLegalJob setting s job) (sym run.reaches) legal)
-
--- what holds where nothing came of it
-pub on_any_err : {A E : Type 0} (result : Result A E) (Fact : Type 0) → Fact → OnErr result Fact
-on_any_err (Ok value) Fact fact = tt
-on_any_err (Err fault) Fact fact = fact

@@ -8,6 +8,7 @@ use Rattle.ftc_journal.specs.declared.event.Event.{Event}
 use Rattle.ftc_journal.specs.declared.event.Event.TheVariants.{Enter, Take, Apply, Visit, Pass, Lose, Carry, Crash}
 use Rattle.ftc_journal.specs.declared.event.Event.TheVariants.{Recover, Pull, Propagate, Release}
 use Rattle.ftc_serial.specs.Serial.{Entry, Visited, Given}
+use Rattle.ftc_serial.proofs.AnyOf.{any_either}
 use Rattle.ftc_protocol.specs.declared.fate.Fate.{Fate}
 use Rattle.ftc_protocol.specs.declared.fate.Fate.TheVariants as became
 use Rattle.ftc_protocol.specs.Fates.{AreFates, IsGiven}
@@ -18,7 +19,7 @@ use Rattle.ftc_protocol.specs.Orderly.{IsOrderly}
 use Rattle.ftc_protocol.specs.Run.{IsRun, IsRunState, AreLegal, state_after}
 use Rattle.ftc_protocol.specs.Setting.{Setting, IsSetting, count}
 use Rattle.ftc_protocol.specs.State.{ChainState, opening}
-use Rattle.ftc_jobs.proofs.Joined.{any_either, once_both}
+use Rattle.ftc_jobs.proofs.Joined.{once_both}
 use Rattle.ftc_chain.specs.declared.course.Course.{Course}
 use Rattle.ftc_chain.specs.declared.given.Given.{Given as GivenInputs}
 use Rattle.ftc_chain.specs.Course.{IsCourseResting, state_by}

@@ -4,6 +4,7 @@ use Rattle.std.proofs.Common.{sym, ap, subst, get_or-set_same, get_or-set_other,
 use Rattle.std.specs.Prelude.{option_map}
 use Rattle.std.proofs.lemmas.Bool.{cases_eq, cases_lt, cases_Bool}
 use Rattle.std.proofs.lemmas.List.{get_or_past}
+use Rattle.std.proofs.lemmas.Option.{same_Some}
 use Rattle.ftc_base.specs.declared.ask.Ask.{Ask}
 use Rattle.ftc_base.specs.declared.ask.Ask.TheVariants.{Read, Finish}
 use Rattle.ftc_mbox.specs.Ask.{ask}
@@ -42,28 +43,19 @@ use Rattle.ftc_chain.specs.Slots.{IsAsking}
 use Rattle.ftc_chain.specs.Slots.{CommitsAt, QuitsIn, HasQuitAt}
 use Rattle.ftc_chain.proofs.HeadsKept.{head_as, SlotsRunNoMore, none_runs}
 use Rattle.ftc_ring.specs.Ring.{RingShape}
+use Rattle.ftc_txn.proofs.Serially.{slot_set_none}
+use Rattle.ftc_network.proofs.IdleSlots.{set_other}
 use Rattle.ftc_chain.proofs.HeadsSeen.{head_seen, but_heads, as_it_was}
 use Rattle.ftc_chain.proofs.Made.{run_of}
 use Rattle.ftc_chain.proofs.Releases.{is_run_state}
 
 -- ---- one head
 
-set_other : (slots : List (Option Running)) (worker : ℕ) (slot : Option Running) (other : ℕ) → other ≢ worker →
-    slot_at (slice_set slots worker slot) other ≡ slot_at slots other
-set_other slots worker slot other differs = get_or-set_other slots worker other slot None differs
-
--- a slot that is made idle is so
-set_idle : (slots : List (Option Running)) (worker : ℕ) → slot_at (slice_set slots worker None) worker ≡ None
-set_idle slots worker = elim (cases_lt worker (length slots)) [
-  | inl within ↦ get_or-set_same slots worker None None within
-  | inr past ↦ get_or_past (slice_set slots worker None) worker None (rw length-set past)
-]
-
 -- a slot that is made idle: the others run what they ran
 set_no_more : (slots : List (Option Running)) (worker other : ℕ) → slot_at slots other ≡ None →
     slot_at (slice_set slots worker None) other ≡ None
 set_no_more slots worker other none = elim (cases_eq other worker) [
-  | inl same ↦ ap (slot_at (slice_set slots worker None)) same ∙ set_idle slots worker
+  | inl same ↦ ap (slot_at (slice_set slots worker None)) same ∙ slot_set_none slots worker
   | inr differs ↦ set_other slots worker None other differs ∙ none
 ]
 
@@ -96,7 +88,7 @@ quit_idle : (old new : Option HeadState) (worker : ℕ) → QuitsIn old new work
 quit_idle None new worker quits = absurd quits
 quit_idle (Some old) None worker quits = absurd quits
 quit_idle (Some old) (Some new) worker quits =
-    ap (λ (slots : List (Option Running)). slot_at slots worker) quits.slots ∙ set_idle old.slots worker
+    ap (λ (slots : List (Option Running)). slot_at slots worker) quits.slots ∙ slot_set_none old.slots worker
 
 -- a read wounds only what runs
 wounded_none : (worker : ℕ) (slot : Option Running) → slot ≡ None → wounded_by worker slot ≡ None
@@ -264,9 +256,6 @@ pub after_end : (old : Server) (new : Option Server) (worker : ℕ) (answer : Co
 after_end old None worker answer ends = absurd ends
 after_end old (Some new) worker answer ends = record { live = new; is = refl; fact = ends }
 
-some_same : {A : Type 0} (one other : A) → Some one ≡ Some other → one ≡ other
-some_same one other same = cc
-
 -- what a law says of what slots ask
 abbrev pub Asks : Type 0
 Asks = (setting : Setting) (state : ChainState) (number worker : ℕ) (server : Server) (running : Running) →
@@ -292,7 +281,7 @@ module _ (given : Given) (old : Course) (worker server : ℕ) (rests : IsCourseR
   pub asked_as : (running : Running) (says : Ask) → slot_at live_is.live.head.slots worker ≡ Some running →
       ask_in live_is.live worker ≡ Some says → ask_at (run_of given old) server running ≡ says
   asked_as running says there asked =
-      some_same (ask_at (run_of given old) server running) says (sym (asks_there running there) ∙ asked)
+      same_Some (ask_at (run_of given old) server running) says (sym (asks_there running there) ∙ asked)
 
 module _ (given : Given) (old new : Course) (worker server : ℕ) (rests : IsCourseResting (setting_by given) old)
     (inside : server < servers (setting_by given)) (runs : runs_in (head_at old.network server) worker ≢ None)

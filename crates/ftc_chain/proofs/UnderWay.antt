@@ -7,6 +7,7 @@ use Rattle.std.specs.List.{AllByRecursion}
 use Rattle.std.proofs.lemmas.Bool.{cases_eq, true≢false}
 use Rattle.std.proofs.lemmas.List.{length-map}
 use Rattle.std.proofs.lemmas.Option.{none-some}
+use Rattle.ftc_base.proofs.EachOf.{all-weaker, all-append, all-front, all-back, all_zip}
 use Rattle.ftc_link.specs.Queue.{Queue}
 use Rattle.ftc_message.specs.declared.message.Message.{Message as SentMessage}
 use Rattle.ftc_serial.specs.Words.{AnyOf, EachLater}
@@ -15,12 +16,13 @@ use Rattle.ftc_protocol.specs.Orderly.{IsOrderly, aim}
 use Rattle.ftc_protocol.specs.Setting.{Setting, servers, count}
 use Rattle.ftc_protocol.specs.State.{Where, Held, Queued, Message, ChainState}
 use Rattle.ftc_server.specs.declared.server.Server.{Server}
+use Rattle.ftc_serial.proofs.AnyOf.{any_front, any_behind, any_either}
 use Rattle.ftc_standing.specs.Arrivals.{kept_of, IsKeptAs, IsSooner, AreArrived}
 use Rattle.ftc_standing.specs.Stand.{HeldItem}
 use Rattle.ftc_standing.specs.View.{where_it, is_held_by, is_queued_on, held_at, queued_on}
-use Rattle.ftc_standing.proofs.Arriving.{all_back, all_both, all_front, all_mapped, all_mapped_of, behind}
+use Rattle.ftc_standing.proofs.Arriving.{behind}
 use Rattle.ftc_standing.proofs.Arriving.{in_front, later_without}
-use Rattle.ftc_jobs.proofs.Joined.{any_either, any_one, any_other, once_both}
+use Rattle.ftc_jobs.proofs.Joined.{once_both}
 use Rattle.ftc_refinement.specs.Contents.{item_of_held, items_of}
 use Rattle.ftc_network.specs.declared.network.Network.{Network}
 use Rattle.ftc_network.specs.Parts.{server_in, link_in}
@@ -59,7 +61,7 @@ few_numbers zero (first ∷ numbers) once below = let none = below.0 in absurd (
 few_numbers (suc most) numbers once below = elim (split_at most numbers) [
   | inr none ↦
       let fewer = few_numbers most numbers once
-      (all_mapped_of (λ (n : ℕ). n < suc most) (λ (n : ℕ). n ≢ most) (λ (n : ℕ). n < most)
+      (all_zip (λ (n : ℕ). n < suc most) (λ (n : ℕ). n ≢ most) (λ (n : ℕ). n < most)
       (less_of most) numbers below none) in
       omega (arith, fewer)
   | inl parts ↦
@@ -69,16 +71,16 @@ few_numbers (suc most) numbers once below = elim (split_at most numbers) [
       let all : AllByRecursion (λ (n : ℕ). n < suc most) (before ++ most ∷ after) =
       subst (AllByRecursion (λ (n : ℕ). n < suc most)) parts.2 below in
       let others : AllByRecursion (λ (n : ℕ). n ≢ most) (before ++ after) =
-      all_both (λ (n : ℕ). n ≢ most) before after
+      all-append (λ (n : ℕ). n ≢ most) before after
       (in_front (λ (one other : ℕ). one ≢ other) before most after apart)
-      (all_mapped (λ (n : ℕ). most ≢ n) (λ (n : ℕ). n ≢ most) (λ n differs same. differs (sym same)) after
+      (all-weaker (λ (n : ℕ). most ≢ n) (λ (n : ℕ). n ≢ most) (λ n differs same. differs (sym same)) after
       (behind (λ (one other : ℕ). one ≢ other) before most after apart)) in
       let fewer = few_numbers most (before ++ after)
       (later_without (λ (one other : ℕ). one ≢ other) before most after apart)
-      (all_mapped_of (λ (n : ℕ). n < suc most) (λ (n : ℕ). n ≢ most) (λ (n : ℕ). n < most) (less_of most)
+      (all_zip (λ (n : ℕ). n < suc most) (λ (n : ℕ). n ≢ most) (λ (n : ℕ). n < most) (less_of most)
       (before ++ after)
-      (all_both (λ (n : ℕ). n < suc most) before after (all_front (λ (n : ℕ). n < suc most) before (most ∷ after) all)
-      (all_back (λ (n : ℕ). n < suc most) before (most ∷ after) all).1) others) in
+      (all-append (λ (n : ℕ). n < suc most) before after (all-front (λ (n : ℕ). n < suc most) before (most ∷ after) all)
+      (all-back (λ (n : ℕ). n < suc most) before (most ∷ after) all).1) others) in
       let size = ap (λ (list : List ℕ). length list) parts.2 in
       omega (arith, fewer, size, length-append before (most ∷ after), length-append before after)
 ]
@@ -214,8 +216,8 @@ all_at At apart from (numbers ∷ lists) at =
             let less = is.2 in
             elim (cases_eq is.0 from) [
               | inl same ↦
-                  any_one _ numbers (flat lists) ((first.each origin).1 (subst (λ (n : ℕ). At n origin) same is.3))
-              | inr differs ↦ any_other _ numbers (flat lists)
+                  any_front _ numbers (flat lists) ((first.each origin).1 (subst (λ (n : ℕ). At n origin) same is.3))
+              | inr differs ↦ any_behind _ numbers (flat lists)
                   ((later.each origin).1 (is.0, omega (arith, more, differs), omega (arith, less), is.3))
             ]),
       );
@@ -376,7 +378,7 @@ module _ (setting : Setting) (state : ChainState) (order : IsOrderly setting sta
         let held : IsHeldAt server origin =
         (message, where_there (is_held_by server) (state.message origin) message there test) in
         let below = order.inside server (up_where_held server origin held) in
-        any_one _ (flat (map held_origins network.servers.items)) (flat (map queued_origins network.links.items))
+        any_front _ (flat (map held_origins network.servers.items)) (flat (map queued_origins network.links.items))
         ((held_all.each origin).1 (
           server,
           omega arith,
@@ -387,7 +389,7 @@ module _ (setting : Setting) (state : ChainState) (order : IsOrderly setting sta
         let size = ap (λ (ring : RingShape). ring.servers) is.ring in
         let test = ap (is_queued_on link) at ∙ eq-eqb link link refl in
         let below = order.links origin link message there at in
-        any_other _ (flat (map held_origins network.servers.items)) (flat (map queued_origins network.links.items))
+        any_behind _ (flat (map held_origins network.servers.items)) (flat (map queued_origins network.links.items))
         ((queued_all.each origin).1 (
           link,
           omega arith,

@@ -28,10 +28,6 @@ none_in_front : (xs ys : List ℕ) → xs ++ ys ≡ [] → xs ≡ []
 none_in_front [] ys none = refl
 none_in_front (x ∷ xs) ys none = absurd (cc)
 
-pub empty : (xs : List ℕ) → length xs ≡ 0 → xs ≡ []
-empty [] none = refl
-empty (x ∷ xs) none = absurd (omega arith)
-
 -- the lines of a text that goes on with one line more
 lines_more : (front piece line : List ℕ) → IsWhole front → IsPiece piece line →
     lines_of (front ++ piece) ≡ lines_of front ++ line ∷ []

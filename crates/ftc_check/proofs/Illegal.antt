@@ -10,15 +10,8 @@ use Rattle.ftc_protocol.specs.State.{ChainState, opening}
 use Rattle.ftc_protocol.specs.Legal.{IsLegal}
 use Rattle.ftc_protocol.specs.Next.{next}
 use Rattle.ftc_protocol.specs.Run.{AreLegal, IsRun, state_after}
+use Rattle.ftc_protocol.proofs.RunLists.{legal_there}
 use Rattle.ftc_machine.specs.Illegal.{IsFirstIllegal}
-
-legal_there : (c : Setting) (events : List Event) (s : ChainState) (place : ℕ) (event : Event) → AreLegal c s events →
-    slice_get events place ≡ Some event → IsLegal c (state_after c s (take place events)) event
-legal_there c [] s place event legal there = absurd (cc)
-legal_there c (first ∷ events) s zero event legal there = let same : first ≡ event =
-    cc in subst (IsLegal c s) same legal.0
-legal_there c (first ∷ events) s (suc place) event legal there =
-    legal_there c events (next c s first) place event legal.1 there
 
 pub none_illegal : (c : Setting) (journal : List Event) (place : ℕ) → IsFirstIllegal c journal place →
     ∥ IsRun c journal ∥₁ → ⊥

@@ -2,10 +2,10 @@
 use Rattle.std.proofs.Common.{◌≡◌, ◌<◌, inl, inr, ℕ, List, [], ◌++◌, length, sym, ap, ◌∙◌, arith, length-append}
 use Rattle.std.specs.Prelude.{slice_get}
 use Rattle.std.proofs.lemmas.Bool.{cases_lt}
-use Rattle.std.proofs.lemmas.List.{append-nil}
+use Rattle.std.proofs.lemmas.List.{append-nil, nil_from_length}
 use Rattle.ftc_check.specs.Difference.{IsFirstDifference}
 use Rattle.ftc_check.specs.Taps.{IsWithoutTaps}
-use Rattle.ftc_check.proofs.Cuts.{parted, empty}
+use Rattle.ftc_check.proofs.Cuts.{parted}
 use Rattle.ftc_check.proofs.Illegal.{there_still}
 
 pub none_differs : (a b : List ℕ) (place : ℕ) → IsFirstDifference a b place → a ≡ b → ⊥
@@ -32,5 +32,5 @@ one_front text front other first later =
     let short = first.shortest other later.rest later.cut in
     let long = later.shortest front first.rest first.cut in
     let parts = parted front first.rest other later.rest (sym first.cut.parts ∙ later.cut.parts) short in
-    let none : parts.0 ≡ [] = empty parts.0 (omega (arith, ap length parts.1, length-append front parts.0)) in
+    let none : parts.0 ≡ [] = nil_from_length parts.0 (omega (arith, ap length parts.1, length-append front parts.0)) in
     sym (parts.1 ∙ ap (λ (rest : List ℕ). front ++ rest) none ∙ append-nil front)

@@ -32,14 +32,14 @@ pub plain_address : (address : ℕ) → address ≤ 4294967295 → IsPlainWord (
 plain_address address small =
     record {
       some = some_address address small;
-      letters = all-weaker IsAddressByte IsLetter (address_text address) (λ b byte. (omega arith, omega arith))
+      letters = all-weaker IsAddressByte IsLetter (λ b byte. (omega arith, omega arith)) (address_text address)
           (address_bytes address small);
     }
 
 pub plain_net : (net : Net) → IsNet net → IsPlainWord (net_text net)
 plain_net net bounds = record {
   some = longer (address_text net.base) _ (some_address net.base bounds.address);
-  letters = all-weaker (λ b. (46 ≤ b) × (b ≤ 57)) IsLetter (net_text net) (λ b byte. (omega arith, omega arith))
+  letters = all-weaker (λ b. (46 ≤ b) × (b ≤ 57)) IsLetter (λ b byte. (omega arith, omega arith)) (net_text net)
       (net_bytes net bounds);
 }
 
@@ -47,7 +47,7 @@ pub plain_ports : (first last : ℕ) → first ≤ 65535 → last ≤ 65535 → 
 plain_ports first last small low = record {
   some = longer (decimal first) _ (some_digit first (omega arith));
   letters = all-weaker (λ b. (45 ≤ b)
-      × (b ≤ 57)) IsLetter (ports_text first last) (λ b byte. (omega arith, omega arith))
+      × (b ≤ 57)) IsLetter (λ b byte. (omega arith, omega arith)) (ports_text first last)
       (ports_bytes first last small low);
 }
 
@@ -148,7 +148,7 @@ AreAddresses backends = AllByRecursion (λ backend. backend ≤ 4294967295) back
 no_commas : (backends : List ℕ) → AreAddresses backends → AllByRecursion (Without 44) (map address_text backends)
 no_commas [] all = tt
 no_commas (backend ∷ backends) all = (
-  all-weaker IsAddressByte (λ b. (b == 44) ≡ false) (address_text backend) address_byte-comma
+  all-weaker IsAddressByte (λ b. (b == 44) ≡ false) address_byte-comma (address_text backend)
       (address_bytes backend all.0),
   no_commas backends all.1,
 )
@@ -157,7 +157,7 @@ backends_bytes : (backends : List ℕ) → AreAddresses backends →
     AllByRecursion (AllByRecursion IsLetter) (map address_text backends)
 backends_bytes [] all = tt
 backends_bytes (backend ∷ backends) all = (
-  all-weaker IsAddressByte IsLetter (address_text backend) (λ b byte. (omega arith, omega arith))
+  all-weaker IsAddressByte IsLetter (λ b byte. (omega arith, omega arith)) (address_text backend)
       (address_bytes backend all.0),
   backends_bytes backends all.1,
 )
@@ -219,7 +219,7 @@ pub balance_of-words : (rule : BalanceRule) → IsBalanceRule rule →
     balance_of ((address_text rule.address ++ 58 ∷ decimal rule.port) ∷ codes "to"
     ∷ join_with_byte 44 (map address_text rule.backends) ∷ []) ≡ Ok rule
 balance_of-words rule bounds =
-    let no_colon = all-weaker IsAddressByte (λ b. (b == 58) ≡ false) (address_text rule.address) address_byte-colon
+    let no_colon = all-weaker IsAddressByte (λ b. (b == 58) ≡ false) address_byte-colon (address_text rule.address)
     (address_bytes rule.address bounds.address) in
     let address = part_before-part 58 (address_text rule.address) (decimal rule.port) refl no_colon in
     let port = part_behind-part 58 (address_text rule.address) (decimal rule.port) refl no_colon in

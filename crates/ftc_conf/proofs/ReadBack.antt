@@ -5,6 +5,7 @@ use Rattle.std.specs.Prelude.{nat_le, codes, decimal, map}
 use Rattle.std.specs.List.{AllByRecursion, join_with_byte, flat_map}
 use Rattle.std.proofs.lemmas.List.{append_assoc}
 use Rattle.std.proofs.lemmas.Bool.Decides.{nat_tests}
+use Rattle.std.proofs.lemmas.Bool.{lt-ltb}
 use Rattle.ftc_base.specs.Text.{lines_of}
 use Rattle.ftc_base.specs.declared.limits.TheConstants.{MOST_SERVERS, MOST_PARTITIONS, MOST_MONITOR_GROUPS}
 use Rattle.ftc_base.specs.declared.limits.TheConstants.{MOST_FIREWALL_LINES}
@@ -88,9 +89,6 @@ standing failures partitions rules firewall =
 abbrev all_rules : List Rule → Option FirewallRule → List Rule
 all_rules rules firewall = rules ++ last_firewall firewall
 
-has_room : (count most : ℕ) → count < most → nat_lt count most ≡ true
-has_room count most few = grind (arith, nat_tests)
-
 -- the words of a line behind its first
 abbrev nat_tail : NatRule → List (List ℕ)
 nat_tail nat = codes "inside" ∷ net_text nat.inside ∷ codes "outside" ∷ address_text nat.outside ∷ codes "ports"
@@ -121,7 +119,7 @@ module _ (failures : Failures) (partitions : ℕ) (rules : List Rule) (firewall 
       ≡ Ok (with_rule server)
   middlebox_step first words found server all other known room e =
       let free : middlebox_room (standing failures partitions rules firewall) ≡ Ok tt =
-      rw (has_room (length (all_rules rules firewall)) MOST_SERVERS few) refl in
+      rw (lt-ltb (length (all_rules rules firewall)) MOST_SERVERS few) refl in
       step_of (standing failures partitions rules firewall) place first words (said.Middlebox server) all other
       (middlebox_said (standing failures partitions rules firewall) first words found (said.Middlebox server) known
       (room ∙ free) e)
@@ -157,7 +155,7 @@ module _ (failures : Failures) (partitions : ℕ) (rules : List Rule) (firewall 
       ≡ Ok (standing failures partitions (all_rules rules firewall) (Some (record { lines = [] })))
   firewall_step =
       let free : middlebox_room (standing failures partitions rules firewall) ≡ Ok tt =
-      rw (has_room (length (all_rules rules firewall)) MOST_SERVERS few) refl in
+      rw (lt-ltb (length (all_rules rules firewall)) MOST_SERVERS few) refl in
       step_of (standing failures partitions rules firewall) place (codes "firewall") [] said.Firewall (
         plain (codes "firewall") refl,
         tt,
@@ -183,7 +181,7 @@ fire_line_step failures partitions rules taken place line few bounds =
     let said_so : said_in (form.FireLine line.allow) (fire_line_tail line) ≡ Ok (said.FireLine line) =
     ap (λ (r : Result FireLine ChainCause). r >>= λ found. Ok (said.FireLine found)) (fire_line_of-words line bounds) in
     let free : room_for (standing failures partitions rules (Some (record { lines = taken })))
-    (form.FireLine line.allow) ≡ Ok tt = rw (has_room (length taken) MOST_FIREWALL_LINES few) refl in
+    (form.FireLine line.allow) ≡ Ok tt = rw (lt-ltb (length taken) MOST_FIREWALL_LINES few) refl in
     step_of (standing failures partitions rules (Some (record { lines = taken }))) place (decision_text line.allow)
     (fire_line_tail line) (said.FireLine line) (plain_fire_line line bounds) (no_comment line.allow)
     (middlebox_said (standing failures partitions rules (Some (record { lines = taken }))) (decision_text line.allow)

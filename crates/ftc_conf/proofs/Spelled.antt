@@ -11,7 +11,8 @@ use Rattle.ftc_base.specs.Endpoint.{parts_of, address_in, address_of, net_in, ne
 use Rattle.ftc_base.proofs.EachOf.{all-append, all-weaker}
 use Rattle.ftc_base.proofs.Separated.{Without, parts_of-part, parts_of-last, parts_of-join}
 use Rattle.ftc_base.proofs.Decimals.{IsDigit, digits, some_digit, number_of-decimal}
-use Rattle.ftc_conf.specs.declared.limits.TheConstants.{MOST_NUMBER, MOST_PORT}
+use Rattle.ftc_base.specs.declared.limits.TheConstants.{MOST_NUMBER}
+use Rattle.ftc_conf.specs.declared.limits.TheConstants.{MOST_PORT}
 use Rattle.ftc_conf.specs.Words.{number_word, number_from_to, address_word, net_word, ports_between, dashed_ports}
 use Rattle.ftc_conf.specs.Words.{ports_word}
 use Rattle.ftc_conf.specs.Plain.{address_text, net_text, ports_text}
@@ -62,8 +63,9 @@ pub address_bytes : (address : ℕ) → address ≤ 4294967295 → AllByRecursio
 unfolding octets
 address_bytes address small =
     all-join IsAddressByte 46 (octets address) (refl, omega arith, omega arith)
-    (all-weaker (AllByRecursion IsDigit) (AllByRecursion IsAddressByte) (octets address)
-    (λ part. all-weaker IsDigit IsAddressByte part digit-address) (digits_of_octets address small))
+    (all-weaker (AllByRecursion IsDigit) (AllByRecursion IsAddressByte)
+    (λ part. all-weaker IsDigit IsAddressByte digit-address part)
+    (octets address) (digits_of_octets address small))
 
 pub longer : (part rest : List ℕ) → 1 ≤ length part → 1 ≤ length (part ++ rest)
 longer part rest some = omega (arith, length-append part rest)
@@ -79,8 +81,9 @@ unfolding octets
 parts_of-address address small =
     parts_of-join 46 (decimal (address / 16777216)) (decimal (address / 65536 % 256) ∷ decimal (address / 256 % 256)
     ∷ decimal (address % 256) ∷ []) refl
-    (all-weaker (AllByRecursion IsDigit) (Without 46) (octets address)
-    (λ part. all-weaker IsDigit (λ b. (b == 46) ≡ false) part digit-dot) (digits_of_octets address small))
+    (all-weaker (AllByRecursion IsDigit) (Without 46)
+    (λ part. all-weaker IsDigit (λ b. (b == 46) ≡ false) digit-dot part)
+    (octets address) (digits_of_octets address small))
 
 whole_address : (address : ℕ) →
     256 * (256 * (256 * (256 * 0 + address / 16777216) + address / 65536 % 256) + address / 256 % 256) + address % 256
@@ -132,27 +135,27 @@ net_in-parts net bounds =
 parts_of-net : (net : Net) → IsNet net → parts_of 47 (net_text net) ≡ address_text net.base ∷ decimal net.length ∷ []
 parts_of-net net bounds =
     parts_of-part 47 (address_text net.base) (decimal net.length) refl
-    (all-weaker IsAddressByte (λ b. (b == 47) ≡ false) (address_text net.base) (λ b byte. byte.0)
+    (all-weaker IsAddressByte (λ b. (b == 47) ≡ false) (λ b byte. byte.0) (address_text net.base)
     (address_bytes net.base bounds.address))
     ∙ ap (λ (parts : List (List ℕ)). address_text net.base
     ∷ parts) (parts_of-last 47 (decimal net.length)
-    (all-weaker IsDigit (λ b. (b == 47) ≡ false) (decimal net.length) digit-slash
+    (all-weaker IsDigit (λ b. (b == 47) ≡ false) digit-slash (decimal net.length)
     (digits net.length (omega arith))))
 
 pub net_bytes : (net : Net) → IsNet net → AllByRecursion (λ b. (46 ≤ b) × (b ≤ 57)) (net_text net)
 net_bytes net bounds =
     all-append (λ b. (46 ≤ b) × (b ≤ 57)) (address_text net.base) (47 ∷ decimal net.length)
-    (all-weaker IsAddressByte (λ b. (46 ≤ b) × (b ≤ 57)) (address_text net.base) (λ b byte. (byte.1, byte.2))
+    (all-weaker IsAddressByte (λ b. (46 ≤ b) × (b ≤ 57)) (λ b byte. (byte.1, byte.2)) (address_text net.base)
     (address_bytes net.base bounds.address)) (
       (omega arith, omega arith),
-      all-weaker IsDigit (λ b. (46 ≤ b) × (b ≤ 57)) (decimal net.length) (λ b digit. (omega arith, digit.1))
+      all-weaker IsDigit (λ b. (46 ≤ b) × (b ≤ 57)) (λ b digit. (omega arith, digit.1)) (decimal net.length)
           (digits net.length (omega arith)),
     )
 
 pub net_of-text : (net : Net) → IsNet net → net_of (net_text net) ≡ Ok net
 net_of-text net bounds =
     let other = not_any (net_text net) (all-weaker (λ b. (46 ≤ b)
-    × (b ≤ 57)) (λ b. b ≤ 57) (net_text net) (λ b byte. byte.1) (net_bytes net bounds)) in
+    × (b ≤ 57)) (λ b. b ≤ 57) (λ b byte. byte.1) (net_text net) (net_bytes net bounds)) in
     rw other (ap net_in (parts_of-net net bounds) ∙ net_in-parts net bounds)
 
 pub net_word-text : (net : Net) → IsNet net → net_word (net_text net) ≡ Ok net
@@ -173,7 +176,7 @@ digit-dash : (b : ℕ) → IsDigit b → (b == 45) ≡ false
 digit-dash b digit = grind (arith, nat_tests)
 
 no_dash : (n : ℕ) → n ≤ 4294967295 → Without 45 (decimal n)
-no_dash n small = all-weaker IsDigit (λ b. (b == 45) ≡ false) (decimal n) digit-dash (digits n small)
+no_dash n small = all-weaker IsDigit (λ b. (b == 45) ≡ false) digit-dash (decimal n) (digits n small)
 
 pub dashed_ports-text : (least first last : ℕ) → least ≤ first → first ≤ last → last ≤ 65535 →
     dashed_ports least (ports_text first last) ≡ Ok (record { first = first; last = last })
@@ -188,10 +191,10 @@ pub ports_bytes : (first last : ℕ) → first ≤ 65535 → last ≤ 65535 →
     AllByRecursion (λ b. (45 ≤ b) × (b ≤ 57)) (ports_text first last)
 ports_bytes first last small low =
     all-append (λ b. (45 ≤ b) × (b ≤ 57)) (decimal first) (45 ∷ decimal last)
-    (all-weaker IsDigit (λ b. (45 ≤ b) × (b ≤ 57)) (decimal first) (λ b digit. (omega arith, digit.1))
+    (all-weaker IsDigit (λ b. (45 ≤ b) × (b ≤ 57)) (λ b digit. (omega arith, digit.1)) (decimal first)
     (digits first (omega arith))) (
       (omega arith, omega arith),
-      all-weaker IsDigit (λ b. (45 ≤ b) × (b ≤ 57)) (decimal last) (λ b digit. (omega arith, digit.1))
+      all-weaker IsDigit (λ b. (45 ≤ b) × (b ≤ 57)) (λ b digit. (omega arith, digit.1)) (decimal last)
           (digits last (omega arith)),
     )
 
@@ -199,7 +202,7 @@ pub ports_word-text : (first last : ℕ) → first ≤ last → last ≤ 65535 �
     ports_word (ports_text first last) ≡ Ok (record { first = first; last = last })
 ports_word-text first last ordered high =
     let other = not_any (ports_text first last) (all-weaker (λ b. (45 ≤ b)
-    × (b ≤ 57)) (λ b. b ≤ 57) (ports_text first last) (λ b byte. byte.1)
+    × (b ≤ 57)) (λ b. b ≤ 57) (λ b byte. byte.1) (ports_text first last)
     (ports_bytes first last (omega arith) high)) in
     let dash = has_byte-part 45 (decimal first) (decimal last) refl (no_dash first (omega arith)) in
     rw (other, dash) (dashed_ports-text 0 first last (omega arith) ordered high)

@@ -9,7 +9,8 @@ use Rattle.ftc_base.specs.Number.{number_of}
 use Rattle.ftc_base.specs.Endpoint.{address_of, net_of}
 use Rattle.ftc_base.specs.declared.lexer.Lexical.{Lexical}
 use Rattle.ftc_base.specs.declared.network.Net.{Net}
-use Rattle.ftc_conf.specs.declared.limits.TheConstants.{MOST_NUMBER, MOST_PORT}
+use Rattle.ftc_base.specs.declared.limits.TheConstants.{MOST_NUMBER}
+use Rattle.ftc_conf.specs.declared.limits.TheConstants.{MOST_PORT}
 use Rattle.ftc_conf.specs.declared.fault.ChainCause.{ChainCause}
 use Rattle.ftc_conf.specs.declared.fault.ChainCause.TheVariants.{UnknownWord, BadNumber, BadAddress, BadRange}
 use Rattle.ftc_conf.specs.declared.ports.PortRange.{PortRange}

@@ -4,9 +4,6 @@ ghost use Rattle.std.specs.Prelude.{◌≡◌};
 
 use ftc_base::limits::MOST_SERVERS;
 
-/// A number that any word may spell.
-pub const MOST_NUMBER: u32 = 4_294_967_295;
-
 /// The number of the line `f F`: how many servers of a chain may be down at once.
 pub const MOST_FAILURES: u8 = MOST_SERVERS - 1;
 
@@ -15,7 +12,6 @@ pub const MOST_PORT: u32 = 65_535;
 
 /// The bounds, as numbers.
 pub fn law_of_limits()
-    ensures number { MOST_NUMBER ≡ 4294967295 }
     ensures failures { MOST_FAILURES ≡ 15 }
     ensures port { MOST_PORT ≡ 65535 }
 {}

@@ -6,7 +6,7 @@ ghost use Rattle.ftc_conf.specs.Words.{number_word, number_from_to, address_word
 ghost use Rattle.ftc_conf.specs.Words.{has_byte};
 
 use crate::fault::ChainCause;
-use crate::limits::MOST_NUMBER;
+use ftc_base::limits::MOST_NUMBER;
 use ftc_base::{Net, address, net, number, part_len};
 
 /// A number without a bound of its own.

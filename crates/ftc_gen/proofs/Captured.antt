@@ -4,6 +4,7 @@ use Rattle.std.proofs.Common.{append-nil, length-append, arith}
 use Rattle.std.specs.List.{flat_map, AllByRecursion}
 use Rattle.std.proofs.lemmas.Grind.{flat_map-append}
 use Rattle.ftc_base.specs.declared.limits.TheConstants.{MOST_RECORDS}
+use Rattle.ftc_base.proofs.EachOf.{all_push}
 use Rattle.ftc_pcap.specs.Grammar.{number_bytes, number_of, short_of, IsHeader, IsPacket, Spells, record_bytes}
 use Rattle.ftc_gen.specs.Capture.{header, record_of, generated}
 use Rattle.ftc_gen.specs.Capture as capture
@@ -36,11 +37,6 @@ counted zero seed = refl
 counted (suc place) seed =
     length-append (packets seed place) (packet_at seed place
     ∷ []) ∙ (ap (λ (n : ℕ). n + 1) (counted place seed) ∙ omega arith)
-
-all_push : {A : Type 0} (P : A → Type 0) (xs : List A) (x : A) → AllByRecursion P xs → P x →
-    AllByRecursion P (xs ++ x ∷ [])
-all_push P [] x all holds = (holds, tt)
-all_push P (y ∷ xs) x all holds = (all.0, all_push P xs x all.1 holds)
 
 all_packets : (count seed : ℕ) → count ≤ MOST_RECORDS → AllByRecursion IsPacket (packets seed count)
 all_packets zero seed few = tt

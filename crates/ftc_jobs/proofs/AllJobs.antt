@@ -6,11 +6,12 @@ use Rattle.std.proofs.lemmas.Bool.{cases_eq}
 use Rattle.std.proofs.lemmas.Option.{none-some, same_Some}
 use Rattle.ftc_journal.specs.declared.job.Job.{Job}
 use Rattle.ftc_serial.specs.Words.{AnyOf}
+use Rattle.ftc_serial.proofs.AnyOf.{any_front, any_behind, any_either}
 use Rattle.ftc_protocol.specs.Jobs.{IsLegalJob}
 use Rattle.ftc_protocol.specs.Setting.{Setting}
 use Rattle.ftc_protocol.specs.State.{ChainState}
 use Rattle.ftc_jobs.specs.All.{HasJobsOf, IsUntaken}
-use Rattle.ftc_jobs.proofs.Joined.{any_either, any_one, any_other, once_both}
+use Rattle.ftc_jobs.proofs.Joined.{once_both}
 
 -- ---- lists
 
@@ -135,9 +136,9 @@ module _ (runs : ℕ → ℕ → Bool) (setting : Setting) (state : ChainState) 
     where
       in_both : (job : Job) → P job ⊎ Q job → Legal job → IsIn (first.more ++ second.more) job
       in_both job (inl of) legal =
-          any_one (λ (other : Job). other ≡ job) first.more second.more ((first.are.each job).1 (of, legal))
+          any_front (λ (other : Job). other ≡ job) first.more second.more ((first.are.each job).1 (of, legal))
       in_both job (inr of) legal =
-          any_other (λ (other : Job). other ≡ job) first.more second.more ((second.are.each job).1 (of, legal))
+          any_behind (λ (other : Job). other ≡ job) first.more second.more ((second.are.each job).1 (of, legal))
 
   -- a kind that is another, as far as legal jobs go
   pub adds_as : (P Q : Job → Type 0) (old new : List Job) → ((job : Job) → Legal job → P job → Q job) →
@@ -171,8 +172,8 @@ module _ (runs : ℕ → ℕ → Bool) (setting : Setting) (state : ChainState) 
     where
       to : (job : Job) → AnyOf (λ (other : A). Of other job) (take place items) ⊎ Of item job →
           AnyOf (λ (other : A). Of other job) (take place items ++ item ∷ [])
-      to job (inl of) = any_one _ (take place items) (item ∷ []) of
-      to job (inr own) = any_other _ (take place items) (item ∷ []) (inl own)
+      to job (inl of) = any_front _ (take place items) (item ∷ []) of
+      to job (inr own) = any_behind _ (take place items) (item ∷ []) (inl own)
 
       from : (job : Job) → AnyOf (λ (other : A). Of other job) (take place items ++ item ∷ []) →
           AnyOf (λ (other : A). Of other job) (take place items) ⊎ Of item job

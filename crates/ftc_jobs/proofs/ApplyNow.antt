@@ -4,9 +4,10 @@ use Rattle.std.proofs.Common.{None, length, refl, sym, ap, subst, lt-ltb, arith}
 use Rattle.std.specs.Prelude.{nat_lt}
 use Rattle.std.specs.List.{find}
 use Rattle.std.specs.Option.{option_map}
-use Rattle.std.proofs.lemmas.Bool.{and_from, and_parts, eqb-true, ne_eqb, true≢false}
+use Rattle.std.proofs.lemmas.Bool.{and_from, and_parts, eqb-true, ne_eqb, true≢false, ltb-true}
 use Rattle.std.proofs.lemmas.Bool.Decides.{nat_tests}
 use Rattle.ftc_base.specs.declared.ask.Write.{Write}
+use Rattle.ftc_base.proofs.EachOf.{all_tests, tests_all, all_zip}
 use Rattle.ftc_journal.specs.declared.event.Event.TheVariants as event
 use Rattle.ftc_message.specs.Logged.{Logged}
 use Rattle.ftc_message.specs.Ordered.{is_log_of}
@@ -33,18 +34,16 @@ use Rattle.ftc_server.specs.Holding.{found}
 use Rattle.ftc_server.specs.Looks.{log_of, may_apply_in, may_apply_one}
 use Rattle.ftc_server.specs.Replicas.{is_had, may_apply_to, replica_at}
 use Rattle.ftc_standing.specs.Stand.{IsReplicaSlot}
-use Rattle.ftc_standing.proofs.Arriving.{all_mapped_of}
 use Rattle.ftc_refinement.specs.Contents.{IsServerAt}
-use Rattle.ftc_refinement.proofs.LegalLogs.{ReadySays, TestsSay}
+use Rattle.ftc_refinement.proofs.LegalLogs.{ReadySays, TestsSay, some_writes, taker, changing_if}
 use Rattle.ftc_refinement.proofs.LogsToApply.{named_log}
 use Rattle.ftc_refinement.proofs.Messages.{found_as, found_is, log_names}
 use Rattle.ftc_refinement.proofs.NextWork.{found_with}
 use Rattle.ftc_refinement.proofs.Readiness.{VectorsSay, had_alike, replica_for, rides_below, rides_stands}
 use Rattle.ftc_refinement.proofs.Ring.{each_named}
-use Rattle.ftc_refinement.proofs.VisitCalls.{changes_nothing, changes_some}
+use Rattle.ftc_refinement.proofs.VisitCalls.{changes_nothing}
 use Rattle.ftc_refinement.proofs.Works.{held_in}
 use Rattle.ftc_jobs.specs.Applies.{had_if_smaller, has_writes, may_apply_now, may_apply_of, smaller_had, writes_some}
-use Rattle.ftc_jobs.proofs.TwoParts.{all_so, so_of_all}
 
 -- ---- what the test says of a server
 
@@ -116,23 +115,6 @@ where_had true true had is = is refl refl
 where_had true false had is = refl
 where_had false b had is = refl
 
-taker : (o : Option Replicated) (log : Logged) → may_apply_to o log ≡ true →
-    (replica : Replicated) × (o ≡ Some replica) × (is_log_ready replica.vector log.before log.changed ≡ true)
-taker None log is = absurd cc
-taker (Some replica) log is = (replica, refl, is)
-
-changing_if : (partitions : ℕ) (outcome : Outcome) (writes : List Write) → outcome.writes ≡ writes →
-    not (length writes == 0) ≡ true → is_changing partitions outcome ≡ true
-changing_if partitions outcome [] same some = absurd cc
-changing_if partitions outcome (write ∷ writes) same some = changes_some partitions outcome write writes same
-
-some_writes : (writes : List Write) → (writes ≡ [] → ⊥) → not (length writes == 0) ≡ true
-some_writes [] some = absurd (some refl)
-some_writes (write ∷ writes) some = ap not (ne_eqb (length (write ∷ writes)) 0 (λ same. omega (arith, same)))
-
-is_less : (a b : ℕ) → nat_lt a b ≡ true → a < b
-is_less a b is = grind (arith, nat_tests, is)
-
 -- ---- the laws
 
 module _ (setting : Setting) (state : ChainState) (server origin group packet : ℕ) (old : Server)
@@ -168,10 +150,10 @@ module _ (setting : Setting) (state : ChainState) (server origin group packet : 
       state.trace log.group log.origin of_log.0.there in
       let lacks = (ready log (pruned_by (vector_of old.known log.group) takes.0) of_log.0 slot.2 changing).0
       ((tests takes.0.vector log.before log.changed).0 takes.2) in
-      let known = all_mapped_of (IsLogIn setting.partitions state.trace)
+      let known = all_zip (IsLogIn setting.partitions state.trace)
       (λ (l : Logged). had_if_smaller others group packet l ≡ true)
       (λ (l : Logged). IsLogIn setting.partitions state.trace l × (had_if_smaller others group packet l ≡ true))
-      (λ l of_l had. (of_l, had)) logs are.each (so_of_all (had_if_smaller others group packet) logs can.smaller) in
+      (λ l of_l had. (of_l, had)) logs are.each (tests_all (had_if_smaller others group packet) logs can.smaller) in
       let lower = λ (smaller : ℕ) (less : smaller < group) (carried : In message.logs smaller packet).
       let one = found_with
       (λ (l : Logged). IsLogIn setting.partitions state.trace l × (had_if_smaller others group packet l ≡ true))
@@ -232,7 +214,7 @@ module _ (setting : Setting) (state : ChainState) (server origin group packet : 
       of_log.0.outcome state.trace trace log.group log.origin changing of_log.0.there in
       let writes = some_writes log.writes (λ none. true≢false (sym changes
       ∙ changes_nothing setting.partitions of_log.0.outcome (sym of_log.0.writes ∙ none))) in
-      let had = all_mapped_of (IsLogIn setting.partitions state.trace)
+      let had = all_zip (IsLogIn setting.partitions state.trace)
       (λ (l : Logged). names_log logs l.group l.origin ≡ true)
       (λ (l : Logged). had_if_smaller others group packet l ≡ true)
       (λ l of_l its_name. where_had (l.origin == packet) (nat_lt l.group group) (is_had others l)
@@ -240,11 +222,11 @@ module _ (setting : Setting) (state : ChainState) (server origin group packet : 
       let origin_is = eqb-true l.origin packet origin_test in
       let its : In message.logs l.group l.origin = sym (are.names l.group l.origin) ∙ its_name in
       let has = subst (ServerHas setting state server l.group) (sym origin_is)
-      (legal.6 l.group (is_less l.group group less_test) (subst (In message.logs l.group) origin_is its)) in
+      (legal.6 l.group (ltb-true l.group group less_test) (subst (In message.logs l.group) origin_is its)) in
       let alike = had_alike setting state server origin at.1 at.2 message old order is at.0 at.3 say l of_l its in
       let stands = rides_stands setting state server origin at.1 at.2 message old order is at.0 at.3 l.group l.origin
       its in
       alike ∙ (say l (replica_for old l.group) of_l stands).1 has))
       logs are.each (each_named logs) in
       is_applied old origin group packet held log there_as.there named.1 writes may
-      (all_so (had_if_smaller others group packet) logs had)
+      (all_tests (had_if_smaller others group packet) logs had)

@@ -3,6 +3,7 @@ use Rattle.std.proofs.Common.{◌≡◌, ◌∙◌, ◌<◌, ◌-◌, ◌+◌, �
 use Rattle.std.proofs.Common.{refl, sym, ap, subst, inl, inr, arith}
 use Rattle.std.specs.Prelude.{is_some, nat_lt}
 use Rattle.std.proofs.lemmas.Bool.{and_from, and_parts, not-true, or_cases, or_left, or_right}
+use Rattle.ftc_base.proofs.EachOf.{all_tests, tests_all}
 use Rattle.ftc_link.specs.Queue.{Queue}
 use Rattle.ftc_protocol.specs.Setting.{Setting, servers, count}
 use Rattle.ftc_protocol.specs.State.{ChainState}
@@ -16,7 +17,7 @@ use Rattle.ftc_jobs.specs.Quiet.{all_clear, all_up, came_by_ring, has_forwarded,
 use Rattle.ftc_jobs.specs.Quiet.{may_begin, none_held}
 use Rattle.ftc_jobs.specs.Rest.{IsResting}
 use Rattle.ftc_jobs.proofs.Sizes.{size_of}
-use Rattle.ftc_jobs.proofs.TwoParts.{all_of, all_so, each_of, length_none, length_some, none_in, so_of_all, some_in}
+use Rattle.ftc_jobs.proofs.TwoParts.{all_of, each_of, length_none, length_some, none_in, some_in}
 
 -- ---- one server
 
@@ -119,7 +120,7 @@ module _ (setting : Setting) (state : ChainState) (network : Network) (rest : Is
             (within number below));
         first = first.0;
         first_is = first.1;
-        by_ring = so_of_all (λ (held : HeldMessage). held.by_ring) first.0.held.items
+        by_ring = tests_all (λ (held : HeldMessage). held.by_ring) first.0.held.items
             (subst (λ (slot : Option Server). came_by_ring slot ≡ true) first.1 parts.0);
         some = elim (or_cases (has_forwarded (slots 0))
             (nat_lt 0 (withheld_in network) && (none_held network && all_clear network)) others.1) [
@@ -138,7 +139,7 @@ module _ (setting : Setting) (state : ChainState) (network : Network) (rest : Is
   must_be origin is =
       and_from (came_by_ring (slots 0)) (all_up network && is_wanted network)
       (subst (λ (slot : Option Server). came_by_ring slot ≡ true) (sym is.first_is)
-      (all_so (λ (held : HeldMessage). held.by_ring) is.first.held.items is.by_ring))
+      (all_tests (λ (held : HeldMessage). held.by_ring) is.first.held.items is.by_ring))
       (and_from (all_up network) (is_wanted network)
       (all_of (λ (slot : Option Server). is_some slot) network.servers.items None
       (λ number below. up_there (slots number) (is.up number (outside number below))))

@@ -6,6 +6,7 @@ use Rattle.std.specs.Prelude.{nat_lt}
 use Rattle.std.specs.List.{AllByRecursion, find}
 use Rattle.std.specs.Option.{option_map}
 use Rattle.std.proofs.lemmas.Bool.{and_parts, cases_lt, or_cases}
+use Rattle.ftc_base.proofs.EachOf.{all-weaker, all-back}
 use Rattle.ftc_journal.specs.declared.job.Job.{Job}
 use Rattle.ftc_journal.specs.declared.job.Job.TheVariants.{Enter, Take, Apply, Visit, Pass, Lose, Carry, Crash, Recover}
 use Rattle.ftc_journal.specs.declared.job.Job.TheVariants.{Pull, Propagate}
@@ -22,7 +23,7 @@ use Rattle.ftc_server.specs.declared.held.HeldMessage.{HeldMessage}
 use Rattle.ftc_server.specs.declared.server.Server.{Server}
 use Rattle.ftc_server.specs.Holding.{found, is_of}
 use Rattle.ftc_server.specs.Looks.{message_in}
-use Rattle.ftc_standing.proofs.Arriving.{all_back, all_mapped, in_front}
+use Rattle.ftc_standing.proofs.Arriving.{in_front}
 use Rattle.ftc_jobs.specs.Applies.{may_apply_now}
 use Rattle.ftc_jobs.specs.All.{AreJobs, HasJobsOf, IsOfLink, IsOfLinks, IsOfLogs, IsOfMessage, IsOfMessages, IsOfServer}
 use Rattle.ftc_jobs.specs.All.{IsOfServers, IsEnter, IsPropagate}
@@ -60,7 +61,7 @@ all_behind origin group (log ∷ logs) rise =
     (logs_rise (Some (log.origin, log.group)) logs) rise in
     let first = follows origin group log parts.0 in (
       first,
-      all_mapped (IsBehind log.origin log.group) (IsBehind origin group)
+      all-weaker (IsBehind log.origin log.group) (IsBehind origin group)
           (λ other more. further origin group log other first more)
           logs (all_behind log.origin log.group logs parts.1),
     )
@@ -84,7 +85,7 @@ none_before logs before after log rise parts any =
     (each_behind None logs rise)) in
     let order_there = subst (AllByRecursion (λ (one : Logged). IsBehind one.origin one.group log)) some.parts order in
     not_behind some.item log some.is.0 some.is.1
-    (all_back (λ (one : Logged). IsBehind one.origin one.group log) some.before (some.item ∷ some.after) order_there).0
+    (all-back (λ (one : Logged). IsBehind one.origin one.group log) some.before (some.item ∷ some.after) order_there).0
   where
     not_behind : (one log : Logged) → one.origin ≡ log.origin → one.group ≡ log.group →
         IsBehind one.origin one.group log → ⊥

@@ -30,17 +30,6 @@ all_of test [] other each = refl
 all_of test (item ∷ items) other each = and_from (test item) (list_all test items) (each 0 (omega arith))
     (all_of test items other (λ place below. each (suc place) (omega (arith, below))))
 
-pub so_of_all : {A : Type 0} (test : A → Bool) (items : List A) → list_all test items ≡ true →
-    AllByRecursion (λ item. test item ≡ true) items
-so_of_all test [] all = tt
-so_of_all test (item ∷ items) all =
-    let parts = and_parts (test item) (list_all test items) all in (parts.0, so_of_all test items parts.1)
-
-pub all_so : {A : Type 0} (test : A → Bool) (items : List A) → AllByRecursion (λ item. test item ≡ true) items →
-    list_all test items ≡ true
-all_so test [] all = refl
-all_so test (item ∷ items) all = and_from (test item) (list_all test items) all.0 (all_so test items all.1)
-
 pub none_in : {A : Type 0} (items : List A) → length items == 0 ≡ true → items ≡ []
 none_in [] is = refl
 none_in (item ∷ items) is = let none = eqb-true (length (item ∷ items)) 0 is in absurd (omega (arith, none))

@@ -17,11 +17,12 @@ use Rattle.ftc_journal.specs.declared.fault.JournalFault.{JournalFault}
 use Rattle.ftc_journal.specs.declared.form.Version.{Version}
 use Rattle.ftc_journal.specs.Text.{words_of, line_of}
 use Rattle.ftc_base.specs.Reading.{◌>>=◌}
+use Rattle.ftc_base.proofs.Parts.{some_part}
 use Rattle.ftc_journal.specs.Reading.{version_of, event_of, placed, ended, events_from, lines_behind}
 use Rattle.ftc_journal.specs.Reading.{journal_from, journal_of}
 use Rattle.ftc_journal.specs.Spelling.{IsEvent, IsSpelling, header_of}
 use Rattle.ftc_journal.specs.Faulty.{IsOneLine, IsCut, IsRefused, IsFaulty, IsFirstFault}
-use Rattle.ftc_journal.proofs.Parts.{some_parts, events_more, journal_more}
+use Rattle.ftc_journal.proofs.Parts.{events_more, journal_more}
 use Rattle.ftc_journal.proofs.Words.{without_feed, words_found, event_again}
 use Rattle.ftc_journal.proofs.Again.{header_without_feed, header_known}
 use Rattle.ftc_journal.proofs.Spelled.{accepted, line_spelled, placed_ok, header_is}
@@ -138,7 +139,7 @@ lines_bad v place (line ∷ next ∷ lines) fault all e =
 header_bad : (text header : List ℕ) → parts_of 10 text ≡ header ∷ [] → (v : Version) (rest : List ℕ) →
     text ≢ header_of v ++ 10 ∷ rest
 header_bad text header one v rest is =
-    let more = some_parts 10 rest in
+    let more = some_part 10 rest in
     let two : header ∷ [] ≡ header_of v ∷ more.0 ∷ more.1 =
     sym one ∙ ap (parts_of 10) is ∙ parts_of-part 10 (header_of v) rest refl (header_without_feed v) ∙ ap
     (λ (ps : List (List ℕ)). header_of v ∷ ps) more.2 in
@@ -182,7 +183,7 @@ behind_bad text header next lines (Some v) fault known parts e =
 
 parts_bad : (text : List ℕ) (parts : List (List ℕ)) (fault : JournalFault) → parts_of 10 text ≡ parts →
     journal_from parts ≡ Err fault → IsFirstFault text fault
-parts_bad text [] fault is e = let more = some_parts 10 text in absurd (let never = sym is ∙ more.2 in cc)
+parts_bad text [] fault is e = let more = some_part 10 text in absurd (let never = sym is ∙ more.2 in cc)
 parts_bad text (header ∷ []) fault is e = headless text fault (header_bad text header is) cc
 parts_bad text (header ∷ next ∷ lines) fault is e =
     behind_bad text header next lines (version_of header) fault refl is e

@@ -6,12 +6,14 @@ use Rattle.std.specs.List.{AllByRecursion, Contains, join_with_byte, list_all}
 use Rattle.std.proofs.lemmas.Bool.Decides.{nat_tests}
 use Rattle.std.proofs.lemmas.List.Elements.{All-contains, All-from_recursion}
 use Rattle.std.proofs.lemmas.List.Splits.{join_with_byte-slice_split}
+use Rattle.std.proofs.lemmas.Bool.{and_parts}
 use Rattle.ftc_base.specs.Endpoint.{parts_of}
 use Rattle.ftc_base.specs.Number.{is_digit, is_numeral, decimal_from}
 use Rattle.ftc_base.specs.Reading.{◌>>=◌}
 use Rattle.ftc_base.specs.declared.lexer.Lexical.TheVariants.{NotNumber, TooLarge}
-use Rattle.ftc_base.proofs.Separated.{both, Without, parts_of-part, parts_of-last}
-use Rattle.ftc_journal.specs.declared.limits.TheConstants.{MOST_NUMBER}
+use Rattle.ftc_base.proofs.Separated.{Without, parts_of-part, parts_of-last}
+use Rattle.ftc_base.specs.declared.limits.TheConstants.{MOST_NUMBER}
+use Rattle.ftc_base.proofs.Results.{both_ok}
 use Rattle.ftc_journal.specs.declared.event.Event.{Event}
 use Rattle.ftc_journal.specs.declared.fault.JournalCause.{JournalCause}
 use Rattle.ftc_journal.specs.declared.fault.JournalCause.TheVariants.{Header, Word, Range, Cut}
@@ -32,7 +34,7 @@ use Rattle.ftc_journal.specs.Formed.{numbered_words, IsNumeral, IsName, IsFormed
 use Rattle.ftc_journal.specs.Faulty.{IsLineFault}
 use Rattle.ftc_journal.proofs.Fits.{IsFit, single_fit, double_fit, visit_fit, apply_fit, recovery_fit}
 use Rattle.ftc_journal.proofs.Words.{words_found, event_again}
-use Rattle.ftc_journal.proofs.Spelled.{went, form_word, form_known, line_spelled}
+use Rattle.ftc_journal.proofs.Spelled.{form_word, form_known, line_spelled}
 
 -- what a reading tells of words: they are right where it gives a value, and wrong where it is refused for them; and
 -- what it tells where it is refused for a bound
@@ -89,8 +91,8 @@ figures_counted : (words : List (List ℕ)) (figures : List (Option ℕ)) → fi
     length words ≡ length figures
 figures_counted [] figures e = let none : [] ≡ figures = cc in ap length none
 figures_counted (word ∷ words) figures e =
-    let one = went (figure_of word) (λ figure. figures_of words >>= λ figures. Ok (figure ∷ figures)) figures e in
-    let two = went (figures_of words) (λ figures. Ok (one.0 ∷ figures)) figures one.2 in
+    let one = both_ok (figure_of word) (λ figure. figures_of words >>= λ figures. Ok (figure ∷ figures)) figures e in
+    let two = both_ok (figures_of words) (λ figures. Ok (one.0 ∷ figures)) figures one.2 in
     let made = two.2 in
     let same : one.0 ∷ two.0 ≡ figures = cc in
     let size = ap length same in
@@ -101,15 +103,15 @@ figures_counted (word ∷ words) figures e =
 digits_without : (ds : List ℕ) → list_all is_digit ds ≡ true → Without 58 ds
 digits_without [] all = tt
 digits_without (d ∷ ds) all =
-    let split = both (is_digit d) (list_all is_digit ds) all in
-    let bounds = both (nat_le 48 d) (nat_le d 57) split.0 in
+    let split = and_parts (is_digit d) (list_all is_digit ds) all in
+    let bounds = and_parts (nat_le 48 d) (nat_le d 57) split.0 in
     (grind (arith, nat_tests, bounds.1), digits_without ds split.1)
 
 numeral_without : (word : List ℕ) → IsNumeral word → Without 58 word
 numeral_without [] is = tt
 numeral_without (d ∷ []) is = digits_without (d ∷ []) (rw is refl)
 numeral_without (d ∷ c ∷ ds) is =
-    digits_without (d ∷ c ∷ ds) (both (not (d == 48)) (list_all is_digit (d ∷ c ∷ ds)) is).1
+    digits_without (d ∷ c ∷ ds) (and_parts (not (d == 48)) (list_all is_digit (d ∷ c ∷ ds)) is).1
 
 name_parts : (word : List ℕ) (is : IsName word) → parts_of 58 word ≡ is.server ∷ is.packet ∷ []
 name_parts word is =

@@ -7,7 +7,7 @@ use Rattle.ftc_base.specs.Number.{number_of}
 use Rattle.ftc_base.specs.declared.lexer.Lexical.{Lexical}
 use Rattle.ftc_base.specs.declared.lexer.Lexical.TheVariants.{NotNumber, TooLarge, NotAddress}
 use Rattle.ftc_base.proofs.Decimals.{number_of-decimal, number_spelled}
-use Rattle.ftc_journal.specs.declared.limits.TheConstants.{MOST_NUMBER}
+use Rattle.ftc_base.specs.declared.limits.TheConstants.{MOST_NUMBER}
 use Rattle.ftc_journal.specs.declared.fault.JournalCause.TheVariants.{Range}
 use Rattle.ftc_journal.specs.Reading.{as_figure, figure_of, number_in, below}
 

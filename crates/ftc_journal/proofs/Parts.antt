@@ -13,6 +13,7 @@ use Rattle.ftc_journal.specs.declared.fault.JournalCause.TheVariants.{Header, Wo
 use Rattle.ftc_journal.specs.declared.fault.JournalFault.{JournalFault}
 use Rattle.ftc_journal.specs.declared.form.Version.{Version}
 use Rattle.ftc_base.specs.Reading.{◌>>=◌}
+use Rattle.ftc_base.proofs.Parts.{some_part}
 use Rattle.ftc_journal.specs.Reading.{name_of, event_of, placed, events_from, lines_behind, journal_from, journal_of}
 use Rattle.ftc_journal.specs.Reading.{version_of}
 use Rattle.ftc_journal.proofs.Joining.{joined, joined_none, one_more, none_more}
@@ -21,26 +22,21 @@ parted : {A : Type 0} (parts : List A) → 0 < length parts → (head : A) × (t
 parted [] some = absurd (omega arith)
 parted (head ∷ tail) some = (head, tail, refl)
 
-pub some_parts : (separator : ℕ) (word : List ℕ) → (head : List ℕ) × (tail : List (List ℕ))
-    × (parts_of separator word ≡ head ∷ tail)
-some_parts separator word =
-    parted (parts_of separator word) (let size = length-slice_split (λ b. b == separator) word in omega arith)
-
 -- a name with two colons
 pub two_marks : (word server packet first rest : List ℕ) → parts_of 58 word ≡ server ∷ parts_of 58 packet →
     parts_of 58 packet ≡ first ∷ parts_of 58 rest → Err Word ≡ name_of (parts_of 58 word)
-two_marks word server packet first rest e f = let more = some_parts 58 rest in rw (e, f, more.2) refl
+two_marks word server packet first rest e f = let more = some_part 58 rest in rw (e, f, more.2) refl
 
 -- one more line
 pub events_more : (version : Version) (place : ℕ) (line behind : List ℕ) →
     events_from version place (line ∷ parts_of 10 behind)
     ≡ (placed place (event_of version (parts_of 32 line)) >>= λ event.
     events_from version (place + 1) (parts_of 10 behind) >>= λ events. Ok (event ∷ events))
-events_more version place line behind = let more = some_parts 10 behind in rw more.2 refl
+events_more version place line behind = let more = some_part 10 behind in rw more.2 refl
 
 pub journal_more : (header lines : List ℕ) →
     journal_from (header ∷ parts_of 10 lines) ≡ lines_behind (version_of header) (parts_of 10 lines)
-journal_more header lines = let more = some_parts 10 lines in rw more.2 refl
+journal_more header lines = let more = some_part 10 lines in rw more.2 refl
 
 pub begins : (text header lines : List ℕ) (version : Version) (held : List Event) →
     parts_of 10 text ≡ header ∷ parts_of 10 lines → version_of header ≡ Some version → held ≡ [] →

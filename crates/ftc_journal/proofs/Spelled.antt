@@ -7,8 +7,7 @@ use Rattle.std.specs.List.{AllByRecursion, join_with_byte, flat_map}
 use Rattle.std.proofs.lemmas.List.Splits.{join_with_byte-slice_split}
 use Rattle.std.proofs.lemmas.Slice.Eq.{bytes_eq-Decides}
 use Rattle.ftc_base.specs.Endpoint.{parts_of}
-use Rattle.ftc_base.specs.declared.limits.TheConstants.{MOST_SLOTS}
-use Rattle.ftc_journal.specs.declared.limits.TheConstants.{MOST_NUMBER}
+use Rattle.ftc_base.specs.declared.limits.TheConstants.{MOST_SLOTS, MOST_NUMBER}
 use Rattle.ftc_journal.specs.declared.event.Event.{Event}
 use Rattle.ftc_journal.specs.declared.event.Event.TheVariants as event
 use Rattle.ftc_journal.specs.declared.event.VisitName.{VisitName}
@@ -24,6 +23,7 @@ use Rattle.ftc_journal.specs.declared.form.Form.{Form}
 use Rattle.ftc_journal.specs.declared.form.Form.TheVariants as form
 use Rattle.ftc_journal.specs.Text.{words_of, line_of}
 use Rattle.ftc_base.specs.Reading.{◌>>=◌}
+use Rattle.ftc_base.proofs.Results.{both_ok}
 use Rattle.ftc_journal.specs.Reading.{version_of, figure_of, figures_of, name_of, names_of}
 use Rattle.ftc_journal.specs.Reading.{number_in, server_in, slot_in, name_in, undone_in, form_of, single_in}
 use Rattle.ftc_journal.specs.Reading.{double_event, single_of, double_of, visit_of, apply_of, recovery, recover_of}
@@ -33,12 +33,6 @@ use Rattle.ftc_journal.specs.Spelling.{IsEvent, IsVisitName, IsSpelling, header_
 use Rattle.ftc_journal.proofs.Letters.{number_word, below_word}
 use Rattle.ftc_journal.proofs.Words.{name_text, word_list, words_joined}
 
--- where two readings went well, each did
-pub went : {A B F : Type 0} (first : Result A F) (next : A → Result B F) (b : B) → (first >>= next) ≡ Ok b →
-    (a : A) × (first ≡ Ok a) × (next a ≡ Ok b)
-went (Ok a) next b e = (a, refl, e)
-went (Err cause) next b e = absurd cc
-
 -- an event is read
 abbrev read_as : Event → Result Event JournalCause
 read_as e = Ok e
@@ -47,8 +41,8 @@ read_as e = Ok e
 figures_none : (words : List (List ℕ)) → figures_of words ≡ Ok [] → words ≡ []
 figures_none [] e = refl
 figures_none (word ∷ words) e =
-    let one = went (figure_of word) (λ figure. figures_of words >>= λ figures. Ok (figure ∷ figures)) [] e in
-    let two = went (figures_of words) (λ figures. Ok (one.0 ∷ figures)) [] one.2 in
+    let one = both_ok (figure_of word) (λ figure. figures_of words >>= λ figures. Ok (figure ∷ figures)) [] e in
+    let two = both_ok (figures_of words) (λ figures. Ok (one.0 ∷ figures)) [] one.2 in
     absurd (let bad = two.2 in cc)
 
 figures_some : (words : List (List ℕ)) (a : Option ℕ) (more : List (Option ℕ)) → figures_of words ≡ Ok (a ∷ more) →
@@ -56,8 +50,8 @@ figures_some : (words : List (List ℕ)) (a : Option ℕ) (more : List (Option �
     × (figures_of rest ≡ Ok more)
 figures_some [] a more e = absurd cc
 figures_some (word ∷ words) a more e =
-    let one = went (figure_of word) (λ figure. figures_of words >>= λ figures. Ok (figure ∷ figures)) (a ∷ more) e in
-    let two = went (figures_of words) (λ figures. Ok (one.0 ∷ figures)) (a ∷ more) one.2 in
+    let one = both_ok (figure_of word) (λ figure. figures_of words >>= λ figures. Ok (figure ∷ figures)) (a ∷ more) e in
+    let two = both_ok (figures_of words) (λ figures. Ok (one.0 ∷ figures)) (a ∷ more) one.2 in
     let last = two.2 in
     let first : one.0 ≡ a = cc in
     let later : two.0 ≡ more = cc in
@@ -110,7 +104,7 @@ one_said : (v : Version) (kind : Single) (words : List (List ℕ)) (w : List ℕ
     ((n : ℕ) → reading ≡ Ok n → (w ≡ decimal n) × IsEvent v (single_event kind n)) →
     (reading >>= λ n. Ok (single_event kind n)) ≡ Ok e → IsSaid v (form.Single kind) words e
 one_said v kind words w e reading is spells said =
-    let n = went reading (λ n. Ok (single_event kind n)) e said in
+    let n = both_ok reading (λ n. Ok (single_event kind n)) e said in
     let word = spells n.0 n.1 in
     said_same v (form.Single kind) words (single_event kind n.0) e (record {
       spelled = ap (λ (ws : List (List ℕ)). form_word (form.Single kind) ∷ ws) (is ∙ ap (λ (x : List ℕ). x ∷ []) word.0)
@@ -166,8 +160,8 @@ double_figures v kind words (a ∷ []) e read said = absurd cc
 double_figures v kind words (a ∷ b ∷ []) e read said =
     let first = figures_some words a (b ∷ []) read in
     let second = figures_some first.1 b [] first.4 in
-    let server = went (server_in v a) (λ s. number_in b >>= λ o. Ok (double_event kind s o)) e said in
-    let origin = went (number_in b) (λ o. Ok (double_event kind server.0 o)) e server.2 in
+    let server = both_ok (server_in v a) (λ s. number_in b >>= λ o. Ok (double_event kind s o)) e said in
+    let origin = both_ok (number_in b) (λ o. Ok (double_event kind server.0 o)) e server.2 in
     let s = below_word first.0 a (servers_of v) server.0 first.3 server.1 in
     let o = number_word second.0 b origin.0 second.3 origin.1 in
     said_same v (form.Double kind) words (double_event kind server.0 origin.0) e
@@ -185,9 +179,9 @@ visit_figures v words (a ∷ b ∷ c ∷ []) e read said =
     let first = figures_some words a (b ∷ c ∷ []) read in
     let second = figures_some first.1 b (c ∷ []) first.4 in
     let third = figures_some second.1 c [] second.4 in
-    let server = went (server_in v a) (λ s. number_in b >>= λ p. slot_in c >>= λ w. Ok (event.Visit s p w)) e said in
-    let packet = went (number_in b) (λ p. slot_in c >>= λ w. Ok (event.Visit server.0 p w)) e server.2 in
-    let worker = went (slot_in c) (λ w. Ok (event.Visit server.0 packet.0 w)) e packet.2 in
+    let server = both_ok (server_in v a) (λ s. number_in b >>= λ p. slot_in c >>= λ w. Ok (event.Visit s p w)) e said in
+    let packet = both_ok (number_in b) (λ p. slot_in c >>= λ w. Ok (event.Visit server.0 p w)) e server.2 in
+    let worker = both_ok (slot_in c) (λ w. Ok (event.Visit server.0 packet.0 w)) e packet.2 in
     let s = below_word first.0 a (servers_of v) server.0 first.3 server.1 in
     let p = number_word second.0 b packet.0 second.3 packet.1 in
     let w = below_word third.0 c MOST_SLOTS worker.0 third.3 worker.1 in
@@ -210,12 +204,12 @@ apply_figures v words (a ∷ b ∷ c ∷ d ∷ []) e read said =
     let second = figures_some first.1 b (c ∷ d ∷ []) first.4 in
     let third = figures_some second.1 c (d ∷ []) second.4 in
     let fourth = figures_some third.1 d [] third.4 in
-    let server = went (server_in v a) (λ s. number_in b >>= λ o. server_in v c >>= λ g. number_in d >>= λ p.
+    let server = both_ok (server_in v a) (λ s. number_in b >>= λ o. server_in v c >>= λ g. number_in d >>= λ p.
     Ok (event.Apply s o g p)) e said in
-    let origin = went (number_in b) (λ o. server_in v c >>= λ g. number_in d >>= λ p.
+    let origin = both_ok (number_in b) (λ o. server_in v c >>= λ g. number_in d >>= λ p.
     Ok (event.Apply server.0 o g p)) e server.2 in
-    let group = went (server_in v c) (λ g. number_in d >>= λ p. Ok (event.Apply server.0 origin.0 g p)) e origin.2 in
-    let packet = went (number_in d) (λ p. Ok (event.Apply server.0 origin.0 group.0 p)) e group.2 in
+    let group = both_ok (server_in v c) (λ g. number_in d >>= λ p. Ok (event.Apply server.0 origin.0 g p)) e origin.2 in
+    let packet = both_ok (number_in d) (λ p. Ok (event.Apply server.0 origin.0 group.0 p)) e group.2 in
     let s = below_word first.0 a (servers_of v) server.0 first.3 server.1 in
     let o = number_word second.0 b origin.0 second.3 origin.1 in
     let g = below_word third.0 c (servers_of v) group.0 third.3 group.1 in
@@ -244,8 +238,8 @@ name_parts : (parts : List (List ℕ)) (name : NameFigures) → name_of parts �
 name_parts [] name e = absurd cc
 name_parts (j ∷ []) name e = absurd cc
 name_parts (j ∷ p ∷ []) name e =
-    let one = went (figure_of j) (λ s. figure_of p >>= λ q. Ok (record { server = s; packet = q })) name e in
-    let two = went (figure_of p) (λ q. Ok (record { server = one.0; packet = q })) name one.2 in
+    let one = both_ok (figure_of j) (λ s. figure_of p >>= λ q. Ok (record { server = s; packet = q })) name e in
+    let two = both_ok (figure_of p) (λ q. Ok (record { server = one.0; packet = q })) name one.2 in
     let made = two.2 in
     let same : record { server = one.0; packet = two.0 } ≡ name = cc in
     (j, p, refl, one.1 ∙ ap (λ (n : NameFigures). Ok n.server) same, two.1 ∙ ap (λ (n : NameFigures). Ok n.packet) same)
@@ -255,9 +249,9 @@ name_spelled : (v : Version) (word : List ℕ) (name : NameFigures) (visit : Vis
     name_of (parts_of 58 word) ≡ Ok name → name_in v name ≡ Ok visit → (word ≡ name_text visit) × IsVisitName v visit
 name_spelled v word name visit read said =
     let parts = name_parts (parts_of 58 word) name read in
-    let one = went (server_in v name.server) (λ s. number_in name.packet >>= λ p.
+    let one = both_ok (server_in v name.server) (λ s. number_in name.packet >>= λ p.
     Ok (record { server = s; packet = p })) visit said in
-    let two = went (number_in name.packet) (λ p. Ok (record { server = one.0; packet = p })) visit one.2 in
+    let two = both_ok (number_in name.packet) (λ p. Ok (record { server = one.0; packet = p })) visit one.2 in
     let made = two.2 in
     let same : record { server = one.0; packet = two.0 } ≡ visit = cc in
     let s = below_word parts.0 name.server (servers_of v) one.0 parts.3 one.1 in
@@ -276,13 +270,13 @@ names_spelled v [] names undone read said =
     let empty : [] ≡ undone = cc in
     subst (IsNamed v []) empty (record { spelled = refl; bounds = tt })
 names_spelled v (word ∷ words) names undone read said =
-    let one = went (name_of (parts_of 58 word)) (λ n. names_of words >>= λ ns. Ok (n ∷ ns)) names read in
-    let two = went (names_of words) (λ ns. Ok (one.0 ∷ ns)) names one.2 in
+    let one = both_ok (name_of (parts_of 58 word)) (λ n. names_of words >>= λ ns. Ok (n ∷ ns)) names read in
+    let two = both_ok (names_of words) (λ ns. Ok (one.0 ∷ ns)) names one.2 in
     let made = two.2 in
     let all : one.0 ∷ two.0 ≡ names = cc in
     let e : undone_in v (one.0 ∷ two.0) ≡ Ok undone = ap (undone_in v) all ∙ said in
-    let first = went (name_in v one.0) (λ x. undone_in v two.0 >>= λ xs. Ok (x ∷ xs)) undone e in
-    let rest = went (undone_in v two.0) (λ xs. Ok (first.0 ∷ xs)) undone first.2 in
+    let first = both_ok (name_in v one.0) (λ x. undone_in v two.0 >>= λ xs. Ok (x ∷ xs)) undone e in
+    let rest = both_ok (undone_in v two.0) (λ xs. Ok (first.0 ∷ xs)) undone first.2 in
     let finished = rest.2 in
     let whole : first.0 ∷ rest.0 ≡ undone = cc in
     let name = name_spelled v word one.0 first.0 one.1 first.1 in
@@ -297,10 +291,10 @@ recover_said : (v : Version) (words : List (List ℕ)) (e : Event) → recover_o
     IsSaid v form.Recover words e
 recover_said v [] e said = absurd cc
 recover_said v (word ∷ words) e said =
-    let one = went (figure_of word) (λ s. names_of words >>= λ ns. recovery v s ns) e said in
-    let two = went (names_of words) (λ ns. recovery v one.0 ns) e one.2 in
-    let three = went (server_in v one.0) (λ s. undone_in v two.0 >>= λ u. Ok (event.Recover s u)) e two.2 in
-    let four = went (undone_in v two.0) (λ u. Ok (event.Recover three.0 u)) e three.2 in
+    let one = both_ok (figure_of word) (λ s. names_of words >>= λ ns. recovery v s ns) e said in
+    let two = both_ok (names_of words) (λ ns. recovery v one.0 ns) e one.2 in
+    let three = both_ok (server_in v one.0) (λ s. undone_in v two.0 >>= λ u. Ok (event.Recover s u)) e two.2 in
+    let four = both_ok (undone_in v two.0) (λ u. Ok (event.Recover three.0 u)) e three.2 in
     let s = below_word word one.0 (servers_of v) three.0 one.1 three.1 in
     let names = names_spelled v words two.0 four.0 two.1 four.1 in
     said_same v form.Recover (word ∷ words) (event.Recover three.0 four.0) e (record {
@@ -312,14 +306,14 @@ recover_said v (word ∷ words) e said =
 said_spelled : (v : Version) (f : Form) (words : List (List ℕ)) (e : Event) → said_in v f words ≡ Ok e →
     IsSaid v f words e
 said_spelled v (form.Single kind) words e said = let one =
-    went (figures_of words) (λ figures. single_of v kind figures) e said in
+    both_ok (figures_of words) (λ figures. single_of v kind figures) e said in
     single_figures v kind words one.0 e one.1 one.2
 said_spelled v (form.Double kind) words e said = let one =
-    went (figures_of words) (λ figures. double_of v kind figures) e said in
+    both_ok (figures_of words) (λ figures. double_of v kind figures) e said in
     double_figures v kind words one.0 e one.1 one.2
-said_spelled v form.Visit words e said = let one = went (figures_of words) (λ figures. visit_of v figures) e said in
+said_spelled v form.Visit words e said = let one = both_ok (figures_of words) (λ figures. visit_of v figures) e said in
     visit_figures v words one.0 e one.1 one.2
-said_spelled v form.Apply words e said = let one = went (figures_of words) (λ figures. apply_of v figures) e said in
+said_spelled v form.Apply words e said = let one = both_ok (figures_of words) (λ figures. apply_of v figures) e said in
     apply_figures v words one.0 e one.1 one.2
 said_spelled v form.Recover words e said = recover_said v words e said
 
@@ -398,9 +392,9 @@ lines_spelled v place [] events e = let empty : [] ≡ events =
     cc in subst (AreLines v []) empty (record { spelled = refl; bounds = tt })
 lines_spelled v place (last ∷ []) events e = ended_spelled v place last events e
 lines_spelled v place (line ∷ next ∷ lines) events e =
-    let one = went (placed place (event_of v (parts_of 32 line)))
+    let one = both_ok (placed place (event_of v (parts_of 32 line)))
     (λ x. events_from v (place + 1) (next ∷ lines) >>= λ xs. Ok (x ∷ xs)) events e in
-    let two = went (events_from v (place + 1) (next ∷ lines)) (λ xs. Ok (one.0 ∷ xs)) events one.2 in
+    let two = both_ok (events_from v (place + 1) (next ∷ lines)) (λ xs. Ok (one.0 ∷ xs)) events one.2 in
     let made = two.2 in
     let whole : one.0 ∷ two.0 ≡ events = cc in
     let first = line_spelled v line one.0 (placed_ok place (event_of v (parts_of 32 line)) one.0 one.1) in

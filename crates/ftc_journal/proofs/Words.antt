@@ -4,9 +4,10 @@ use Rattle.std.proofs.Common.{arith, rules, Ok, Some, inl, inr, append_assoc, ap
 use Rattle.std.specs.Prelude.{nat_le, codes, decimal, map}
 use Rattle.std.specs.List.{AllByRecursion, list_all, join_with_byte, flat_map}
 use Rattle.std.proofs.lemmas.Bool.Decides.{nat_tests}
+use Rattle.std.proofs.lemmas.Bool.{and_parts}
 use Rattle.ftc_base.specs.Endpoint.{parts_of}
 use Rattle.ftc_base.specs.declared.limits.TheConstants.{MOST_SLOTS}
-use Rattle.ftc_base.proofs.Separated.{Without, both, without-append, parts_of-part, parts_of-last, parts_of-join}
+use Rattle.ftc_base.proofs.Separated.{Without, without-append, parts_of-part, parts_of-last, parts_of-join}
 use Rattle.ftc_base.proofs.Separated.{without-join}
 use Rattle.ftc_base.proofs.Decimals.{without_decimal}
 use Rattle.ftc_journal.specs.declared.event.Event.{Event}
@@ -177,7 +178,7 @@ without_high : (separator : ℕ) (word : List ℕ) → separator < 48 → list_a
     Without separator word
 without_high separator [] low high = tt
 without_high separator (b ∷ bs) low high =
-    let split = both (nat_le 48 b) (list_all (nat_le 48) bs) high in
+    let split = and_parts (nat_le 48 b) (list_all (nat_le 48) bs) high in
     (grind (arith, nat_tests, split.0), without_high separator bs low split.1)
 
 without_words : (v : Version) (separator : ℕ) (e : Event) → separator < 48 → IsEvent v e →

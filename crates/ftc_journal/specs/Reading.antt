@@ -6,8 +6,7 @@ use Rattle.ftc_base.specs.Number.{number_of}
 use Rattle.ftc_base.specs.Endpoint.{parts_of}
 use Rattle.ftc_base.specs.declared.lexer.Lexical.{Lexical}
 use Rattle.ftc_base.specs.declared.lexer.Lexical.TheVariants.{NotNumber, TooLarge, NotAddress}
-use Rattle.ftc_base.specs.declared.limits.TheConstants.{MOST_SLOTS}
-use Rattle.ftc_journal.specs.declared.limits.TheConstants.{MOST_NUMBER}
+use Rattle.ftc_base.specs.declared.limits.TheConstants.{MOST_SLOTS, MOST_NUMBER}
 use Rattle.ftc_journal.specs.declared.event.Event.{Event}
 use Rattle.ftc_journal.specs.declared.event.Event.TheVariants as event
 use Rattle.ftc_journal.specs.declared.event.VisitName.{VisitName}

@@ -6,7 +6,7 @@ ghost use Rattle.ftc_base.specs.Endpoint.{parts_of};
 ghost use Rattle.ftc_journal.specs.Reading.{figure_of, figures_of, name_of, names_of};
 
 use crate::fault::JournalCause;
-use crate::limits::MOST_NUMBER;
+use ftc_base::limits::MOST_NUMBER;
 use ftc_base::{Items, Lexical, Refuse, number, split_part};
 use std::alloc::Global;
 

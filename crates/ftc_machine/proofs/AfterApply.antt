@@ -3,6 +3,7 @@ use Rattle.std.proofs.Common.{◌≡◌, ◌≢◌, ℕ, ◌+◌, ◌<◌, ◌==
 use Rattle.std.proofs.Common.{◌⊎◌, inl, inr, refl, sym, ◌∙◌, ap, subst, slice_set, arith, eq-eqb}
 use Rattle.std.proofs.lemmas.Bool.{true≢false, ne_eqb, and_from, or_cases, or_left, or_right}
 use Rattle.ftc_base.specs.declared.limits.TheConstants.{MOST_SERVERS}
+use Rattle.ftc_base.proofs.Bools.{or_without}
 use Rattle.ftc_journal.specs.declared.event.Event.TheVariants as event
 use Rattle.ftc_ring.specs.Ring.{RingShape}
 use Rattle.ftc_serial.specs.Contents.{content_at}
@@ -27,7 +28,7 @@ use Rattle.ftc_machine.proofs.LegalEvents.{reached_before, visits_within}
 use Rattle.ftc_machine.proofs.RepresentedMessages.{footprint_there}
 use Rattle.ftc_machine.proofs.JoinedVisit.{apply_reach}
 use Rattle.ftc_protocol.proofs.Sets.{in_one}
-use Rattle.ftc_machine.proofs.RaisedRows.{raised_reaches, or_false}
+use Rattle.ftc_machine.proofs.RaisedRows.{raised_reaches}
 use Rattle.ftc_machine.proofs.SetFrontiers.{same_reach}
 use Rattle.ftc_machine.proofs.ReplacedPlaces.{row_replaced}
 use Rattle.ftc_protocol.proofs.TraceLemmas.{stands_map}
@@ -136,6 +137,6 @@ module _ (c : Setting) (s : ChainState) (server origin group packet : ℕ)
       (union (s.lists server) (just group packet true)) other
       (λ same. subst (λ place. s.lists other other number
       ≡ union (s.lists place) (just group packet true) other number) same
-      (sym (or_false (s.lists other other number) (just group packet true other number)
+      (sym (or_without (s.lists other other number) (just group packet true other number)
       (ap (λ b. (b && (number == packet)) && true) (ne_eqb other group (λ e. apart_from (sym e ∙ same)))))))
       (λ _. refl))

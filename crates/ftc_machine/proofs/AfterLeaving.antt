@@ -40,10 +40,6 @@ use Rattle.ftc_machine.proofs.MovedMessages.{kept_message}
 use Rattle.ftc_machine.proofs.ReplacedPlaces.{changed_if, others_left, none_there}
 use Rattle.ftc_machine.proofs.GroupTails.{knows_reaches}
 
-twice_not : (b : Bool) → not (not b) ≡ b
-twice_not true = refl
-twice_not false = refl
-
 -- a packet goes away that isn't the last server's, where something is sent from every other
 sent_away : (last more away : Bool) → (((not last || more) && away) && not last) ≡ (away && not last)
 sent_away true true true = refl

@@ -6,6 +6,7 @@ use Rattle.std.proofs.Math.Bool.{or-false, or_comm, and-false}
 use Rattle.std.proofs.lemmas.Bool.{true≢false, cases_lt, eqb-false, ne_eqb, and_parts, and_from, or_cases, or_left}
 use Rattle.std.proofs.lemmas.Bool.{or_right, not-true, not_from_false, false_from_ne_true}
 use Rattle.std.specs.List.{list_any}
+use Rattle.std.specs.Cmp.{both_ways}
 use Rattle.ftc_base.specs.Sets.{has}
 use Rattle.ftc_journal.specs.declared.event.Event.TheVariants as event
 use Rattle.ftc_ring.specs.Ring.{RingShape, apart, next_of}
@@ -35,7 +36,7 @@ use Rattle.ftc_machine.proofs.MergedFrontiers.{merged_reaches, reach_moves}
 use Rattle.ftc_machine.proofs.ReplacedPlaces.{row_replaced}
 use Rattle.ftc_protocol.proofs.RingDistances.{apart_after, apart_cases}
 use Rattle.ftc_protocol.proofs.ListStores.{some_changes}
-use Rattle.ftc_machine.proofs.GroupTails.{ends_here, same_test}
+use Rattle.ftc_machine.proofs.GroupTails.{ends_here}
 
 -- a changing visit changes some partition
 pub changes_in : (partitions : ℕ) (trace : List Entry) (group packet : ℕ) → IsChanging partitions trace group packet →
@@ -99,7 +100,7 @@ module _ (c : Setting) (s : ChainState) (link : ℕ) (may : FollowsRun c s (even
       ≡ is_shared c link (next_of (servers c) link) group
   shared_is group below =
       ap (λ (ring : RingShape). nat_lt group ring.servers && is_later_member ring group (next_of (servers c) link))
-      is.ring ∙ same_test _ _
+      is.ring ∙ both_ways _ _
       (λ yes_behind.
       let parts = and_parts (not (group == next_of (servers c) link))
       (nat_le (apart (servers c) group (next_of (servers c) link)) c.failures)
@@ -143,7 +144,7 @@ module _ (c : Setting) (s : ChainState) (link : ℕ) (may : FollowsRun c s (even
       (λ b. is_shared c link (next_of (servers c) link) group ≡ b
       → (s.lists (next_of (servers c) link) group packet || (b && s.lists link group packet))
       ≡ (if b then s.lists link group packet else s.lists (next_of (servers c) link) group packet)) [
-        | true ↦ λ shared. same_test _ _
+        | true ↦ λ shared. both_ways _ _
             (λ either. elim (or_cases (s.lists (next_of (servers c) link) group packet)
             (s.lists link group packet) either) [
               | inl had ↦ sender_has group packet below shared had
@@ -333,7 +334,7 @@ module _ (c : Setting) (s : ChainState) (link : ℕ) (may : FollowsRun c s (even
         (frontiers_of k.lists.items (next_of (servers c) link)) (group_ending_at k.ring (next_of (servers c) link)))
         → news ≡ list_any (is_news c s link (next_of (servers c) link)) s.trace
     news_is news are_news =
-        same_test news (list_any (is_news c s link (next_of (servers c) link)) s.trace)
+        both_ways news (list_any (is_news c s link (next_of (servers c) link)) s.trace)
         (λ yes_news. let told = told_by_row (are_news.0 yes_news) in news_there _ s.trace told.0 told.1 told.3 told.4)
         (λ told. let found = news_found s.trace told in are_news.1 (row_tells found.0 found.1 found.2))
 

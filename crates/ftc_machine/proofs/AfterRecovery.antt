@@ -14,7 +14,7 @@ use Rattle.ftc_serial.specs.Contents.{content_at}
 use Rattle.ftc_serial.specs.Removal.{left_of}
 use Rattle.ftc_serial.specs.Trace.{names}
 use Rattle.ftc_serial.specs.Words.{with_at}
-use Rattle.ftc_serial.proofs.Functions.{with_at_cases}
+use Rattle.ftc_serial.proofs.Functions.{with_at_cases, with_at_here, with_at_elsewhere}
 use Rattle.ftc_store.specs.Store.{Content}
 use Rattle.ftc_protocol.specs.declared.fate.Fate.{Fate}
 use Rattle.ftc_protocol.specs.declared.fate.Fate.TheVariants.{Inside, Lost}
@@ -48,13 +48,6 @@ use Rattle.ftc_machine.proofs.RisingNumbers.{rising_more}
 use Rattle.ftc_protocol.proofs.TraceLemmas.{visit_stood}
 use Rattle.ftc_machine.proofs.TraceRemoval.{rising_left, reach_left, footprints_left}
 use Rattle.ftc_machine.proofs.MovedMessages.{slot_moves}
-
--- at its own place a changed function has what it was given, and elsewhere what it had
-given : {A : Type 0} (f : ℕ → A) (k : ℕ) (v : A) → with_at f k v k ≡ v
-given {A} f k v = with_at_cases (λ (x : A). x ≡ v) f k v k (λ _. refl) (λ differs. absurd (differs refl))
-
-had : {A : Type 0} (f : ℕ → A) (k : ℕ) (v : A) (q : ℕ) → q ≢ k → with_at f k v q ≡ f q
-had {A} f k v q differs = with_at_cases (λ (x : A). x ≡ f q) f k v q (λ same. absurd (differs same)) (λ _. refl)
 
 -- the servers that are up
 pub up_with : (up : ℕ → Bool) (server other down after : ℕ) → up other ≡ not (has down other) →
@@ -108,7 +101,7 @@ module _ (c : Setting) (s : ChainState) (server : ℕ) (undone : List VisitName)
         (sym (before.order.had x j p member).0 ∙ subst (λ y. s.up y ≡ false) (sym same) down))
     | inr differs ↦ changing_left j p
         (after.order.had x j p (subst (λ (visits : Visits). In visits j p)
-        (sym (had s.lists server
+        (sym (with_at_elsewhere s.lists server
         (list_got c s server (previous_live c s server) (following_live c s server)) x differs)) member)).3
   ]
 
@@ -164,7 +157,8 @@ module _ (c : Setting) (s : ChainState) (server : ℕ) (undone : List VisitName)
       (λ within. reaches_left (list_got c s server r t) list
       (λ j p member. changing_left j p
       (after.order.had server j p
-      (subst (λ (visits : Visits). In visits j p) (sym (given s.lists server (list_got c s server r t))) member)).3)
+      (subst (λ (visits : Visits). In visits j p)
+      (sym (with_at_here s.lists server (list_got c s server r t))) member)).3)
       (got_reaches c may.supposed s before k is (visits_within c s (event.Recover server undone) may k is) server r t
       (let last = both_live.0 in last.below) (let next_one = both_live.1 in next_one.below) list size
       (λ group less. rows group less ∙
@@ -217,14 +211,15 @@ module _ (c : Setting) (s : ChainState) (server : ℕ) (undone : List VisitName)
             (here ∙ (ap (fold (rewritten (footprints_of k) server) empty) (order_after order order_is)
             ∙ rebuilt_content c.partitions (footprints_in k.visits.items) server
             (with_at s.lists server got server server) (left_of (names undone) s.trace) footprints_after
-            (λ packet changing. after.order.heads server packet (given s.up server true) changing)))
+            (λ packet changing. after.order.heads server packet (with_at_here s.up server true) changing)))
         | inr differs ↦
-            elsewhere other differs ∙ (is.sets.stores other within (sym (had s.up server true other differs) ∙ up)
+            elsewhere other differs
+            ∙ (is.sets.stores other within (sym (with_at_elsewhere s.up server true other differs) ∙ up)
             ∙ (store_left (names undone) s.trace other (s.lists other other)
             (λ packet _ taken. false_from_ne_true (s.lists other other packet)
             (λ member. true≢false (sym taken ∙ listed_left other other packet member)))
             ∙ sym (ap (λ (visits : Visits). content_of (left_of (names undone) s.trace) (visits other) other)
-            (had s.lists server got other differs))))
+            (with_at_elsewhere s.lists server got other differs))))
       ]
 
   -- ---- messages

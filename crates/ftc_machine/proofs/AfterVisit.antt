@@ -7,6 +7,7 @@ use Rattle.std.proofs.lemmas.Bool.{false_from_ne_true}
 use Rattle.ftc_base.specs.Partition.{partition_of}
 use Rattle.ftc_base.specs.declared.ask.Write.{Write}
 use Rattle.ftc_base.specs.declared.limits.TheConstants.{MOST_SERVERS}
+use Rattle.ftc_base.proofs.Bools.{or_without}
 use Rattle.ftc_journal.specs.declared.event.Event.TheVariants as event
 use Rattle.ftc_ring.specs.Ring.{RingShape}
 use Rattle.ftc_serial.specs.Contents.{content_at}
@@ -37,7 +38,7 @@ use Rattle.ftc_machine.proofs.LegalEvents.{reached_before, reached_after, visits
 use Rattle.ftc_machine.proofs.TraceGrowth.{rising_grows, footprints_grow, others_grow, head_grows}
 use Rattle.ftc_protocol.proofs.Sets.{in_one}
 use Rattle.ftc_machine.proofs.MadeFootprints.{footprint_of}
-use Rattle.ftc_machine.proofs.RaisedRows.{raised_reaches, or_false}
+use Rattle.ftc_machine.proofs.RaisedRows.{raised_reaches}
 use Rattle.ftc_machine.proofs.MergedFrontiers.{AreWithin}
 use Rattle.ftc_machine.proofs.SetFrontiers.{same_reach, head_last}
 use Rattle.ftc_machine.proofs.ReplacedPlaces.{row_replaced}
@@ -349,7 +350,7 @@ module _ (c : Setting) (s : ChainState) (server packet worker : ℕ)
       (here ∙ (ap (written outcome.writes) (is.sets.stores server below live)
       ∙ sym (content_grows c.partitions s.trace server packet outcome (s.lists server server)
       (union (s.lists server) extra server) fresh
-      (λ another differs. or_false (s.lists server server another) (extra server another)
+      (λ another differs. or_without (s.lists server server another) (extra server another)
       (false_from_ne_true (extra server another)
       (λ member. differs (in_one server packet changing server another member).1)))
       (λ changes_some. or_right (s.lists server server packet) (extra server packet)

@@ -4,6 +4,7 @@ use Rattle.std.proofs.Common.{refl, sym, ◌∙◌, ap, subst, eqb-true, eq-eqb}
 use Rattle.std.specs.Option.{option_map_or}
 use Rattle.std.specs.List.{list_all}
 use Rattle.std.proofs.lemmas.Bool.{true≢false, and_parts, and_from, or_cases, or_left, or_right}
+use Rattle.std.specs.Cmp.{both_ways}
 use Rattle.ftc_journal.specs.declared.event.VisitName.{VisitName}
 use Rattle.ftc_ring.specs.Ring.{RingShape, next_of}
 use Rattle.ftc_serial.specs.Trace.{names}
@@ -30,7 +31,6 @@ use Rattle.ftc_machine.proofs.LawfulStates.{serial_in}
 use Rattle.ftc_machine.proofs.RepresentedMessages.{footprint_there}
 use Rattle.ftc_protocol.proofs.TraceLemmas.{stands_map}
 use Rattle.ftc_protocol.proofs.ReadyTest.{each_had}
-use Rattle.ftc_machine.proofs.UndoneTests.{same_tests}
 
 -- ---- tests of all names of a list
 
@@ -90,7 +90,7 @@ module _ (c : Setting) (s : ChainState) (lawful : IsLawful c s) (k : MachineStat
     touching j p log = lawful.sound.logs origin j p message there log
 
     pub ready_same : is_ready k x kept ≡ has_each c.partitions s.trace (s.lists x) message.logs
-    ready_same = same_tests (is_ready k x kept) (has_each c.partitions s.trace (s.lists x) message.logs)
+    ready_same = both_ways (is_ready k x kept) (has_each c.partitions s.trace (s.lists x) message.logs)
         (λ ready. each_has c (s.lists x) message.logs s.trace (serial_in c s lawful) (λ j p log.
         (named_has j p (touching j p log)).0
         (all_says (has_named (footprints_of k) (list_of k x)) kept.logs ready j p (at.logs j p ∙ log))))

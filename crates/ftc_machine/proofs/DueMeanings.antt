@@ -4,6 +4,7 @@ use Rattle.std.proofs.Common.{subst, ◌∙◌, ◌↔◌, arith, lt-ltb}
 use Rattle.std.specs.List.{list_any}
 use Rattle.std.proofs.lemmas.Bool.{and_parts, and_from, or_cases, or_left, or_right, cases_Bool, cases_lt, ltb-true}
 use Rattle.ftc_base.specs.Sets.{has}
+use Rattle.ftc_base.proofs.Bools.{not_from_never, not_both}
 use Rattle.ftc_journal.specs.declared.event.Event.TheVariants as event
 use Rattle.ftc_machine.specs.declared.state.MachineState.{MachineState}
 use Rattle.ftc_machine.specs.declared.state.message.Withheld.{Withheld as WithheldOfMachine}
@@ -21,7 +22,7 @@ use Rattle.ftc_protocol.specs.Changes.{is_touching}
 use Rattle.ftc_protocol.proofs.ListStores.{stands_below}
 use Rattle.ftc_machine.specs.Lawful.{IsLawful}
 use Rattle.ftc_machine.proofs.LawfulStates.{serial_in}
-use Rattle.ftc_machine.proofs.SlotTests.{such_item, item_such, any_item, item_any, untrue, not_so}
+use Rattle.ftc_machine.proofs.SlotTests.{such_item, item_such, any_item, item_any}
 use Rattle.ftc_machine.proofs.RepresentedMessages.{named_has}
 use Rattle.ftc_machine.proofs.ScriptTests.{kept_withheld, said_withheld, each_below, below_each}
 
@@ -47,7 +48,7 @@ module _ (c : Setting) (is : IsSetting c) (s : ChainState) (r : IsLawful c s) (k
         servers_same in omega arith) in
         elim (or_cases (not (has kept.needs group))
         (has_named (footprints_of k) (known_last k) (named group kept.packet)) turn) [
-          | inl isnt ↦ absurd (not_so (has kept.needs group) isnt (same.needs group ∙ need))
+          | inl isnt ↦ absurd (not_both (has kept.needs group) isnt (same.needs group ∙ need))
           | inr had ↦ (named_has c s k h _ (knows c s (servers c - 1)) (known_last k) reaches group packet touching).0
               (subst (λ p. has_named (footprints_of k) (known_last k) (named group p) ≡ true) same.packet_is had)
         ],
@@ -88,7 +89,7 @@ module _ (c : Setting) (is : IsSetting c) (s : ChainState) (r : IsLawful c s) (k
               let one = kept_withheld other (s.withheld other) (slot_at k.buffer other) w (h.buffer other) due.0 in
               elim (cases_lt w.since said.0.since) [
                 | inr more ↦ more
-                | inl less ↦ absurd (not_so
+                | inl less ↦ absurd (not_both
                     (list_any (has_such (is_due_before k (known_last k) kept.since)) k.buffer) both.1
                     (item_any (is_due_before k (known_last k) kept.since) k.buffer other one.0 one.1
                     (and_from (nat_lt one.0.since kept.since) (is_due_by k (known_last k) one.0)
@@ -104,7 +105,7 @@ module _ (c : Setting) (is : IsSetting c) (s : ChainState) (r : IsLawful c s) (k
         (and_from (is_due_by k (known_last k) one.0)
         (not (list_any (has_such (is_due_before k (known_last k) one.0.since)) k.buffer))
         (said_due packet withheld one.0 may.1.0 one.2 may.1)
-        (untrue (list_any (has_such (is_due_before k (known_last k) one.0.since)) k.buffer) (λ any.
+        (not_from_never (list_any (has_such (is_due_before k (known_last k) one.0.since)) k.buffer) (λ any.
         let found = any_item (is_due_before k (known_last k) one.0.since) k.buffer any in
         let both = and_parts (nat_lt found.1.since one.0.since) (is_due_by k (known_last k) found.1) found.3 in
         let said = said_withheld found.0 (s.withheld found.0) (slot_at k.buffer found.0) found.1

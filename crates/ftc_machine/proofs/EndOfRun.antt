@@ -6,6 +6,7 @@ use Rattle.std.proofs.lemmas.Bool.{true≢false, and_parts, and_from}
 use Rattle.std.proofs.lemmas.Option.{none-some}
 use Rattle.std.proofs.lemmas.List.{drop_all, length-drop}
 use Rattle.ftc_base.specs.Sets.{has}
+use Rattle.ftc_base.proofs.Bools.{not_from_never, not_both}
 use Rattle.ftc_journal.specs.declared.event.VisitName.{VisitName}
 use Rattle.ftc_script.specs.Script.{ScriptShape}
 use Rattle.ftc_serial.specs.Trace.{names}
@@ -22,7 +23,7 @@ use Rattle.ftc_machine.specs.LegalityTests.{all_below}
 use Rattle.ftc_machine.specs.EndTest.{is_done}
 use Rattle.ftc_machine.specs.Lawful.{IsLawful}
 use Rattle.ftc_protocol.proofs.NothingLegal.{nothing_left}
-use Rattle.ftc_machine.proofs.SlotTests.{any_item, item_any, names_here, untrue, not_so}
+use Rattle.ftc_machine.proofs.SlotTests.{any_item, item_any, names_here}
 use Rattle.ftc_machine.proofs.RepresentedMessages.{said_message}
 use Rattle.ftc_machine.proofs.ScriptTests.{none_said, no_gap, below_each, kept_withheld, said_withheld}
 
@@ -56,7 +57,8 @@ module _ (c : Setting) (is : IsSetting c) (s : ChainState) (r : IsLawful c s) (k
     | None ↦ λ e. refl
     | Some w ↦ λ e.
         let one = kept_withheld packet (s.withheld packet) (slot_at k.buffer packet) w (h.buffer packet) e in
-        absurd (not_so some_withheld isnt (item_any (λ (v : WithheldOfMachine). true) k.buffer packet one.0 one.1 refl))
+        absurd (not_both some_withheld isnt
+        (item_any (λ (v : WithheldOfMachine). true) k.buffer packet one.0 one.1 refl))
   ] refl
 
   lines_done : nat_le (length script.steps) k.done ≡ true → s.lines ≡ []
@@ -96,7 +98,7 @@ module _ (c : Setting) (is : IsSetting c) (s : ChainState) (r : IsLawful c s) (k
       let long = length-drop k.done script.steps in
       let none_long : length (drop k.done script.steps) ≡ 0 = ap length none_left in omega arith))
       (eq-eqb k.entered packets (h.entered ∙ (complete.entered ∙ given.counted))))
-      (untrue some_message (λ any.
+      (not_from_never some_message (λ any.
       let found = any_item (λ (m : MessageOfMachine). true) k.messages any in
       let said = said_message c s k h found.0 found.1 found.2 in
       none-some said.0 (sym (complete.message found.0) ∙ said.1))))
@@ -104,7 +106,7 @@ module _ (c : Setting) (is : IsSetting c) (s : ChainState) (r : IsLawful c s) (k
       (below_each k.ring.servers (λ link. not (has k.gaps link)) (λ link below.
       let less : link < servers c = (let n = servers_are in omega arith) in
       ap not (h.gaps link less ∙ complete.gap link less))))
-      (untrue some_withheld (λ any.
+      (not_from_never some_withheld (λ any.
       let found = any_item (λ (w : WithheldOfMachine). true) k.buffer any in
       let said = said_withheld found.0 (s.withheld found.0) (slot_at k.buffer found.0) found.1
       (h.buffer found.0) found.2 in

@@ -1,12 +1,12 @@
 -- From what an effect says of its event to what is said of the event that was handed in.
 use Rattle.std.proofs.Common.{◌≡◌, ℕ, Result, sym, subst}
 use Rattle.std.specs.Prelude.{OnOk}
+use Rattle.ftc_base.proofs.Results.{on_ok_map}
 use Rattle.ftc_journal.specs.declared.event.Event.{Event}
 use Rattle.ftc_protocol.specs.Setting.{Setting}
 use Rattle.ftc_protocol.specs.State.{ChainState}
 use Rattle.ftc_machine.specs.declared.state.MachineState.{MachineState}
 use Rattle.ftc_machine.specs.Simulation.{SimulatesEvent}
-use Rattle.ftc_machine.proofs.Results.{on_ok_map}
 
 module _ (setting : Setting) (now : ℕ) (old new : MachineState) where
   abbrev pub Acts : Event → Type 0

@@ -5,6 +5,7 @@ use Rattle.std.proofs.Common.{get_or-set_same, get_or-set_other, eqb-true, eq-eq
 use Rattle.std.specs.Option.{option_map_or}
 use Rattle.std.proofs.lemmas.Bool.{true≢false, cases_eq, cases_lt, ne_eqb}
 use Rattle.std.proofs.lemmas.List.{take_more, get_or_past}
+use Rattle.ftc_base.proofs.Bools.{or_without}
 use Rattle.ftc_journal.specs.declared.event.VisitName.{VisitName}
 use Rattle.ftc_serial.specs.Trace.{names}
 use Rattle.ftc_protocol.specs.declared.fate.Fate.{Fate}
@@ -14,14 +15,13 @@ use Rattle.ftc_machine.specs.LostPackets.{was_filtered}
 use Rattle.ftc_protocol.specs.Next.{is_undone_drop}
 use Rattle.ftc_machine.specs.Slots.{slot_at, has_such}
 use Rattle.ftc_protocol.proofs.UndoneList.{any_name}
-use Rattle.ftc_machine.proofs.RaisedRows.{or_false}
 
 drop_more : (undone : List VisitName) (name : VisitName) (packet : ℕ) (fate : Fate)
     → is_undone_drop (undone ++ name ∷ []) packet fate
     ≡ (is_undone_drop undone packet fate || (was_filtered name.server fate && (name.packet == packet)))
 drop_more undone name packet (Filtered by) =
     any_name by packet undone (name ∷ []) ∙ ap (λ b. names undone by packet
-    || b) (or_false ((name.server == by) && (name.packet == packet)) false refl)
+    || b) (or_without ((name.server == by) && (name.packet == packet)) false refl)
 drop_more undone name packet (Lost event) = refl
 drop_more undone name packet Released = refl
 drop_more undone name packet Inside = refl

@@ -8,6 +8,7 @@ use Rattle.std.proofs.lemmas.Bool.{or_left, or_right, not-true, not_from_false}
 use Rattle.ftc_base.specs.Partition.{partition_of}
 use Rattle.ftc_base.specs.declared.ask.Answer.{Answer}
 use Rattle.ftc_base.specs.declared.ask.Write.{Write}
+use Rattle.ftc_base.proofs.EachOf.{all_tests, tests_all}
 use Rattle.ftc_vector.specs.Vector.{number_at}
 use Rattle.ftc_serial.specs.Words.{AnyOf}
 use Rattle.ftc_serial.specs.Take.{Outcome}
@@ -32,16 +33,6 @@ any_unmapped : {A B : Type 0} (P : B → Type 0) (f : A → B) (xs : List A) →
     AnyOf (λ (x : A). P (f x)) xs
 any_unmapped P f [] any = any
 any_unmapped P f (x ∷ xs) any = elim any [ inl here ↦ inl here | inr there ↦ inr (any_unmapped P f xs there) ]
-
-pub tests_all : {A : Type 0} (test : A → Bool) (xs : List A) → list_all test xs ≡ true →
-    AllByRecursion (λ x. test x ≡ true) xs
-tests_all test [] all = tt
-tests_all test (x ∷ xs) all = let both = and_parts (test x) (list_all test xs) all in (both.0, tests_all test xs both.1)
-
-pub all_tests : {A : Type 0} (test : A → Bool) (xs : List A) → AllByRecursion (λ x. test x ≡ true) xs →
-    list_all test xs ≡ true
-all_tests test [] all = refl
-all_tests test (x ∷ xs) all = and_from (test x) (list_all test xs) all.0 (all_tests test xs all.1)
 
 -- each item that has P has Q, if it does where it stands in the list
 pub all_within : {A : Type 0} (P Q : A → Type 0) (xs : List A) → ((x : A) → AnyOf (λ y. y ≡ x) xs → P x → Q x) →

@@ -13,10 +13,11 @@ use Rattle.ftc_vector.specs.Commits.{vector_of, all_merged, group_raised}
 use Rattle.ftc_vector.proofs.Partitions.{by_partition-from, by_partition-same, get_or-by_partition}
 use Rattle.ftc_vector.proofs.Bounds.{number_at-merged}
 use Rattle.ftc_vector.proofs.GroupLists.{vector_of-all_merged, vector_of-raised, vector_of-other, same_groups}
+use Rattle.ftc_vector.proofs.Held.{length-by_group, vector_of-by_group}
 use Rattle.ftc_machine.specs.Frontier.{Numbers, AreRising, IsFrontier, AreFrontiers, frontier_at}
 use Rattle.ftc_machine.specs.Tails.{part_of}
 use Rattle.ftc_protocol.specs.Visits.{Visits}
-use Rattle.ftc_machine.proofs.GroupVectors.{by_group-same, length-by_group, vector_of-by_group, vector_of-past}
+use Rattle.ftc_machine.proofs.GroupVectors.{by_group-same, vector_of-past}
 use Rattle.ftc_machine.proofs.MergedFrontiers.{AreWithin, merged_row, outside}
 use Rattle.ftc_machine.proofs.SetFrontiers.{zero_reach}
 

@@ -18,12 +18,6 @@ use Rattle.ftc_machine.proofs.LegalEvents.{reached_before, reached_below, reache
 use Rattle.ftc_machine.proofs.GroupParts.{part_reaches}
 use Rattle.ftc_machine.proofs.MergedFrontiers.{merged_reaches, reach_moves}
 
--- tests that imply one another are equal
-pub same_test : (one other : Bool) → (one ≡ true → other ≡ true) → (other ≡ true → one ≡ true) → one ≡ other
-same_test true other there back = sym (there refl)
-same_test false true there back = back refl
-same_test false false there back = refl
-
 module _ (c : Setting) (setting : IsSetting c) (s : ChainState) (r : IsLawful c s) (k : MachineState)
     (is : Represents c s k) where
   -- of a group of the chain

@@ -5,14 +5,7 @@ use Rattle.std.proofs.lemmas.List.FromFn.{length-map-range_with_len, get_or-map-
 use Rattle.ftc_base.specs.declared.limits.TheConstants.{MOST_SERVERS}
 use Rattle.ftc_vector.specs.Commits.{by_group, vector_of}
 use Rattle.ftc_vector.proofs.GroupLists.{by_group-from}
-
-pub length-by_group : {A : Type 0} (f : ℕ → A) → length (by_group f) ≡ MOST_SERVERS
-unfolding by_group
-length-by_group f = length-map-range_with_len f 0 MOST_SERVERS
-
-pub vector_of-by_group : (f : ℕ → List ℕ) (group : ℕ) → group < MOST_SERVERS → vector_of (by_group f) group ≡ f group
-unfolding by_group
-vector_of-by_group f group less = get_or-map-range_with_len f 0 MOST_SERVERS group group [] less (zero-add group)
+use Rattle.ftc_vector.proofs.Held.{length-by_group, vector_of-by_group}
 
 -- no other group has one
 pub vector_of-past : (f : ℕ → List ℕ) (group : ℕ) → MOST_SERVERS ≤ group → vector_of (by_group f) group ≡ []

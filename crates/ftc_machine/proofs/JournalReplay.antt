@@ -9,7 +9,7 @@ use Rattle.ftc_protocol.specs.Legal.{IsLegal}
 use Rattle.ftc_protocol.specs.Next.{next}
 use Rattle.ftc_protocol.specs.Run.{AreLegal, IsRun, state_after}
 use Rattle.ftc_machine.specs.Illegal.{IsFirstIllegal}
-use Rattle.ftc_protocol.proofs.RunLists.{run_on}
+use Rattle.ftc_protocol.proofs.RunLists.{run_on, legal_there}
 
 -- one more event of a list
 one_taken : (events : List Event) (place : ℕ) (event : Event) → slice_get events place ≡ Some event →
@@ -39,15 +39,6 @@ module _ (events items : List Event) (place : ℕ) (event : Event) (same : items
   more_run c run legal =
       subst (λ (es : List Event). ∥ IsRun c es ∥₁) (sym more_taken)
       (∥∥₁_map₂ run legal (λ r l. run_on c (take place events) event (opening c) r l))
-
--- in a run no event is the first that isn't legal
-legal_there : (c : Setting) (events : List Event) (s : ChainState) (place : ℕ) (event : Event) → AreLegal c s events →
-    slice_get events place ≡ Some event → IsLegal c (state_after c s (take place events)) event
-legal_there c [] s place event legal there = absurd (cc)
-legal_there c (first ∷ events) s zero event legal there = let same : first ≡ event =
-    cc in subst (IsLegal c s) same legal.0
-legal_there c (first ∷ events) s (suc place) event legal there =
-    legal_there c events (next c s first) place event legal.1 there
 
 pub none_illegal : (c : Setting) (events : List Event) (place : ℕ) → IsRun c events → IsFirstIllegal c events place → ⊥
 none_illegal c events place run first =

@@ -41,7 +41,6 @@ pub mod AfterApply
 pub mod SameParts
 pub mod AfterVisit
 pub mod VisitOutcomes
-pub mod Results
 pub mod AfterPull
 pub mod PlaceSweep
 pub mod DroppedPlaces

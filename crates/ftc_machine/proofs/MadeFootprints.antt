@@ -7,12 +7,12 @@ use Rattle.std.proofs.lemmas.List.{take_more}
 use Rattle.ftc_base.specs.Partition.{partition_of}
 use Rattle.ftc_base.specs.declared.ask.Answer.{Answer}
 use Rattle.ftc_base.specs.declared.ask.Write.{Write}
+use Rattle.ftc_base.proofs.EachOf.{all-weaker}
 use Rattle.ftc_vector.specs.Vector.{number_at}
 use Rattle.ftc_serial.specs.Words.{AnyOf}
 use Rattle.ftc_serial.specs.Take.{Outcome}
 use Rattle.ftc_serial.specs.Entries.{Touches}
 use Rattle.ftc_serial.specs.Serial.{Entry}
-use Rattle.ftc_serial.proofs.Functions.{all_map}
 use Rattle.ftc_machine.specs.declared.state.footprint.Touched.{Touched}
 use Rattle.ftc_machine.specs.declared.state.footprint.Footprint.{Footprint}
 use Rattle.ftc_protocol.specs.Changes.{Changes, changes}
@@ -20,11 +20,6 @@ use Rattle.ftc_machine.specs.Frontier.{Numbers, IsLast, IsFootprint}
 use Rattle.ftc_machine.specs.FootprintMaking.{is_written, IsTouched, IsFootprintMade}
 
 -- ---- one more
-
-pub all_push : {A : Type 0} (P : A → Type 0) (xs : List A) (x : A) → AllByRecursion P xs → P x →
-    AllByRecursion P (xs ++ x ∷ [])
-all_push P [] x all here = (here, tt)
-all_push P (y ∷ ys) x all here = (all.0, all_push P ys x all.1 here)
 
 map_push : {A B : Type 0} (f : A → B) (xs : List A) (x : A) → map f (xs ++ x ∷ []) ≡ map f xs ++ f x ∷ []
 map_push f [] x = refl
@@ -82,13 +77,13 @@ pub footprint_of : (partitions : ℕ) (older : List Entry) (numbers : Numbers) (
     → IsFootprint partitions older numbers server outcome footprint
 footprint_of partitions older numbers server outcome vector footprint made last reads = record {
   touched = made.touched;
-  changed = all_map (IsTouched partitions outcome.writes vector) (λ (touched : Touched). (touched.changed ≡ true)
+  changed = all-weaker (IsTouched partitions outcome.writes vector) (λ (touched : Touched). (touched.changed ≡ true)
       ↔ Changes partitions outcome touched.partition)
       (λ touched is. let both = written_changes partitions outcome touched.partition in (
         λ changed. both.0 (sym is.changed ∙ changed),
         λ changes. is.changed ∙ both.1 changes,
       )) footprint.touched.items made.each;
-  before = all_map (IsTouched partitions outcome.writes vector)
+  before = all-weaker (IsTouched partitions outcome.writes vector)
       (λ (touched : Touched). IsLast partitions older numbers server touched.partition touched.before)
       (λ touched is. subst (IsLast partitions older numbers server touched.partition) (sym is.before)
       (last touched.partition)) footprint.touched.items made.each;

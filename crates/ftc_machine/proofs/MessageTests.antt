@@ -5,6 +5,7 @@ use Rattle.std.proofs.Common.{eqb-true, eq-eqb, lt-ltb}
 use Rattle.std.specs.List.{list_all, list_any}
 use Rattle.std.proofs.lemmas.Bool.{true≢false, and_parts, and_from, or_cases, or_left, or_right, cases_Bool, cases_lt}
 use Rattle.std.proofs.lemmas.Bool.{ltb-true}
+use Rattle.ftc_base.proofs.Bools.{not_from_never, not_both}
 use Rattle.ftc_vector.specs.Commits.{vector_of}
 use Rattle.ftc_journal.specs.declared.event.Event.TheVariants.{Take, Apply, Visit, Pass, Lose, Carry}
 use Rattle.ftc_script.specs.Script.{ScriptShape, loses_of}
@@ -32,7 +33,6 @@ use Rattle.ftc_protocol.specs.Orderly.{aim}
 use Rattle.ftc_protocol.proofs.TraceLemmas.{stands_map}
 use Rattle.ftc_machine.proofs.FootprintTests.{changed_changing, contains_in, follows_all}
 use Rattle.ftc_machine.proofs.SlotTests.{such_item, item_such, any_item, item_any, name_of, each_name, all_names}
-use Rattle.ftc_machine.proofs.SlotTests.{untrue, not_so}
 use Rattle.ftc_machine.proofs.RepresentedMessages.{kept_message, said_message, footprint_there, named_has, ready_tests}
 
 -- ---- where a message is
@@ -186,7 +186,7 @@ module _ (c : Setting) (is : IsSetting c) (s : ChainState) (r : IsLawful c s) (k
                 | inr more ↦ more
                 | inl less ↦
                     let early : one.0.since < kept.since = let a = one.2.since in let b = said.2.since in omega arith in
-                    absurd (not_so (list_any (has_such (is_older link kept.since)) k.messages) both.1
+                    absurd (not_both (list_any (has_such (is_older link kept.since)) k.messages) both.1
                     (item_any (is_older link kept.since) k.messages other one.0 one.1
                     (and_from (is_queued link one.0.place) (nat_lt one.0.since kept.since)
                     (queued_kept c.partitions s.trace Numbered queued.known queued.place one.0.place link one.2.place
@@ -200,7 +200,7 @@ module _ (c : Setting) (is : IsSetting c) (s : ChainState) (r : IsLawful c s) (k
         && not (list_any (has_such (is_older link m.since)) k.messages)) (slot_at k.messages origin) one.0 one.1
         (and_from (is_queued link one.0.place) (not (list_any (has_such (is_older link one.0.since)) k.messages))
         (queued_kept c.partitions s.trace Numbered message.known message.place one.0.place link one.2.place may.2)
-        (untrue (list_any (has_such (is_older link one.0.since)) k.messages) (λ any.
+        (not_from_never (list_any (has_such (is_older link one.0.since)) k.messages) (λ any.
         let found = any_item (is_older link one.0.since) k.messages any in
         let both = and_parts (is_queued link found.1.place) (nat_lt found.1.since one.0.since) found.3 in
         let said = said_message c s k h found.0 found.1 found.2 in
@@ -256,7 +256,7 @@ module _ (c : Setting) (is : IsSetting c) (s : ChainState) (r : IsLawful c s) (k
           elim (cases_Bool (s.lists server group packet)) [
             | inr isnt ↦ isnt
             | inl in_it ↦
-                absurd (not_so (contains print vector) first.1 (inside.1 in_it))
+                absurd (not_both (contains print vector) first.1 (inside.1 in_it))
           ],
           behind.0 both.1,
           λ smaller less carried.
@@ -264,7 +264,7 @@ module _ (c : Setting) (is : IsSetting c) (s : ChainState) (r : IsLawful c s) (k
               let turn = each_name (is_in_turn k server group packet) kept.logs smaller packet outer.1 named in
               elim (or_cases (not (packet == packet && nat_lt smaller group))
               (has_named (footprints_of k) (list_of k server) (name_of smaller packet)) turn) [
-                | inl isnt ↦ absurd (not_so (packet == packet
+                | inl isnt ↦ absurd (not_both (packet == packet
                     && nat_lt smaller group) isnt
                     (and_from (packet == packet) (nat_lt smaller group) (eq-eqb packet packet refl)
                     (lt-ltb smaller group less)))
@@ -319,7 +319,7 @@ module _ (c : Setting) (is : IsSetting c) (s : ChainState) (r : IsLawful c s) (k
         (item_such (may_add vector) (footprints_of k group packet) print foot.1
         (and_from (has_changed print && not (contains print vector)) (follows print vector)
         (and_from (has_changed print) (not (contains print vector)) changed
-        (untrue (contains print vector) (λ within. true≢false (sym (inside.0 within) ∙ may.4))))
+        (not_from_never (contains print vector) (λ within. true≢false (sym (inside.0 within) ∙ may.4))))
         (behind.1 may.5))),
   )
 

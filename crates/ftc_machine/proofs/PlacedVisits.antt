@@ -1,6 +1,7 @@
 -- Where a visit of the trace stands that has a footprint: behind which entries, and what its footprint says.
 use Rattle.std.proofs.Common.{◌≡◌, ℕ, List, [], ◌∷◌, Option, Some, inl, inr, refl, sym, ap, subst, ◌∙◌}
 use Rattle.std.specs.Option.{option_map_or}
+use Rattle.std.proofs.lemmas.Option.{same_Some}
 use Rattle.ftc_serial.specs.Take.{Outcome}
 use Rattle.ftc_serial.specs.Serial.{Entry, Visited, Given}
 use Rattle.ftc_machine.specs.declared.state.footprint.Footprint.{Footprint}
@@ -25,9 +26,6 @@ pub record IsPlaced (partitions : ℕ) (trace : List Entry) (numbers : Numbers) 
   pub before : (other : ℕ) → IsInTrace (λ o. Meets partitions o outcome) older server other →
       IsBefore partitions trace server other packet
   pub number : numbers server packet ≡ footprint.number
-
-same_Some : {A : Type 0} (x y : A) → Some x ≡ Some y → x ≡ y
-same_Some x y same = cc
 
 -- the footprint's number is the visit's
 pub number_is : (footprints : Footprints) (server packet : ℕ) (footprint : Footprint) →

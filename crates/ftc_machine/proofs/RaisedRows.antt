@@ -2,6 +2,7 @@
 use Rattle.std.proofs.Common.{◌≡◌, ◌≢◌, ℕ, ◌<◌, ◌||◌, Bool, true, false, List, [], length, inl, inr, refl, sym, ap}
 use Rattle.std.proofs.Common.{subst, get_or-set_same, get_or-set_other}
 use Rattle.std.proofs.lemmas.Bool.{cases_eq}
+use Rattle.ftc_base.proofs.Bools.{or_without}
 use Rattle.ftc_vector.specs.Vector.{number_at, merged}
 use Rattle.ftc_vector.specs.Commits.{vector_of, group_raised}
 use Rattle.ftc_serial.specs.Serial.{Entry}
@@ -13,10 +14,6 @@ use Rattle.ftc_machine.proofs.MergedFrontiers.{AreWithin, merged_row}
 again : (b other : Bool) → (b || (b || other)) ≡ (b || other)
 again true other = refl
 again false other = refl
-
-pub or_false : (b other : Bool) → other ≡ false → (b || other) ≡ b
-or_false true other no_other = refl
-or_false false other no_other = no_other
 
 module _ (partitions : ℕ) (trace : List Entry) (numbers : Numbers) (within : AreWithin partitions trace) where
   pub raised_reaches : (one extra : Visits) (commits : List (List ℕ)) (group : ℕ) (vector : List ℕ) →
@@ -30,7 +27,7 @@ module _ (partitions : ℕ) (trace : List Entry) (numbers : Numbers) (within : A
         (frontier_at (group_raised commits group vector) g)) (sym same) own
     | inr differs ↦ same_reach partitions trace numbers other (one other) (union one extra other)
         (frontier_at commits other) (frontier_at (group_raised commits group vector) other)
-        (λ packet. sym (or_false (one other packet) (extra other packet) (elsewhere other packet differs)))
+        (λ packet. sym (or_without (one other packet) (extra other packet) (elsewhere other packet differs)))
         (λ partition. ap (λ (row : List ℕ). number_at row partition)
         (sym (get_or-set_other commits group other (merged (vector_of commits group) vector) [] differs)))
         (reaches other)
@@ -68,7 +65,7 @@ module _ (partitions : ℕ) (trace : List Entry) (numbers : Numbers) (within : A
         (reaches group) here))
     | inr differs ↦ same_reach partitions trace numbers other (one other) (union one extra other)
         (frontier_at commits other) (frontier_at (group_raised commits group vector) other)
-        (λ packet. sym (or_false (one other packet) (extra other packet) (elsewhere other packet differs)))
+        (λ packet. sym (or_without (one other packet) (extra other packet) (elsewhere other packet differs)))
         (λ partition. ap (λ (row : List ℕ). number_at row partition)
         (sym (get_or-set_other commits group other (merged (vector_of commits group) vector) [] differs)))
         (reaches other)

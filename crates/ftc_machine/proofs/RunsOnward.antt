@@ -26,6 +26,7 @@ use Rattle.ftc_protocol.proofs.RunLists.{run_on, next_on}
 use Rattle.ftc_protocol.specs.Setting.{IsSetting}
 use Rattle.ftc_protocol.specs.Run.{IsRun}
 use Rattle.ftc_protocol.specs.Finish.{IsComplete}
+use Rattle.ftc_protocol.proofs.OrderlyStates.{count_on, counted}
 use Rattle.ftc_machine.specs.Lawful.{IsLawful}
 use Rattle.ftc_machine.proofs.EndOfRun.{done_finished, complete_done}
 
@@ -83,15 +84,6 @@ pub servers_of : (c : Setting) (journal : List Event) (k : MachineState) → ∥
 servers_of c journal k played =
     ∥∥₁_elim played (Coded-set coded_ℕ _ _) (λ p. sym (ap (λ (ring : RingShape). ring.servers) p.kept_for.ring))
 
--- each event is counted
-events_on : (c : Setting) (events : List Event) (s : ChainState) →
-    (state_after c s events).events ≡ s.events + length events
-events_on c [] s = omega arith
-events_on c (event ∷ events) s = let more = events_on c events (next c s event) in omega arith
-
-pub events_are : (c : Setting) (events : List Event) → (state_after c (opening c) events).events ≡ length events
-events_are c events = let all = events_on c events (opening c) in omega arith
-
 module _ (c : Setting) (journal : List Event) (k new : MachineState) where
   -- what stands still
   pub still : RepresentsSame k new → ∥ IsRunSoFar c journal k ∥₁ → ∥ IsRunSoFar c journal new ∥₁
@@ -136,5 +128,5 @@ module _ (c : Setting) (journal : List Event) (k : MachineState) (script : Scrip
         laws = p.laws;
         run = run_on c journal event (opening c) p.run ((says p).0 is);
         kept_for = subst (λ (s : ChainState). Represents c s new) (sym (next_on c journal event (opening c)))
-            (after state (time ∙ sym (events_are c journal)) follows p.kept_for);
+            (after state (time ∙ sym (counted c journal)) follows p.kept_for);
       })

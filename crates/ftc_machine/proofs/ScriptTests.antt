@@ -7,6 +7,8 @@ use Rattle.std.proofs.lemmas.Bool.{true≢false, and_parts, and_from, or_cases, 
 use Rattle.std.proofs.lemmas.Bool.{ne_eqb}
 use Rattle.std.proofs.lemmas.Option.{none-some}
 use Rattle.ftc_base.specs.Sets.{has}
+use Rattle.ftc_base.proofs.Bools.{not_from_never, not_both}
+use Rattle.ftc_vector.proofs.OrderTests.{all_in, all_of}
 use Rattle.ftc_ring.specs.Ring.{next_of}
 use Rattle.ftc_ring.specs.Live.{is_live}
 use Rattle.ftc_journal.specs.declared.event.VisitName.{VisitName}
@@ -31,7 +33,7 @@ use Rattle.ftc_machine.specs.Represents.{Represents, IsPlace, IsWithheld, IsWith
 use Rattle.ftc_machine.specs.LegalityTests.{lines_left, first_of, may_enter, is_crash, is_recovery, may_crash}
 use Rattle.ftc_machine.specs.LegalityTests.{may_recover, may_pull, all_below, is_begun, is_stalled, may_propagate}
 use Rattle.ftc_machine.specs.Lawful.{IsLawful}
-use Rattle.ftc_machine.proofs.SlotTests.{any_item, item_any, names_here, untrue, not_so}
+use Rattle.ftc_machine.proofs.SlotTests.{any_item, item_any, names_here}
 use Rattle.ftc_machine.proofs.RepresentedMessages.{kept_message, said_message}
 
 -- ---- lines
@@ -41,11 +43,11 @@ pub none_at : (lines : List ScriptLine) (packet : ℕ) →
     AllByRecursion (λ (line : ScriptLine). at_of line ≢ packet) lines
 none_at [] packet isnt = tt
 none_at (line ∷ lines) packet isnt = (
-  λ same. not_so (list_any (λ (l : ScriptLine). at_of l == packet) (line ∷ lines)) isnt
+  λ same. not_both (list_any (λ (l : ScriptLine). at_of l == packet) (line ∷ lines)) isnt
       (or_left (at_of line == packet) (list_any (λ (l : ScriptLine). at_of l == packet) lines)
       (eq-eqb (at_of line) packet same)),
-  none_at lines packet (untrue (list_any (λ (l : ScriptLine). at_of l == packet) lines)
-      (λ any. not_so (list_any (λ (l : ScriptLine). at_of l == packet) (line ∷ lines)) isnt
+  none_at lines packet (not_from_never (list_any (λ (l : ScriptLine). at_of l == packet) lines)
+      (λ any. not_both (list_any (λ (l : ScriptLine). at_of l == packet) (line ∷ lines)) isnt
       (or_right (at_of line == packet) (list_any (λ (l : ScriptLine). at_of l == packet) lines) any))),
 )
 
@@ -94,31 +96,13 @@ line_recovery (Crash at other ∷ lines) entered server is = absurd (cc)
 
 -- ---- numbers below a count
 
-each_from : (test : ℕ → Bool) (start len : ℕ) → list_all test (range_with_len start len) ≡ true → (number : ℕ) →
-    start ≤ number → number < start + len → test number ≡ true
-each_from test start zero all number le less = absurd (omega arith)
-each_from test start (suc len) all number le less =
-    let both = and_parts (test start) (list_all test (range_with_len (start + 1) len)) all in
-    elim (cases_eq number start) [
-      | inl same ↦ subst (λ n. test n ≡ true) (sym same) both.0
-      | inr other ↦ each_from test (start + 1) len both.1 number (omega arith) (omega arith)
-    ]
-
 pub each_below : (most : ℕ) (test : ℕ → Bool) → all_below most test ≡ true → (number : ℕ) → number < most →
     test number ≡ true
-each_below most test all number below = each_from test 0 most all number (omega arith) (omega arith)
-
-from_each : (test : ℕ → Bool) (start len : ℕ) →
-    ((number : ℕ) → start ≤ number → number < start + len → test number ≡ true) →
-    list_all test (range_with_len start len) ≡ true
-from_each test start zero each = refl
-from_each test start (suc len) each =
-    and_from (test start) (list_all test (range_with_len (start + 1) len)) (each start (omega arith) (omega arith))
-    (from_each test (start + 1) len (λ number le less. each number (omega arith) (omega arith)))
+each_below most test all number below = all_in test 0 most all number (omega arith) (omega arith)
 
 pub below_each : (most : ℕ) (test : ℕ → Bool) → ((number : ℕ) → number < most → test number ≡ true) →
     all_below most test ≡ true
-below_each most test each = from_each test 0 most (λ number le less. each number (omega arith))
+below_each most test each = all_of test 0 most (λ number le less. each number (omega arith))
 
 -- ---- messages that began at server 0, packets of the buffer
 
@@ -200,7 +184,7 @@ module _ (c : Setting) (is : IsSetting c) (s : ChainState) (r : IsLawful c s) (k
           (not (list_any (λ (line : ScriptLine). at_of line == packet) (lines_left k script)))
           (and_from (packet == k.entered) (nat_lt packet packets) (eq-eqb packet k.entered (may.0 ∙ sym h.entered))
           (lt-ltb packet packets (omega arith)))
-          (untrue (list_any (λ (line : ScriptLine). at_of line == packet) (lines_left k script))
+          (not_from_never (list_any (λ (line : ScriptLine). at_of line == packet) (lines_left k script))
           (at_none (lines_left k script) packet
           (subst (λ (lines : List ScriptLine). AllByRecursion
           (λ (line : ScriptLine). at_of line ≢ packet) lines) left may.2))),
@@ -249,7 +233,7 @@ module _ (c : Setting) (is : IsSetting c) (s : ChainState) (r : IsLawful c s) (k
       | None ↦ λ e. refl
       | Some m ↦ λ e.
           let one = kept_message c s k h origin m e in
-          absurd (not_so (list_any (has_such (λ (n : MessageOfMachine). true)) k.messages) isnt
+          absurd (not_both (list_any (has_such (λ (n : MessageOfMachine). true)) k.messages) isnt
           (item_any (λ (n : MessageOfMachine). true) k.messages origin one.0 one.1 refl))
     ] refl
 
@@ -290,7 +274,7 @@ module _ (c : Setting) (is : IsSetting c) (s : ChainState) (r : IsLawful c s) (k
         (list_any (has_such (λ (w : WithheldOfMachine). true)) k.buffer)
         (and_from (not (list_any (has_such (λ (m : MessageOfMachine). true)) k.messages))
         (all_below k.ring.servers (λ link. not (has k.gaps link)))
-        (untrue (list_any (has_such (λ (m : MessageOfMachine). true)) k.messages)
+        (not_from_never (list_any (has_such (λ (m : MessageOfMachine). true)) k.messages)
         (λ any. no_message any stalled.messages))
         (below_each k.ring.servers (λ link. not (has k.gaps link))
         (λ link below. ap not (let less : link < servers c = (let n = servers_is in omega arith) in
@@ -323,7 +307,7 @@ module _ (c : Setting) (is : IsSetting c) (s : ChainState) (r : IsLawful c s) (k
             all_up p1.1,
             (λ other message there visited at.
                 let one = kept_message c s k h other message there in
-                not_so (list_any (has_such begun_test) k.messages) p2.1
+                not_both (list_any (has_such begun_test) k.messages) p2.1
                 (item_any begun_test k.messages other one.0 one.1
                 (begun_kept c.partitions s.trace _ message.known message.place one.0.place visited one.2.place
                 at))),
@@ -349,7 +333,7 @@ module _ (c : Setting) (is : IsSetting c) (s : ChainState) (r : IsLawful c s) (k
           (below_each k.ring.servers (is_live k.down)
           (λ server below. let less : server < servers c = (let n = servers_is in omega arith) in
           sym (h.up server less) ∙ may.1 server less)))
-          (untrue (list_any (has_such begun_test) k.messages) (λ any.
+          (not_from_never (list_any (has_such begun_test) k.messages) (λ any.
           let found = any_item begun_test k.messages any in
           let said = said_message c s k h found.0 found.1 found.2 in
           let at = begun_said c.partitions s.trace _ said.0.known said.0.place found.1.place said.2.place found.3 in

@@ -75,11 +75,3 @@ all_names test (name ∷ visits) each =
     (or_right (name.server == server && name.packet == packet) (names visits server packet) is)))
 
 -- ---- truth values
-
-pub untrue : (b : Bool) → (b ≡ true → ⊥) → not b ≡ true
-untrue true isnt = absurd (isnt refl)
-untrue false isnt = refl
-
-pub not_so : (b : Bool) → not b ≡ true → b ≡ true → ⊥
-not_so true isnt is = true≢false (sym isnt)
-not_so false isnt is = true≢false (sym is)

@@ -3,9 +3,9 @@ use Rattle.std.proofs.Common.{◌≡◌, ℕ, ◌<◌, ◌≤◌, ◌↔◌, Boo
 use Rattle.std.proofs.Common.{refl, sym, ap, subst, ◌∙◌, arith}
 use Rattle.std.specs.Option.{option_map_or}
 use Rattle.std.proofs.lemmas.Bool.{true≢false, cases_lt}
+use Rattle.ftc_base.proofs.EachOf.{all-weaker}
 use Rattle.ftc_serial.specs.Take.{Outcome}
 use Rattle.ftc_serial.specs.Serial.{Entry, Visited, Given}
-use Rattle.ftc_serial.proofs.Functions.{all_map}
 use Rattle.ftc_machine.specs.declared.state.footprint.Touched.{Touched}
 use Rattle.ftc_machine.specs.declared.state.footprint.Footprint.{Footprint}
 use Rattle.ftc_protocol.specs.Changes.{Changes, is_changing}
@@ -67,7 +67,7 @@ module _ (numbers others : Numbers) where
   footprint_same partitions older server outcome footprint same made = record {
     touched = made.touched;
     changed = made.changed;
-    before = all_map (λ (touched : Touched). IsLast partitions older numbers server touched.partition touched.before)
+    before = all-weaker (λ (touched : Touched). IsLast partitions older numbers server touched.partition touched.before)
         (λ (touched : Touched). IsLast partitions older others server touched.partition touched.before)
         (λ touched is. last_same partitions older server touched.partition touched.before same is)
         footprint.touched.items made.before;

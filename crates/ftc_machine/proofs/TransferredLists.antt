@@ -13,6 +13,7 @@ use Rattle.ftc_ring.specs.Live.{source_between}
 use Rattle.ftc_ring.proofs.Geometry.{same_start, apart_cases}
 use Rattle.ftc_vector.specs.Vector.{by_partition, number_at, merged}
 use Rattle.ftc_vector.specs.Commits.{vector_of, by_group, all_merged, group_raised}
+use Rattle.ftc_vector.proofs.GroupLists.{length-all_merged}
 use Rattle.ftc_machine.specs.declared.state.MachineState.{MachineState}
 use Rattle.ftc_machine.specs.Represents.{Represents, footprints_in, frontiers_of}
 use Rattle.ftc_protocol.specs.Known.{knows}
@@ -28,11 +29,6 @@ use Rattle.ftc_machine.specs.Lawful.{IsLawful}
 use Rattle.ftc_machine.proofs.RaisedRows.{joined_reaches}
 use Rattle.ftc_machine.proofs.MergedFrontiers.{AreWithin, merged_row, merged_reaches, outside}
 use Rattle.ftc_machine.proofs.SetFrontiers.{same_reach, zero_reach}
-
-merged_length : (one other : List (List ℕ)) → length (all_merged one other) ≡ MOST_SERVERS
-unfolding by_group
-merged_length one other = length-map-range_with_len
-    (λ group. merged (vector_of one group) (vector_of other group)) 0 MOST_SERVERS
 
 module _ (c : Setting) (setting : IsSetting c) (s : ChainState) (lawful : IsLawful c s) (k : MachineState)
     (is : Represents c s k) (few : AreWithin c.partitions s.trace) where
@@ -172,13 +168,13 @@ module _ (c : Setting) (setting : IsSetting c) (s : ChainState) (lawful : IsLawf
       let merged_known = all_merged (frontiers_of k.known.items r) (frontiers_of k.known.items t) in
       let known : Visits = union (s.known r) (s.known t) in
       let one = tail_reaches r rl known merged_known
-      (merged_length (frontiers_of k.known.items r) (frontiers_of k.known.items t))
+      (length-all_merged (frontiers_of k.known.items r) (frontiers_of k.known.items t))
       (merged_reaches c.partitions s.trace numbers few (s.known r) (s.known t) (frontiers_of k.known.items r)
       (frontiers_of k.known.items t) (is.sets.known r rl) (is.sets.known t tl)) in
       let size : length (tail_added k r merged_known) ≡ MOST_SERVERS =
       length-set merged_known (group_ending_at k.ring r)
       (merged (vector_of merged_known (group_ending_at k.ring r))
-      (vector_of (list_of k r) (group_ending_at k.ring r))) ∙ merged_length (frontiers_of k.known.items r)
+      (vector_of (list_of k r) (group_ending_at k.ring r))) ∙ length-all_merged (frontiers_of k.known.items r)
       (frontiers_of k.known.items t) in
       let both = tail_reaches t tl (union known (tails r)) (tail_added k r merged_known) size one in
       same_reach c.partitions s.trace numbers group (union (union known (tails r)) (tails t) group)

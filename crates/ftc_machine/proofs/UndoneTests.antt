@@ -5,6 +5,7 @@ use Rattle.std.proofs.Common.{append-nil, arith}
 use Rattle.std.specs.List.{list_any, range_with_len, find}
 use Rattle.std.proofs.lemmas.Bool.{true≢false, cases_eq, and_parts, and_from, or_cases, or_left, or_right, not-true}
 use Rattle.std.proofs.lemmas.Bool.{not_from_false, false_from_ne_true}
+use Rattle.std.specs.Cmp.{both_ways}
 use Rattle.ftc_journal.specs.declared.event.VisitName.{VisitName}
 use Rattle.ftc_ring.specs.Ring.{RingShape, next_of, previous_of, along, against}
 use Rattle.ftc_ring.specs.Live.{is_live, live_before_of, live_after_of}
@@ -34,11 +35,6 @@ use Rattle.ftc_protocol.proofs.UndoneList.{lacked_says, lacked_has, up_to_says, 
 
 -- ---- tests
 
-pub same_tests : (a b : Bool) → (a ≡ true → b ≡ true) → (b ≡ true → a ≡ true) → a ≡ b
-same_tests true b there back = sym (there refl)
-same_tests false true there back = back refl
-same_tests false false there back = refl
-
 any_range_says : (test : ℕ → Bool) (start count : ℕ) → list_any test (range_with_len start count) ≡ true →
     (i : ℕ) × (start ≤ i) × (i < start + count) × (test i ≡ true)
 any_range_says test start zero any = absurd (true≢false (sym any))
@@ -62,7 +58,7 @@ any_range_has test start (suc count) i low high is = elim (cases_eq i start) [
 -- some number up to one, where the tests agree up to it
 up_to_same : (test other : ℕ → Bool) (most : ℕ) → ((i : ℕ) → i ≤ most → other i ≡ test i) →
     list_any other (range_with_len 0 (most + 1)) ≡ is_up_to test most
-up_to_same test other most same = same_tests (list_any other (range_with_len 0 (most + 1))) (is_up_to test most)
+up_to_same test other most same = both_ways (list_any other (range_with_len 0 (most + 1))) (is_up_to test most)
     (λ any. let r = any_range_says other 0 (most + 1) any in let high : r.0 < 0 + (most + 1) = r.2 in
     up_to_has test most r.0 (omega arith) (sym (same r.0 (omega arith)) ∙ r.3))
     (λ is. let r = up_to_says test most is in let le : r.0 ≤ most = r.1 in
@@ -162,7 +158,7 @@ module _ (c : Setting) (s : ChainState) (of : IsLawfulRun c s) (k : MachineState
       let had = had_has c.partitions (s.events
       + 1) s.trace footprints is.sets.rising is.sets.footprints i p found.0 there found.1 (s.lists following) vector
       (is.sets.lists following within i) in
-      ap (has_such (is_lacked vector)) found.1 ∙ same_tests (is_lacked vector found.0)
+      ap (has_such (is_lacked vector)) found.1 ∙ both_ways (is_lacked vector found.0)
       (lacked_by c.partitions s.trace (s.lists following) i p)
       (λ lacked. let parts = and_parts (is_some_list found.0.touched.items) (not (is_had_by found.0 vector)) lacked in
       lacked_has c s.trace (s.lists following) i p serial (touched.0 parts.0)

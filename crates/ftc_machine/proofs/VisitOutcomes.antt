@@ -3,7 +3,10 @@ use Rattle.std.proofs.Common.{◌≡◌, ℕ, ◌==◌, ◌&&◌, ◌||◌, if�
 use Rattle.std.proofs.Common.{Some, None, inl, inr, refl, sym, ◌∙◌, ap, eq-eqb}
 use Rattle.std.specs.Prelude.{nat_lt}
 use Rattle.std.proofs.lemmas.Bool.{cases_eq, ne_eqb}
+use Rattle.std.proofs.Math.Bool.{and-false}
 use Rattle.ftc_base.specs.declared.ask.Answer.{Answer}
+use Rattle.ftc_base.proofs.Numbers.{eqb-swap}
+use Rattle.ftc_base.proofs.Bools.{or_without}
 use Rattle.ftc_journal.specs.declared.event.Event.TheVariants as event
 use Rattle.ftc_journal.specs.declared.event.VisitName.{VisitName}
 use Rattle.ftc_mbox.specs.declared.rule.Rule.{Rule}
@@ -27,30 +30,19 @@ use Rattle.ftc_machine.specs.VisitEffect.{bytes_kept, outcome_kept, logs_behind}
 use Rattle.ftc_protocol.specs.Visits.{just, union}
 use Rattle.ftc_machine.proofs.AfterVisit.{below, live}
 use Rattle.ftc_protocol.proofs.UndoneList.{any_name}
-use Rattle.ftc_machine.proofs.RaisedRows.{or_false}
-
-eqb_other_way : (a b : ℕ) → (a == b) ≡ (b == a)
-eqb_other_way a b = elim (cases_eq a b) [
-  | inl same ↦ eq-eqb a b same ∙ sym (eq-eqb b a (sym same))
-  | inr differs ↦ ne_eqb a b differs ∙ sym (ne_eqb b a (λ e. differs (sym e)))
-]
 
 and_true : (b : Bool) → (b && true) ≡ b
 and_true true = refl
 and_true false = refl
 
-and_false : (b : Bool) → (b && false) ≡ false
-and_false true = refl
-and_false false = refl
-
 -- one visit's name
 one_name : (server packet group number : ℕ) → names (record { server = server; packet = packet } ∷ []) group number
     ≡ just server packet true group number
 one_name server packet group number =
-    or_false ((server == group) && (packet == number)) false refl
-    ∙ (ap (λ b. b && (packet == number)) (eqb_other_way server group) ∙
+    or_without ((server == group) && (packet == number)) false refl
+    ∙ (ap (λ b. b && (packet == number)) (eqb-swap server group) ∙
     (ap (λ b. (group == server)
-    && b) (eqb_other_way packet number) ∙ sym (and_true ((group == server) && (number == packet)))))
+    && b) (eqb-swap packet number) ∙ sym (and_true ((group == server) && (number == packet)))))
 
 -- a name that joins a list, or doesn't
 joined_names : (logs : List VisitName) (server packet : ℕ) (b : Bool) (group number : ℕ)
@@ -60,8 +52,8 @@ joined_names logs server packet true group number =
     any_name group number logs (record { server = server; packet = packet } ∷ []) ∙ ap (λ b. names logs group number
     || b) (one_name server packet group number)
 joined_names logs server packet false group number =
-    sym (or_false (names logs group number) (just server packet false group number)
-    (and_false ((group == server) && (number == packet))))
+    sym (or_without (names logs group number) (just server packet false group number)
+    (and-false ((group == server) && (number == packet))))
 
 module _ (partitions : ℕ) (trace : List Entry) (numbers : Numbers) where
   bytes_same : (o : Option Message) (slot : Option MessageOfMachine) → IsMessageSlot partitions trace numbers o slot →

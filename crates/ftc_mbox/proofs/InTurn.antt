@@ -165,7 +165,7 @@ from_before : (leave : List (List ℕ)) (asks : List Answer → Ask) (answers : 
     → WritesAt leave writes → AllByRecursion (λ (write : Write). MayWrite leave asks answers write.key) writes
 from_before leave asks answers writes all =
     all-weaker (λ (write : Write). Contains leave write.key)
-    (λ (write : Write). MayWrite leave asks answers write.key) writes (λ write at. inl at) all
+    (λ (write : Write). MayWrite leave asks answers write.key) (λ write at. inl at) writes all
 
 last_next : (leave read : List (List ℕ)) (asks : List Answer → Ask) (asked : Ask) → Last leave asked →
     Next 0 read leave asks [] asked
@@ -195,7 +195,7 @@ lent_first : (asks : List Answer → Ask) (answer : Answer) (answers : List Answ
 lent_first asks answer answers key lent =
     record { earlier = []; answer = answer; later = answers; whole = refl; lent = lent }
 
-first_or_before : (key other : List ℕ) (leave : List (List ℕ)) → Contains (key ∷ leave) other →
+pub first_or_before : (key other : List ℕ) (leave : List (List ℕ)) → Contains (key ∷ leave) other →
     (other ≡ key) ⊎ Contains leave other
 first_or_before key other leave (zero, less, is) = inl (sym is)
 first_or_before key other leave (suc i, less, is) = inr (i, grind (arith), is)
@@ -223,8 +223,9 @@ one_more left read leave asks answer answers key change (Read other leave_to) as
 one_more left read leave asks answer answers key change (Finish end) asked same holds =
     all-weaker (λ (write : Write). MayWrite (if change then key ∷ leave
     else leave) (λ more. asks (answer ∷ more)) answers write.key)
-    (λ (write : Write). MayWrite leave asks (answer ∷ answers) write.key) end.writes.items
-    (λ write may. may_write leave asks answer answers key change write.key asked may) holds
+    (λ (write : Write). MayWrite leave asks (answer ∷ answers) write.key)
+    (λ write may. may_write leave asks answer answers key change write.key asked may)
+    end.writes.items holds
 
 next_from : (left : ℕ) (read leave : List (List ℕ)) (asks : List Answer → Ask) (answers : List Answer)
     → ReadsAndWrites left read leave asks → AllInTurn asks answers → Next left read leave asks answers (asks answers)
@@ -261,8 +262,9 @@ comes_next asks answers (Read key change) holds rising = (holds.0, holds.1)
 comes_next asks answers (Finish end) holds rising = (
   rising,
   all-weaker (λ (write : Write). MayWrite [] asks answers write.key)
-      (λ (write : Write). IsLent asks answers write.key) end.writes.items
-      (λ write may. elim may [ inl at ↦ absurd (none_with_leave write.key at) | inr lent ↦ lent ]) holds,
+      (λ (write : Write). IsLent asks answers write.key)
+      (λ write may. elim may [ inl at ↦ absurd (none_with_leave write.key at) | inr lent ↦ lent ])
+      end.writes.items holds,
 )
 
 pub in_turn : (rule : Rule) (packet : List ℕ) (answers : List Answer) → InTurn rule packet answers

@@ -3,8 +3,9 @@ use Rattle.std.proofs.Common.{◌≡◌, ◌∙◌, ◌&&◌, Bool, true, List, 
 use Rattle.std.specs.Cmp.{IsStrictWeakOrder}
 use Rattle.std.specs.List.{AllByRecursion}
 use Rattle.std.proofs.lemmas.Bool.{and_parts, and_from}
+use Rattle.ftc_base.proofs.EachOf.{all-weaker}
 use Rattle.ftc_message.specs.Rises.{Rises}
-use Rattle.ftc_message.proofs.InOrder.{all_so, before_all}
+use Rattle.ftc_message.proofs.InOrder.{before_all}
 
 -- the test `rise` asks of each item whether it follows the place of the one before
 pub record GoesOn {L X : Type 0} (place : X → L) (follows : L → X → Bool) (rise : L → List X → Bool) : Type 0 where
@@ -60,4 +61,4 @@ module _ {L X : Type 0} (place : X → L) (follows : L → X → Bool) (rise : L
     by_test last [] all rises = goes.none last
     by_test last (item ∷ items) all rises =
         of_parts last item items all.0
-        (by_test (place item) items (all_so _ _ (λ later is. same item later ∙ is) items rises.0) rises.1)
+        (by_test (place item) items (all-weaker _ _ (λ later is. same item later ∙ is) items rises.0) rises.1)

@@ -8,6 +8,7 @@ use Rattle.std.specs.List.{AllByRecursion, find, prefix_len}
 use Rattle.std.specs.List.Sorted.{ties}
 use Rattle.std.specs.Option.{option_copied}
 use Rattle.std.proofs.lemmas.List.Sums.{sum_by-cons}
+use Rattle.ftc_base.proofs.EachOf.{all-weaker}
 use Rattle.ftc_message.specs.Ordered.{with_item, with_items}
 use Rattle.ftc_message.specs.Rises.{Rises, TiesNone, TieNone}
 
@@ -55,11 +56,6 @@ with_item-place {A} is_before item (other ∷ others) =
     with_item-cases (λ placed. placed ≡ insert (other ∷ others) (cond (is_before other item) (1 + n) 0) item) is_before
     item other others (λ is. rw (is, next) (ap (λ (more : List A). other ∷ more) later)) (λ isnt. rw isnt refl)
 
-pub all_so : {A : Type 0} (P Q : A → Type 0) → ((item : A) → P item → Q item) → (items : List A)
-    → AllByRecursion P items → AllByRecursion Q items
-all_so P Q so [] all = tt
-all_so P Q so (item ∷ items) all = (so item all.0, all_so P Q so items all.1)
-
 pub all-filter : {A : Type 0} (P : A → Type 0) (test : A → Bool) (items : List A) → AllByRecursion P items
     → AllByRecursion P (filter test items)
 all-filter P test [] all = tt
@@ -106,7 +102,7 @@ module _ {A : Type 0} (is_before : A → A → Bool) (order : IsStrictWeakOrder 
   -- what stands before the first of items that rise stands before all
   pub before_all : (item first : A) (items : List A) → is_before item first ≡ true → Rises is_before (first ∷ items)
       → AllByRecursion (λ later. is_before item later ≡ true) (first ∷ items)
-  before_all item first items is rising = (is, all_so _ _ (λ later. transitive item first later is) items rising.0)
+  before_all item first items is rising = (is, all-weaker _ _ (λ later. transitive item first later is) items rising.0)
 
   pub else_before : (one other : A) → ties is_before one other ≡ false → is_before other one ≡ false
       → is_before one other ≡ true
@@ -132,7 +128,7 @@ module _ {A : Type 0} (is_before : A → A → Bool) (order : IsStrictWeakOrder 
   rises-with_items (item ∷ items) others rising more apart =
       rises-with_item item (with_items is_before items others)
       (all-with_items (λ other. ties is_before item other ≡ false) is_before items others
-      (all_so _ _ (before_apart item) items rising.0) apart.0)
+      (all-weaker _ _ (before_apart item) items rising.0) apart.0)
       (rises-with_items items others rising.1 more apart.1)
 
 pub rises-filter : {A : Type 0} (is_before : A → A → Bool) (test : A → Bool) (items : List A) → Rises is_before items

@@ -5,7 +5,7 @@ use Rattle.std.proofs.lemmas.Nat.Bits.{bit_at-zero, bit_at_or, bit_at-pow_same, 
 use Rattle.std.proofs.lemmas.Bool.{cases_eq, eq-eqb, ne_eqb}
 use Rattle.std.specs.Int.{bit_at}
 use Rattle.ftc_base.specs.Sets.{has}
-use Rattle.ftc_base.proofs.Members.{same}
+use Rattle.ftc_base.proofs.Members.{same, has-zero}
 
 with_bit : (a b : ℕ) → b < 2 → a ≡ max b 1 → (a == 1) ≡ true
 with_bit a b small is = eq-eqb a 1 (omega arith)
@@ -30,15 +30,7 @@ has_added set member other =
       | inr differs ↦ rw (ne_eqb other member differs) (has_added_other set member other differs)
     ]
 
-pub has_none : (member : ℕ) → has 0 member ≡ false
-unfolding has
-has_none member = rw (bit_at-zero member) refl
-
 -- a set that has one more member is that set
 pub added : (set more member : ℕ) → ((other : ℕ) → has more other ≡ (other == member || has set other)) →
     more ≡ bit_or set (2 ^ member)
 added set more member is = same more (bit_or set (2 ^ member)) (λ other. is other ∙ sym (has_added set member other))
-
--- a set without a member is 0
-pub empty : (set : ℕ) → ((other : ℕ) → has set other ≡ false) → set ≡ 0
-empty set is = same set 0 (λ other. is other ∙ sym (has_none other))

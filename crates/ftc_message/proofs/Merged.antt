@@ -3,9 +3,10 @@ use Rattle.std.proofs.Common.{◌≡◌, ◌∙◌, Bool, true, false, List, [],
 use Rattle.std.specs.Prelude.{if◌then◌else◌}
 use Rattle.std.specs.Cmp.{IsStrictWeakOrder}
 use Rattle.std.specs.List.{AllByRecursion}
+use Rattle.ftc_base.proofs.EachOf.{all-weaker}
 use Rattle.ftc_message.specs.Ordered.{with_item, with_items}
 use Rattle.ftc_message.specs.Rises.{Rises, TieNone}
-use Rattle.ftc_message.proofs.InOrder.{all_so, all-with_items, before_all, else_before}
+use Rattle.ftc_message.proofs.InOrder.{all-with_items, before_all, else_before}
 
 module _ {A : Type 0} (is_before : A → A → Bool) (order : IsStrictWeakOrder is_before) where
   -- what stands before all others goes to the front
@@ -49,7 +50,7 @@ module _ {A : Type 0} (is_before : A → A → Bool) (order : IsStrictWeakOrder 
             let behind = before_all is_before order other item items is rising in
             stays_first other (item ∷ items) others behind
             ∙ ap (λ (l : List A). other ∷ l) (swapped (item ∷ items) others rising others_rising.1
-            (all_so _ _ (λ _ none. none.1) (item ∷ items) apart))
+            (all-weaker _ _ (λ _ none. none.1) (item ∷ items) apart))
             ∙ sym (goes_first other (with_items is_before others (item ∷ items))
             (all-with_items (λ later. is_before other later ≡ true) is_before others (item ∷ items) others_rising.0
             behind))

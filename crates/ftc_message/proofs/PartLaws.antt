@@ -8,7 +8,7 @@ use Rattle.std.proofs.lemmas.Bool.{cases_lt, cases_eq, lt-ltb, le-ltb}
 use Rattle.std.proofs.lemmas.List.{set_at, get_or_at, get_or-set_same, get_or-set_other, length-set, length-append}
 use Rattle.std.proofs.lemmas.List.{length-replicate}
 use Rattle.ftc_base.specs.Sets.{has}
-use Rattle.ftc_base.proofs.Members.{same}
+use Rattle.ftc_base.proofs.Members.{same, has-zero}
 use Rattle.ftc_base.specs.declared.limits.TheConstants.{MOST_PARTITIONS}
 use Rattle.ftc_message.specs.declared.parts.Part.{Part}
 use Rattle.ftc_message.specs.declared.parts.Parts.{Parts}
@@ -21,7 +21,7 @@ use Rattle.ftc_message.specs.Reading.{no_parts, parts_at}
 use Rattle.ftc_message.proofs.Fields.{IsBytes, Takes, Takes-then, bind_ok, ok_is, times_ok, within_takes, within_again}
 use Rattle.ftc_message.proofs.Fields.{number_takes, number_again, wide_8}
 use Rattle.ftc_message.proofs.Blanks.{blanks, fill, length_filled, all_blanks, all_behind}
-use Rattle.ftc_message.proofs.Members.{has_added_same, has_added_other, has_none}
+use Rattle.ftc_message.proofs.Members.{has_added_same, has_added_other}
 use Rattle.ftc_message.proofs.MarkLaws.{partition_takes, partition_again, IsMark, MarksBehind, none_behind, one_behind}
 use Rattle.ftc_message.proofs.MarkLaws.{marked_few, blanks_are, AreSpelled}
 
@@ -405,7 +405,7 @@ whole_read count bytes middle x head some read marks =
     )
 
 no_marks_marked : IsMarked (blanks MOST_PARTITIONS) 0
-no_marks_marked q is = absurd (false_is_not (sym (has_none q) ∙ is))
+no_marks_marked q is = absurd (false_is_not (sym (has-zero q) ∙ is))
   where
     false_is_not : false ≡ true → ⊥
     false_is_not clash = cc
@@ -424,7 +424,7 @@ parts_at_takes bytes x fits is =
     let started = subst (λ (marks : List (Option ℕ)). times with_part count.0.0 (state 0 marks 0) count.0.1
     ≡ Ok parts.0) blanks_are parts.1 in
     let read = parts_read count.0.0 0 MOST_PARTITIONS 0 [] count.0.1 parts.0 refl refl
-    (λ q _. has_none q) head.0.rest_fits started in
+    (λ q _. has-zero q) head.0.rest_fits started in
     let marks = parts_marked count.0.0 0 (blanks MOST_PARTITIONS) 0 count.0.1 parts.0
     (length-replicate {A = Option ℕ} MOST_PARTITIONS None) head.0.rest_fits no_marks_marked started in
     let P : Parts × List ℕ → Type 0 = λ y. Takes bytes (parts_bytes y.0.before y.0.changed) y.1 × ArePartsSpelled y.0 in
@@ -435,7 +435,7 @@ pub parts_at_again : (parts : Parts) (rest : List ℕ) → ArePartsSpelled parts
     parts_at (parts_bytes parts.before parts.changed ++ rest) ≡ Ok (parts, rest)
 unfolding parts_at
 parts_at_again parts rest spelled =
-    let none : IsUpTo parts.changed 0 0 = λ q. has_none q ∙ rw (le-ltb q 0 (omega arith)) refl in
+    let none : IsUpTo parts.changed 0 0 = λ q. has-zero q ∙ rw (le-ltb q 0 (omega arith)) refl in
     let read = parts_again 0 0 0 parts.changed [] parts.before rest (omega arith) refl
     (omega (arith, spelled.before.size)) spelled.before.each spelled.changed none in
     let started : no_marks ≡ blanks (length parts.before) =

@@ -5,6 +5,7 @@ use Rattle.std.specs.Prelude.{nat_le, filter}
 use Rattle.std.specs.List.Sorted.{ties}
 use Rattle.std.proofs.lemmas.Bool.Decides.{nat_tests}
 use Rattle.std.proofs.lemmas.List.Elements.{recursion_from_All}
+use Rattle.ftc_base.proofs.EachOf.{all-weaker}
 use Rattle.ftc_message.specs.declared.need.Need.{Need}
 use Rattle.ftc_message.specs.Logged.{Logged, log_follows, logs_rise, needs_rise}
 use Rattle.ftc_message.specs.Bounds.{IsLog, AreLogs, IsNeed, AreNeeds}
@@ -12,7 +13,7 @@ use Rattle.ftc_message.specs.Ordered.{with_item, with_items, is_earlier, is_log_
 use Rattle.ftc_message.specs.Ordered.{is_need_of, HasNoNeed, AreOfOthers}
 use Rattle.ftc_message.specs.OrderLaws.{earlier_is_order, lower_is_order}
 use Rattle.ftc_message.specs.Rises.{Rises, TieNone}
-use Rattle.ftc_message.proofs.InOrder.{all-with_items, all-filter, all_so, rises-with_items, rises-filter}
+use Rattle.ftc_message.proofs.InOrder.{all-with_items, all-filter, rises-with_items, rises-filter}
 use Rattle.ftc_message.proofs.Following.{GoesOn, end_of, rise-push, by_order, by_test}
 
 -- ---- logs
@@ -42,7 +43,7 @@ log_apart : (log other : Logged) → is_log_of log.origin log.group other ≡ fa
 log_apart log other apart = grind (arith, nat_tests, apart)
 
 pub logs_apart : (logs others : List Logged) → AreApart logs others → TieNone is_earlier logs others
-logs_apart logs others = all_so _ _ (λ log. all_so _ _ (log_apart log) others) logs
+logs_apart logs others = all-weaker _ _ (λ log. all-weaker _ _ (log_apart log) others) logs
 
 pub are_logs-with_items : (logs others : List Logged) → AreLogs logs → AreLogs others → AreApart logs others
     → AreLogs (with_items is_earlier logs others)
@@ -95,7 +96,7 @@ need_apart : (need other : Need) → is_need_of need.group other ≡ false → t
 need_apart need other apart = grind (arith, nat_tests, apart)
 
 pub needs_apart : (needs others : List Need) → AreOfOthers needs others → TieNone is_lower needs others
-needs_apart needs others = all_so _ _ (λ need. all_so _ _ (need_apart need) others) needs
+needs_apart needs others = all-weaker _ _ (λ need. all-weaker _ _ (need_apart need) others) needs
 
 pub are_needs-with_items : (needs others : List Need) → AreNeeds needs → AreNeeds others → AreOfOthers needs others
     → AreNeeds (with_items is_lower needs others)

@@ -7,11 +7,12 @@ use Rattle.std.specs.List.Sorted.{IsPartitionedBy, IsPartitionPoint}
 use Rattle.std.proofs.lemmas.Bool.Decides.{nat_tests}
 use Rattle.std.proofs.lemmas.List.Elements.{All-from_recursion}
 use Rattle.std.proofs.lemmas.List.Sums.{prefix_len_is}
+use Rattle.ftc_base.proofs.EachOf.{all-weaker}
 use Rattle.ftc_message.specs.Logged.{Logged, logs_rise}
 use Rattle.ftc_message.specs.Ordered.{is_earlier, is_before, is_log_of}
 use Rattle.ftc_message.specs.OrderLaws.{earlier_is_order}
 use Rattle.ftc_message.specs.Rises.{Rises}
-use Rattle.ftc_message.proofs.InOrder.{all_so, transitive}
+use Rattle.ftc_message.proofs.InOrder.{transitive}
 use Rattle.ftc_message.proofs.RiseLaws.{logs_by_order}
 
 -- ---- those that stand before a log are the first ones
@@ -75,7 +76,7 @@ found_there origin group (log ∷ logs) rising =
           cond b (Some log) (find (is_log_of origin group) logs) ≡ cond b (Some log) None) [
             | true ↦ λ _. refl
             | false ↦ λ differs. none_there (is_log_of origin group) logs
-                (all_so _ _ (λ other. behind_isnt origin group log other isnt differs) logs rising.0)
+                (all-weaker _ _ (λ other. behind_isnt origin group log other isnt differs) logs rising.0)
           ] refl
     ] refl
 

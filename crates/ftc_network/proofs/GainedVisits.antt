@@ -5,6 +5,7 @@ use Rattle.std.proofs.lemmas.Bool.{and_parts, and_from, eqb-true, cases_Bool, ca
 use Rattle.std.proofs.lemmas.Bool.{or_cases, not-true}
 use Rattle.std.proofs.lemmas.Bool.Decides.{nat_tests}
 use Rattle.std.specs.List.{list_any}
+use Rattle.std.specs.Cmp.{both_ways}
 use Rattle.ftc_journal.specs.declared.event.Event.TheVariants.{Pull}
 use Rattle.ftc_message.specs.Logged.{Logged}
 use Rattle.ftc_ring.specs.Ring.{IsRing, next_of, tail_of}
@@ -19,7 +20,6 @@ use Rattle.ftc_protocol.specs.Next.{is_news, pulled_list}
 use Rattle.ftc_ties.specs.Keeping.{AreInTurn, with_all}
 use Rattle.ftc_ties.specs.Numbers.{Packets, with_packet}
 use Rattle.ftc_ties.specs.Servers.{is_shared}
-use Rattle.ftc_ties.proofs.Joining.{same_if}
 use Rattle.ftc_ties.proofs.Keeping.{joins, with_all_more}
 use Rattle.ftc_ties.proofs.Serving.{IsSteadyState}
 use Rattle.ftc_server.specs.declared.server.Server.{Server}
@@ -189,7 +189,7 @@ module _ (c : Setting) (s : ChainState) (h : IsSteadyState c s) (link : ℕ) (le
           ] refl there
 
   pub gains_same : gains_some (shape c) sender old ≡ list_any (is_news c s link receiver) s.trace
-  gains_same = same_if (gains_some (shape c) sender old) (list_any (is_news c s link receiver) s.trace)
+  gains_same = both_ways (gains_some (shape c) sender old) (list_any (is_news c s link receiver) s.trace)
       (λ gains. let found = any_found (is_gained (shape c) sender old) (servers c) gains in
       gain_is_news found.0 found.1 (sym (gain_same found.0) ∙ found.2))
       news_is_gain

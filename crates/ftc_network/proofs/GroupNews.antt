@@ -6,6 +6,7 @@ use Rattle.std.proofs.lemmas.List.Folds.{find-append}
 use Rattle.std.specs.List.{AllByRecursion, find, list_all}
 use Rattle.std.specs.Option.{option_or}
 use Rattle.std.specs.Prelude.{is_some}
+use Rattle.ftc_base.proofs.EachOf.{all-weaker, all-append}
 use Rattle.ftc_journal.specs.declared.event.Event.TheVariants.{Pull}
 use Rattle.ftc_replica.specs.Held.{Held}
 use Rattle.ftc_ring.specs.Ring.{RingShape, next_of}
@@ -18,7 +19,6 @@ use Rattle.ftc_ties.proofs.Serving.{IsSteadyState}
 use Rattle.ftc_server.specs.declared.recovering.GroupReplica.{GroupReplica}
 use Rattle.ftc_server.specs.declared.server.Server.{Server}
 use Rattle.ftc_server.specs.Looks.{replica_in, is_later_of}
-use Rattle.ftc_standing.proofs.Arriving.{all_both, all_mapped}
 use Rattle.ftc_refinement.specs.Contents.{IsServerAt}
 use Rattle.ftc_refinement.specs.Pulled.{IsPulledOf, ArePulled, is_of_group}
 use Rattle.ftc_network.specs.Pulling.{new_of, news}
@@ -31,7 +31,7 @@ later_both : {A : Type 0} (R : A → A → Type 0) (before after : List A) → E
     AllByRecursion (λ x. AllByRecursion (R x) after) before → EachLater R (before ++ after)
 later_both R [] after first second across = second
 later_both R (x ∷ before) after first second across =
-    (all_both (R x) before after first.0 across.0, later_both R before after first.1 second across.1)
+    (all-append (R x) before after first.0 across.0, later_both R before after first.1 second across.1)
 
 none_of : (group : ℕ) (items : List GroupReplica) → AllByRecursion (λ (new : GroupReplica). new.group < group) items →
     find (is_of_group group) items ≡ None
@@ -54,7 +54,7 @@ module _ (is_in : ℕ → Bool) (make : ℕ → GroupReplica) where
       ((group : ℕ) → group < count → is_in group ≡ true → P (make group)) → AllByRecursion P (each_below one_at count)
   all_made P zero holds = tt
   all_made P (suc count) holds =
-      all_both P (each_below one_at count) (one_at count)
+      all-append P (each_below one_at count) (one_at count)
       (all_made P count (λ group less is. holds group (omega (arith, less)) is))
       (all_one P count (λ is. holds count (omega arith) is))
 
@@ -78,7 +78,7 @@ module _ (is_in : ℕ → Bool) (make : ℕ → GroupReplica) where
         (once_made count)
         (elim (is_in count) as (λ b. EachLater (λ (one other : GroupReplica). one.group ≢ other.group)
         (if b then make count ∷ [] else [])) [ true ↦ (tt, tt) | false ↦ tt ])
-        (all_mapped (λ (new : GroupReplica). new.group < count)
+        (all-weaker (λ (new : GroupReplica). new.group < count)
         (λ (new : GroupReplica). AllByRecursion (λ (other : GroupReplica). new.group ≢ other.group) (one_at count))
         (λ new less. all_one (λ (other : GroupReplica). new.group ≢ other.group) count
         (λ is same. absurd (omega (arith, less, same, named count)))) (each_below one_at count) (below_made count))

@@ -3,6 +3,7 @@ use Rattle.std.proofs.Common.{◌≡◌, ◌∙◌, ℕ, true, false, List, Opti
 use Rattle.std.proofs.Math.Bool.{Bool-set}
 use Rattle.std.proofs.Math.Logic.{∥∥₁_elim, ∥∥₁_map}
 use Rattle.std.specs.Prelude.{option_map}
+use Rattle.std.proofs.lemmas.Option.{same_Some}
 use Rattle.ftc_server.specs.declared.held.HeldMessage.{HeldMessage}
 use Rattle.ftc_server.specs.declared.server.Server.{Server}
 use Rattle.ftc_server.specs.Holding.{found}
@@ -16,6 +17,7 @@ use Rattle.ftc_refinement.proofs.Works.{held_in}
 use Rattle.ftc_refinement.specs.Contents.{items_of}
 use Rattle.ftc_standing.specs.Stand.{AreItems}
 use Rattle.ftc_txn.specs.Slots.{Running, slot_at}
+use Rattle.ftc_standing.proofs.Arriving.{is_none}
 
 never : {A : Type 0} → ∥ A ∥₁ → (A → ⊥) → ⊥
 never some none =
@@ -29,13 +31,10 @@ pub record HasBytes (slot : Option HeldMessage) : Type 0 where
   pub bytes : List ℕ
   pub with_bytes : held.message.packet ≡ Some bytes
 
-some_same : {A : Type 0} (one other : A) → Some one ≡ Some other → one ≡ other
-some_same one other same = cc
-
 with_bytes_of : (held : HeldMessage) (bytes : Option (List ℕ)) → held.message.packet ≡ bytes →
     ∥ HasBytes (Some held) ∥₁ → HasBytes (Some held)
 with_bytes_of held None none some = absurd (never some (λ has.
-    let same = some_same held has.held has.there in
+    let same = same_Some held has.held has.there in
     let both : None ≡ Some has.bytes =
     sym none ∙ (ap (λ (h : HeldMessage). h.message.packet) same ∙ has.with_bytes) in
     absurd cc))
@@ -69,14 +68,9 @@ bytes_in_state setting state number packet items has are =
     let there = held_in setting state number packet has.held items has.there are in
     ap message_bytes there.there ∙ ap bytes_in (sym there.stands.as_sent.packet ∙ has.with_bytes)
 
--- a slot of which nothing is asked runs nothing
-none_by : (slot : Option Running) → ((running : Running) → slot ≡ Some running → ⊥) → slot ≡ None
-none_by None never = refl
-none_by (Some running) never = absurd (never running refl)
-
 pub unasked_idle : (server : Server) (worker : ℕ) → ask_in server worker ≡ None →
     slot_at server.head.slots worker ≡ None
-unasked_idle server worker none = none_by (slot_at server.head.slots worker) (λ running runs.
+unasked_idle server worker none = is_none (slot_at server.head.slots worker) (λ running runs.
     let some : None ≡ Some (ask server.rule (run_has_bytes server worker running runs).bytes running.answers) =
     sym none ∙ asks_of_bytes server worker running runs (run_has_bytes server worker running runs) in
     absurd cc)

@@ -5,6 +5,7 @@ use Rattle.std.specs.List.{list_all, list_any}
 use Rattle.std.proofs.lemmas.Bool.{cases_eq, cases_lt}
 use Rattle.std.proofs.lemmas.List.{get_or_past}
 use Rattle.ftc_txn.specs.Slots.{Running, slot_at}
+use Rattle.ftc_txn.proofs.Serially.{slot_set_none}
 
 pub none_any : (test : Option Running → Bool) → test None ≡ false → (slots : List (Option Running)) →
     ((worker : ℕ) → slot_at slots worker ≡ None) → list_any test slots ≡ false
@@ -24,18 +25,11 @@ pub set_other : (slots : List (Option Running)) (worker : ℕ) (slot : Option Ru
     slot_at (slice_set slots worker slot) other ≡ slot_at slots other
 set_other slots worker slot other differs = get_or-set_other slots worker other slot None differs
 
--- a slot that is made idle is so
-pub set_idle : (slots : List (Option Running)) (worker : ℕ) → slot_at (slice_set slots worker None) worker ≡ None
-set_idle slots worker = elim (cases_lt worker (length slots)) [
-  | inl within ↦ get_or-set_same slots worker None None within
-  | inr past ↦ get_or_past (slice_set slots worker None) worker None (rw length-set past)
-]
-
 -- where the others are idle and one is made idle, all are
 pub all_idle : (old new : List (Option Running)) (worker : ℕ) → new ≡ slice_set old worker None →
     ((other : ℕ) → other ≢ worker → slot_at old other ≡ None) → (other : ℕ) → slot_at new other ≡ None
 all_idle old new worker same idle other = ap (λ (s : List (Option Running)). slot_at s other) same
     ∙ elim (cases_eq other worker) [
-      | inl this ↦ ap (slot_at (slice_set old worker None)) this ∙ set_idle old worker
+      | inl this ↦ ap (slot_at (slice_set old worker None)) this ∙ slot_set_none old worker
       | inr differs ↦ set_other old worker None other differs ∙ idle other differs
     ]

@@ -8,7 +8,7 @@ mod GotReplicas
 mod GroupNews
 mod Heads
 mod HeldRuns
-mod IdleSlots
+pub mod IdleSlots
 mod LastServer
 mod MessageForms
 mod NearServers

@@ -3,10 +3,12 @@ use Rattle.std.proofs.Common.{◌≡◌, ◌∙◌, ◌+◌, ◌++◌, ◌∷◌
 use Rattle.std.proofs.Common.{inl, inr, refl, sym, ap, length-append}
 use Rattle.std.specs.Prelude.{◌==◌}
 use Rattle.std.proofs.lemmas.Bool.{false≢true, eq-eqb, cases_eq}
+use Rattle.std.proofs.lemmas.Option.{same_Some}
 use Rattle.ftc_base.specs.declared.ask.Answer.{Answer}
 use Rattle.ftc_base.specs.declared.ask.Ask.TheVariants.{Read}
 use Rattle.ftc_base.specs.Partition.{partition_of}
 use Rattle.ftc_locks.specs.Locks.{Locks, conflicts, HoldsNothing}
+use Rattle.ftc_locks.proofs.Holdings.{conflicts-nothing}
 use Rattle.ftc_server.specs.declared.server.Server.{Server}
 use Rattle.ftc_server.specs.Looks.{ask_in}
 use Rattle.ftc_server.specs.Replicas.{may_rise}
@@ -16,25 +18,8 @@ use Rattle.ftc_txn.specs.Head.{HeadState, IsHead}
 use Rattle.ftc_txn.specs.Slots.{Running, slot_at, answered}
 use Rattle.ftc_txn.specs.declared.answers.ReadAnswer.{ReadAnswer}
 use Rattle.ftc_txn.specs.declared.answers.ReadAnswer.TheVariants.{Value, Blocked, Wounded, Idle, NotAsked}
+use Rattle.ftc_txn.proofs.ReadSlots.{conflicts_self}
 use Rattle.ftc_network.specs.Visiting.{StandsFor, IsUnderWay}
-
-some_same : {A : Type 0} (one other : A) → Some one ≡ Some other → one ≡ other
-some_same one other same = cc
-
--- who holds nothing is in nobody's way
-no_conflict : (locks : Locks) (worker partition : ℕ) (change : Bool) (other : ℕ) → HoldsNothing locks other →
-    conflicts locks worker partition change other ≡ false
-no_conflict locks worker partition change other nothing =
-    rw (nothing.exclusive partition, nothing.held partition) (none (not (other == worker)) change)
-  where
-    none : (a b : Bool) → a && (false || (b && false)) ≡ false
-    none true true = refl
-    none true false = refl
-    none false b = refl
-
-own_conflict : (locks : Locks) (worker partition : ℕ) (change : Bool) →
-    conflicts locks worker partition change worker ≡ false
-own_conflict locks worker partition change = rw (eq-eqb worker worker refl) refl
 
 module _ (first old new : Server) (worker packet count : ℕ) (key : List ℕ) (change : Bool)
     (is : IsUnderWay first old worker packet count) (head : IsHead old.head)
@@ -42,13 +27,14 @@ module _ (first old new : Server) (worker packet count : ℕ) (key : List ℕ) (
     (stays : (answer : ReadAnswer) → Reads old new worker key answer → StandsFor old new) where
   nobody : (partition : ℕ) (leave : Bool) (other : ℕ) → conflicts old.head.locks worker partition leave other ≡ false
   nobody partition leave other = elim (cases_eq other worker) [
-    | inl same ↦ ap (conflicts old.head.locks worker partition leave) same ∙ own_conflict old.head.locks worker
+    | inl same ↦ ap (conflicts old.head.locks worker partition leave) same ∙ conflicts_self old.head.locks worker
         partition leave
-    | inr differs ↦ no_conflict old.head.locks worker partition leave other (head.idle other (is.others other differs))
+    | inr differs ↦ conflicts-nothing old.head.locks worker partition leave other
+        (head.idle other (is.others other differs))
   ]
 
   runs_this : (running : Running) → slot_at old.head.slots worker ≡ Some running → running ≡ is.running
-  runs_this running runs = some_same running is.running (sym runs ∙ is.runs.slot)
+  runs_this running runs = same_Some running is.running (sym runs ∙ is.runs.slot)
 
   one_more : (answers : List Answer) (answer : Answer) → length (answers ++ answer ∷ []) ≡ length answers + 1
   one_more answers answer = length-append answers (answer ∷ [])

@@ -2,6 +2,7 @@
 use Rattle.std.proofs.Common.{◌≡◌, ◌≢◌, ◌∙◌, ℕ, suc, Bool, true, false, List, [], ◌∷◌, Option, Some, None}
 use Rattle.std.proofs.Common.{refl, sym, ap, subst}
 use Rattle.std.specs.List.{list_all}
+use Rattle.std.proofs.lemmas.Option.{same_Some}
 use Rattle.ftc_journal.specs.declared.event.Event.{Event}
 use Rattle.ftc_journal.specs.declared.event.Event.TheVariants.{Visit}
 use Rattle.ftc_protocol.specs.Next.{next, outcome_at, visited_at, visited_message}
@@ -136,16 +137,13 @@ run_ready old new only replicas items is = still_there old new only is
 
 -- ---- a message that is to be visited wasn't
 
-same_some : {A : Type 0} (one other : A) → Some one ≡ Some other → one ≡ other
-same_some one other same = cc
-
 visited_from : (setting : Setting) (server packet : ℕ) (outcome : Outcome) (before : Option Message)
     (message after : Message) → before ≡ Some message →
     visited_message setting server packet outcome before ≡ Some after → after.place ≡ visited_at message.place
 visited_from setting server packet outcome None message after there is = absurd cc
 visited_from setting server packet outcome (Some other) message after there is =
-    ap (λ (m : Message). m.place) (sym (same_some _ after is))
-    ∙ ap (λ (m : Message). visited_at m.place) (same_some other message there)
+    ap (λ (m : Message). m.place) (sym (same_Some _ after is))
+    ∙ ap (λ (m : Message). visited_at m.place) (same_Some other message there)
 
 module _ (setting : Setting) (state : ChainState) (server packet : ℕ) (visited by_ring now_by_ring : Bool)
     (message after : Message) (there : state.message packet ≡ Some message)

@@ -20,11 +20,6 @@ pub if_some : {A : Type 0} (Fact Other : A → Type 0) (option : Option A) → (
 if_some Fact Other None from fact = tt
 if_some Fact Other (Some item) from fact = from item fact
 
--- what is so is so of every refusal
-pub as_err : {A E : Type 0} (result : Result A E) (Fact : Type 0) → Fact → OnErr result Fact
-as_err (Ok value) Fact fact = tt
-as_err (Err fault) Fact fact = fact
-
 pub on_err_both : {A E : Type 0} (result : Result A E) (One Two Other : Type 0) → (One → Two → Other) →
     OnErr result One →
     OnErr result Two → OnErr result Other

@@ -1,6 +1,7 @@
 -- What slots run after a read or a quit, they ran before.
 use Rattle.std.proofs.Common.{◌≡◌, ◌∙◌, ℕ, List, Option, Some, None, slice_set, inl, inr, refl, sym, ap}
 use Rattle.std.proofs.lemmas.Bool.{cases_eq, cases_Bool}
+use Rattle.std.proofs.lemmas.Option.{same_Some}
 use Rattle.ftc_base.specs.Partition.{partition_of}
 use Rattle.ftc_locks.specs.Locks.{conflicts}
 use Rattle.ftc_server.specs.declared.server.Server.{Server}
@@ -10,13 +11,11 @@ use Rattle.ftc_txn.specs.Head.{HeadState}
 use Rattle.ftc_txn.specs.Slots.{Running, slot_at, restarted, wounded_by}
 use Rattle.ftc_txn.specs.declared.answers.ReadAnswer.{ReadAnswer}
 use Rattle.ftc_txn.specs.declared.answers.ReadAnswer.TheVariants.{Value, Blocked, Wounded, Idle, NotAsked}
+use Rattle.ftc_txn.proofs.Serially.{slot_set_none}
 use Rattle.ftc_network.specs.Stand.{RunNothingElse}
 use Rattle.ftc_network.proofs.BegunSlots.{set_to}
-use Rattle.ftc_network.proofs.IdleSlots.{set_idle, set_other}
+use Rattle.ftc_network.proofs.IdleSlots.{set_other}
 use Rattle.ftc_network.proofs.ReadySlots.{same_runs}
-
-some_same : {A : Type 0} (one other : A) → Some one ≡ Some other → one ≡ other
-some_same one other same = cc
 
 -- where a slot was made idle
 pub emptied_runs : (old new : Server) (worker : ℕ) → new.head.slots ≡ slice_set old.head.slots worker None →
@@ -26,7 +25,7 @@ emptied_runs old new worker same other running runs =
     ap (λ (s : List (Option Running)). slot_at s other) (sym same) ∙ runs in
     elim (cases_eq other worker) [
       | inl this ↦ absurd (let none : None ≡ Some running =
-          sym (set_idle old.head.slots worker)
+          sym (slot_set_none old.head.slots worker)
           ∙ (ap (slot_at (slice_set old.head.slots worker None)) (sym this) ∙ runs_there) in cc)
       | inr differs ↦ (running, sym (set_other old.head.slots worker None other differs) ∙ runs_there, refl)
     ]
@@ -42,7 +41,7 @@ wounded_runs worker (Some before) running is = (
   before,
   refl,
   ap (λ (r : Running). r.packet)
-      (sym (some_same (record before { wounded = Some worker }) running is)),
+      (sym (same_Some (record before { wounded = Some worker }) running is)),
 )
 
 -- what a slot that was restarted runs it ran before
@@ -73,7 +72,7 @@ read_runs old new worker key (Value value) reads other running runs =
     let part = partition_of old.head.partitions key in
     elim (cases_eq other worker) [
       | inl same ↦
-          let this = some_same _ running (sym done.answered ∙ (ap (slot_at new.head.slots) (sym same) ∙ runs)) in
+          let this = same_Some _ running (sym done.answered ∙ (ap (slot_at new.head.slots) (sym same) ∙ runs)) in
           (before, ap (slot_at old.head.slots) same ∙ reads.head.1.slot, ap (λ (r : Running). r.packet) (sym this))
       | inr differs ↦ elim (cases_Bool (conflicts old.head.locks worker part reads.change other)) [
         | inl in_the_way ↦ wounded_runs worker (slot_at old.head.slots other) running

@@ -17,6 +17,7 @@ use Rattle.ftc_vector.specs.Commits.{vector_of}
 use Rattle.ftc_vector.proofs.Needs.{covered_above}
 use Rattle.ftc_vector.proofs.OrderTests.{covered}
 use Rattle.ftc_vector.proofs.Partitions.{get_or-by_partition}
+use Rattle.ftc_replica.proofs.Left.{covers_above}
 use Rattle.ftc_protocol.specs.Setting.{Setting, servers, shape, is_member}
 use Rattle.ftc_protocol.specs.State.{ChainState}
 use Rattle.ftc_protocol.specs.Known.{knows}
@@ -41,12 +42,6 @@ use Rattle.ftc_refinement.specs.Pulled.{pulled}
 use Rattle.ftc_network.specs.Pulling.{lacking}
 
 -- ---- a vector that covers more
-
-covers_up : (one other : List ℕ) → IsBelow one other → (log : Logged) → covers_log one log ≡ true →
-    covers_log other log ≡ true
-covers_up one other less log has = (covered other (need_of log.before log.changed)).1
-    (covered_above one other (need_of log.before log.changed) less
-    ((covered one (need_of log.before log.changed)).0 has))
 
 vector_below : (partitions group : ℕ) (trace : List Entry) (one other : Packets) →
     ((packet : ℕ) → one packet ≡ true → other packet ≡ true) →
@@ -142,7 +137,7 @@ module _ (c : Setting) (s : ChainState) (h : IsSteadyState c s) (link : ℕ) (le
 
   same_lacking : missing mine.vector (missing (vector_of sender.known group) theirs.kept) ≡ lacking sender old group
   same_lacking = missing_twice (vector_of sender.known group) mine.vector
-      (covers_up (vector_of sender.known group) mine.vector known_below) theirs.kept
+      (covers_above (vector_of sender.known group) mine.vector known_below) theirs.kept
 
   pub has_more : (q : ℕ) → s.lists receiver group q ≡ true → s.lists link group q ≡ true
   has_more q there = below c s h link group legal shared (pruned_by (vector_of old.known group) mine)

@@ -1,8 +1,9 @@
 -- What a server that begins anew gets of each group, from the two live servers next to it.
-use Rattle.std.specs.Prelude.{ℕ, nat_le, List, [], ◌∷◌, if◌then◌else◌}
+use Rattle.std.specs.Prelude.{ℕ, List, [], ◌∷◌, if◌then◌else◌}
 use Rattle.ftc_mbox.specs.declared.rule.Rule.{Rule}
 use Rattle.ftc_replica.specs.Held.{Held}
-use Rattle.ftc_ring.specs.Ring.{RingShape, apart}
+use Rattle.ftc_ring.specs.Live.{is_from_before}
+use Rattle.ftc_ring.specs.Ring.{RingShape}
 use Rattle.ftc_serial.specs.Words.{each_below}
 use Rattle.ftc_server.specs.declared.recovering.GroupReplica.{GroupReplica}
 use Rattle.ftc_server.specs.declared.server.Server.{Server}
@@ -15,8 +16,8 @@ use Rattle.ftc_vector.specs.Commits.{all_merged}
 -- has
 abbrev pub got_of : RingShape → ℕ → Server → Server → ℕ → Held
 got_of ring server previous following group =
-    if nat_le (apart ring.servers previous.id server) (apart ring.servers group server)
-    then replica_in previous group else replica_in following group
+    if is_from_before ring.servers previous.id group server then replica_in previous group
+    else replica_in following group
 
 -- that replica, where it is a later member of the group
 abbrev pub fetched_of : RingShape → ℕ → Server → Server → ℕ → List GroupReplica

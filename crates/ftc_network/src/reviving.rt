@@ -9,7 +9,7 @@ use ftc_base::{NoMemory, ServerId};
 use ftc_mbox::Rule;
 use ftc_recover::fetch_one;
 use ftc_replica::Replica;
-use ftc_ring::{Ring, apart};
+use ftc_ring::Ring;
 use ftc_server::{GroupReplica, GroupReplicas, Server};
 use std::alloc::Global;
 
@@ -40,8 +40,7 @@ fn got(
     requires previous { previous.now.id < ring.now.servers }
     ensures { IfOk result (λ replica. replica ≡ got_of ring.now server previous.now following.now group) }
 {
-    let servers = ring.servers();
-    if apart(servers, previous.id, server) <= apart(servers, group, server) {
+    if ring.is_from_before(previous.id, group, server) {
         fetched(alloc, previous, group)
     } else {
         fetched(alloc, following, group)

@@ -32,7 +32,7 @@ record AreWords (bs : List ℕ) (end : End) : Type 0 where
   header_checksum : word_at bs 24 ≤ 65535
   transport_checksum : word_at bs (transport_start bs + checksum_place (protocol_of bs)) ≤ 65535
 
-word_most : (bs : List ℕ) (at : ℕ) → AreBytes bs → word_at bs at ≤ 65535
+pub word_most : (bs : List ℕ) (at : ℕ) → AreBytes bs → word_at bs at ≤ 65535
 unfolding word_at
 word_most bs at bytes = omega (arith, bytes at, bytes (at + 1))
 

@@ -33,11 +33,11 @@ use Rattle.ftc_protocol.proofs.Sets.{in_both, in_one, kept}
 use Rattle.ftc_protocol.specs.Changes.{is_changing, is_touching}
 use Rattle.ftc_serial.specs.Removal.{left_of}
 use Rattle.ftc_protocol.proofs.TraceAndLists.{nobody_has}
-use Rattle.ftc_protocol.proofs.InTransit.{other_message, same_message, after_visit}
+use Rattle.ftc_protocol.proofs.InTransit.{after_visit}
 use Rattle.ftc_protocol.proofs.RecoveryEvent.{ready_at, up_target}
 use Rattle.ftc_protocol.proofs.VisitEvent.{visits}
 use Rattle.ftc_serial.specs.Words.{with_at}
-use Rattle.ftc_serial.proofs.Functions.{with_at_cases}
+use Rattle.ftc_serial.proofs.Functions.{with_at_cases, with_at_here, with_at_elsewhere}
 use Rattle.ftc_protocol.proofs.CarriedLogs as carrying
 
 -- the server y that the message left last, if it left one
@@ -425,11 +425,11 @@ module _ (c : Setting) (good : IsGood c) (s : ChainState) (h : Inv c s) (t : IsT
       seen_moves c s.trace s.up s.lists (with_at s.up k false) (with_at s.lists k no_visits) y x m.logs (seen p)
       (λ j q w. elim w [
         | inl a ↦ elim (cases_eq y k) [
-          | inl same ↦ inr (inr (subst (λ v. with_at s.up k false v ≡ false) (sym same) (same_message s.up k false)))
-          | inr ne ↦ inl (subst (λ (v : Visits). In v j q) (sym (other_message s.lists k no_visits y ne)) a)
+          | inl same ↦ inr (inr (subst (λ v. with_at s.up k false v ≡ false) (sym same) (with_at_here s.up k false)))
+          | inr ne ↦ inl (subst (λ (v : Visits). In v j q) (sym (with_at_elsewhere s.lists k no_visits y ne)) a)
         ]
         | inr b ↦ elim b [
-          | inl v ↦ inr (inl (subst (λ (v : Visits). In v j q) (sym (other_message s.lists k no_visits x x_ne)) v))
+          | inl v ↦ inr (inl (subst (λ (v : Visits). In v j q) (sym (with_at_elsewhere s.lists k no_visits x x_ne)) v))
           | inr d ↦ inr (inr (with_at_cases (λ b. b ≡ false) s.up k false y (λ _. refl) (λ _. d)))
         ]
       ]) (ok p m old.0 y from)
@@ -462,7 +462,7 @@ module _ (c : Setting) (good : IsGood c) (s : ChainState) (h : Inv c s) (seen : 
       let P : Visits → Type 0 = λ set. IsSeenAt c (left_of gone s.trace) (with_at s.up m true)
       (with_at s.lists m (list_got c s m r t)) y x w.logs set in
       let same_x : In' x = λ j q i. subst (λ (v : Visits). In v j q)
-      (sym (other_message s.lists m (list_got c s m r t) x x_ne)) i in
+      (sym (with_at_elsewhere s.lists m (list_got c s m r t) x x_ne)) i in
       let stood_t : (i q : ℕ) → IsTouching (left_of gone s.trace) i q → IsTouching s.trace i q =
       λ i q tt'. (visit_stood gone (λ o. is_touching o ≡ true) s.trace i q tt').0 in
       subst (λ v. P (seen_by v (seen p))) (sym e) (elim (x == t) as (λ b. x == t ≡ b →
@@ -502,7 +502,7 @@ module _ (c : Setting) (good : IsGood c) (s : ChainState) (h : Inv c s) (seen : 
                   (old.earlier i j q (part' j q is).0 less (stood_t i q touching) member ne);
               here = λ j q i. elim (old.here j q (part' j q i).0) [
                 | inl a ↦ inl (subst (λ (v : Visits). In v j q)
-                    (sym (other_message s.lists m (list_got c s m r t) y
+                    (sym (with_at_elsewhere s.lists m (list_got c s m r t) y
                     (λ q'. true≢false (sym (h.world.lists.listed y j q a).0 ∙ subst (λ v. s.up v
                     ≡ false) (sym q') down)))) a)
                 | inr b ↦ elim b [

@@ -11,6 +11,7 @@ use Rattle.ftc_serial.proofs.Written.{written_read}
 use Rattle.ftc_base.specs.declared.ask.Answer.{Answer}
 use Rattle.ftc_mbox.specs.declared.rule.Rule.{Rule}
 use Rattle.ftc_store.specs.Store.{Content}
+use Rattle.ftc_serial.proofs.AnyOf.{any_unmap}
 use Rattle.ftc_protocol.specs.Changes.{changes, Changes}
 
 pub any_mapped : {A B : Type 0} (P : B → Type 0) (f : A → B) (xs : List A) → AnyOf (λ (x : A). P (f x)) xs →
@@ -18,16 +19,12 @@ pub any_mapped : {A B : Type 0} (P : B → Type 0) (f : A → B) (xs : List A) �
 any_mapped P f [] any = any
 any_mapped P f (x ∷ xs) any = elim any [ inl here ↦ inl here | inr there ↦ inr (any_mapped P f xs there) ]
 
-any_of_mapped : {A B : Type 0} (P : B → Type 0) (f : A → B) (xs : List A) → AnyOf P (map f xs) → AnyOf (λ x. P (f x)) xs
-any_of_mapped P f [] any = absurd any
-any_of_mapped P f (x ∷ xs) any = elim any [ inl here ↦ inl here | inr there ↦ inr (any_of_mapped P f xs there) ]
-
 -- the partitions that a visit changes are those of the written keys
 pub changed_written : (partitions : ℕ) (outcome : Outcome) (i : ℕ) →
     Changes partitions outcome i ↔ WritesIn partitions outcome i
 unfolding changes
 changed_written partitions outcome i = (
-  any_of_mapped (λ (changed : ℕ). changed ≡ i) (λ (write : Write). partition_of partitions write.key) outcome.writes,
+  any_unmap (λ (changed : ℕ). changed ≡ i) (λ (write : Write). partition_of partitions write.key) outcome.writes,
   any_mapped (λ (changed : ℕ). changed ≡ i) (λ (write : Write). partition_of partitions write.key) outcome.writes,
 )
 

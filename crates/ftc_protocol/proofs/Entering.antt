@@ -6,13 +6,13 @@ use Rattle.std.proofs.lemmas.Option.{none-some}
 use Rattle.ftc_journal.specs.declared.event.Event.TheVariants.{Enter}
 use Rattle.ftc_script.specs.declared.line.ScriptLine.{ScriptLine}
 use Rattle.ftc_script.specs.Steps.{at_of}
+use Rattle.ftc_serial.proofs.Functions.{with_at_here, with_at_elsewhere}
 use Rattle.ftc_protocol.specs.Setting.{Setting, count, packet_at}
 use Rattle.ftc_protocol.specs.State.{ChainState, Message, Held}
 use Rattle.ftc_protocol.specs.Legal.{MayHappen, IsLegal}
 use Rattle.ftc_protocol.specs.Next.{next, fresh_message}
 use Rattle.ftc_protocol.specs.Quiet.{IsQuiet}
 use Rattle.ftc_protocol.proofs.Premises.{IsGood}
-use Rattle.ftc_protocol.proofs.InTransit.{same_message, other_message}
 use Rattle.ftc_protocol.proofs.Complete.{keeps_reached}
 use Rattle.ftc_protocol.proofs.FaultFree.{keeps_calm}
 use Rattle.ftc_protocol.proofs.Lone.{IsIdle, IsAt, none_due}
@@ -44,9 +44,9 @@ module _ (c : Setting) (good : IsGood c) (quiet : IsQuiet c) (s : ChainState) (p
       forwarder = forwarder;
     };
     withheld = idle.withheld;
-    others = λ origin other. other_message s.message p _ origin other ∙ idle.messages origin;
+    others = λ origin other. with_at_elsewhere s.message p _ origin other ∙ idle.messages origin;
     message = fresh;
-    there = same_message s.message p (if s.up 0 then Some fresh else s.message p) ∙ ap (λ b. if b then Some fresh
+    there = with_at_here s.message p (if s.up 0 then Some fresh else s.message p) ∙ ap (λ b. if b then Some fresh
         else s.message p) (calm.up 0 good.some);
     placed = refl;
     told = λ group needed. absurd (true≢false (sym needed));

@@ -4,6 +4,7 @@ use Rattle.std.proofs.Common.{ap, subst, ◌∙◌, arith, lt-ltb}
 use Rattle.std.specs.List.{AllByRecursion}
 use Rattle.std.proofs.lemmas.Bool.{true≢false, and_right, or_from}
 use Rattle.ftc_ring.specs.Ring.{next_of}
+use Rattle.ftc_ring.proofs.Geometry.{next_within}
 use Rattle.ftc_journal.specs.declared.event.Event.{Event}
 use Rattle.ftc_journal.specs.declared.event.Event.TheVariants.{Apply, Carry, Crash, Enter, Lose, Pass, Propagate, Pull}
 use Rattle.ftc_journal.specs.declared.event.Event.TheVariants.{Recover, Release, Take, Visit}
@@ -30,13 +31,6 @@ pub record IsCalm (c : Setting) (s : ChainState) : Type 0 where
   pub gap : (link : ℕ) → s.gap link ≡ false
   pub kept : (packet number : ℕ) → s.fate packet ≡ Lost number → ⊥
 
-pub next_below : (n k : ℕ) → k < n → next_of n k < n
-next_below n k below = elim (apart_after n k below) [
-  | inr alone ↦ subst (λ m. next_of m k < m) (sym alone) (let zero : k ≡ 0 = omega arith in
-      subst (λ x. next_of 1 x < 1) (sym zero) (omega arith))
-  | inl step ↦ step.1
-]
-
 module _ (c : Setting) (good : IsGood c) (quiet : IsQuiet c) (s : ChainState) (r : IsReached c s)
     (calm : IsCalm c s) where
   no_line : (line : Rattle.ftc_script.specs.declared.line.ScriptLine.ScriptLine) → IsNextLine s.lines line → ⊥
@@ -47,7 +41,7 @@ module _ (c : Setting) (good : IsGood c) (quiet : IsQuiet c) (s : ChainState) (r
       (subst (IsUp (servers c) s.up) leaves.held (r.live.inv.awake p m leaves.there))
 
   stays : (k : ℕ) → k < servers c → is_away c s k false ≡ false
-  stays k below = ap not (calm.up (next_of (servers c) k) (next_below (servers c) k below))
+  stays k below = ap not (calm.up (next_of (servers c) k) (next_within (servers c) k below))
 
   pub quiet_event : (e : Event) → MayHappen c s e → IsQuietEvent e
   quiet_event (Enter p) legal = tt
@@ -69,7 +63,7 @@ module _ (c : Setting) (good : IsGood c) (quiet : IsQuiet c) (s : ChainState) (r
   may_not_lose (Apply k p j q) legal lose = lose
   may_not_lose (Visit k p w) legal lose = lose
   may_not_lose (Pass k p) legal lose =
-      true≢false (sym (calm.up (next_of (servers c) k) (next_below (servers c) k (here k p legal.0 legal.1))) ∙ lose)
+      true≢false (sym (calm.up (next_of (servers c) k) (next_within (servers c) k (here k p legal.0 legal.1))) ∙ lose)
   may_not_lose (Lose k p) legal lose = true≢false (sym legal.3 ∙ quiet.loses k p)
   may_not_lose (Carry p) legal lose = lose
   may_not_lose (Crash k) legal lose = no_line _ legal

@@ -10,7 +10,7 @@ use Rattle.ftc_journal.specs.declared.event.Event.TheVariants.{Apply, Carry, Cra
 use Rattle.ftc_journal.specs.declared.event.Event.TheVariants.{Recover, Release, Take, Visit}
 use Rattle.ftc_script.specs.declared.line.ScriptLine.{ScriptLine}
 use Rattle.ftc_script.specs.declared.line.ScriptLine.TheVariants as script_line
-use Rattle.ftc_serial.proofs.Functions.{with_at_cases}
+use Rattle.ftc_serial.proofs.Functions.{with_at_cases, with_at_here}
 use Rattle.ftc_protocol.specs.Setting.{Setting, servers, count, is_tail, IsSetting}
 use Rattle.ftc_protocol.specs.Visits.{In}
 use Rattle.ftc_protocol.specs.State.{ChainState, Message, opening}
@@ -21,7 +21,6 @@ use Rattle.ftc_protocol.specs.Counts.{propagates_in, AreFew}
 use Rattle.ftc_protocol.proofs.Premises.{IsGood}
 use Rattle.ftc_protocol.proofs.AcceptedSettings.{is_good}
 use Rattle.ftc_protocol.proofs.Invariant.{each_message}
-use Rattle.ftc_protocol.proofs.InTransit.{same_message}
 use Rattle.ftc_protocol.proofs.ListStores.{stands_below}
 use Rattle.ftc_protocol.proofs.FullLists.{full}
 use Rattle.ftc_protocol.proofs.Complete.{IsReached, keeps_reached, opens_reached}
@@ -74,7 +73,7 @@ module _ (c : Setting) (is : IsSetting c) (s : ChainState) (n : IsCounted c s) w
         told = λ packet w held. record {
           origin = p;
           message = new;
-          there = same_message s.message p (Some new);
+          there = with_at_here s.message p (Some new);
           tells = λ group x tail changing le far.
               let first : tail ≡ 0 = omega arith in
               let below : group < servers c =
@@ -221,7 +220,7 @@ counted_on c is [] s n legal = n
 counted_on c is (e ∷ journal) s n legal = counted_on c is journal (next c s e) (keeps_counts c is s n e legal.0) legal.1
 
 -- the state counts the events
-count_is : (c : Setting) (journal : List Event) (s : ChainState) →
+pub count_is : (c : Setting) (journal : List Event) (s : ChainState) →
     (state_after c s journal).propagates ≡ s.propagates + propagates_in journal
 count_is c [] s = omega arith
 count_is c (Propagate p ∷ journal) s = let rest = count_is c journal (next c s (Propagate p)) in omega arith

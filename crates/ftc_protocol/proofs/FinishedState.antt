@@ -7,7 +7,7 @@ use Rattle.ftc_script.specs.declared.line.ScriptLine.TheVariants as script_line
 use Rattle.ftc_journal.specs.declared.event.Event.TheVariants.{Apply, Carry, Crash, Enter, Lose, Pass, Propagate, Pull}
 use Rattle.ftc_journal.specs.declared.event.Event.TheVariants.{Recover, Release, Take, Visit}
 use Rattle.ftc_protocol.proofs.Premises.{AreFit, IsGood, ticked}
-use Rattle.ftc_protocol.proofs.InTransit.{AreNumbered, IsPending, keeps_numbers, other_message, same_message}
+use Rattle.ftc_protocol.proofs.InTransit.{AreNumbered, IsPending, keeps_numbers}
 use Rattle.ftc_protocol.proofs.ArrivalOrder.{AreSeen, From, IsSeenAt, IsTimed, crash_seen, keeps_time, left_seen}
 use Rattle.ftc_protocol.proofs.ArrivalOrder.{recover_seen, seen_by, seen_given, seen_grow, take_seen, visit_seen}
 use Rattle.ftc_protocol.specs.State.{ChainState, Message, Withheld, opening}
@@ -31,7 +31,7 @@ use Rattle.ftc_ring.specs.Ring.{next_of}
 use Rattle.ftc_protocol.proofs.Quiescence.{no_message}
 use Rattle.ftc_protocol.proofs.UndoneList.{undone_listed}
 use Rattle.ftc_serial.specs.Words.{with_at}
-use Rattle.ftc_serial.proofs.Functions.{with_at_cases}
+use Rattle.ftc_serial.proofs.Functions.{with_at_cases, with_at_here, with_at_elsewhere}
 
 pub record IsLive (c : Setting) (s : ChainState) : Type 0 where
   pub inv : Inv c s
@@ -106,10 +106,10 @@ module _ (c : Setting) (good : IsGood c) (s : ChainState) (l : IsLive c s) where
       (λ e is y from. subst (λ v. IsSeenAt c s.trace s.up s.lists y (target (servers c) m'.place) m'.logs
       (with_at seen p (s.lists k) v)) (sym e)
       (subst (λ v. IsSeenAt c s.trace s.up s.lists y (target (servers c) m'.place) m'.logs v)
-      (sym (same_message seen p (s.lists k)))
+      (sym (with_at_here seen p (s.lists k)))
       (left_seen c good s inv timed seen ok k p m leaves _ (s.message p) refl m' is y from)))
       (λ ne is y from. subst (λ v. IsSeenAt c s.trace s.up s.lists y (target (servers c) m'.place) m'.logs v)
-      (sym (other_message seen p (s.lists k) q ne)) (ok q m' is y from))
+      (sym (with_at_elsewhere seen p (s.lists k) q ne)) (ok q m' is y from))
 
   with_parts : (e : Event) → MayHappen c s e → (seen' : ℕ → Visits) → AreSeen c (next c s e) seen' →
       IsSoonAll c (next c s e) seen' → IsLive c (next c s e)

@@ -72,7 +72,7 @@ both partitions g trace one other first second = record {
   ];
 }
 
-none_front : (c : Setting) (s : ChainState) → IsFront c s no_visits
+pub none_front : (c : Setting) (s : ChainState) → IsFront c s no_visits
 none_front c s = record {
   closed = λ g. record { before = λ a b inside h. absurd (true≢false (sym inside)) };
   there = λ g q inside. absurd (true≢false (sym inside));

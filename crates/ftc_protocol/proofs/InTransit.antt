@@ -65,12 +65,6 @@ abbrev pub AreNumbered : Setting → ChainState → Type 0
 AreNumbered c s = (p : ℕ) (m : Message) → s.message p ≡ Some m →
     (p < s.entered) ⊎ (((count c) ≤ p) × (p < (count c) + s.propagates))
 
-pub other_message : {A : Type 0} (f : ℕ → A) (p : ℕ) (o : A) (x : ℕ) → x ≢ p → with_at f p o x ≡ f x
-other_message f p o x ne = with_at_cases (λ v. v ≡ f x) f p o x (λ e. absurd (ne e)) (λ _. refl)
-
-pub same_message : {A : Type 0} (f : ℕ → A) (p : ℕ) (o : A) → with_at f p o p ≡ o
-same_message f p o = with_at_cases (λ v. v ≡ o) f p o p (λ _. refl) (λ ne. absurd (ne refl))
-
 -- messages keep their numbers
 module _ (c : Setting) (s : ChainState) (numbered : AreNumbered c s) where
   kept_number : (p : ℕ) (o : Option Message) → ((m : Message) → o ≡ Some m → (n : Message) × (s.message p ≡ Some n)) →

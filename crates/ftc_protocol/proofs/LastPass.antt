@@ -2,7 +2,7 @@
 use Rattle.std.proofs.Common.{◌≡◌, ◌≢◌, ◌⊎◌, ℕ, ◌+◌, ◌-◌, ◌==◌, ◌&&◌, ◌||◌, nat_lt, if◌then◌else◌, not, Bool, true}
 use Rattle.std.proofs.Common.{false, List, inl, inr, refl, ap, subst, ◌∙◌, arith, eq-eqb, Option, Some, None}
 use Rattle.ftc_journal.specs.declared.event.Event.TheVariants.{Pass}
-use Rattle.ftc_serial.proofs.Functions.{with_at_cases}
+use Rattle.ftc_serial.proofs.Functions.{with_at_cases, with_at_here, with_at_elsewhere}
 use Rattle.ftc_protocol.specs.Setting.{Setting, servers}
 use Rattle.ftc_protocol.specs.Trace.{Has}
 use Rattle.ftc_protocol.specs.State.{ChainState, Held}
@@ -11,7 +11,6 @@ use Rattle.ftc_protocol.specs.Legal.{is_sent}
 use Rattle.ftc_protocol.specs.Next.{next, is_away, sent_message, withheld_of, withheld_packet}
 use Rattle.ftc_protocol.specs.Quiet.{IsQuiet}
 use Rattle.ftc_protocol.proofs.Premises.{IsGood}
-use Rattle.ftc_protocol.proofs.InTransit.{same_message, other_message}
 use Rattle.ftc_protocol.proofs.Lone.{IsAt, IsBuffered, IsGone, IsThrough}
 use Rattle.ftc_protocol.proofs.LonePass.{plain_then}
 
@@ -32,12 +31,12 @@ module _ (c : Setting) (good : IsGood c) (quiet : IsQuiet c) (alone : c.failures
 
   -- the buffer then
   withheld_then : (next c s (Pass k p)).withheld p ≡ withheld_packet s at.message at.message.packet
-  withheld_then = same_message s.withheld p (if k + 1 == servers c then withheld_of s (s.message p) else s.withheld p)
+  withheld_then = with_at_here s.withheld p (if k + 1 == servers c then withheld_of s (s.message p) else s.withheld p)
       ∙ (ap (λ b. if b then withheld_of s (s.message p) else s.withheld p) is_last ∙ ap (withheld_of s) at.there)
 
   others_then : (packet : ℕ) → packet ≢ p → (next c s (Pass k p)).withheld packet ≡ None
   others_then packet other =
-      other_message s.withheld p (if k + 1 == servers c then withheld_of s (s.message p)
+      with_at_elsewhere s.withheld p (if k + 1 == servers c then withheld_of s (s.message p)
       else s.withheld p) packet other ∙ at.withheld packet
 
   left_then : (packet : Option (List ℕ)) → at.message.packet ≡ packet → IsBuffered c (next c s (Pass k p)) p

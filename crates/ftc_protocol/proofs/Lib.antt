@@ -51,7 +51,7 @@ mod EndedMessages
 pub mod HasEach
 mod PropagateCounts
 mod TellingMessage
-mod FewPropagates
+pub mod FewPropagates
 mod MeasureFalls
 mod Example
 mod JournalTrace
@@ -74,11 +74,11 @@ mod PlainFates
 mod FirstJobInTurn
 mod MessageWork
 mod DriveLaws
-mod OrderlyStates
+pub mod OrderlyStates
 mod MeasureNumber
 mod LogsRideOnce
 mod PacketNeeds
-mod Fronts
+pub mod Fronts
 mod NoOwnLogs
 mod StatesOfRuns
 mod SettledPlaces
@@ -91,7 +91,7 @@ mod RingTests
 mod TestMeanings
 mod JobOrder
 mod ArrivalTimes
-mod UniqueDrive
+pub mod UniqueDrive
 mod BoundedSearch
 mod DecidedJobs
 mod FirstJobExists

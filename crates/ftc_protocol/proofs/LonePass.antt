@@ -4,16 +4,17 @@ use Rattle.std.proofs.Common.{false, inl, refl, sym, ap, ◌∙◌, arith, None}
 use Rattle.std.proofs.lemmas.Bool.{and_right, and_parts, and_from, or_left, ne_eqb}
 use Rattle.ftc_journal.specs.declared.event.Event.TheVariants.{Pass}
 use Rattle.ftc_ring.specs.Ring.{next_of}
-use Rattle.ftc_serial.proofs.Functions.{with_at_cases}
+use Rattle.ftc_ring.proofs.Geometry.{next_within}
+use Rattle.ftc_serial.proofs.Functions.{with_at_cases, with_at_here, with_at_elsewhere}
 use Rattle.ftc_protocol.specs.Setting.{Setting, servers}
 use Rattle.ftc_protocol.specs.State.{ChainState, Message, Held, Queued}
 use Rattle.ftc_protocol.specs.Legal.{MayHappen, IsLegal, is_sent}
 use Rattle.ftc_protocol.specs.Next.{next, is_away, sent_message, withheld_of}
 use Rattle.ftc_protocol.specs.Quiet.{IsQuiet}
 use Rattle.ftc_protocol.proofs.Premises.{IsGood}
-use Rattle.ftc_protocol.proofs.InTransit.{same_message, other_message, after_sending}
+use Rattle.ftc_protocol.proofs.InTransit.{after_sending}
 use Rattle.ftc_protocol.proofs.Complete.{keeps_reached}
-use Rattle.ftc_protocol.proofs.FaultFree.{keeps_calm, next_below}
+use Rattle.ftc_protocol.proofs.FaultFree.{keeps_calm}
 use Rattle.ftc_protocol.proofs.Lone.{IsPlain, IsAt, behind, none_due, ready_here, server_below}
 
 module _ (c : Setting) (good : IsGood c) (quiet : IsQuiet c) (alone : c.failures ≡ 0) (s : ChainState) (p k : ℕ)
@@ -54,7 +55,7 @@ module _ (c : Setting) (good : IsGood c) (quiet : IsQuiet c) (alone : c.failures
     sends = and_from (is_sent c k) (not (is_away c s k false))
         (or_left (not (k + 1 == servers c)) (nat_lt 0 c.failures) (ap not not_last))
         (ap (λ up. not (not up))
-        (calm.up (next_of (servers c) k) (next_below (servers c) k (server_below c good alone s p k visited at))))
+        (calm.up (next_of (servers c) k) (next_within (servers c) k (server_below c good alone s p k visited at))))
 
     sent : Message
     sent = after_sending c s k at.message
@@ -71,9 +72,9 @@ module _ (c : Setting) (good : IsGood c) (quiet : IsQuiet c) (alone : c.failures
           withheld_of s (s.message p) else s.withheld p) packet
           (λ same. ap (λ b. if b then withheld_of s (s.message p) else s.withheld p) not_last ∙ at.withheld p)
           (λ other. at.withheld packet);
-      others = λ origin other. other_message s.message p _ origin other ∙ at.others origin other;
+      others = λ origin other. with_at_elsewhere s.message p _ origin other ∙ at.others origin other;
       message = sent;
-      there = same_message s.message p (if is_sent c k && not (is_away c s k false) then
+      there = with_at_here s.message p (if is_sent c k && not (is_away c s k false) then
           sent_message c s k (s.message p) else None)
           ∙ (ap (λ b. if b then sent_message c s k (s.message p) else None) sends ∙ ap (sent_message c s k) at.there);
       placed = refl;

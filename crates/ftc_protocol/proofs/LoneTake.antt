@@ -5,6 +5,7 @@ use Rattle.std.proofs.lemmas.Bool.{cases_eq, ne_eqb, or_left, or_right}
 use Rattle.std.proofs.lemmas.Option.{none-some, same_Some}
 use Rattle.ftc_journal.specs.declared.event.Event.TheVariants.{Take}
 use Rattle.ftc_ring.specs.Ring.{next_of}
+use Rattle.ftc_serial.proofs.Functions.{with_at_here, with_at_elsewhere}
 use Rattle.ftc_protocol.specs.Setting.{Setting, servers, is_tail}
 use Rattle.ftc_protocol.specs.Visits.{Visits, In, union}
 use Rattle.ftc_protocol.specs.State.{ChainState, Message, Held, Queued}
@@ -13,7 +14,6 @@ use Rattle.ftc_protocol.specs.Legal.{MayHappen, IsLegal}
 use Rattle.ftc_protocol.specs.Next.{next, known_by, taken_message}
 use Rattle.ftc_protocol.specs.Quiet.{IsQuiet}
 use Rattle.ftc_protocol.proofs.Premises.{IsGood}
-use Rattle.ftc_protocol.proofs.InTransit.{same_message, other_message}
 use Rattle.ftc_protocol.proofs.CarriedLogs.{has_more}
 use Rattle.ftc_protocol.proofs.Complete.{keeps_reached}
 use Rattle.ftc_protocol.proofs.FaultFree.{keeps_calm}
@@ -52,7 +52,7 @@ module _ (c : Setting) (good : IsGood c) (quiet : IsQuiet c) (s : ChainState) (p
       (or_left ((next c s (Take k p)).known (next_of (servers c) k) group q) (is_tail c group (next_of (servers c) k)
       && s.lists (next_of (servers c) k) group q)
       (subst (λ (v : Visits). In v group q)
-      (sym (same_message s.known (next_of (servers c) k)
+      (sym (with_at_here s.known (next_of (servers c) k)
       (union (s.known (next_of (servers c) k)) (known_by (s.message p)))))
       (or_right (s.known (next_of (servers c) k) group q) (known_by (s.message p) group q)
       (subst (λ o. In (known_by o) group q) (sym at.there) is))))
@@ -67,9 +67,9 @@ module _ (c : Setting) (good : IsGood c) (quiet : IsQuiet c) (s : ChainState) (p
       forwarder = at.plain.forwarder;
     };
     withheld = at.withheld;
-    others = λ origin other. other_message s.message p _ origin other ∙ at.others origin other;
+    others = λ origin other. with_at_elsewhere s.message p _ origin other ∙ at.others origin other;
     message = taken;
-    there = same_message s.message p (taken_message c s k (s.message p)) ∙ ap (taken_message c s k) at.there;
+    there = with_at_here s.message p (taken_message c s k (s.message p)) ∙ ap (taken_message c s k) at.there;
     placed = ap (λ b. Held (if b then 0 else k + 1) false b) (ne_eqb (k + 1) (servers c) more) ∙ ap
         (λ server. Held server false false) (add-one k);
     told = λ group needed. has_more c.partitions s.trace at.message.known

@@ -4,6 +4,7 @@ use Rattle.std.proofs.Common.{arith, eq-eqb, eqb-true, Some, is_some}
 use Rattle.std.proofs.lemmas.Bool.{cases_eq, and_parts, and_from, or_cases, or_left, or_right}
 use Rattle.ftc_journal.specs.declared.event.Event.TheVariants.{Visit}
 use Rattle.ftc_ring.specs.Ring.{apart}
+use Rattle.ftc_serial.proofs.Functions.{with_at_here, with_at_elsewhere}
 use Rattle.ftc_protocol.specs.Setting.{Setting, servers, is_tail}
 use Rattle.ftc_protocol.specs.Visits.{In}
 use Rattle.ftc_protocol.specs.Changes.{is_touching, is_changing}
@@ -16,7 +17,7 @@ use Rattle.ftc_protocol.specs.Quiet.{IsQuiet}
 use Rattle.ftc_protocol.proofs.Premises.{IsGood}
 use Rattle.ftc_protocol.proofs.Places.{place_after, serial_of}
 use Rattle.ftc_protocol.proofs.RingDistances.{apart_cases}
-use Rattle.ftc_protocol.proofs.InTransit.{same_message, other_message, after_visit}
+use Rattle.ftc_protocol.proofs.InTransit.{after_visit}
 use Rattle.ftc_protocol.proofs.Sets.{kept}
 use Rattle.ftc_protocol.proofs.CarriedLogs.{has_more, has_grown}
 use Rattle.ftc_protocol.proofs.HavingVisits.{head_has}
@@ -99,16 +100,16 @@ module _ (c : Setting) (good : IsGood c) (quiet : IsQuiet c) (alone : c.failures
       forwarder = at.plain.forwarder;
     };
     withheld = at.withheld;
-    others = λ origin other. other_message s.message p _ origin other ∙ at.others origin other;
+    others = λ origin other. with_at_elsewhere s.message p _ origin other ∙ at.others origin other;
     message = visited;
-    there = same_message s.message p (visited_message c k p (outcome_at c s k p) (s.message p)) ∙ ap
+    there = with_at_here s.message p (visited_message c k p (outcome_at c s k p) (s.message p)) ∙ ap
         (visited_message c k p (outcome_at c s k p)) at.there;
     placed = ap visited_at at.placed;
     told = told_then;
     gone = λ dropped. (
       k,
       omega arith,
-      same_message (serial_of c s.trace).place p (place_after (servers c) k (outcome_at c s k p).packet) ∙ ap
+      with_at_here (serial_of c s.trace).place p (place_after (servers c) k (outcome_at c s k p).packet) ∙ ap
           (place_after (servers c) k) dropped,
     );
   }

@@ -14,7 +14,7 @@ use Rattle.ftc_script.specs.declared.line.ScriptLine.TheVariants as script_line
 use Rattle.ftc_serial.specs.Words.{with_at}
 use Rattle.ftc_serial.specs.Serial.{Entry, Given, Visited}
 use Rattle.ftc_serial.specs.Take.{Outcome}
-use Rattle.ftc_serial.proofs.Functions.{with_at_cases}
+use Rattle.ftc_serial.proofs.Functions.{with_at_cases, with_at_here}
 use Rattle.ftc_protocol.specs.Setting.{Setting, servers, count, is_tail, is_member, IsSetting}
 use Rattle.ftc_protocol.specs.Visits.{Visits, In, union, just}
 use Rattle.ftc_protocol.specs.Changes.{is_changing}
@@ -28,7 +28,6 @@ use Rattle.ftc_protocol.specs.Measure.{sum_below, one_for, way_from, way_of, lac
 use Rattle.ftc_protocol.specs.Measure.{IsBelow}
 use Rattle.ftc_protocol.proofs.Premises.{IsGood, ticked}
 use Rattle.ftc_protocol.proofs.AcceptedSettings.{is_good}
-use Rattle.ftc_protocol.proofs.InTransit.{same_message}
 use Rattle.ftc_protocol.proofs.DecidedJobs.{numbered}
 use Rattle.ftc_protocol.proofs.FewPropagates.{IsCounted, keeps_counts, opens_counted, counted_on, most}
 use Rattle.ftc_protocol.proofs.RunLists.{first_legal, rest_legal, state_on}
@@ -65,7 +64,7 @@ module _ (c : Setting) where
       (λ k kl. with_at_cases (λ v. way v ≤ way (message k)) message p o k
       (λ e. let at : way (message k) ≡ way (message p) = ap (λ x. way (message x)) e in omega arith)
       (λ ne. omega arith)) p below
-      (subst (λ v. way v < way (message p)) (sym (same_message message p o)) falls)
+      (subst (λ v. way v < way (message p)) (sym (with_at_here message p o)) falls)
 
 -- what a group lacks
 module _ (c : Setting) where
@@ -153,7 +152,7 @@ module _ (c : Setting) where
         and_from (s.up k && is_member c group k && is_changing c.partitions o) (not (s.lists k group packet)) live
             (ap not lacked),
         ap (λ (v : Visits). s.up k && is_member c group k && is_changing c.partitions o
-            && not (v group packet)) (same_message s.lists k list)
+            && not (v group packet)) (with_at_here s.lists k list)
             ∙ (ap (λ b. s.up k && is_member c group k && is_changing c.partitions o && not b) got ∙ and_right (s.up k
             && is_member c group k && is_changing c.partitions o) false refl),
       )
@@ -297,7 +296,7 @@ module _ (c : Setting) (is : IsSetting c) (s : ChainState) (n : IsCounted c s) w
       ap (λ x. x + lacking c (next c s (Release p)) s.trace) first ∙ omega (arith, older) in
       let old : one_for (is_some (s.withheld p)) ≡ 1 = ap (λ (v : Option Withheld). one_for (is_some v)) there in
       let new : one_for (is_some (with_at s.withheld p None p)) ≡ 0 =
-      ap (λ (v : Option Withheld). one_for (is_some v)) (same_message s.withheld p None) in
+      ap (λ (v : Option Withheld). one_for (is_some v)) (with_at_here s.withheld p None) in
       let fewer = sum_falls (count c) (λ q. one_for (is_some (with_at s.withheld p None q)))
       (λ q. one_for (is_some (s.withheld q)))
       (λ k kl. with_at_cases (λ (v : Option Withheld). one_for (is_some v) ≤ one_for (is_some (s.withheld k)))
@@ -338,7 +337,7 @@ module _ (c : Setting) (is : IsSetting c) (s : ChainState) (n : IsCounted c s) w
       let kl : k < servers c = reached.live.inv.world.inside k legal.0 in
       let bl : b < servers c = reached.live.inv.world.inside b legal.1 in
       let grows : (j q : ℕ) → In (s.lists b) j q → In list j q =
-      λ j q i. subst (λ (v : Visits). In v j q) (same_message s.lists b list)
+      λ j q i. subst (λ (v : Visits). In v j q) (with_at_here s.lists b list)
       (Rattle.ftc_protocol.proofs.FinishedState.pull_more c good s reached.live k legal b j q i) in
       let s' = next c s (Pull k) in
       let more = lists_less c s b list grows s'.gap in

@@ -14,7 +14,7 @@ use Rattle.ftc_protocol.specs.Visits.{In, Visits, just, no_visits, union}
 use Rattle.ftc_protocol.proofs.Invariant.{Inv, target}
 use Rattle.ftc_protocol.specs.Trace.{IsChanging, IsInTrace, has_each}
 use Rattle.ftc_protocol.proofs.Premises.{IsGood, ticked}
-use Rattle.ftc_protocol.proofs.InTransit.{IsNear, IsPending, other_message, same_message, after_visit, after_sending}
+use Rattle.ftc_protocol.proofs.InTransit.{IsNear, IsPending, after_visit, after_sending}
 use Rattle.ftc_protocol.proofs.LiveHolders.{IsUp, kept_some, lost_some_message}
 use Rattle.ftc_protocol.specs.Legal.{MayHappen, MayLeave, is_sent}
 use Rattle.ftc_protocol.specs.Setting.{Setting, is_member, is_tail, servers}
@@ -33,7 +33,7 @@ use Rattle.ftc_protocol.proofs.ListStores.{stands_below, touching_changing}
 use Rattle.ftc_protocol.proofs.EarlierVisits.{visited_earlier}
 use Rattle.ftc_protocol.proofs.VisitEvent.{visits}
 use Rattle.ftc_serial.specs.Words.{with_at}
-use Rattle.ftc_serial.proofs.Functions.{with_at_cases}
+use Rattle.ftc_serial.proofs.Functions.{with_at_cases, with_at_here, with_at_elsewhere}
 
 -- a log near y, whose message, if y holds it, came before each message that left y when y had the visit
 pub record IsSoonBy (c : Setting) (message : ℕ → Option Message) (seen : ℕ → Visits) (y j q : ℕ) : Type 0 where
@@ -119,7 +119,7 @@ module _ (c : Setting) (good : IsGood c) (s : ChainState) (h : Inv c s) (t : IsT
       | inr ne ↦ other (inl (record {
         origin = by.origin;
         by = by.by;
-        there = other_message s.message p o by.origin ne ∙ by.there;
+        there = with_at_elsewhere s.message p o by.origin ne ∙ by.there;
         log = by.log;
         near = by.near;
         sooner = λ held. later p o seen' same y j q by.by.since
@@ -158,7 +158,7 @@ module _ (c : Setting) (good : IsGood c) (s : ChainState) (h : Inv c s) (t : IsT
         inr (inl (record {
           origin = p;
           by = new;
-          there = same_message s.message p _ ∙ ap (taken_message c s l) e;
+          there = with_at_here s.message p _ ∙ ap (taken_message c s l) e;
           log = log;
           near = inr (ap (next_of (servers c)) at);
           sooner = λ held. absurd (
@@ -229,7 +229,7 @@ module _ (c : Setting) (good : IsGood c) (s : ChainState) (h : Inv c s) (t : IsT
       let is_new : visited_message c k p o (s.message p) ≡ Some new =
       ap (visited_message c k p o) legal.3 ∙ ap (λ v. Some (record after { place = visited_at v })) legal.4 in
       let there : with_at s.message p (visited_message c k p o (s.message p)) p ≡ Some new =
-      same_message s.message p _ ∙ is_new in
+      with_at_here s.message p _ ∙ is_new in
       let late : (b : ℕ) → b < s.events →
       ((m0 : Message) → s.message p ≡ Some m0 → From (servers c) m0.place y → In (seen p) j q → b < m0.since) →
       (n : Message) → visited_message c k p o (s.message p) ≡ Some n → From (servers c) n.place y →
@@ -343,16 +343,16 @@ module _ (c : Setting) (good : IsGood c) (s : ChainState) (h : Inv c s) (t : IsT
       let gap_k : y ≡ k → is_away c s k lost ≡ false = λ e. elim (cases_Bool (is_away c s k lost)) [
         | inr stays ↦ stays
         | inl away ↦ absurd (true≢false
-            (sym (same_message s.gap k (s.gap k || (is_sent c k && is_away c s k lost)) ∙ or_right (s.gap k) _
+            (sym (with_at_here s.gap k (s.gap k || (is_sent c k && is_away c s k lost)) ∙ or_right (s.gap k) _
             (and_from (is_sent c k) (is_away c s k lost) sends away)) ∙ subst
             (λ v. with_at s.gap k (s.gap k || (is_sent c k && is_away c s k lost)) v ≡ false) e gap))
       ] in
       let old_gap : s.gap y ≡ false = elim (cases_eq y k) [
         | inl same ↦ false_from_ne_true (s.gap y)
-            (λ t'. true≢false (sym (same_message s.gap k (s.gap k
+            (λ t'. true≢false (sym (with_at_here s.gap k (s.gap k
             || (is_sent c k && is_away c s k lost)) ∙ or_left (s.gap k) _ (subst (λ v. s.gap v ≡ true) same t')) ∙ subst
             (λ v. with_at s.gap k (s.gap k || (is_sent c k && is_away c s k lost)) v ≡ false) same gap))
-        | inr other ↦ sym (other_message s.gap k _ y other) ∙ gap
+        | inr other ↦ sym (with_at_elsewhere s.gap k _ y other) ∙ gap
       ] in
       let sent : (x : Message) → s.message p ≡ Some x → y ≡ k → In (logs_sent c s k x) j q →
       IsSoon c (sent_on c s k p lost).message (sent_on c s k p lost).forwarder (with_at seen p (s.lists k)) y j q =
@@ -362,7 +362,7 @@ module _ (c : Setting) (good : IsGood c) (s : ChainState) (h : Inv c s) (t : IsT
       inl (record {
         origin = p;
         by = new;
-        there = same_message s.message p _ ∙ (ap (λ t'. if t' then sent_message c s k (s.message p)
+        there = with_at_here s.message p _ ∙ (ap (λ t'. if t' then sent_message c s k (s.message p)
             else None) goes ∙ ap (sent_message c s k) e);
         log = log;
         near = sym at;
@@ -372,7 +372,7 @@ module _ (c : Setting) (good : IsGood c) (s : ChainState) (h : Inv c s) (t : IsT
         | inl had ↦ inl had
         | inr way ↦ on_soon p (if b then sent_message c s k (s.message p)
             else None) (λ a x. not (k == 0) && s.forwarder a x) (with_at seen p (s.lists k))
-            (λ x ne. other_message seen p (s.lists k) x ne) y j q way
+            (λ x ne. with_at_elsewhere seen p (s.lists k) x ne) y j q way
             (λ x e log near sooner.
             let same : m ≡ x = same_Some _ _ (sym leaves.there ∙ e) in
             let at : IsNear n y (Held k leaves.visited false) =
@@ -407,14 +407,15 @@ module _ (c : Setting) (good : IsGood c) (s : ChainState) (h : Inv c s) (t : IsT
       let n = (servers c) in
       let next_ne : next_of n y ≢ k =
       λ e. true≢false (sym live ∙
-      (subst (λ v. with_at s.up k false v ≡ false) (sym e) (same_message s.up k false))) in
+      (subst (λ v. with_at s.up k false v ≡ false) (sym e) (with_at_here s.up k false))) in
       let y_ne : y ≢ k = λ e. true≢false
       (sym is ∙ (subst (λ v. with_at s.lists k no_visits v j q
-      ≡ false) (sym e) (ap (λ (v : Visits). v j q) (same_message s.lists k no_visits)))) in
-      let old : In (s.lists y) j q = subst (λ (v : Visits). In v j q) (other_message s.lists k no_visits y y_ne) is in
-      elim (soon y j q old less (sym (other_message s.up k false _ next_ne) ∙ live) gap) [
+      ≡ false) (sym e) (ap (λ (v : Visits). v j q) (with_at_here s.lists k no_visits)))) in
+      let old : In (s.lists y) j q =
+      subst (λ (v : Visits). In v j q) (with_at_elsewhere s.lists k no_visits y y_ne) is in
+      elim (soon y j q old less (sym (with_at_elsewhere s.up k false _ next_ne) ∙ live) gap) [
         | inl had ↦ inl (subst (λ (v : Visits). In v j q)
-            (sym (other_message s.lists k no_visits (next_of n y) next_ne)) had)
+            (sym (with_at_elsewhere s.lists k no_visits (next_of n y) next_ne)) had)
         | inr way ↦ elim way [
           | inl by ↦ inr (inl (record {
             origin = by.origin;
@@ -450,10 +451,10 @@ module _ (c : Setting) (good : IsGood c) (s : ChainState) (h : Inv c s) (t : IsT
       let y_ne : y ≢ k = eqb-false _ _ low.1 in let next_ne : next_of n y ≢ k = eqb-false _ _ inner.1 in
       let y_net : y ≢ t' = eqb-false _ _ mid.1 in let next_net : next_of n y ≢ t' = eqb-false _ _ outer.1 in
       let old : In (s.lists y) j q =
-      subst (λ (v : Visits). In v j q) (other_message s.lists k (list_got c s k r t') y y_ne) is in
-      elim (soon y j q old less (sym (other_message s.up k true _ next_ne) ∙ live) low.0) [
+      subst (λ (v : Visits). In v j q) (with_at_elsewhere s.lists k (list_got c s k r t') y y_ne) is in
+      elim (soon y j q old less (sym (with_at_elsewhere s.up k true _ next_ne) ∙ live) low.0) [
         | inl had ↦ inl (subst (λ (v : Visits). In v j q)
-            (sym (other_message s.lists k (list_got c s k r t') (next_of n y) next_ne)) had)
+            (sym (with_at_elsewhere s.lists k (list_got c s k r t') (next_of n y) next_ne)) had)
         | inr way ↦ elim way [
           | inl by ↦ inr (inl (record {
             origin = by.origin;
@@ -511,7 +512,7 @@ module _ (c : Setting) (good : IsGood c) (s : ChainState) (h : Inv c s) (t : IsT
                     | inl at_m ↦
                         let i_m : In (pulled_list c s l m) j q =
                         subst (λ (v : Visits). In v j q)
-                        (ap (with_at s.lists m (pulled_list c s l m)) at_m ∙ same_message s.lists m
+                        (ap (with_at s.lists m (pulled_list c s l m)) at_m ∙ with_at_here s.lists m
                         (pulled_list c s l m)) here in
                         let m_ne_l : m ≢ l = λ e. let ee : next_of n l ≡ l = e in omega arith in
                         let gap_m : (s.gap m || list_any (is_news c s l m) s.trace) ≡ false =
@@ -535,13 +536,13 @@ module _ (c : Setting) (good : IsGood c) (s : ChainState) (h : Inv c s) (t : IsT
                         elim (soon m j q had less_m (subst (λ v. s.up (next_of n v) ≡ true) at_m live) parts'.0) [
                           | inl next' ↦ inl (subst (λ v. In (with_at s.lists m (pulled_list c s l m) (next_of n v)) j q)
                               (sym at_m) (subst (λ (v : Visits). In v j q)
-                              (sym (other_message s.lists m (pulled_list c s l m) (next_of n m) after_ne)) next'))
+                              (sym (with_at_elsewhere s.lists m (pulled_list c s l m) (next_of n m) after_ne)) next'))
                           | inr way ↦ inr (subst (λ v. IsSoon c s.message s.forwarder seen v j q) (sym at_m) way)
                         ]
                     | inr not_m ↦
                         let old : In (s.lists y) j q =
                         subst (λ (v : Visits). In v j q)
-                        (other_message s.lists m (pulled_list c s l m) y not_m) here in
+                        (with_at_elsewhere s.lists m (pulled_list c s l m) y not_m) here in
                         elim (cases_eq y l) [
                           | inl at_l ↦
                               let jy = apart_cases n j y jl yl in let jm = apart_cases n j m jl step.1 in
@@ -557,7 +558,7 @@ module _ (c : Setting) (good : IsGood c) (s : ChainState) (h : Inv c s) (t : IsT
                               else s.lists m j q) test ∙ subst (λ v. In (s.lists v) j q) at_l old in
                               inl (subst (λ v. In (with_at s.lists m (pulled_list c s l m) (next_of n v)) j q)
                               (sym at_l) (subst (λ (v : Visits). In v j q)
-                              (sym (same_message s.lists m (pulled_list c s l m))) got))
+                              (sym (with_at_here s.lists m (pulled_list c s l m))) got))
                           | inr not_l ↦
                               let after_ne : next_of n y ≢ m = λ e. let ee : next_of n y ≡ next_of n l =
                               e in not_l (omega arith) in
@@ -568,7 +569,8 @@ module _ (c : Setting) (good : IsGood c) (s : ChainState) (h : Inv c s) (t : IsT
                               else s.gap y) (ne_eqb y m not_m)) ∙ gap in
                               elim (soon y j q old less live gap_y) [
                                 | inl next' ↦ inl (subst (λ (v : Visits). In v j q)
-                                    (sym (other_message s.lists m (pulled_list c s l m) (next_of n y) after_ne)) next')
+                                    (sym (with_at_elsewhere s.lists m (pulled_list c s l m) (next_of n y) after_ne))
+                                    next')
                                 | inr way ↦ inr way
                               ]
                         ]

@@ -187,7 +187,7 @@ lost_for_good c setting before after run packet number is =
 
 -- ---- events are counted
 
-count_on : (c : Setting) (journal : List Event) (s : ChainState) →
+pub count_on : (c : Setting) (journal : List Event) (s : ChainState) →
     (state_after c s journal).events ≡ s.events + length journal
 count_on c [] s = omega arith
 count_on c (e ∷ journal) s = count_on c journal (next c s e) ∙ omega arith

@@ -9,7 +9,7 @@ use Rattle.ftc_journal.specs.declared.event.Event.{Event}
 use Rattle.ftc_journal.specs.declared.event.Event.TheVariants.{Apply, Carry, Crash, Enter, Lose, Pass, Propagate, Pull}
 use Rattle.ftc_journal.specs.declared.event.Event.TheVariants.{Recover, Release, Take, Visit}
 use Rattle.ftc_serial.specs.Words.{with_at}
-use Rattle.ftc_serial.proofs.Functions.{with_at_cases}
+use Rattle.ftc_serial.proofs.Functions.{with_at_cases, with_at_here, with_at_elsewhere}
 use Rattle.ftc_protocol.specs.Setting.{Setting, servers, count, packet_at, is_tail}
 use Rattle.ftc_protocol.specs.Visits.{In, Visits}
 use Rattle.ftc_protocol.specs.State.{ChainState, Message, Held, Queued}
@@ -19,7 +19,7 @@ use Rattle.ftc_protocol.specs.Recovery.{is_dropped, is_dropped_at, following_liv
 use Rattle.ftc_protocol.specs.Next.{next, sent_on, is_at, drop_if, fresh_message, logs_of}
 use Rattle.ftc_protocol.proofs.Premises.{IsGood, ticked}
 use Rattle.ftc_protocol.proofs.Invariant.{Inv}
-use Rattle.ftc_protocol.proofs.InTransit.{AreNumbered, other_message, same_message}
+use Rattle.ftc_protocol.proofs.InTransit.{AreNumbered}
 use Rattle.ftc_protocol.proofs.HavingVisits.{head_has}
 use Rattle.ftc_protocol.proofs.HasEach.{each_has}
 use Rattle.ftc_protocol.proofs.ArrivalOrder.{IsTimed}
@@ -78,7 +78,7 @@ module _ (c : Setting) (good : IsGood c) (s : ChainState) (h : Inv c s) (t : IsT
   met_other : (s' : ChainState) (p : ℕ) (o : Option Message) → s'.message ≡ with_at s.message p o → (m : IsMet c s) →
       m.origin ≢ p → IsMet c s'
   met_other s' p o is m other = met_stays s' m
-      (ap (λ (x : ℕ → Option Message). x m.origin) is ∙ (other_message s.message p o m.origin other ∙ m.there))
+      (ap (λ (x : ℕ → Option Message). x m.origin) is ∙ (with_at_elsewhere s.message p o m.origin other ∙ m.there))
 
   -- the forwarder is as it was
   idle_stays : (s' : ChainState) → s'.forwarder ≡ s.forwarder → (IsMet c s → IsMet c s') → IsIdle c s → IsIdle c s'
@@ -138,7 +138,7 @@ module _ (c : Setting) (good : IsGood c) (s : ChainState) (h : Inv c s) (t : IsT
         busy = paid.busy;
         paid =
             let more = ended_more s.entered s.message (with_at s.message p o)
-            (λ q less was. ap is_some (other_message s.message p o q (λ e. omega arith)) ∙ was) in
+            (λ q less was. ap is_some (with_at_elsewhere s.message p o q (λ e. omega arith)) ∙ was) in
             let next_one = ended_next s.entered (with_at s.message p o) in
             let old = paid.paid in omega arith;
         idle = λ is. idle_stays (next c s (Enter p)) refl
@@ -173,7 +173,7 @@ module _ (c : Setting) (good : IsGood c) (s : ChainState) (h : Inv c s) (t : IsT
               paid =
                   let more = ended_one s.entered s.message (with_at s.message p None)
                   (λ q less was. gone_at p None (there_is p m legal.1) q was) p entered (there_is p m legal.1)
-                  (ap is_some (same_message s.message p None)) in
+                  (ap is_some (with_at_here s.message p None)) in
                   let old = paid.paid in omega arith;
               idle = λ is. absurd (true≢false is);
             }
@@ -245,7 +245,7 @@ module _ (c : Setting) (good : IsGood c) (s : ChainState) (h : Inv c s) (t : IsT
         busy = false;
         paid =
             let more = ended_more s.entered s.message (with_at s.message p (Some new))
-            (λ q less was. ap is_some (other_message s.message p (Some new) q (λ e. omega arith)) ∙ was) in
+            (λ q less was. ap is_some (with_at_elsewhere s.message p (Some new) q (λ e. omega arith)) ∙ was) in
             let old = subst (λ b. begun + (if b then 1 else 0) ≤ ended s.entered s.message) busy paid.paid in
             omega arith;
         idle = λ is. inr (record {
@@ -253,7 +253,7 @@ module _ (c : Setting) (good : IsGood c) (s : ChainState) (h : Inv c s) (t : IsT
           message = new;
           visited = false;
           behind = omega arith;
-          there = same_message s.message p (Some new);
+          there = with_at_here s.message p (Some new);
           held = refl;
         });
       }
@@ -272,5 +272,5 @@ module _ (c : Setting) (good : IsGood c) (s : ChainState) (h : Inv c s) (t : IsT
       let new = fresh_message s.events None in
       let all_in : s.entered ≡ count c = legal.0 in let number : p ≡ count c + s.propagates = legal.4 in
       still_paid (next c s (Propagate p)) refl
-      (λ q less was. ap is_some (other_message s.message p (Some new) q (λ e. omega arith)) ∙ was)
+      (λ q less was. ap is_some (with_at_elsewhere s.message p (Some new) q (λ e. omega arith)) ∙ was)
       (λ idle. inl empty)

@@ -1,5 +1,6 @@
 -- Runs as lists: their parts, and runs that go on.
-use Rattle.std.proofs.Common.{◌≡◌, List, [], ◌∷◌, ◌++◌, refl, subst, sym, ap, ◌∙◌}
+use Rattle.std.proofs.Common.{◌≡◌, ℕ, zero, suc, List, [], ◌∷◌, ◌++◌, Some, take, refl, subst, sym, ap, ◌∙◌}
+use Rattle.std.specs.List.{slice_get}
 use Rattle.ftc_journal.specs.declared.event.Event.{Event}
 use Rattle.ftc_protocol.specs.Setting.{Setting}
 use Rattle.ftc_protocol.specs.State.{ChainState, opening}
@@ -31,6 +32,15 @@ pub state_on : (c : Setting) (before after : List Event) (s : ChainState)
     → state_after c s (before ++ after) ≡ state_after c (state_after c s before) after
 state_on c [] after s = refl
 state_on c (event ∷ before) after s = state_on c before after (next c s event)
+
+-- in a run no event is the first that isn't legal
+pub legal_there : (c : Setting) (events : List Event) (s : ChainState) (place : ℕ) (event : Event) → AreLegal c s events
+    → slice_get events place ≡ Some event → IsLegal c (state_after c s (take place events)) event
+legal_there c [] s place event legal there = absurd (cc)
+legal_there c (first ∷ events) s zero event legal there =
+    let same : first ≡ event = cc in subst (IsLegal c s) same legal.0
+legal_there c (first ∷ events) s (suc place) event legal there =
+    legal_there c events (next c s first) place event legal.1 there
 
 -- a run goes on by a legal event
 pub run_next : (c : Setting) (s : ChainState) (e : Event) → IsRunState c s → IsLegal c s e → IsRunState c (next c s e)

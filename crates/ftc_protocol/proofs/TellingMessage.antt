@@ -6,12 +6,13 @@ use Rattle.std.proofs.lemmas.Bool.{and_right, and_left, or_from, or_cases, false
 use Rattle.std.proofs.lemmas.Bool.{true≢false, cases_eq, cases_lt, eqb-false, and_from, and_parts, or_left, or_right}
 use Rattle.std.proofs.lemmas.Option.{none-some, same_Some}
 use Rattle.ftc_ring.specs.Ring.{apart, next_of}
+use Rattle.ftc_ring.proofs.Geometry.{next_within}
 use Rattle.ftc_journal.specs.declared.event.Event.{Event}
 use Rattle.ftc_journal.specs.declared.event.Event.TheVariants.{Apply, Carry, Crash, Enter, Lose, Pass, Propagate, Pull}
 use Rattle.ftc_journal.specs.declared.event.Event.TheVariants.{Recover, Release, Take, Visit}
 use Rattle.ftc_serial.specs.Words.{with_at}
 use Rattle.ftc_serial.specs.Serial.{Entry}
-use Rattle.ftc_serial.proofs.Functions.{with_at_cases}
+use Rattle.ftc_serial.proofs.Functions.{with_at_cases, with_at_here}
 use Rattle.ftc_protocol.specs.Setting.{Setting, servers, count, is_tail, IsSetting}
 use Rattle.ftc_protocol.specs.Visits.{Visits, In, union}
 use Rattle.ftc_protocol.specs.State.{ChainState, Message, Where, Held, Queued, Withheld}
@@ -23,7 +24,7 @@ use Rattle.ftc_protocol.specs.Next.{withheld_of, withheld_packet}
 use Rattle.ftc_protocol.proofs.Premises.{IsGood, ticked}
 use Rattle.ftc_protocol.proofs.Invariant.{Inv, each_message}
 use Rattle.ftc_protocol.proofs.RingDistances.{apart_cases}
-use Rattle.ftc_protocol.proofs.InTransit.{same_message, after_sending}
+use Rattle.ftc_protocol.proofs.InTransit.{after_sending}
 use Rattle.ftc_protocol.proofs.TraceLemmas.{before_first}
 use Rattle.ftc_protocol.proofs.ListStores.{stands_below}
 
@@ -115,7 +116,7 @@ module _ (c : Setting) (good : IsGood c) (is : IsSetting c) (s : ChainState) (h 
             record {
               origin = p;
               message = new;
-              there = same_message s.message p o ∙ o_is;
+              there = with_at_here s.message p o ∙ o_is;
               tells = taken l m.known (s.message p) (ap known_by there) tells.0 (l + 1 == servers c) refl tells.1;
             };
       }
@@ -148,7 +149,7 @@ module _ (c : Setting) (good : IsGood c) (is : IsSetting c) (s : ChainState) (h 
                 let tail_before : tail ≤ l = omega arith in
                 or_left (with_at s.known k (union (s.known k) (known_by o)) k group packet) (is_tail c group k
                 && s.lists k group packet)
-                (ap (λ (v : Visits). v group packet) (same_message s.known k (union (s.known k) (known_by o)))
+                (ap (λ (v : Visits). v group packet) (with_at_here s.known k (union (s.known k) (known_by o)))
                 ∙ or_right (s.known k group packet) (known_by o group packet)
                 (ap (λ (v : Visits). v group packet) known_is ∙ tells group packet tail changing tail_before far))
           ]
@@ -180,7 +181,7 @@ module _ (c : Setting) (good : IsGood c) (is : IsSetting c) (s : ChainState) (h 
       let kl : k < servers c = h.world.inside k
       (subst (Rattle.ftc_protocol.proofs.LiveHolders.IsUp (servers c) s.up) leaves.held (h.awake p m there)) in
       let up_next : s.up (next_of (servers c) k) ≡ true =
-      still.up (next_of (servers c) k) (Rattle.ftc_protocol.proofs.FaultFree.next_below (servers c) k kl) in
+      still.up (next_of (servers c) k) (next_within (servers c) k kl) in
       let stays : is_away c s k false ≡ false = ap not up_next in
       let o : Option Message = if is_sent c k && not (is_away c s k false) then sent_message c s k (s.message p)
       else None in
@@ -251,7 +252,7 @@ module _ (c : Setting) (good : IsGood c) (is : IsSetting c) (s : ChainState) (h 
           record {
             origin = p;
             message = after_sending c s k m;
-            there = same_message s.message p o ∙ (o_is ∙ ap (λ b. if b then sent_message c s k (Some m)
+            there = with_at_here s.message p o ∙ (o_is ∙ ap (λ b. if b then sent_message c s k (Some m)
                 else None) sends);
             tells = (more, tells);
           }

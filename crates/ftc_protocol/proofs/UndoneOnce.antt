@@ -4,12 +4,14 @@ use Rattle.std.proofs.Common.{sym, ap, subst, ◌∙◌, arith, inl, inr}
 use Rattle.std.specs.List.{AllByRecursion}
 use Rattle.std.proofs.lemmas.Bool.{true≢false, false_from_ne_true}
 use Rattle.std.proofs.lemmas.List.Elements.{filter-append}
+use Rattle.ftc_base.proofs.EachOf.{all_push, all-weaker}
 use Rattle.ftc_journal.specs.declared.event.Event.TheVariants.{Recover}
 use Rattle.ftc_journal.specs.declared.event.VisitName.{VisitName}
 use Rattle.ftc_serial.specs.Words.{EachLater}
 use Rattle.ftc_serial.specs.Serial.{Entry, Visited, Given}
 use Rattle.ftc_serial.specs.Trace.{names}
 use Rattle.ftc_serial.specs.Removal.{left_of}
+use Rattle.ftc_serial.proofs.AnyOf.{each_push}
 use Rattle.ftc_protocol.specs.declared.fate.Fate.TheVariants.{Released, Filtered, Lost, Inside}
 use Rattle.ftc_protocol.specs.Setting.{Setting}
 use Rattle.ftc_protocol.specs.Visits.{Visits, In}
@@ -33,21 +35,6 @@ use Rattle.ftc_protocol.proofs.Complete.{IsReached, keeps_reached}
 use Rattle.ftc_protocol.proofs.SettledPlaces.{bytes_given, dropped_filtered, visited_until}
 
 -- ---- lists
-
-all_end : {A : Type 0} (P : A → Type 0) (xs : List A) (y : A) → AllByRecursion P xs → P y
-    → AllByRecursion P (xs ++ y ∷ [])
-all_end P [] y all last = (last, tt)
-all_end P (x ∷ xs) y all last = (all.0, all_end P xs y all.1 last)
-
-all_to : {A : Type 0} (P Q : A → Type 0) → ((x : A) → P x → Q x) → (xs : List A) → AllByRecursion P xs
-    → AllByRecursion Q xs
-all_to P Q f [] all = tt
-all_to P Q f (x ∷ xs) all = (f x all.0, all_to P Q f xs all.1)
-
-each_end : {A : Type 0} (R : A → A → Type 0) (xs : List A) (y : A) → EachLater R xs → AllByRecursion (λ x. R x y) xs
-    → EachLater R (xs ++ y ∷ [])
-each_end R [] y each all = (tt, tt)
-each_end R (x ∷ xs) y each all = (all_end (R x) xs y each.0 all.0, each_end R xs y each.1 all.1)
 
 filter_same : {A : Type 0} (f g : A → Bool) (xs : List A) → AllByRecursion (λ x. f x ≡ g x) xs
     → filter f xs ≡ filter g xs
@@ -82,11 +69,11 @@ by_filter visits (Visited k p o ∷ older) =
 
 all_stand : (trace : List Entry) → AllByRecursion (Stand trace) (visits_in trace)
 all_stand [] = tt
-all_stand (Given p bytes ∷ older) = all_to (Stand older) (Stand (Given p bytes ∷ older)) (λ x is. inr is)
+all_stand (Given p bytes ∷ older) = all-weaker (Stand older) (Stand (Given p bytes ∷ older)) (λ x is. inr is)
     (visits_in older) (all_stand older)
 all_stand (Visited k p o ∷ older) =
-    all_end (Stand (Visited k p o ∷ older)) (visits_in older) (record { server = k; packet = p })
-    (all_to (Stand older) (Stand (Visited k p o ∷ older)) (λ x is. inr is) (visits_in older) (all_stand older))
+    all_push (Stand (Visited k p o ∷ older)) (visits_in older) (record { server = k; packet = p })
+    (all-weaker (Stand older) (Stand (Visited k p o ∷ older)) (λ x is. inr is) (visits_in older) (all_stand older))
     (inl (refl, refl, tt))
 
 pub in_trace_order : (visits : Visits) (trace : List Entry) → in_order visits trace
@@ -94,7 +81,7 @@ pub in_trace_order : (visits : Visits) (trace : List Entry) → in_order visits 
 in_trace_order visits trace =
     by_filter visits trace
     ∙ filter_same (test visits) (test (names (in_order visits trace))) (visits_in trace)
-    (all_to (Stand trace) (λ x. test visits x ≡ test (names (in_order visits trace)) x) same (visits_in trace)
+    (all-weaker (Stand trace) (λ x. test visits x ≡ test (names (in_order visits trace)) x) same (visits_in trace)
     (all_stand trace))
   where
     same : (x : VisitName) → Stand trace x → test visits x ≡ test (names (in_order visits trace)) x
@@ -113,14 +100,14 @@ undone_order c s k = in_trace_order (is_undone c s (previous_live c s k) (follow
 
 listed_stand : (visits : Visits) (trace : List Entry) → AllByRecursion (Stand trace) (in_order visits trace)
 listed_stand visits [] = tt
-listed_stand visits (Given p bytes ∷ older) = all_to (Stand older) (Stand (Given p bytes ∷ older)) (λ x is. inr is)
+listed_stand visits (Given p bytes ∷ older) = all-weaker (Stand older) (Stand (Given p bytes ∷ older)) (λ x is. inr is)
     (in_order visits older) (listed_stand visits older)
 listed_stand visits (Visited k p o ∷ older) =
-    let more = all_to (Stand older) (Stand (Visited k p o ∷ older)) (λ x is. inr is) (in_order visits older)
+    let more = all-weaker (Stand older) (Stand (Visited k p o ∷ older)) (λ x is. inr is) (in_order visits older)
     (listed_stand visits older) in
     elim (visits k p) as (λ b. AllByRecursion (Stand (Visited k p o ∷ older))
     (cond b (in_order visits older ++ record { server = k; packet = p } ∷ []) (in_order visits older))) [
-      | true ↦ all_end (Stand (Visited k p o ∷ older)) (in_order visits older)
+      | true ↦ all_push (Stand (Visited k p o ∷ older)) (in_order visits older)
           (record { server = k; packet = p }) more (inl (refl, refl, tt))
       | false ↦ more
     ]
@@ -133,9 +120,9 @@ listed_once partitions visits (Visited k p o ∷ older) is =
     let more = listed_once partitions visits older is.2 in
     elim (visits k p) as (λ b. EachLater (λ (one other : VisitName). one ≢ other)
     (cond b (in_order visits older ++ record { server = k; packet = p } ∷ []) (in_order visits older))) [
-      | true ↦ each_end (λ (one other : VisitName). one ≢ other) (in_order visits older)
+      | true ↦ each_push (λ (one other : VisitName). one ≢ other) (in_order visits older)
           (record { server = k; packet = p }) more
-          (all_to (Stand older) (λ x. x ≢ record { server = k; packet = p })
+          (all-weaker (Stand older) (λ x. x ≢ record { server = k; packet = p })
           (λ x there same. is.0 (subst (Stand older) same there)) (in_order visits older)
           (listed_stand visits older))
       | false ↦ more

@@ -19,17 +19,12 @@ use Rattle.ftc_standing.proofs.Arriving.{kept_here}
 use Rattle.ftc_refinement.specs.Contents.{item_of_held, items_of, contents_of, IsServerAt}
 use Rattle.ftc_refinement.proofs.Messages.{origin_in, kept_item, items_among}
 use Rattle.ftc_refinement.proofs.MessageCalls.{leaves}
+use Rattle.ftc_refinement.proofs.HeldInTurn.{held_by_item}
 
 -- ---- each held message is found by its origin
 
 message_of_item : HeldItem → HeldMessage
 message_of_item item = record { visited = item.visited; by_ring = item.by_ring; message = item.message }
-
-the_same : (o : Option HeldMessage) (held : HeldMessage) → option_map item_of_held o ≡ Some (item_of_held held) →
-    o ≡ Some held
-unfolding message_of_item
-the_same None held is = absurd cc
-the_same (Some other) held is = ap (option_map message_of_item) is
 
 assoc : {A : Type 0} (before : List A) (item : A) (after : List A) →
     (before ++ item ∷ []) ++ after ≡ before ++ item ∷ after
@@ -41,7 +36,7 @@ module _ (setting : Setting) (state : ChainState) (server : ℕ) where
       AllByRecursion (λ (held : HeldMessage). found held.message.origin (before ++ after) ≡ Some held) after
   each_from before [] are = tt
   each_from before (held ∷ after) are = (
-    the_same (found held.message.origin (before ++ held ∷ after)) held
+    held_by_item (found held.message.origin (before ++ held ∷ after)) held
         (sym (kept_item held.message.origin (before ++ held ∷ after))
         ∙ (ap (kept_of origin_in held.message.origin) (items_among before after held)
         ∙ kept_here since_of origin_in
@@ -61,11 +56,6 @@ module _ (setting : Setting) (state : ChainState) (server : ℕ) where
   each_found messages are = each_from [] messages are
 
 -- ---- which messages stay
-
-pub same_test : (a b : Bool) → (a ≡ true → b ≡ true) → (b ≡ true → a ≡ true) → a ≡ b
-same_test true b first second = sym (first refl)
-same_test false true first second = second refl
-same_test false false first second = refl
 
 pub stays_in : Setting → ChainState → ℕ → Option Message → Bool
 stays_in setting state server None = true

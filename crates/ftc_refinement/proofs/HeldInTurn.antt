@@ -2,6 +2,7 @@
 use Rattle.std.proofs.Common.{◌≡◌, ◌∙◌, ◌<◌, ◌++◌, ◌∷◌, ℕ, List, [], Option, Some, None, sym, ap, subst, inl, inr}
 use Rattle.std.specs.Option.{option_map}
 use Rattle.std.proofs.lemmas.Option.{none-some, same_Some}
+use Rattle.ftc_txn.proofs.KeptByCalls.{some_of}
 use Rattle.ftc_serial.specs.Words.{AnyOf}
 use Rattle.ftc_protocol.specs.Setting.{Setting}
 use Rattle.ftc_protocol.specs.State.{ChainState, Message, Held}
@@ -15,13 +16,13 @@ use Rattle.ftc_standing.proofs.Arriving.{kept_here, there_here}
 use Rattle.ftc_standing.proofs.Lasting.{of_it}
 use Rattle.ftc_refinement.specs.Contents.{item_of_held, items_of}
 use Rattle.ftc_refinement.proofs.InTurn.{later_is_later, stands_before}
-use Rattle.ftc_refinement.proofs.Messages.{held_is, items_among, kept_item, one_found, origin_in}
+use Rattle.ftc_refinement.proofs.Messages.{held_is, items_among, kept_item, origin_in}
 
 held_of_item : HeldItem → HeldMessage
 held_of_item item = record { visited = item.visited; by_ring = item.by_ring; message = item.message }
 
-held_by_item : (o : Option HeldMessage) (held : HeldMessage) → option_map item_of_held o ≡ Some (item_of_held held) →
-    o ≡ Some held
+pub held_by_item : (o : Option HeldMessage) (held : HeldMessage) →
+    option_map item_of_held o ≡ Some (item_of_held held) → o ≡ Some held
 unfolding held_of_item
 held_by_item None held is = absurd (none-some (item_of_held held) is)
 held_by_item (Some other) held is =
@@ -70,7 +71,7 @@ module _ (setting : Setting) (state : ChainState) (server : ℕ) (messages : Lis
         held_at state server held.message.origin ≡ Some message
     held_here message there =
         let its = stands_here in
-        let same = one_found (state.message held.message.origin) its.0 message
+        let same = some_of (state.message held.message.origin) its.0 message
         (of_it (is_held_by server) (state.message held.message.origin) its.0 its.1) there in
         its.1 ∙ ap (λ m. Some m) same
 

@@ -5,9 +5,10 @@ use Rattle.std.specs.List.{AllByRecursion}
 use Rattle.std.proofs.lemmas.Bool.{cases_eq}
 use Rattle.std.proofs.lemmas.Option.{none-some, same_Some}
 use Rattle.std.proofs.lemmas.List.{append_assoc}
+use Rattle.ftc_base.proofs.EachOf.{all-back}
 use Rattle.ftc_serial.specs.Words.{AnyOf}
 use Rattle.ftc_standing.specs.Arrivals.{kept_of, IsKeptAs, IsSooner, AreArrived}
-use Rattle.ftc_standing.proofs.Arriving.{all_back, behind, kept_all, kept_front, kept_other, kept_for}
+use Rattle.ftc_standing.proofs.Arriving.{behind, kept_all, kept_front, kept_other, kept_for}
 
 -- what is so at each place of a list is so of all
 pub all_placed : {A : Type 0} (P : A → Type 0) (front items : List A) →
@@ -70,7 +71,7 @@ module _ {M A : Type 0} (since : M → ℕ) (origin_of : A → ℕ) (Stands : �
       there (origin_of later) ≡ Some other → since message < since other
   later_is_later before item between later after are message other first second =
       let rest = behind Sooner before item (between ++ later ∷ after) are.order in
-      let its = all_back (Sooner item) between (later ∷ after) rest in
+      let its = all-back (Sooner item) between (later ∷ after) rest in
       its.0 message other first second
 
   -- one that came sooner stands before

@@ -2,8 +2,9 @@
 use Rattle.std.proofs.Common.{◌≡◌, ◌∙◌, ◌<◌, ◌==◌, ◌&&◌, ◌↔◌, ◌∷◌, arith, ℕ, Bool, true, false, not, List, [], Option}
 use Rattle.std.proofs.Common.{Some, None, length, refl, sym, ap, subst}
 use Rattle.std.specs.List.{AllByRecursion}
-use Rattle.std.proofs.lemmas.Bool.{eqb-true, ne_eqb, true≢false}
+use Rattle.std.proofs.lemmas.Bool.{eqb-true, ne_eqb, true≢false, and_parts}
 use Rattle.ftc_base.specs.declared.ask.Write.{Write}
+use Rattle.ftc_base.proofs.EachOf.{all_zip}
 use Rattle.ftc_journal.specs.declared.event.Event.TheVariants as event
 use Rattle.ftc_message.specs.Logged.{Logged, logs_rise}
 use Rattle.ftc_replica.specs.Held.{Held as Replicated, pruned_by}
@@ -11,6 +12,7 @@ use Rattle.ftc_serial.specs.Take.{Outcome}
 use Rattle.ftc_serial.specs.Words.{AnyOf}
 use Rattle.ftc_vector.specs.Commits.{vector_of}
 use Rattle.ftc_vector.specs.Order.{IsLogReady, is_log_ready}
+use Rattle.ftc_txn.proofs.KeptByCalls.{some_of}
 use Rattle.ftc_protocol.specs.Setting.{Setting}
 use Rattle.ftc_protocol.specs.State.{ChainState, Message, Held}
 use Rattle.ftc_protocol.specs.Visits.{In}
@@ -30,14 +32,12 @@ use Rattle.ftc_server.specs.Holding.{found}
 use Rattle.ftc_server.specs.Replicas.{replica_at, has_log, is_had, may_apply_to}
 use Rattle.ftc_server.specs.Work.{next_log}
 use Rattle.ftc_standing.specs.Stand.{IsReplicaSlot}
-use Rattle.ftc_standing.proofs.Arriving.{all_mapped_of}
 use Rattle.ftc_refinement.specs.Contents.{IsServerAt}
-use Rattle.ftc_refinement.proofs.Messages.{both, one_found}
 use Rattle.ftc_refinement.proofs.NextWork.{IsLowerHad}
 use Rattle.ftc_refinement.proofs.LowestLog.{IsTakeable, IsNoLater, found_within, all_at, comes_by}
 use Rattle.ftc_refinement.proofs.Readiness.{VectorsSay, replica_for, rides_below, rides_stands, had_alike}
 use Rattle.ftc_refinement.proofs.Ring.{each_named}
-use Rattle.ftc_refinement.proofs.VisitCalls.{changes_nothing}
+use Rattle.ftc_refinement.proofs.VisitCalls.{changes_nothing, changes_some}
 use Rattle.ftc_refinement.proofs.Works.{held_in}
 
 -- a changing visit may be applied exactly where its log is ready
@@ -53,9 +53,21 @@ abbrev pub TestsSay : Type 0
 TestsSay = (vector : List ℕ) (before : List (Option ℕ)) (changed : ℕ) →
     (is_log_ready vector before changed ≡ true) ↔ IsLogReady vector before changed
 
-writes_some : (writes : List Write) → (writes ≡ [] → ⊥) → not (length writes == 0) ≡ true
-writes_some [] some = absurd (some refl)
-writes_some (write ∷ writes) some = ap not (ne_eqb (length (write ∷ writes)) 0 (λ same. omega (arith, same)))
+pub some_writes : (writes : List Write) → (writes ≡ [] → ⊥) → not (length writes == 0) ≡ true
+some_writes [] some = absurd (some refl)
+some_writes (write ∷ writes) some = ap not (ne_eqb (length (write ∷ writes)) 0 (λ same. omega (arith, same)))
+
+-- the replica to which a log may be applied
+pub taker : (o : Option Replicated) (log : Logged) → may_apply_to o log ≡ true →
+    (held : Replicated) × (o ≡ Some held) × (is_log_ready held.vector log.before log.changed ≡ true)
+taker None log is = absurd cc
+taker (Some held) log is = (held, refl, is)
+
+-- a visit with writes is a changing one
+pub changing_if : (partitions : ℕ) (outcome : Outcome) (writes : List Write) → outcome.writes ≡ writes →
+    not (length writes == 0) ≡ true → is_changing partitions outcome ≡ true
+changing_if partitions outcome [] same some = absurd cc
+changing_if partitions outcome (write ∷ writes) same some = changes_some partitions outcome write writes same
 
 -- the log of that visit, and what comes next is it or a lower one
 pub record IsNotPassed (next : Option Logged) (group packet : ℕ) : Type 0 where
@@ -102,7 +114,7 @@ module _ (setting : Setting) (state : ChainState) (server origin : ℕ) (visited
     has_writes =
         let changes = only_one setting.partitions (λ (outcome : Outcome). is_changing setting.partitions outcome ≡ true)
         of_log.outcome state.trace trace log.group log.origin changing of_log.there in
-        writes_some log.writes (λ none. true≢false (sym changes
+        some_writes log.writes (λ none. true≢false (sym changes
         ∙ changes_nothing setting.partitions of_log.outcome (sym of_log.writes ∙ none)))
 
     taken_by : (o : Option Replicated) → IsReplicaSlot setting state server old.known log.group o →
@@ -124,7 +136,7 @@ module _ (setting : Setting) (state : ChainState) (server origin : ℕ) (visited
     }
 
     lower_logs_had : AllByRecursion (IsLowerHad old.others.items log) logs
-    lower_logs_had = all_mapped_of (IsLogIn setting.partitions state.trace)
+    lower_logs_had = all_zip (IsLogIn setting.partitions state.trace)
         (λ (other : Logged). names_log logs other.group other.origin ≡ true) (IsLowerHad old.others.items log)
         (λ other of_other named same less.
         let its = rides_as other named in
@@ -140,12 +152,12 @@ module _ (setting : Setting) (state : ChainState) (server origin : ℕ) (visited
   not_passed_over : (group packet : ℕ) → MayHappen setting state (event.Apply server origin group packet) →
       logs_rise None logs ≡ true → IsNotPassed (next_log old.others.items None logs) group packet
   not_passed_over group packet may rising =
-      let same = one_found (state.message origin) may.0 message may.1.0 there in
+      let same = some_of (state.message origin) may.0 message may.1.0 there in
       let riding : In message.logs group packet = subst (λ (m : Message). In m.logs group packet) same may.2 in
       let one = found_within (λ (log : Logged). log.group == group && log.origin == packet) logs
       (are.names group packet ∙ riding) in
       let log = one.0 in
-      let names = both (log.group == group) (log.origin == packet) one.1 in
+      let names = and_parts (log.group == group) (log.origin == packet) one.1 in
       let group_is = eqb-true log.group group names.0 in
       let origin_is = eqb-true log.origin packet names.1 in
       let of_log = all_at (IsLogIn setting.partitions state.trace) log logs are.each one.2 in

@@ -2,8 +2,11 @@
 use Rattle.std.proofs.Common.{◌≡◌, ◌∙◌, ◌==◌, ◌∷◌, ℕ, Bool, true, false, not, List, [], Some, filter, refl, sym, subst}
 use Rattle.std.proofs.Common.{cond}
 use Rattle.std.specs.List.{AllByRecursion, list_all}
+use Rattle.ftc_base.proofs.EachOf.{all-weaker, all_tests, all_zip}
+use Rattle.ftc_base.proofs.Bools.{not_from_never}
 use Rattle.ftc_message.specs.Logged.{Logged}
 use Rattle.ftc_message.specs.Ordered.{is_log_of, with_item, with_items}
+use Rattle.ftc_message.proofs.InOrder.{all-filter, all-with_item}
 use Rattle.ftc_protocol.specs.Setting.{Setting}
 use Rattle.ftc_protocol.specs.State.{ChainState, Message}
 use Rattle.ftc_protocol.specs.Orderly.{IsRiding}
@@ -16,9 +19,8 @@ use Rattle.ftc_server.specs.Looks.{are_apart, onward_in}
 use Rattle.ftc_server.specs.Standing.{group_ending_at}
 use Rattle.ftc_standing.specs.Stand.{AreForwarded, IsSentAs}
 use Rattle.ftc_standing.specs.View.{forwarded_at}
-use Rattle.ftc_standing.proofs.Arriving.{all_mapped, all_mapped_of}
 use Rattle.ftc_refinement.specs.Contents.{IsServerAt}
-use Rattle.ftc_refinement.proofs.Messages.{all_hold, log_names}
+use Rattle.ftc_refinement.proofs.Messages.{log_names}
 use Rattle.ftc_refinement.proofs.Ring.{each_named}
 
 -- ---- what is so of all logs
@@ -30,53 +32,24 @@ pub each_log : (setting : Setting) (state : ChainState) (visits : Visits) (logs 
     ((log : Logged) → IsLogIn setting.partitions state.trace log → P log.group log.origin → Q log) →
     AllByRecursion Q logs
 each_log setting state visits logs P Q are so from =
-    all_mapped_of (IsLogIn setting.partitions state.trace)
+    all_zip (IsLogIn setting.partitions state.trace)
     (λ (log : Logged). names_log logs log.group log.origin ≡ true) Q
     (λ log of_log named. from log of_log (so log.group log.origin (sym (are.names log.group log.origin) ∙ named))) logs
     are.each (each_named logs)
 
-pub all_kept : {A : Type 0} (P : A → Type 0) (keeps : A → Bool) (items : List A) → AllByRecursion P items →
-    AllByRecursion P (filter keeps items)
-all_kept P keeps [] all = tt
-all_kept P keeps (item ∷ items) all = elim (keeps item) as (λ b.
-    AllByRecursion P (cond b (item ∷ filter keeps items) (filter keeps items))) [
-      | true ↦ (all.0, all_kept P keeps items all.1)
-      | false ↦ all_kept P keeps items all.1
-    ]
-
-all_with_one : {A : Type 0} (P : A → Type 0) (is_before : A → A → Bool) (item : A) (others : List A) → P item →
-    AllByRecursion P others → AllByRecursion P (with_item is_before item others)
-all_with_one P is_before item [] one all = (one, tt)
-all_with_one P is_before item (other ∷ others) one all = elim (is_before other item) as (λ b.
-    AllByRecursion P (cond b (other ∷ with_item is_before item others) (item ∷ other ∷ others))) [
-      | true ↦ (all.0, all_with_one P is_before item others one all.1)
-      | false ↦ (one, all)
-    ]
-
-pub all_with : {A : Type 0} (P : A → Type 0) (is_before : A → A → Bool) (items others : List A) →
-    AllByRecursion P items → AllByRecursion P others → AllByRecursion P (with_items is_before items others)
-all_with P is_before [] others first second = second
-all_with P is_before (item ∷ items) others first second =
-    all_with_one P is_before item (with_items is_before items others) first.0
-    (all_with P is_before items others first.1 second)
-
 -- ---- logs apart
-
-not_so : (b : Bool) → (b ≡ true → ⊥) → not b ≡ true
-not_so true never = absurd (never refl)
-not_so false never = refl
 
 pub apart_by : (P Q : ℕ → ℕ → Type 0) → ((group packet : ℕ) → P group packet → Q group packet → ⊥) →
     (logs others : List Logged) → AllByRecursion (λ (log : Logged). P log.group log.origin) logs →
     AllByRecursion (λ (log : Logged). Q log.group log.origin) others → are_apart logs others ≡ true
 apart_by P Q never logs others first second =
-    all_hold (λ (log : Logged). list_all (λ (other : Logged). not (is_log_of log.origin log.group other)) others) logs
-    (all_mapped (λ (log : Logged). P log.group log.origin)
+    all_tests (λ (log : Logged). list_all (λ (other : Logged). not (is_log_of log.origin log.group other)) others) logs
+    (all-weaker (λ (log : Logged). P log.group log.origin)
     (λ (log : Logged). list_all (λ (other : Logged). not (is_log_of log.origin log.group other)) others ≡ true)
-    (λ log one. all_hold (λ (other : Logged). not (is_log_of log.origin log.group other)) others
-    (all_mapped (λ (other : Logged). Q other.group other.origin)
+    (λ log one. all_tests (λ (other : Logged). not (is_log_of log.origin log.group other)) others
+    (all-weaker (λ (other : Logged). Q other.group other.origin)
     (λ (other : Logged). not (is_log_of log.origin log.group other) ≡ true)
-    (λ other another. not_so (is_log_of log.origin log.group other) (λ is.
+    (λ other another. not_from_never (is_log_of log.origin log.group other) (λ is.
     let names = log_names log.origin log.group other is in
     never log.group log.origin one
     (subst (λ g. Q g log.origin) names.1 (subst (λ p. Q other.group p) names.0 another)))) others second)) logs first)
@@ -108,7 +81,7 @@ module _ (setting : Setting) (state : ChainState) (server origin : ℕ) (old : S
       is.stands.forwarded (λ log of_log forwarded. forwarded)
 
   onward_logs : AllByRecursion (λ (log : Logged). In message.logs log.group log.origin) (onward_in old held)
-  onward_logs = all_kept (λ (log : Logged). In message.logs log.group log.origin)
+  onward_logs = all-filter (λ (log : Logged). In message.logs log.group log.origin)
       (λ (log : Logged). not (log.group == group_ending_at old.ring old.id)) held.message.logs
       (each_log setting state message.logs held.message.logs (In message.logs)
       (λ log. In message.logs log.group log.origin) stands.logs (λ group packet rides. rides)

@@ -2,13 +2,12 @@
 use Rattle.std.proofs.Common.{◌≡◌, ◌∙◌, ◌<◌, ◌≤◌, ◌⊎◌, ◌∷◌, ◌||◌, ℕ, Bool, true, false, List, [], Option, Some, None}
 use Rattle.std.proofs.Common.{refl, sym, ap, subst, cond, inl, inr, arith}
 use Rattle.std.specs.List.{AllByRecursion, list_any}
-use Rattle.std.proofs.lemmas.Bool.{cases_eq}
+use Rattle.std.proofs.lemmas.Bool.{cases_eq, and_parts}
 use Rattle.ftc_message.specs.Logged.{Logged, log_follows, logs_rise}
 use Rattle.ftc_replica.specs.Held.{Held as Replicated}
 use Rattle.ftc_serial.specs.Words.{AnyOf}
 use Rattle.ftc_server.specs.Replicas.{is_had, may_apply}
 use Rattle.ftc_server.specs.Work.{is_packet_of, next_log}
-use Rattle.ftc_refinement.proofs.Messages.{both}
 use Rattle.ftc_refinement.proofs.NextWork.{IsLowerHad, not_less, greater, waits_as}
 
 -- ---- one log of a list
@@ -98,7 +97,8 @@ module _ (replicas : List (Option Replicated)) (log : Logged) (takeable : IsTake
       AnyOf (λ other. other ≡ log) logs → IsNoLater log (next_log replicas waiting logs)
   comes_by waiting last [] rising had free at = absurd at
   comes_by waiting last (first ∷ logs) rising had free at =
-      let parts = both (log_follows last first.origin first.group) (logs_rise (Some (first.origin, first.group)) logs)
+      let parts = and_parts (log_follows last first.origin first.group)
+      (logs_rise (Some (first.origin, first.group)) logs)
       rising in
       let behind : (w : Option ℕ) → (w ≡ Some log.origin → ⊥) → AnyOf (λ other. other ≡ log) logs →
       IsNoLater log (next_log replicas w logs) =

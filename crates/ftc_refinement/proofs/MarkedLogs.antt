@@ -15,6 +15,7 @@ use Rattle.ftc_vector.proofs.Needs.{mark_at-need_of}
 use Rattle.ftc_serial.specs.Serial.{Entry, Visited, Given}
 use Rattle.ftc_serial.specs.Take.{Outcome}
 use Rattle.ftc_txn.specs.Touched.{is_touched}
+use Rattle.ftc_txn.proofs.CommitLogs.{first_touched}
 use Rattle.ftc_protocol.specs.Changes.{is_some_list, is_touching}
 use Rattle.ftc_protocol.specs.Setting.{Setting, IsSetting}
 use Rattle.ftc_protocol.specs.Trace.{IsInTrace, IsTouching}
@@ -61,12 +62,6 @@ pub record IsMarked (marks : List (Option ℕ)) : Type 0 where
   pub partition : ℕ
   pub within : partition < MOST_PARTITIONS
   pub some : IsSome (mark_at marks partition)
-
-first_touched : (partitions : ℕ) (answer : Answer) (answers : List Answer) →
-    is_touched partitions (answer ∷ answers) (partition_of partitions answer.key) ≡ true
-unfolding is_touched
-first_touched partitions answer answers =
-    rw (eq-eqb (partition_of partitions answer.key) (partition_of partitions answer.key) refl) refl
 
 touched_marked : (partitions : ℕ) (numbers : ℕ → ℕ) (answers : List Answer) → 0 < partitions →
     partitions ≤ MOST_PARTITIONS → is_some_list answers ≡ true →

@@ -3,7 +3,7 @@ use Rattle.std.proofs.Common.{◌≡◌, ◌∙◌, ◌==◌, ◌&&◌, ◌++◌
 use Rattle.std.proofs.Common.{sym, ap, subst, cond}
 use Rattle.std.specs.List.{find, list_all, AllByRecursion}
 use Rattle.std.specs.Option.{option_map}
-use Rattle.std.proofs.lemmas.Bool.{eqb-true, eq-eqb}
+use Rattle.std.proofs.lemmas.Bool.{eqb-true, eq-eqb, and_parts}
 use Rattle.std.proofs.lemmas.List.{map-append}
 use Rattle.ftc_message.specs.Logged.{Logged}
 use Rattle.ftc_message.specs.Ordered.{is_log_of}
@@ -18,15 +18,6 @@ use Rattle.ftc_refinement.specs.Contents.{item_of_held, items_of}
 
 -- ---- tests and lists
 
-pub both : (a b : Bool) → a && b ≡ true → (a ≡ true) × (b ≡ true)
-both true b is = (refl, is)
-both false b is = absurd cc
-
-pub all_hold : {A : Type 0} (test : A → Bool) (items : List A) → AllByRecursion (λ item. test item ≡ true) items →
-    list_all test items ≡ true
-all_hold test [] all = refl
-all_hold test (item ∷ items) all = ap (λ b. b && list_all test items) all.0 ∙ all_hold test items all.1
-
 -- what is found in a list of which all is so
 pub found_is : {A : Type 0} (P : A → Type 0) (test : A → Bool) (items : List A) (item : A) → AllByRecursion P items →
     find test items ≡ Some item → P item × (test item ≡ true)
@@ -40,11 +31,8 @@ found_is {A} P test (x ∷ items) item all there =
 pub log_names : (packet group : ℕ) (log : Logged) → is_log_of packet group log ≡ true →
     (log.origin ≡ packet) × (log.group ≡ group)
 log_names packet group log is =
-    let parts = both (log.origin == packet) (log.group == group) is in
+    let parts = and_parts (log.origin == packet) (log.group == group) is in
     (eqb-true log.origin packet parts.0, eqb-true log.group group parts.1)
-
-pub one_found : {A : Type 0} (o : Option A) (one other : A) → o ≡ Some one → o ≡ Some other → one ≡ other
-one_found o one other first second = cc
 
 -- ---- items
 

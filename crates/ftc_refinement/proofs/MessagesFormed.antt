@@ -5,11 +5,13 @@ use Rattle.std.specs.Prelude.{IfSome}
 use Rattle.std.specs.List.{AllByRecursion}
 use Rattle.std.proofs.lemmas.Bool.{eq-eqb}
 use Rattle.ftc_base.specs.declared.limits.TheConstants.{MOST_CAPTURED, MOST_SERVERS}
+use Rattle.ftc_base.proofs.EachOf.{all_zip}
 use Rattle.ftc_message.specs.Bounds.{MarksSome}
 use Rattle.ftc_message.specs.declared.need.Need.{Need}
 use Rattle.ftc_message.specs.Logged.{Logged}
 use Rattle.ftc_message.specs.Ordered.{is_earlier}
 use Rattle.ftc_message.specs.WellFormed.{IsWellFormed}
+use Rattle.ftc_message.proofs.InOrder.{all-filter, all-with_items}
 use Rattle.ftc_protocol.specs.Setting.{Setting}
 use Rattle.ftc_protocol.specs.State.{ChainState, Message}
 use Rattle.ftc_protocol.specs.Trace.{IsTouching}
@@ -23,9 +25,8 @@ use Rattle.ftc_server.specs.declared.server.Server.{Server}
 use Rattle.ftc_server.specs.Looks.{sent, attached_in, onward_in}
 use Rattle.ftc_server.specs.Standing.{group_ending_at, is_last}
 use Rattle.ftc_standing.specs.Stand.{IsSentAs}
-use Rattle.ftc_standing.proofs.Arriving.{all_mapped_of}
 use Rattle.ftc_refinement.specs.Contents.{IsServerAt}
-use Rattle.ftc_refinement.proofs.LogsApart.{each_log, each_forwarded, all_kept, all_with}
+use Rattle.ftc_refinement.proofs.LogsApart.{each_log, each_forwarded}
 use Rattle.ftc_refinement.proofs.MarkedLogs.{log_marks, need_marks}
 use Rattle.ftc_refinement.proofs.SentMessages.{attached}
 use Rattle.ftc_refinement.proofs.TakenMessages.{each_needed}
@@ -55,7 +56,7 @@ module _ (setting : Setting) (state : ChainState) (run : IsRunState setting stat
       (λ log of_log touching. log_marks setting run.right state.trace tied.trace log of_log touching)
 
   needs_mark : AllByRecursion (λ (need : Need). MarksSome need.marks) held.message.needs
-  needs_mark = all_mapped_of
+  needs_mark = all_zip
       (λ (need : Need). need.group < MOST_SERVERS
       × IsNeedIn setting.partitions state.trace need.group origin need.marks)
       (λ (need : Need). needs_of held.message.needs need.group ≡ true) (λ (need : Need). MarksSome need.marks)
@@ -83,9 +84,9 @@ module _ (setting : Setting) (state : ChainState) (run : IsRunState setting stat
   sent_formed few short = record {
     packet = short;
     few_logs = few;
-    logs = all_with (λ (log : Logged). MarksSome log.before) is_earlier (attached_in old)
+    logs = all-with_items (λ (log : Logged). MarksSome log.before) is_earlier (attached_in old)
         (onward_in old held) attached_mark
-        (all_kept (λ (log : Logged). MarksSome log.before)
+        (all-filter (λ (log : Logged). MarksSome log.before)
         (λ (log : Logged). not (log.group == group_ending_at old.ring old.id)) held.message.logs logs_mark);
     needs = needs_marked (is_last old.ring old.id);
     no_needs = bare_sent (is_last old.ring old.id);

@@ -2,14 +2,13 @@
 use Rattle.std.proofs.Common.{◌≡◌, ◌≢◌, ◌∙◌, ◌<◌, ◌≤◌, ◌==◌, ◌||◌, ◌∷◌, ℕ, Bool, true, false, List, [], Option, Some}
 use Rattle.std.proofs.Common.{None, refl, sym, ap, subst, cond, arith}
 use Rattle.std.specs.List.{AllByRecursion, list_any}
-use Rattle.std.proofs.lemmas.Bool.{eqb-true, eq-eqb}
+use Rattle.std.proofs.lemmas.Bool.{eqb-true, eq-eqb, and_parts}
 use Rattle.std.proofs.lemmas.Bool.Decides.{nat_tests}
+use Rattle.ftc_base.proofs.EachOf.{all-weaker, all_zip}
 use Rattle.ftc_message.specs.Logged.{Logged, log_follows, logs_rise}
 use Rattle.ftc_replica.specs.Held.{Held as Replicated}
 use Rattle.ftc_server.specs.Replicas.{is_had, may_apply}
 use Rattle.ftc_server.specs.Work.{is_packet_of, next_log}
-use Rattle.ftc_standing.proofs.Arriving.{all_mapped, all_mapped_of}
-use Rattle.ftc_refinement.proofs.Messages.{both}
 
 -- ---- logs that rise
 
@@ -26,11 +25,11 @@ pub not_less : (o g : ℕ) (logs : List Logged) → logs_rise (Some (o, g)) logs
     AllByRecursion (λ (log : Logged). o ≤ log.origin) logs
 not_less o g [] rising = tt
 not_less o g (log ∷ logs) rising =
-    let parts = both (log_follows (Some (o, g)) log.origin log.group)
+    let parts = and_parts (log_follows (Some (o, g)) log.origin log.group)
     (logs_rise (Some (log.origin, log.group)) logs) rising in
     let here = follows_at o g log.origin log.group parts.0 in (
       here,
-      all_mapped (λ (other : Logged). log.origin ≤ other.origin) (λ (other : Logged). o ≤ other.origin)
+      all-weaker (λ (other : Logged). log.origin ≤ other.origin) (λ (other : Logged). o ≤ other.origin)
           (λ other more. no_less o log.origin other.origin here more) logs (not_less log.origin log.group logs parts.1),
     )
 
@@ -46,10 +45,10 @@ pub greater : (o g : ℕ) (logs : List Logged) → logs_rise (Some (o, g)) logs 
     AllByRecursion (λ (log : Logged). log.origin ≡ o → g < log.group) logs
 greater o g [] rising = tt
 greater o g (log ∷ logs) rising =
-    let parts = both (log_follows (Some (o, g)) log.origin log.group)
+    let parts = and_parts (log_follows (Some (o, g)) log.origin log.group)
     (logs_rise (Some (log.origin, log.group)) logs) rising in (
       follows_by o g log.origin log.group parts.0,
-      all_mapped_of (λ (other : Logged). log.origin ≤ other.origin) (λ (other : Logged). other.origin ≡ log.origin →
+      all_zip (λ (other : Logged). log.origin ≤ other.origin) (λ (other : Logged). other.origin ≡ log.origin →
           log.group < other.group)
           (λ (other : Logged). other.origin ≡ o → g < other.group)
           (λ other least more. greater_at o g log.origin log.group other.origin other.group parts.0 least more) logs
@@ -104,7 +103,7 @@ module _ (replicas : List (Option Replicated)) where
       next_log replicas (Some packet) logs ≡ Some log → log.origin ≢ packet
   skipped_over packet o g [] log bound rising next = absurd cc
   skipped_over packet o g (first ∷ logs) log bound rising next =
-      let parts = both (log_follows (Some (o, g)) first.origin first.group)
+      let parts = and_parts (log_follows (Some (o, g)) first.origin first.group)
       (logs_rise (Some (first.origin, first.group)) logs) rising in
       let higher = no_less packet o first.origin bound (follows_at o g first.origin first.group parts.0) in
       by_tests (log.origin ≢ packet) first log (next_log replicas (Some packet) logs)
@@ -127,7 +126,8 @@ module _ (replicas : List (Option Replicated)) where
       logs_rise last logs ≡ true → next_log replicas waiting logs ≡ Some log → AllByRecursion (IsLowerHad log) logs
   lower_had waiting last [] log rising next = tt
   lower_had waiting last (first ∷ logs) log rising next =
-      let parts = both (log_follows last first.origin first.group) (logs_rise (Some (first.origin, first.group)) logs)
+      let parts = and_parts (log_follows last first.origin first.group)
+      (logs_rise (Some (first.origin, first.group)) logs)
       rising in
       let passed : next_log replicas (Some first.origin) logs ≡ Some log → IsLowerHad log first = λ is same less.
       absurd (skipped_over first.origin first.origin first.group logs log (same_number first.origin) parts.1 is
@@ -142,7 +142,7 @@ module _ (replicas : List (Option Replicated)) where
       ))
       (λ test one. (
         (λ same less. absurd (lower_than first log one less)),
-        all_mapped (λ (other : Logged). other.origin ≡ first.origin → first.group < other.group) (IsLowerHad log)
+        all-weaker (λ (other : Logged). other.origin ≡ first.origin → first.group < other.group) (IsLowerHad log)
             (λ other more same less. absurd (never_both first.group other.group log.group
             (more (same ∙ ap (λ (l : Logged). l.origin) (sym one))) less (ap (λ (l : Logged). l.group) one)))
             logs (greater first.origin first.group logs parts.1),

@@ -12,7 +12,7 @@ use Rattle.ftc_standing.specs.Arrivals.{AreArrived}
 use Rattle.ftc_standing.specs.View.{where_it, is_queued_on, queued_on}
 use Rattle.ftc_standing.specs.Stand.{IsSentAs, IsLink, since_of, origin_of}
 use Rattle.ftc_standing.proofs.Arriving.{first_is, none_there, there_here}
-use Rattle.ftc_standing.proofs.SamePlaces.{at_place}
+use Rattle.ftc_standing.proofs.SamePlaces.{at_place, link_is}
 use Rattle.ftc_refinement.proofs.InTurn.{first_oldest}
 
 pub at_test : (test : Where → Bool) (o : Option Message) (message : Message) → where_it test o ≡ Some message →
@@ -25,10 +25,6 @@ at_test test (Some other) message is =
       | false ↦ λ e none. absurd (none-some message none)
     ] refl is
 
-pub queued_by : (link : ℕ) (place : Where) → is_queued_on link place ≡ true → place ≡ Queued link
-queued_by link (Held server visited by_ring) is = absurd cc
-queued_by link (Queued other) is = ap (λ l. Queued l) (eqb-true other link is)
-
 module _ (setting : Setting) (state : ChainState) (link : ℕ) (queue : Queue)
     (is : IsLink setting state link queue) where
   pub on_link : (origin : ℕ) (message : Message) → state.message origin ≡ Some message →
@@ -40,7 +36,7 @@ module _ (setting : Setting) (state : ChainState) (link : ℕ) (queue : Queue)
       (state.message origin ≡ Some message) × (message.place ≡ Queued link)
   queued_there origin message at =
       let parts = at_test (is_queued_on link) (state.message origin) message at in
-      (parts.0, queued_by link message.place parts.1)
+      (parts.0, link_is link message.place parts.1)
 
   are_queued : (messages : List SentMessage) → queue.messages ≡ messages →
       AreArrived since_of origin_of (IsSentAs setting state) (queued_on state link) messages

@@ -18,13 +18,13 @@ use Rattle.ftc_ties.specs.Logs.{IsLogIn}
 use Rattle.std.specs.Prelude.{◌↔◌, nat_le}
 use Rattle.std.proofs.lemmas.Bool.Decides.{nat_tests}
 use Rattle.std.proofs.Common.{◌≤◌, arith}
+use Rattle.std.proofs.lemmas.Bool.{and_parts, le-leb}
 use Rattle.ftc_ties.specs.Servers.{IsReplicaAt}
 use Rattle.ftc_server.specs.declared.server.Server.{Server}
 use Rattle.ftc_server.specs.Looks.{replica_or_own, replica_in}
 use Rattle.ftc_server.specs.Replicas.{replica_at, has_log, is_had}
 use Rattle.ftc_standing.specs.Stand.{IsReplicaSlot}
 use Rattle.ftc_refinement.specs.Contents.{IsServerAt}
-use Rattle.ftc_refinement.proofs.Messages.{both}
 
 -- the replica of a group without the kept logs that the server knows at its tail
 pub replica_for : Server → ℕ → Replicated
@@ -67,9 +67,6 @@ module _ (setting : Setting) (state : ChainState) (server : ℕ) (old : Server)
 
 -- ---- a log of a held message
 
-is_within : (a b : ℕ) → a ≤ b → nat_le a b ≡ true
-is_within a b below = grind (arith, nat_tests, below)
-
 abbrev pub VectorsSay : Setting → ChainState → ℕ → Type 0
 VectorsSay setting state server = (log : Logged) (held : Replicated) → IsLogIn setting.partitions state.trace log →
     IsReplicaAt setting state server log.group held →
@@ -86,7 +83,7 @@ module _ (setting : Setting) (state : ChainState) (server origin : ℕ) (visited
   rides_below group packet rides = (order.rides origin group packet message there rides).0
 
   pub rides_member : (group packet : ℕ) → In message.logs group packet → is_member setting group server ≡ true
-  rides_member group packet rides = is_within (apart (servers setting) group server) setting.failures
+  rides_member group packet rides = le-leb (apart (servers setting) group server) setting.failures
       (subst (λ (p : Where). apart (servers setting) group (aim (servers setting) p) ≤ setting.failures) place
       (order.rides origin group packet message there rides).1)
 
@@ -121,7 +118,7 @@ pub all_covered : (had : Logged → Bool) (covers : Logged → Bool) (logs : Lis
     AllByRecursion (λ log. covers log ≡ true) logs
 all_covered had covers [] same all = tt
 all_covered had covers (log ∷ logs) same all =
-    let parts = both (had log) (list_all had logs) all in
+    let parts = and_parts (had log) (list_all had logs) all in
     (sym same.0 ∙ parts.0, all_covered had covers logs same.1 parts.1)
 
 pub all_had : (had : Logged → Bool) (covers : Logged → Bool) (logs : List Logged) →

@@ -2,6 +2,7 @@
 use Rattle.std.proofs.Common.{◌≡◌, ◌≢◌, ◌∙◌, ◌<◌, ◌==◌, ◌&&◌, ℕ, Bool, true, false, not, cond, Option, Some, None, inl}
 use Rattle.std.proofs.Common.{inr, refl, sym, ap, subst, arith, eq-eqb}
 use Rattle.std.proofs.lemmas.Bool.{true≢false, and_parts, not-true, eqb-false}
+use Rattle.std.proofs.lemmas.Option.{same_Some}
 use Rattle.ftc_journal.specs.declared.event.Event.{Event}
 use Rattle.ftc_journal.specs.declared.event.Event.TheVariants.{Apply, Carry, Crash, Enter, Lose, Pass, Propagate, Pull}
 use Rattle.ftc_journal.specs.declared.event.Event.TheVariants.{Recover, Release, Take, Visit}
@@ -27,9 +28,6 @@ use Rattle.ftc_ties.proofs.Serving.{IsSteadyState, steady_next, traced}
 use Rattle.ftc_standing.proofs.SamePlaces.{none_entering, none_begun}
 use Rattle.ftc_refinement.proofs.HavingStill.{has_more, has_left, has_grown, has_given, pull_has}
 
-same_some : {A : Type 0} (one other : A) → Some one ≡ Some other → one ≡ other
-same_some one other same = cc
-
 not_queued : (place : Where) (link server : ℕ) (visited by_ring : Bool) → place ≡ Queued link →
     place ≡ Held server visited by_ring → ⊥
 not_queued place link server visited by_ring queued held = cc
@@ -42,7 +40,7 @@ kept_one goes (Some other) message is = elim (goes other) as
     (λ b. goes other ≡ b → cond b None (Some other) ≡ Some message →
     (Some other ≡ Some message) × (goes message ≡ false)) [
       | true ↦ λ gone none. absurd cc
-      | false ↦ λ stays some. (some, subst (λ (m : Message). goes m ≡ false) (same_some other message some) stays)
+      | false ↦ λ stays some. (some, subst (λ (m : Message). goes m ≡ false) (same_Some other message some) stays)
     ] refl is
 
 module _ (c : Setting) (s : ChainState) (h : IsSteadyState c s) (server origin : ℕ) (visited by_ring : Bool)
@@ -51,7 +49,7 @@ module _ (c : Setting) (s : ChainState) (h : IsSteadyState c s) (server origin :
   -- ---- it is the same message
 
   same : s.message origin ≡ Some after → after ≡ message
-  same is = same_some after message (sym is ∙ there)
+  same is = same_Some after message (sym is ∙ there)
 
   others : (p : ℕ) (o : Option Message) →
       (origin ≡ p → o ≡ Some after → ⊥) → with_at s.message p o origin ≡ Some after →
@@ -65,7 +63,7 @@ module _ (c : Setting) (s : ChainState) (h : IsSteadyState c s) (server origin :
   not_sent : (k : ℕ) (b : Bool) (o : Option Message) → cond b (sent_message c s k o) None ≡ Some after → ⊥
   not_sent k true None is = cc
   not_sent k true (Some m) is = not_queued after.place k server now_visited now_by_ring
-      (ap (λ (x : Message). x.place) (sym (same_some _ after is))) now
+      (ap (λ (x : Message). x.place) (sym (same_Some _ after is))) now
   not_sent k false o is = cc
 
   pub same_message : (e : Event) → IsLegal c s e → ((visitor worker : ℕ) → e ≢ Visit visitor origin worker) →
@@ -73,7 +71,7 @@ module _ (c : Setting) (s : ChainState) (h : IsSteadyState c s) (server origin :
   same_message (Enter p) legal unvisited is = others p _ (not_new p _ (none_entering c s h p legal)) is
   same_message (Take l p) legal unvisited is = others p (taken_message c s l (s.message p)) (λ own taken.
       let m = legal.0.0 in
-      let same_one : m ≡ message = same_some m message (sym legal.0.1 ∙ (ap s.message (sym own) ∙ there)) in
+      let same_one : m ≡ message = same_Some m message (sym legal.0.1 ∙ (ap s.message (sym own) ∙ there)) in
       not_queued message.place l server visited by_ring
       (sym (ap (λ (x : Message). x.place) same_one) ∙ legal.0.2) place) is
   same_message (Apply k p j q) legal unvisited is = same is

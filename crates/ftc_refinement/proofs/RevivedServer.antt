@@ -5,6 +5,7 @@ use Rattle.std.specs.Prelude.{nat_le}
 use Rattle.std.specs.List.{find}
 use Rattle.std.proofs.lemmas.Bool.{eq-eqb, eqb-true}
 use Rattle.std.proofs.lemmas.Bool.Decides.{nat_tests}
+use Rattle.ftc_base.proofs.EachOf.{all-weaker}
 use Rattle.ftc_replica.specs.Held.{Held}
 use Rattle.ftc_ring.specs.Ring.{IsRing, apart}
 use Rattle.ftc_vector.specs.Commits.{group_raised}
@@ -16,7 +17,6 @@ use Rattle.ftc_server.specs.Replicas.{replica_at}
 use Rattle.ftc_server.specs.Standing.{group_ending_at, with_own}
 use Rattle.ftc_server.specs.Steps.{with_installed, known_with, empty_at, empty_held}
 use Rattle.ftc_standing.specs.Stand.{got_by, replica_of}
-use Rattle.ftc_standing.proofs.Arriving.{all_mapped}
 use Rattle.ftc_refinement.specs.Contents.{contents_of}
 use Rattle.ftc_refinement.specs.Got.{IsGot, AreGot}
 use Rattle.ftc_refinement.specs.Pulled.{is_of_group}
@@ -56,7 +56,7 @@ module _ (setting : Setting) (state : ChainState) (server : ℕ) (previous follo
     at : (group : ℕ) → replica_at (with_installed news first) group
         ≡ in_place (find (is_of_group group) news) (replica_at first group)
     at group = installed_at news first group
-        (all_mapped (IsGot setting state server previous following) (λ (new : GroupReplica). new.group < length first)
+        (all-weaker (IsGot setting state server previous following) (λ (new : GroupReplica). new.group < length first)
         (λ new its. let inside = its.inside in omega (arith, inside, size)) news got.each)
 
     left_empty : (group : ℕ) → group < servers setting →
@@ -127,7 +127,7 @@ module _ (setting : Setting) (state : ChainState) (server : ℕ) (previous follo
               replica = own;
               replica_got = got.head;
               knows = none_known (shape setting) server (with_own (shape setting) server server own.vector known) news
-                  (all_mapped (IsGot setting state server previous following)
+                  (all-weaker (IsGot setting state server previous following)
                   (λ (new : GroupReplica). group_ending_at (shape setting) server ≢ new.group)
                   (λ new its same. its.later (sym same ∙ sym is)) news got.each)
                   ∙ ap (λ b. cond b (group_raised known server own.vector) known) alone;

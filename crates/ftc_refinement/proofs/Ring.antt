@@ -3,6 +3,7 @@ use Rattle.std.proofs.Common.{◌≡◌, ◌∙◌, ◌<◌, ◌==◌, ◌&&◌,
 use Rattle.std.proofs.Common.{cond}
 use Rattle.std.specs.List.{AllByRecursion}
 use Rattle.std.proofs.lemmas.Bool.{eq-eqb}
+use Rattle.ftc_base.proofs.EachOf.{all-weaker}
 use Rattle.ftc_message.specs.Logged.{Logged}
 use Rattle.ftc_ring.specs.Ring.{RingShape, IsRing, apart}
 use Rattle.ftc_vector.specs.Commits.{group_raised}
@@ -11,7 +12,6 @@ use Rattle.ftc_protocol.specs.State.{ChainState}
 use Rattle.ftc_protocol.specs.Visits.{Visits, In, no_visits}
 use Rattle.ftc_ties.specs.Messages.{AreLogsOf, names_log, onward}
 use Rattle.ftc_server.specs.Standing.{group_ending_at, going_on, with_own}
-use Rattle.ftc_standing.proofs.Arriving.{all_mapped}
 
 abbrev pub EndsAsSaid : Type 0
 EndsAsSaid = (ring : RingShape) (group server : ℕ) → IsRing ring → group < ring.servers → server < ring.servers →
@@ -49,7 +49,7 @@ each_named [] = tt
 each_named (log ∷ logs) = (
   ap (λ b. b || names_log logs log.group log.origin)
       (ap (λ b. b && log.origin == log.origin) (eq-eqb log.group log.group refl) ∙ eq-eqb log.origin log.origin refl),
-  all_mapped (λ (other : Logged). names_log logs other.group other.origin ≡ true)
+  all-weaker (λ (other : Logged). names_log logs other.group other.origin ≡ true)
       (λ (other : Logged). names_log (log ∷ logs) other.group other.origin ≡ true)
       (λ other named. or_true (log.group == other.group && log.origin == other.origin)
       (names_log logs other.group other.origin) named)
@@ -61,7 +61,7 @@ pub groups_exist : (setting : Setting) (state : ChainState) (visits : Visits) (l
     AreLogsOf setting state visits logs → ((group packet : ℕ) → In visits group packet → group < servers setting) →
     AllByRecursion (λ (log : Logged). log.group < servers setting) logs
 groups_exist setting state visits logs are exist =
-    all_mapped (λ (log : Logged). names_log logs log.group log.origin
+    all-weaker (λ (log : Logged). names_log logs log.group log.origin
     ≡ true) (λ (log : Logged). log.group < servers setting)
     (λ log named. exist log.group log.origin (sym (are.names log.group log.origin) ∙ named)) logs (each_named logs)
 

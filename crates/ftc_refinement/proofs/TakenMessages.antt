@@ -4,6 +4,7 @@ use Rattle.std.proofs.Common.{refl, sym, ap, subst, cond}
 use Rattle.std.specs.List.{list_all, AllByRecursion}
 use Rattle.std.specs.Option.{is_some}
 use Rattle.std.proofs.lemmas.Bool.{eq-eqb, ne_eqb}
+use Rattle.ftc_base.proofs.EachOf.{all-weaker, all_tests}
 use Rattle.ftc_message.specs.declared.message.Message.{Message as SentMessage}
 use Rattle.ftc_message.specs.declared.need.Need.{Need}
 use Rattle.ftc_message.specs.Logged.{Logged}
@@ -16,9 +17,8 @@ use Rattle.ftc_server.specs.Slots.{is_open}
 use Rattle.ftc_standing.specs.Arrivals.{kept_of, IsKeptAs, AreArrived}
 use Rattle.ftc_standing.specs.View.{queued_on, where_it, is_queued_on}
 use Rattle.ftc_standing.specs.Stand.{IsSentAs, AreItems, since_of, origin_of}
-use Rattle.ftc_standing.proofs.Arriving.{all_mapped, kept_same}
+use Rattle.ftc_standing.proofs.Arriving.{kept_same}
 use Rattle.ftc_refinement.specs.Contents.{items_of}
-use Rattle.ftc_refinement.proofs.Messages.{all_hold}
 use Rattle.ftc_refinement.proofs.Ring.{each_named, or_true}
 use Rattle.ftc_refinement.proofs.Works.{held_in}
 
@@ -46,11 +46,11 @@ pub open_to : (group : ℕ) (sent : SentMessage) (by_ring : Bool) →
     AllByRecursion (λ (need : Need). need.group ≢ group) sent.needs → is_open group (arrived sent by_ring) ≡ true
 open_to group sent by_ring logs needs =
     ap (λ b. b && list_all (λ (need : Need). not (need.group == group)) sent.needs)
-    (all_hold (λ (log : Logged). not (log.group == group)) sent.logs
-    (all_mapped (λ (log : Logged). log.group ≢ group) (λ (log : Logged). not (log.group == group) ≡ true)
+    (all_tests (λ (log : Logged). not (log.group == group)) sent.logs
+    (all-weaker (λ (log : Logged). log.group ≢ group) (λ (log : Logged). not (log.group == group) ≡ true)
     (λ log differs. not_of group log.group differs) sent.logs logs))
-    ∙ all_hold (λ (need : Need). not (need.group == group)) sent.needs
-    (all_mapped (λ (need : Need). need.group ≢ group) (λ (need : Need). not (need.group == group) ≡ true)
+    ∙ all_tests (λ (need : Need). not (need.group == group)) sent.needs
+    (all-weaker (λ (need : Need). need.group ≢ group) (λ (need : Need). not (need.group == group) ≡ true)
     (λ need differs. not_of group need.group differs) sent.needs needs)
 
 -- a message that begins has none
@@ -66,7 +66,7 @@ pub each_needed : (needs : List Need) → AllByRecursion (λ (need : Need). need
 each_needed [] = tt
 each_needed (need ∷ needs) = (
   ap (λ b. b || needs_of needs need.group) (eq-eqb need.group need.group refl),
-  all_mapped (λ (other : Need). needs_of needs other.group ≡ true)
+  all-weaker (λ (other : Need). needs_of needs other.group ≡ true)
       (λ (other : Need). needs_of (need ∷ needs) other.group ≡ true)
       (λ other has. or_true (need.group == other.group) (needs_of needs other.group) has) needs (each_needed needs),
 )
@@ -77,7 +77,7 @@ pub of_logs : (setting : Setting) (state : ChainState) (origin : ℕ) (message :
     ((group packet : ℕ) → message.logs group packet ≡ true → P group packet) →
     AllByRecursion (λ (log : Logged). P log.group log.origin) sent.logs
 of_logs setting state origin message sent P is all =
-    all_mapped (λ (log : Logged). names_log sent.logs log.group log.origin ≡ true)
+    all-weaker (λ (log : Logged). names_log sent.logs log.group log.origin ≡ true)
     (λ (log : Logged). P log.group log.origin)
     (λ log named. all log.group log.origin (sym (is.logs.names log.group log.origin) ∙ named)) sent.logs
     (each_named sent.logs)
@@ -86,7 +86,7 @@ pub of_needs : (setting : Setting) (state : ChainState) (origin : ℕ) (message 
     (P : ℕ → Type 0) → IsSentAs setting state origin message sent →
     ((group : ℕ) → message.needs group ≡ true → P group) → AllByRecursion (λ (need : Need). P need.group) sent.needs
 of_needs setting state origin message sent P is all =
-    all_mapped (λ (need : Need). needs_of sent.needs need.group ≡ true) (λ (need : Need). P need.group)
+    all-weaker (λ (need : Need). needs_of sent.needs need.group ≡ true) (λ (need : Need). P need.group)
     (λ need has. all need.group (sym (is.needs.names need.group) ∙ has)) sent.needs (each_needed sent.needs)
 
 -- ---- the oldest message of a link

@@ -14,6 +14,7 @@ use Rattle.ftc_server.specs.State.{ServerState, fields_of}
 use Rattle.ftc_edge.specs.Due.{WithheldPackets}
 use Rattle.ftc_replica.specs.Kept.{KeptLogs, covers_log, missing}
 use Rattle.ftc_vector.specs.Commits.{vector_of}
+use Rattle.ftc_replica.proofs.Left.{missing_twice}
 use Rattle.ftc_ties.specs.Servers.{IsReplicaAt}
 use Rattle.ftc_server.specs.Holding.{Holding}
 use Rattle.ftc_server.specs.Steps.{HasPruned}
@@ -119,21 +120,9 @@ module _ (setting : Setting) (state : ChainState) (number : ℕ) (old new : Serv
 
 -- ---- kept logs that are known at the tails
 
-missing_once : (vector : List ℕ) (logs : List Logged) → missing vector (missing vector logs) ≡ missing vector logs
-missing_once vector [] = refl
-missing_once vector (log ∷ logs) =
-    elim (covers_log vector log) as (λ b. covers_log vector log ≡ b →
-    missing vector (cond (not b) (log ∷ missing vector logs) (missing vector logs))
-    ≡ cond (not b) (log ∷ missing vector logs) (missing vector logs)) [
-      | true ↦ λ covered. missing_once vector logs
-      | false ↦ λ lacked. ap (λ b. cond (not b) (log ∷ missing vector (missing vector logs))
-          (missing vector (missing vector logs)))
-          lacked ∙ ap (λ x. log ∷ x) (missing_once vector logs)
-    ] refl
-
 pruned_once : (vector : List ℕ) (held : Held) → pruned_by vector (pruned_by vector held) ≡ pruned_by vector held
 pruned_once vector held =
-    ap (head_of held.content held.partitions held.vector) (missing_once vector held.kept)
+    ap (head_of held.content held.partitions held.vector) (missing_twice vector held.kept)
 
 module _ (setting : Setting) (state : ChainState) (number : ℕ) (known : List (List ℕ)) where
   slot_pruned : (group : ℕ) (o : Option Held) → IsReplicaSlot setting state number known group o →

@@ -3,6 +3,7 @@ use Rattle.std.proofs.Common.{◌≡◌, ◌∙◌, ◌&&◌, ◌⊎◌, ◌∷�
 use Rattle.std.proofs.Common.{ap, subst, cond, inl, inr}
 use Rattle.std.specs.List.{list_all}
 use Rattle.std.specs.Option.{is_some, option_map}
+use Rattle.std.proofs.lemmas.Bool.{and_parts}
 use Rattle.ftc_message.specs.Logged.{Logged}
 use Rattle.ftc_replica.specs.Held.{Held as Replicated}
 use Rattle.ftc_protocol.specs.Setting.{Setting}
@@ -17,7 +18,7 @@ use Rattle.ftc_standing.specs.Arrivals.{IsKeptAs}
 use Rattle.ftc_standing.specs.View.{held_at, where_it, is_held_by}
 use Rattle.ftc_standing.specs.Stand.{HeldItem, IsHeldAs, AreItems}
 use Rattle.ftc_refinement.specs.Contents.{item_of_held, items_of}
-use Rattle.ftc_refinement.proofs.Messages.{both, kept_item}
+use Rattle.ftc_refinement.proofs.Messages.{kept_item}
 
 -- ---- work and readiness
 
@@ -26,7 +27,7 @@ none_next : (replicas : List (Option Replicated)) (waiting : Option ℕ) (logs :
     list_all (is_had replicas) logs ≡ true → next_log replicas waiting logs ≡ None
 none_next replicas waiting [] all = refl
 none_next replicas waiting (log ∷ logs) all =
-    let parts = both (is_had replicas log) (list_all (is_had replicas) logs) all in
+    let parts = and_parts (is_had replicas log) (list_all (is_had replicas) logs) all in
     ap (λ b. cond b (next_log replicas waiting logs)
     (cond (is_packet_of waiting log) (next_log replicas waiting logs)
     (cond (may_apply replicas log) (Some log) (next_log replicas (Some log.origin) logs)))) parts.0

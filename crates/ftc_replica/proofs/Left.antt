@@ -12,7 +12,7 @@ use Rattle.ftc_message.specs.Logged.{Logged}
 use Rattle.ftc_replica.specs.Kept.{covers_log, missing, is_dropped, left}
 
 -- what a vector covers a greater one covers
-covers_above : (vector other : List ℕ) → IsBelow vector other → (log : Logged)
+pub covers_above : (vector other : List ℕ) → IsBelow vector other → (log : Logged)
     → covers_log vector log ≡ true → covers_log other log ≡ true
 covers_above vector other below log is =
     let need = need_of log.before log.changed in

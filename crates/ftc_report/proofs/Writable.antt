@@ -9,6 +9,7 @@ use Rattle.ftc_base.specs.declared.limits.TheConstants.{MOST_CAPTURED}
 use Rattle.ftc_base.specs.declared.ask.Verdict.{Verdict}
 use Rattle.ftc_base.specs.declared.ask.Verdict.TheVariants.{Forward, Filter}
 use Rattle.ftc_base.specs.declared.released.Released.{Released}
+use Rattle.ftc_base.proofs.EachOf.{all_push}
 use Rattle.ftc_pcap.specs.declared.packets.Packet.{Packet}
 use Rattle.ftc_mbox.specs.declared.rule.Rule.{Rule}
 use Rattle.ftc_mbox.proofs.ChangedLengths.{changed_length}
@@ -23,11 +24,6 @@ use Rattle.ftc_serial.specs.Packets.{bytes_of_packets}
 use Rattle.ftc_serial.specs.Serial.{State, serial_opening, Visited, Given, after, position_after, visit_at, release_at}
 use Rattle.ftc_serial.specs.Serial.{serial_step, serial_run}
 use Rattle.ftc_report.specs.Output.{IsWritable, AreWritable}
-
-all_push : {A : Type 0} (P : A → Type 0) (xs : List A) (x : A) → AllByRecursion P xs → P x →
-    AllByRecursion P (xs ++ x ∷ [])
-all_push P [] x all holds = (holds, tt)
-all_push P (y ∷ xs) x all holds = (all.0, all_push P xs x all.1 holds)
 
 -- a packet of the capture, with no more bytes than a record may have
 abbrev Fits : List Packet → ℕ → Option Position → Type 0

@@ -79,12 +79,14 @@ live_before_of count live server = find live (against count (count - 1) (previou
 abbrev pub live_after_of : ℕ → (ℕ → Bool) → ℕ → Option ℕ
 live_after_of count live server = find live (along count (count - 1) (next_of count server))
 
--- from which of the two nearest live servers a new server gets the list of a group: from the one before it where the
--- group's head lies from the first head of its groups up to that server, and from the one after it where the head lies
--- behind that server
+-- whether a new server gets the list of a group from the nearest live server before it: where the group's head lies
+-- from the first head of its groups up to that server, and not behind it
+abbrev pub is_from_before : ℕ → ℕ → ℕ → ℕ → Bool
+is_from_before count before group server = nat_le (apart count before server) (apart count group server)
+
+-- from which of the two nearest live servers a new server gets the list of a group
 abbrev pub source_between : ℕ → ℕ → ℕ → ℕ → ℕ → ℕ
-source_between count before after group server =
-    if nat_le (apart count before server) (apart count group server) then before else after
+source_between count before after group server = if is_from_before count before group server then before else after
 
 abbrev pub source_in : ℕ → ℕ → ℕ → Option ℕ → Option ℕ → Option ℕ
 source_in count group server (Some before) (Some after) = Some (source_between count before after group server)

@@ -3,13 +3,23 @@
 ghost use Rattle.std.specs.Prelude.{◌≡◌, ◌<◌, ℕ, Some};
 ghost use Rattle.ftc_ring.specs.Ring.{IsMember};
 ghost use Rattle.ftc_ring.specs.Live.{is_live, IsLive, IsDown, IsAdmissible, IsLiveBefore, IsLiveAfter, source_between};
-ghost use Rattle.ftc_ring.specs.Live.{source_of};
+ghost use Rattle.ftc_ring.specs.Live.{is_from_before, source_of};
 
 use crate::distance::apart;
 use crate::ring::Ring;
 use ftc_base::{ServerId, ServerSet};
 
 impl Ring {
+    /// Whether a server that is replaced gets the list of a group from the live server before it, and not from the one
+    /// after it: where the live server before isn't farther back than the group's head.
+    pub fn is_from_before(&self, before: ServerId, group: ServerId, server: ServerId) -> bool
+        requires before { before < self.now.servers }
+        requires group { group < self.now.servers }
+        ensures { result ≡ is_from_before self.now.servers before group server }
+    {
+        apart(self.servers(), before, server) <= apart(self.servers(), group, server)
+    }
+
     /// The live server from which a server that is down gets the list of a group of its own.
     pub fn source(&self, server: ServerId, group: ServerId, down: ServerSet) -> ServerId
         requires server { server < self.now.servers }
@@ -31,8 +41,7 @@ impl Ring {
         );
         match nearest {
             (Some(before), Some(after)) => {
-                let servers = self.servers();
-                if apart(servers, before, server) <= apart(servers, group, server) {
+                if self.is_from_before(before, group, server) {
                     before
                 } else {
                     after

@@ -5,6 +5,7 @@ use Rattle.std.specs.Prelude.{nat_le, nat_lt, not, if◌then◌else◌}
 use Rattle.std.specs.List.{find, range_with_len, onto_first}
 use Rattle.std.proofs.Math.Nat.{eq-or-lt_of_le}
 use Rattle.std.proofs.lemmas.Bool.Decides.{nat_tests}
+use Rattle.std.proofs.lemmas.Bool.{not-true}
 use Rattle.ftc_base.specs.Text.{lines_of, words_of}
 use Rattle.ftc_base.specs.declared.limits.TheConstants.{MOST_SCRIPT_BYTES}
 use Rattle.ftc_ring.specs.Ring.{RingShape, IsRing}
@@ -80,12 +81,8 @@ crash_passed ring live server v shape e =
           (none_gone (gone_of ring (with_at live server false)) v two.2);
     }
 
-was_down : (b : Bool) → not b ≡ true → b ≡ false
-was_down true e = absurd cc
-was_down false e = refl
-
 pub recover_passed : (live : ℕ → Bool) (server : ℕ) (v : Unit {0}) → may_recover live server ≡ Ok v → IsDown live server
-recover_passed live server v e = was_down (live server) (passed (not (live server)) NotDown v e)
+recover_passed live server v e = not-true (live server) (passed (not (live server)) NotDown v e)
 
 pub lose_passed : (ring : RingShape) (packets place number origin : ℕ) (line : LoseLine) →
     lose_line ring packets place number origin ≡ Ok line → IsLose ring packets line

@@ -2,7 +2,7 @@
 use Rattle.std.proofs.Common.{◌≡◌, ◌≤◌, ℕ, refl, Ok}
 use Rattle.std.specs.Prelude.{decimal}
 use Rattle.ftc_base.proofs.Decimals.{number_of-decimal}
-use Rattle.ftc_script.specs.declared.limits.TheConstants.{MOST_NUMBER}
+use Rattle.ftc_base.specs.declared.limits.TheConstants.{MOST_NUMBER}
 use Rattle.ftc_script.specs.Words.{number_word}
 pub use Rattle.ftc_base.proofs.EachOf.{all-append}
 

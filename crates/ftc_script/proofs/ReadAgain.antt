@@ -6,13 +6,12 @@ use Rattle.std.specs.List.{AllByRecursion, join_with_byte, find, range_with_len}
 use Rattle.std.proofs.lemmas.List.{append_assoc}
 use Rattle.std.proofs.lemmas.Bool.Decides.{nat_tests}
 use Rattle.ftc_base.specs.Text.{lines_of, words_of}
-use Rattle.ftc_base.specs.declared.limits.TheConstants.{MOST_SCRIPT_BYTES}
+use Rattle.ftc_base.specs.declared.limits.TheConstants.{MOST_SCRIPT_BYTES, MOST_NUMBER}
 use Rattle.ftc_ring.specs.Ring.{RingShape, IsRing}
 use Rattle.ftc_ring.specs.Live.{gone_of}
 use Rattle.ftc_ring.proofs.Nearest.{gone_none}
 use Rattle.ftc_base.proofs.PlainWords.{IsPlainWord, lines_of-line, words_of-join, line_bytes-join, plain}
 use Rattle.ftc_base.proofs.Decimals.{plain_number}
-use Rattle.ftc_script.specs.declared.limits.TheConstants.{MOST_NUMBER}
 use Rattle.ftc_script.specs.declared.fault.ScriptCause.{ScriptCause}
 use Rattle.ftc_script.specs.declared.fault.ScriptCause.TheVariants.{NotUp}
 use Rattle.ftc_script.specs.declared.fault.ScriptFault.{ScriptFault}

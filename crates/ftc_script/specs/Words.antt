@@ -5,7 +5,7 @@ pub use Rattle.ftc_base.specs.Comment.{is_comment}
 use Rattle.ftc_base.specs.Reading.{◌>>=◌}
 use Rattle.ftc_base.specs.Number.{number_of}
 use Rattle.ftc_base.specs.declared.lexer.Lexical.{Lexical}
-use Rattle.ftc_script.specs.declared.limits.TheConstants.{MOST_NUMBER}
+use Rattle.ftc_base.specs.declared.limits.TheConstants.{MOST_NUMBER}
 use Rattle.ftc_script.specs.declared.fault.ScriptCause.{ScriptCause}
 use Rattle.ftc_script.specs.declared.fault.ScriptCause.TheVariants.{Word}
 use Rattle.ftc_script.specs.declared.statement.Statement.{Statement}

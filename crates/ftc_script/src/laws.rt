@@ -2,12 +2,11 @@
 
 ghost use Rattle.std.specs.Prelude.{◌≡◌, ◌≤◌, ◌<◌, ◌+◌, ℕ, Bool, List, length, take, slice_get, Some, Ok};
 ghost use Rattle.std.specs.List.{AllByRecursion};
-ghost use Rattle.ftc_base.specs.declared.limits.TheConstants.{MOST_SCRIPT_BYTES};
+ghost use Rattle.ftc_base.specs.declared.limits.TheConstants.{MOST_SCRIPT_BYTES, MOST_NUMBER};
 ghost use Rattle.ftc_ring.specs.Ring.{RingShape, IsRing};
 ghost use Rattle.ftc_ring.specs.Live.{IsLive, IsAdmissible};
 ghost use Rattle.ftc_script.specs.declared.line.ScriptLine.{ScriptLine};
 ghost use Rattle.ftc_script.specs.declared.statement.Statement.{Statement};
-ghost use Rattle.ftc_script.specs.declared.limits.TheConstants.{MOST_NUMBER};
 ghost use Rattle.ftc_script.specs.Steps.{at_of, all_live, live_after, live_after_all, last_of, IsStep, AreSteps};
 ghost use Rattle.ftc_script.specs.Script.{ScriptShape, IsScript, IsLose};
 ghost use Rattle.ftc_script.specs.Grammar.{script_of};

@@ -5,7 +5,6 @@ mod adding;
 mod draft;
 mod fault;
 mod laws;
-pub mod limits;
 mod line;
 mod reader;
 mod script;

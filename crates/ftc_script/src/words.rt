@@ -6,8 +6,8 @@ ghost use Rattle.ftc_base.specs.Text.{words_of};
 ghost use Rattle.ftc_script.specs.Words.{number_word, event_of, at_words, lose_words, statement_of};
 
 use crate::fault::ScriptCause;
-use crate::limits::MOST_NUMBER;
 use crate::statement::Statement;
+use ftc_base::limits::MOST_NUMBER;
 use ftc_base::{is_comment, number, split_word};
 
 fn is_same(word: &[u8], text: &[u8]) -> bool

@@ -11,6 +11,7 @@ use Rattle.ftc_base.specs.declared.ask.Answer.{Answer}
 use Rattle.ftc_base.specs.declared.ask.Write.{Write}
 use Rattle.ftc_base.specs.declared.ask.Ask.{Ask}
 use Rattle.ftc_base.specs.declared.ask.Ask.TheVariants.{Read, Finish}
+use Rattle.ftc_base.proofs.EachOf.{all-front}
 use Rattle.ftc_mbox.specs.declared.rule.Rule.{Rule}
 use Rattle.ftc_mbox.specs.Ask.{ask}
 use Rattle.ftc_store.specs.Store.{Content, changed, written}
@@ -24,10 +25,6 @@ SameAt one other key = get one key ≡ get other key
 
 abbrev pub SameAnswers : Content → Content → List Answer → Type 0
 SameAnswers one other answers = AllByRecursion (λ (answer : Answer). SameAt one other answer.key) answers
-
-all_front : {A : Type 0} (P : A → Type 0) (xs ys : List A) → AllByRecursion P (xs ++ ys) → AllByRecursion P xs
-all_front P [] ys all = tt
-all_front P (x ∷ xs) ys all = (all.0, all_front P xs ys all.1)
 
 all_last : {A : Type 0} (P : A → Type 0) (xs : List A) (x : A) → AllByRecursion P (xs ++ x ∷ []) → P x
 all_last P [] x all = all.0
@@ -50,7 +47,7 @@ answers_so_far P rule packet content (suc left) answers =
       | Finish end ↦ ended answers end
     ] in
     elim (ask rule packet answers) as (λ a. AllByRecursion P (at a).answers.items → AllByRecursion P answers) [
-      | Read key change ↦ λ all. all_front P answers (answer_at content key
+      | Read key change ↦ λ all. all-front P answers (answer_at content key
           ∷ []) (answers_so_far P rule packet content left (answers ++ answer_at content key ∷ []) all)
       | Finish end ↦ λ all. all
     ]
@@ -90,7 +87,7 @@ taken_alike rule packet one other same =
     })
     (asked_alike rule packet one other 8 [] same)
 
-eq_same : (x y : List ℕ) → eq_by_cmp (slice_cmp nat_cmp) x y ≡ true → x ≡ y
+pub eq_same : (x y : List ℕ) → eq_by_cmp (slice_cmp nat_cmp) x y ≡ true → x ≡ y
 eq_same x y e =
     elim (slice_cmp nat_cmp x y) as (λ r. slice_cmp nat_cmp x y ≡ r → is_eq r ≡ true → x ≡ y) [
       | Less ↦ λ is t. cc

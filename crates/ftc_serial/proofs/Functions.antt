@@ -1,5 +1,5 @@
 -- Functions that are changed at one place.
-use Rattle.std.proofs.Common.{◌≡◌, ℕ, ◌==◌, if◌then◌else◌, true, false, refl, eqb-true, List, [], ◌∷◌, inl, inr}
+use Rattle.std.proofs.Common.{◌≡◌, ◌≢◌, ℕ, ◌==◌, if◌then◌else◌, true, false, refl, eqb-true, List, [], ◌∷◌, inl, inr}
 use Rattle.std.specs.List.{AllByRecursion}
 use Rattle.std.proofs.lemmas.Bool.{eqb-false}
 use Rattle.ftc_serial.specs.Words.{AnyOf, with_at}
@@ -22,10 +22,13 @@ with_at_both R f g k v w q here elsewhere =
       | false ↦ λ e. elsewhere (eqb-false q k e)
     ] refl
 
-pub all_map : {A : Type 0} (P Q : A → Type 0) → ((x : A) → P x → Q x) → (xs : List A) → AllByRecursion P xs →
-    AllByRecursion Q xs
-all_map P Q f [] h = tt
-all_map P Q f (x ∷ xs) h = (f x h.0, all_map P Q f xs h.1)
+-- at its own place a changed function has what it was given, and elsewhere what it had
+pub with_at_here : {A : Type 0} (f : ℕ → A) (k : ℕ) (v : A) → with_at f k v k ≡ v
+with_at_here {A} f k v = with_at_cases (λ (x : A). x ≡ v) f k v k (λ _. refl) (λ differs. absurd (differs refl))
+
+pub with_at_elsewhere : {A : Type 0} (f : ℕ → A) (k : ℕ) (v : A) (q : ℕ) → q ≢ k → with_at f k v q ≡ f q
+with_at_elsewhere {A} f k v q differs =
+    with_at_cases (λ (x : A). x ≡ f q) f k v q (λ same. absurd (differs same)) (λ _. refl)
 
 -- one that has P and, as each, Q
 pub any_of_all : {A R : Type 0} (P Q : A → Type 0) (xs : List A) → ((x : A) → P x → Q x → R) → AnyOf P xs →

@@ -2,6 +2,7 @@ pub mod Asking
 pub mod Places
 pub mod Made
 pub mod Functions
+pub mod AnyOf
 pub mod Alike
 pub mod Legal
 pub mod Histories

@@ -1,47 +1,32 @@
 -- A visit writes only at keys that it read.
 use Rattle.std.proofs.Common.{◌≡◌, ℕ, zero, suc, Bool, true, false, if◌then◌else◌, List, [], ◌∷◌, ◌++◌, ◌⊎◌, inl, inr}
-use Rattle.std.proofs.Common.{refl, sym, ap, subst, ◌∙◌, arith, Option}
+use Rattle.std.proofs.Common.{refl, sym, ap, subst, ◌∙◌, arith, Option, append-nil}
 use Rattle.std.specs.List.{AllByRecursion, Contains}
 use Rattle.ftc_base.specs.declared.ask.Answer.{Answer}
 use Rattle.ftc_base.specs.declared.ask.Write.{Write}
 use Rattle.ftc_base.specs.declared.ask.Ask.{Ask}
 use Rattle.ftc_base.specs.declared.ask.Ask.TheVariants.{Read, Finish}
+use Rattle.ftc_base.proofs.EachOf.{all-weaker}
 use Rattle.ftc_mbox.specs.declared.rule.Rule.{Rule}
 use Rattle.ftc_mbox.specs.Ask.{ask}
 use Rattle.ftc_mbox.specs.Visit.{ReadsAndWrites}
 use Rattle.ftc_mbox.specs.Visit as visit
 use Rattle.ftc_mbox.proofs.Visits.{rules_are_bounded}
 use Rattle.ftc_store.specs.Store.{Content}
+use Rattle.ftc_mbox.proofs.InTurn.{first_or_before}
 use Rattle.ftc_serial.specs.declared.visit.Asked.{Asked}
 use Rattle.ftc_serial.specs.Words.{AnyOf}
 use Rattle.ftc_serial.specs.Take.{asked_from, asked, answer_at, stopped, ended, taken}
 use Rattle.ftc_serial.specs.Reads.{IsRead}
-use Rattle.ftc_serial.proofs.Functions.{all_map}
-
-any_front : {A : Type 0} (P : A → Type 0) (xs ys : List A) → AnyOf P xs → AnyOf P (xs ++ ys)
-any_front P [] ys any = absurd any
-any_front P (x ∷ xs) ys any = elim any [ inl here ↦ inl here | inr more ↦ inr (any_front P xs ys more) ]
-
-any_last : {A : Type 0} (P : A → Type 0) (xs : List A) (x : A) → P x → AnyOf P (xs ++ x ∷ [])
-any_last P [] x is = inl is
-any_last P (y ∷ ys) x is = inr (any_last P ys x is)
+use Rattle.ftc_serial.proofs.AnyOf.{any_front, any_last}
 
 joined : {A : Type 0} (xs : List A) (x : A) (ys : List A) → (xs ++ x ∷ []) ++ ys ≡ xs ++ x ∷ ys
 joined [] x ys = refl
 joined (y ∷ xs) x ys = ap (λ l. y ∷ l) (joined xs x ys)
 
-ends : {A : Type 0} (xs : List A) → xs ++ [] ≡ xs
-ends [] = refl
-ends (x ∷ xs) = ap (λ l. x ∷ l) (ends xs)
-
 -- the keys with leave are among those that were read
 abbrev AreRead : List (List ℕ) → List Answer → Type 0
 AreRead leave answers = (key : List ℕ) → Contains leave key → IsRead answers key
-
-first_or_later : (key other : List ℕ) (leave : List (List ℕ)) → Contains (key ∷ leave) other →
-    (other ≡ key) ⊎ Contains leave other
-first_or_later key other leave (zero, less, is) = inl (sym is)
-first_or_later key other leave (suc i, less, is) = inr (i, grind (arith), is)
 
 abbrev AreWritten : Asked → Type 0
 AreWritten told = AllByRecursion (λ (write : Write). IsRead told.answers.items write.key) told.end.writes.items
@@ -49,7 +34,7 @@ AreWritten told = AllByRecursion (λ (write : Write). IsRead told.answers.items 
 in_leave : (leave : List (List ℕ)) (answers : List Answer) → AreRead leave answers → (writes : List Write) →
     visit.WritesAt leave writes → AllByRecursion (λ (write : Write). IsRead answers write.key) writes
 in_leave leave answers within writes all =
-    all_map (λ (write : Write). Contains leave write.key) (λ (write : Write). IsRead answers write.key)
+    all-weaker (λ (write : Write). Contains leave write.key) (λ (write : Write). IsRead answers write.key)
     (λ write at. within write.key at) writes all
 
 written_from : (rule : Rule) (packet : List ℕ) (content : Content) (left : ℕ) (read leave : List (List ℕ))
@@ -68,7 +53,7 @@ written_from rule packet content zero read leave asks answers bounded same withi
       | Read key change ↦ λ no is. absurd no
       | Finish end ↦ λ at is. subst (λ a. AreWritten (stopped answers a)) is
           (in_leave leave answers within end.writes.items at)
-    ] bounded (same [] ∙ ap (ask rule packet) (ends answers))
+    ] bounded (same [] ∙ ap (ask rule packet) (append-nil answers))
 written_from rule packet content (suc left) read leave asks answers bounded same within =
     let at : Ask → Asked = λ a. elim a [
       | Read key change ↦ asked_from rule packet content left (answers ++ answer_at content key ∷ [])
@@ -89,11 +74,11 @@ written_from rule packet content (suc left) read leave asks answers bounded same
           (λ more. same (answer ∷ more) ∙ ap (ask rule packet) (sym (joined answers answer more)))
           (with_leave answers answer leave within change))
       | Finish end ↦ λ all is. subst (λ a. AreWritten (at a)) is (in_leave leave answers within end.writes.items all)
-    ] bounded (same [] ∙ ap (ask rule packet) (ends answers))
+    ] bounded (same [] ∙ ap (ask rule packet) (append-nil answers))
   where
     with_leave : (answers : List Answer) (answer : Answer) (leave : List (List ℕ)) → AreRead leave answers →
         (change : Bool) → AreRead (if change then answer.key ∷ leave else leave) (answers ++ answer ∷ [])
-    with_leave answers answer leave within true key at = elim (first_or_later answer.key key leave at) [
+    with_leave answers answer leave within true key at = elim (first_or_before answer.key key leave at) [
       | inl same ↦ any_last (λ (a : Answer). a.key ≡ key) answers answer (sym same)
       | inr more ↦ any_front (λ (a : Answer). a.key ≡ key) answers (answer ∷ []) (within key more)
     ]

@@ -3,7 +3,7 @@ use Rattle.std.proofs.Common.{◌≡◌, ◌≤◌, ◌∙◌, ◌++◌, ◌||�
 use Rattle.std.proofs.Common.{length, refl, sym, ap, cond, arith}
 use Rattle.std.specs.Prelude.{◌==◌, filter, is_some}
 use Rattle.std.specs.List.{list_all, list_any}
-use Rattle.std.proofs.lemmas.Bool.{eqb-true, eq-eqb, false≢true}
+use Rattle.std.proofs.lemmas.Bool.{eqb-true, eq-eqb, false≢true, and_parts}
 use Rattle.std.proofs.lemmas.Option.{none-some}
 use Rattle.ftc_message.specs.Logged.{Logged}
 use Rattle.ftc_replica.specs.Held.{Held}
@@ -14,7 +14,7 @@ use Rattle.ftc_server.specs.Replicas.{is_had, is_ready}
 use Rattle.ftc_server.specs.Waiting.{is_ahead, waits_of_message, waits_of_all, is_unreached, is_wait_of, is_named}
 use Rattle.ftc_server.specs.Waiting.{is_idle, is_settled, AreWatched}
 use Rattle.ftc_server.proofs.EachHeld.{each_held}
-use Rattle.ftc_server.proofs.Finding.{both, and_both, test_of_found}
+use Rattle.ftc_server.proofs.Finding.{and_both, passes_found}
 use Rattle.ftc_server.proofs.Lacking.{ahead_is_lacking, idle_put_off, ready_not_idle}
 use Rattle.ftc_server.proofs.Taken.{count_behind, all_more}
 use Rattle.ftc_server.proofs.Watched.{origin_of_found}
@@ -33,7 +33,7 @@ rests_idle : (replicas : List (Option Held)) (items : List HeldMessage) (resting
     rests packet resting ≡ true → is_idle replicas held.message.logs ≡ true
 rests_idle replicas items resting packet held settled there it_rests =
     or_settled (rests held.message.origin resting) (is_idle replicas held.message.logs)
-    (test_of_found (is_settled replicas resting) (is_of packet) items held settled there)
+    (passes_found (is_settled replicas resting) (is_of packet) items held settled there)
     (ap (λ (p : ℕ). rests p resting) (origin_of_found packet items held there) ∙ it_rests)
 
 -- ---- where no message lacks anything, nothing waits
@@ -49,13 +49,13 @@ nothing_watched replicas items resting ready settled = record {
       list_any (is_wait_of packet origin group) [] ≡ true) [
         | None ↦ λ _ never. absurd (none-some log never)
         | Some held ↦ λ there in_it.
-            let all = test_of_found (is_ready replicas) (is_of packet) items held ready there in
-            let had = test_of_found (is_had replicas) _ held.message.logs log all in_it in
+            let all = passes_found (is_ready replicas) (is_of packet) items held ready there in
+            let had = passes_found (is_had replicas) _ held.message.logs log all in_it in
             absurd (false≢true (sym (ahead_is_lacking replicas log ahead) ∙ had))
       ] refl its;
   rest = λ packet held there it_rests.
       absurd (ready_not_idle replicas held.message.logs
-      (test_of_found (is_ready replicas) (is_of packet) items held ready there)
+      (passes_found (is_ready replicas) (is_of packet) items held ready there)
       (rests_idle replicas items resting packet held settled there it_rests));
 }
 
@@ -87,14 +87,14 @@ all_named replicas items distinct rising =
     flat_all (is_named items) (waits_of_message replicas) items
     (each_held (λ (held : HeldMessage). list_all (is_named items) (waits_of_message replicas held)) items distinct
     (λ held is. logs_named replicas items held.message.origin held is.there
-    (test_of_found are_rising (is_of held.message.origin) items held rising is.there)))
+    (passes_found are_rising (is_of held.message.origin) items held rising is.there)))
 
 none_such : (packet origin : ℕ) (items : List Wait) → (origin == packet) ≡ false →
     list_all (λ (wait : Wait). wait.packet == origin) items ≡ true →
     list_all (λ (wait : Wait). not (wait.packet == packet)) items ≡ true
 none_such packet origin [] isnt all = refl
 none_such packet origin (wait ∷ items) isnt all =
-    let parts = both (wait.packet == origin) (list_all (λ (w : Wait). w.packet == origin) items) all in
+    let parts = and_parts (wait.packet == origin) (list_all (λ (w : Wait). w.packet == origin) items) all in
     and_both (not (wait.packet == packet)) (list_all (λ (w : Wait). not (w.packet == packet)) items)
     (ap (λ (p : ℕ). not (p == packet)) (eqb-true wait.packet origin parts.0) ∙ ap not isnt)
     (none_such packet origin items isnt parts.1)
@@ -122,7 +122,7 @@ all_once : (replicas : List (Option Held)) (packet origin group : ℕ) (items : 
     length (filter (is_wait_of packet origin group) (waits_of_all replicas items)) ≤ 1
 all_once replicas packet origin group [] distinct rising = omega arith
 all_once replicas packet origin group (held ∷ items) distinct rising =
-    let rise = both (are_rising held) (list_all are_rising items) rising in
+    let rise = and_parts (are_rising held) (list_all are_rising items) rising in
     let whole = count_behind (is_wait_of packet origin group) (waits_of_message replicas held)
     (waits_of_all replicas items) in
     elim (held.message.origin == packet) as (λ t. (held.message.origin == packet) ≡ t →
@@ -168,6 +168,6 @@ all_watched replicas items resting distinct rising settled =
       watched = each;
       rest = λ packet held there it_rests.
           idle_put_off replicas items (waits_of_all replicas items) packet held there
-          (origin_of_found packet items held there) (test_of_found are_rising (is_of packet) items held rising there)
+          (origin_of_found packet items held there) (passes_found are_rising (is_of packet) items held rising there)
           (each packet) (rests_idle replicas items resting packet held settled there it_rests);
     }

@@ -3,12 +3,12 @@ use Rattle.std.proofs.Common.{◌≡◌, ◌≢◌, ◌∙◌, ◌||◌, not, �
 use Rattle.std.proofs.Common.{refl, sym, ap, cond, take}
 use Rattle.std.specs.Prelude.{is_some, slice_get}
 use Rattle.std.specs.List.{list_all}
-use Rattle.std.proofs.lemmas.Bool.{eqb-true, eq-eqb, false≢true}
+use Rattle.std.proofs.lemmas.Bool.{eqb-true, eq-eqb, false≢true, and_parts}
 use Rattle.ftc_replica.specs.Held.{Held}
 use Rattle.ftc_server.specs.declared.held.HeldMessage.{HeldMessage}
 use Rattle.ftc_server.specs.Holding.{found, is_held, is_of, rests, origins_of}
 use Rattle.ftc_server.specs.Waiting.{is_idle, is_settled}
-use Rattle.ftc_server.proofs.Finding.{both, and_both}
+use Rattle.ftc_server.proofs.Finding.{and_both}
 use Rattle.ftc_server.specs.Tickets.{AreDistinct}
 use Rattle.ftc_server.proofs.Keeping.{held_among}
 
@@ -69,7 +69,7 @@ settled_step replicas old new (first ∷ items) zero held distinct there same is
 settled_step replicas old new (first ∷ items) (suc place) held distinct there same is all =
     let other = differs first.message.origin items place held (held_among items first.message.origin ∙ distinct.0)
     there in
-    let each = both (is_settled replicas old first) (list_all (is_settled replicas old) (take place items)) all in
+    let each = and_parts (is_settled replicas old first) (list_all (is_settled replicas old) (take place items)) all in
     and_both (is_settled replicas new first) (list_all (is_settled replicas new) (take (suc place) items))
     (settled_still replicas old new first (same first.message.origin (λ e. other (sym e))) each.0)
     (settled_step replicas old new items place held distinct.1 there same is each.1)

@@ -3,7 +3,7 @@ use Rattle.std.proofs.Common.{◌≡◌, ◌≤◌, ◌+◌, ◌∙◌, ◌&&◌
 use Rattle.std.proofs.Common.{ap, arith}
 use Rattle.std.specs.Prelude.{◌==◌, nat_le, nat_lt, find}
 use Rattle.std.specs.List.{list_all}
-use Rattle.std.proofs.lemmas.Bool.{eqb-true, or_left, false≢true}
+use Rattle.std.proofs.lemmas.Bool.{eqb-true, or_left, false≢true, and_parts}
 use Rattle.std.proofs.lemmas.Bool.Decides.{nat_tests}
 use Rattle.ftc_base.specs.Sets.{has}
 use Rattle.ftc_base.specs.declared.limits.TheConstants.{MOST_PARTITIONS}
@@ -12,7 +12,6 @@ use Rattle.ftc_replica.specs.declared.waits.Wait.{Wait}
 use Rattle.ftc_replica.specs.Waiting.{waits_for}
 use Rattle.ftc_server.specs.Replicas.{replica_at}
 use Rattle.ftc_server.specs.Waiting.{is_unreached, is_changed_to, is_due, number_in, StaysWhere}
-use Rattle.ftc_server.proofs.Finding.{both}
 use Rattle.ftc_server.proofs.ListTests.{all_both, implies_all, none_passes}
 
 later_due : (unreached group changed from_here below number at wait : Bool) →
@@ -40,7 +39,7 @@ one_later : (replicas : List (Option Held)) (group changed from : ℕ) (wait : W
     && not (waits_for group from (number_in (replica_at replicas group) from) wait) ≡ true →
     is_due replicas group changed (from + 1) wait ≡ true
 one_later replicas group changed from wait is =
-    let parts = both (is_due replicas group changed from wait)
+    let parts = and_parts (is_due replicas group changed from wait)
     (not (waits_for group from (number_in (replica_at replicas group) from) wait)) is in
     let number = number_in (replica_at replicas group) in
     later_due (is_unreached replicas wait) (wait.group == group) (has changed wait.partition)

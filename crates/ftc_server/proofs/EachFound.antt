@@ -3,11 +3,11 @@ use Rattle.std.proofs.Common.{◌≡◌, ◌≤◌, ◌∙◌, ◌||◌, ℕ, Bo
 use Rattle.std.proofs.Common.{refl, ap, cond, subst, arith}
 use Rattle.std.specs.Prelude.{◌==◌, find, filter}
 use Rattle.std.specs.List.{list_all, list_any}
-use Rattle.std.proofs.lemmas.Bool.{eqb-true}
+use Rattle.std.proofs.lemmas.Bool.{eqb-true, and_parts}
 use Rattle.std.proofs.lemmas.Bool.Decides.{nat_tests}
 use Rattle.ftc_message.specs.Logged.{Logged, log_follows, logs_rise}
 use Rattle.ftc_message.specs.Ordered.{is_log_of}
-use Rattle.ftc_server.proofs.Finding.{both, and_both, test_of_found}
+use Rattle.ftc_server.proofs.Finding.{and_both, passes_found}
 use Rattle.ftc_server.proofs.NextLog.{goes_on, another, is_itself}
 
 -- a log behind another is another
@@ -21,7 +21,7 @@ through : (last : Option (ℕ × ℕ)) (first : Logged) (logs : List Logged) →
     list_all (λ (log : Logged). log_follows last log.origin log.group) logs ≡ true
 through last first [] follows all = refl
 through last first (log ∷ logs) follows all =
-    let parts = both (log_follows (Some (first.origin, first.group)) log.origin log.group)
+    let parts = and_parts (log_follows (Some (first.origin, first.group)) log.origin log.group)
     (list_all (λ (l : Logged). log_follows (Some (first.origin, first.group)) l.origin l.group) logs) all in
     and_both (log_follows last log.origin log.group)
     (list_all (λ (l : Logged). log_follows last l.origin l.group) logs)
@@ -32,7 +32,7 @@ all_follow : (last : Option (ℕ × ℕ)) (logs : List Logged) → logs_rise las
     list_all (λ (log : Logged). log_follows last log.origin log.group) logs ≡ true
 all_follow last [] rising = refl
 all_follow last (first ∷ logs) rising =
-    let parts = both (log_follows last first.origin first.group)
+    let parts = and_parts (log_follows last first.origin first.group)
     (logs_rise (Some (first.origin, first.group)) logs) rising in
     and_both (log_follows last first.origin first.group)
     (list_all (λ (log : Logged). log_follows last log.origin log.group) logs) parts.0
@@ -52,7 +52,7 @@ found_later : (first : Logged) (logs : List Logged) (log : Logged) →
     IsFoundIn logs log → IsFoundIn (first ∷ logs) log
 found_later first logs log follow is = record {
   there = ap (λ (b : Bool). cond b (Some first) (find (is_log_of log.origin log.group) logs))
-      (follows_other first log (test_of_found (λ (l : Logged). log_follows (Some (first.origin, first.group)) l.origin
+      (follows_other first log (passes_found (λ (l : Logged). log_follows (Some (first.origin, first.group)) l.origin
       l.group) (is_log_of log.origin log.group) logs log follow is.there))
       ∙ is.there;
 }
@@ -61,7 +61,7 @@ each_in : (test : Logged → Bool) (last : Option (ℕ × ℕ)) (logs : List Log
     ((log : Logged) → IsFoundIn logs log → test log ≡ true) → list_all test logs ≡ true
 each_in test last [] rising each = refl
 each_in test last (first ∷ logs) rising each =
-    let parts = both (log_follows last first.origin first.group)
+    let parts = and_parts (log_follows last first.origin first.group)
     (logs_rise (Some (first.origin, first.group)) logs) rising in
     let follow = all_follow (Some (first.origin, first.group)) logs parts.1 in
     and_both (test first) (list_all test logs) (each first (found_first first logs))
@@ -78,7 +78,7 @@ some_in : (test : Logged → Bool) (last : Option (ℕ × ℕ)) (logs : List Log
     list_any test logs ≡ true → (log : Logged) × IsFoundIn logs log × (test log ≡ true)
 some_in test last [] rising any = absurd cc
 some_in test last (first ∷ logs) rising any =
-    let parts = both (log_follows last first.origin first.group)
+    let parts = and_parts (log_follows last first.origin first.group)
     (logs_rise (Some (first.origin, first.group)) logs) rising in
     let follow = all_follow (Some (first.origin, first.group)) logs parts.1 in
     elim (test first) as (λ t. test first ≡ t → t || list_any test logs ≡ true →
@@ -119,7 +119,7 @@ none_of : (origin group : ℕ) (logs : List Logged) →
     filter (is_log_of origin group) logs ≡ []
 none_of origin group [] follow = refl
 none_of origin group (first ∷ logs) follow =
-    let parts = both (log_follows (Some (origin, group)) first.origin first.group)
+    let parts = and_parts (log_follows (Some (origin, group)) first.origin first.group)
     (list_all (λ (log : Logged). log_follows (Some (origin, group)) log.origin log.group) logs) follow in
     ap (λ (b : Bool). cond b (first ∷ filter (is_log_of origin group) logs) (filter (is_log_of origin group) logs))
     (isnt_of origin group first parts.0)
@@ -129,13 +129,13 @@ pub one_of_each : (origin group : ℕ) (last : Option (ℕ × ℕ)) (logs : List
     length (filter (is_log_of origin group) logs) ≤ 1
 one_of_each origin group last [] rising = omega arith
 one_of_each origin group last (first ∷ logs) rising =
-    let parts = both (log_follows last first.origin first.group)
+    let parts = and_parts (log_follows last first.origin first.group)
     (logs_rise (Some (first.origin, first.group)) logs) rising in
     let follow = all_follow (Some (first.origin, first.group)) logs parts.1 in
     elim (is_log_of origin group first) as (λ t. is_log_of origin group first ≡ t →
     length (cond t (first ∷ filter (is_log_of origin group) logs) (filter (is_log_of origin group) logs)) ≤ 1) [
       | true ↦ λ is.
-          let same = both (first.origin == origin) (first.group == group) is in
+          let same = and_parts (first.origin == origin) (first.group == group) is in
           let none : filter (is_log_of first.origin first.group) logs ≡ [] =
           none_of first.origin first.group logs follow in
           let none_so : filter (is_log_of origin group) logs ≡ [] =

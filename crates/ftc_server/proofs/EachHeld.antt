@@ -3,14 +3,14 @@ use Rattle.std.proofs.Common.{◌≡◌, ◌∙◌, ◌&&◌, ◌||◌, not, ℕ
 use Rattle.std.proofs.Common.{ap, cond}
 use Rattle.std.specs.Prelude.{find, is_some}
 use Rattle.std.specs.List.{list_all}
-use Rattle.std.proofs.lemmas.Bool.{eqb-true, eq-eqb, false≢true}
+use Rattle.std.proofs.lemmas.Bool.{eqb-true, eq-eqb, false≢true, and_parts}
 use Rattle.ftc_replica.specs.Held.{Held}
 use Rattle.ftc_replica.specs.declared.waits.Wait.{Wait}
 use Rattle.ftc_server.specs.declared.held.HeldMessage.{HeldMessage}
 use Rattle.ftc_server.specs.Holding.{found, is_held, is_of, are_rising, rests, origins_of}
 use Rattle.ftc_server.specs.Work.{has_work}
 use Rattle.ftc_server.specs.Waiting.{AreWatched, is_unreached}
-use Rattle.ftc_server.proofs.Finding.{both, and_both, test_of_found}
+use Rattle.ftc_server.proofs.Finding.{and_both, passes_found}
 use Rattle.ftc_server.proofs.Lacking.{put_off_idles}
 use Rattle.ftc_server.specs.Tickets.{AreDistinct}
 use Rattle.ftc_server.proofs.Keeping.{held_among}
@@ -56,7 +56,7 @@ same_found : (first second guard : HeldMessage → Bool) (items : List HeldMessa
     find first items ≡ find second items
 same_found first second guard [] same all = refl
 same_found first second guard (held ∷ items) same all =
-    let parts = both (guard held) (list_all guard items) all in
+    let parts = and_parts (guard held) (list_all guard items) all in
     ap (λ (b : Bool). cond b (Some held) (find first items)) (same held parts.0)
     ∙ ap (λ (rest : Option HeldMessage). cond (second held) (Some held) rest)
     (same_found first second guard items same parts.1)
@@ -79,5 +79,5 @@ awake_first replicas items resting waiting distinct rising stands unreached =
     (each_held guard items distinct (λ held is.
     or_not (rests held.message.origin resting) (has_work replicas held) (λ it_rests.
     put_off_idles replicas items waiting held.message.origin held is.there refl
-    (test_of_found are_rising (is_of held.message.origin) items held rising is.there) stands.named unreached
+    (passes_found are_rising (is_of held.message.origin) items held rising is.there) stands.named unreached
     (stands.rest held.message.origin held is.there it_rests))))

@@ -3,7 +3,7 @@ use Rattle.std.proofs.Common.{◌≡◌, ◌≢◌, ◌∙◌, ◌&&◌, ℕ, Bo
 use Rattle.std.proofs.Common.{sym, ap, cond, get_or, set}
 use Rattle.std.specs.List.{find, list_all, filter, position}
 use Rattle.std.proofs.Common.{suc, zero, length, ◌<◌, arith}
-use Rattle.std.proofs.lemmas.Bool.{eqb-true}
+use Rattle.std.proofs.lemmas.Bool.{eqb-true, and_parts}
 use Rattle.std.proofs.lemmas.List.Quantifiers.{position-Some}
 use Rattle.std.specs.List.{remove}
 use Rattle.std.specs.Prelude.{◌==◌, IfSome, IsSome, OnSome}
@@ -18,10 +18,6 @@ true_false b is isnt = absurd cc
 
 -- ---- a test of all
 
-pub both : (a b : Bool) → a && b ≡ true → (a ≡ true) × (b ≡ true)
-both true b is = (refl, is)
-both false b is = absurd cc
-
 pub and_both : (a b : Bool) → a ≡ true → b ≡ true → a && b ≡ true
 and_both true b first second = second
 and_both false b first second = absurd cc
@@ -31,14 +27,14 @@ pub all_behind : {A : Type 0} (test : A → Bool) (items : List A) (item : A) �
     → list_all test (items ++ item ∷ []) ≡ true
 all_behind test [] item all is = and_both (test item) true is refl
 all_behind test (x ∷ items) item all is =
-    let parts = both (test x) (list_all test items) all in
+    let parts = and_parts (test x) (list_all test items) all in
     and_both (test x) (list_all test (items ++ item ∷ [])) parts.0 (all_behind test items item parts.1 is)
 
 pub all_without : (test : Held → Bool) (origin : ℕ) (items : List Held) → list_all test items ≡ true
     → list_all test (without origin items) ≡ true
 all_without test origin [] all = refl
 all_without test origin (x ∷ items) all =
-    let parts = both (test x) (list_all test items) all in
+    let parts = and_parts (test x) (list_all test items) all in
     elim (is_of origin x) as (λ t. list_all test (cond t items (x ∷ without origin items)) ≡ true) [
       | true ↦ parts.1
       | false ↦ and_both (test x) (list_all test (without origin items)) parts.0 (all_without test origin items parts.1)
@@ -49,7 +45,7 @@ pub all_changed : (test : Held → Bool) (origin : ℕ) (change : Held → Held)
     → list_all test (with_changed origin change items) ≡ true
 all_changed test origin change [] changed all = refl
 all_changed test origin change (x ∷ items) changed all =
-    let parts = both (test x) (list_all test items) all in
+    let parts = and_parts (test x) (list_all test items) all in
     elim (is_of origin x) as (λ t. list_all test (cond t (change x ∷ items) (x ∷ with_changed origin change items))
     ≡ true) [
       | true ↦ and_both (test (change x)) (list_all test items) (changed x) parts.1
@@ -61,29 +57,21 @@ pub all_kept : {A : Type 0} (test keep : A → Bool) (items : List A) → list_a
     → list_all test (filter keep items) ≡ true
 all_kept test keep [] all = refl
 all_kept {A} test keep (x ∷ items) all =
-    let parts = both (test x) (list_all test items) all in
+    let parts = and_parts (test x) (list_all test items) all in
     elim (keep x) as (λ t. list_all test (cond t (x ∷ filter keep items) (filter keep items)) ≡ true) [
       | true ↦ and_both (test x) (list_all test (filter keep items)) parts.0 (all_kept test keep items parts.1)
       | false ↦ all_kept test keep items parts.1
     ]
 
-pub test_of_found : {A : Type 0} (test is : A → Bool) (items : List A) (item : A) → list_all test items ≡ true
+pub passes_found : {A : Type 0} (test is : A → Bool) (items : List A) (item : A) → list_all test items ≡ true
     → find is items ≡ Some item → test item ≡ true
-test_of_found test is [] item all there = absurd cc
-test_of_found {A} test is (x ∷ items) item all there =
-    let parts = both (test x) (list_all test items) all in
+passes_found test is [] item all there = absurd cc
+passes_found {A} test is (x ∷ items) item all there =
+    let parts = and_parts (test x) (list_all test items) all in
     elim (is x) as (λ t. cond t (Some x) (find is items) ≡ Some item → test item ≡ true) [
       | true ↦ λ same. let e : x ≡ item = cc in ap test (sym e) ∙ parts.0
-      | false ↦ λ later. test_of_found test is items item parts.1 later
+      | false ↦ λ later. passes_found test is items item parts.1 later
     ] there
-
-pub passes_found : {A : Type 0} (is : A → Bool) (items : List A) (item : A) → find is items ≡ Some item → is item ≡ true
-passes_found is [] item there = absurd cc
-passes_found {A} is (x ∷ items) item there =
-    elim (is x) as (λ t. is x ≡ t → cond t (Some x) (find is items) ≡ Some item → is item ≡ true) [
-      | true ↦ λ yes same. let e : x ≡ item = cc in ap is (sym e) ∙ yes
-      | false ↦ λ no' later. passes_found is items item later
-    ] refl there
 
 -- ---- what is found
 

@@ -5,8 +5,10 @@ use Rattle.std.specs.Prelude.{⊤, ◌==◌, is_some, nat_le, nat_lt, option_map
 use Rattle.std.specs.List.{list_all, list_any}
 use Rattle.std.proofs.lemmas.Bool.{le-leb, leb-true, eqb-true, eq-eqb, ltb-true, false≢true, or_left, or_right}
 use Rattle.std.proofs.lemmas.Bool.Decides.{nat_tests}
+use Rattle.std.proofs.lemmas.Bool.{and_parts}
 use Rattle.ftc_base.specs.Sets.{has}
 use Rattle.ftc_base.specs.declared.limits.TheConstants.{MOST_PARTITIONS}
+use Rattle.ftc_base.proofs.Bools.{not_both}
 use Rattle.ftc_message.specs.Logged.{Logged}
 use Rattle.ftc_replica.specs.Held.{Held, applied, pruned_by}
 use Rattle.ftc_replica.specs.declared.waits.Wait.{Wait}
@@ -22,9 +24,9 @@ use Rattle.ftc_server.specs.Waiting.{is_ahead_at, first_ahead, ahead_of, is_ahea
 use Rattle.ftc_server.specs.Waiting.{AreWatched, has_reached, is_unreached, is_named, carries, is_changed_to, is_due}
 use Rattle.ftc_server.specs.Waiting.{number_in}
 use Rattle.ftc_server.proofs.Ahead.{first_passes, none_passes}
-use Rattle.ftc_server.proofs.Finding.{both, and_both}
+use Rattle.ftc_server.proofs.Finding.{and_both}
 use Rattle.ftc_server.proofs.Installing.{applied_at}
-use Rattle.ftc_server.proofs.ListTests.{not_both, all_both, implies_all}
+use Rattle.ftc_server.proofs.ListTests.{all_both, implies_all}
 
 -- no number falls
 abbrev pub HasGrown : Option Held → Option Held → Type 0
@@ -119,7 +121,7 @@ put_off_grown : (old new : List (Option Held)) (items : List Wait) (held : HeldM
 put_off_grown old new items held grown is =
     let packet = held.message.origin in
     let logs = held.message.logs in
-    let parts = both (list_any (waits items packet) logs) (list_all (is_had_or_waits old items packet) logs) is in
+    let parts = and_parts (list_any (waits items packet) logs) (list_all (is_had_or_waits old items packet) logs) is in
     and_both (list_any (waits items packet) logs) (list_all (is_had_or_waits new items packet) logs) parts.0
     (implies_all (is_had_or_waits old items packet) (is_had_or_waits new items packet) logs
     (λ (log : Logged) had. had_or (is_had old log) (is_had new log) (waits items packet log)
@@ -199,8 +201,8 @@ due_one : (replicas : List (Option Held)) (log : Logged) (was : Held) (items : L
     is_due (with_applied replicas log) log.group log.changed 0 wait ≡ true
 due_one replicas log was items wait there is =
     let later = with_applied replicas log in
-    let facts = both (is_named items wait) (is_unreached replicas wait) is in
-    let parts = both (nat_lt wait.partition MOST_PARTITIONS)
+    let facts = and_parts (is_named items wait) (is_unreached replicas wait) is in
+    let parts = and_parts (nat_lt wait.partition MOST_PARTITIONS)
     (carries wait.partition wait.number (log_of wait.group wait.origin (found wait.packet items))) facts.0 in
     let within = ltb-true wait.partition MOST_PARTITIONS parts.0 in
     elim (log.group == wait.group) as (λ t. (log.group == wait.group) ≡ t →

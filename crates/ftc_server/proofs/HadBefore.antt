@@ -4,7 +4,7 @@ use Rattle.std.proofs.Common.{◌≡◌, ◌≢◌, ◌∙◌, ◌++◌, ◌&&�
 use Rattle.std.proofs.Common.{Option, Some, refl, sym, ap, cond, inl, inr, take, drop}
 use Rattle.std.specs.Prelude.{◌==◌, is_some}
 use Rattle.std.specs.List.{list_all, list_any}
-use Rattle.std.proofs.lemmas.Bool.{eqb-true, eq-eqb, false≢true, not-true, or_left}
+use Rattle.std.proofs.lemmas.Bool.{eqb-true, eq-eqb, false≢true, not-true, or_left, and_parts}
 use Rattle.std.proofs.lemmas.Option.{same_Some}
 use Rattle.ftc_message.specs.Logged.{Logged}
 use Rattle.ftc_replica.specs.Held.{Held}
@@ -16,7 +16,7 @@ use Rattle.ftc_server.specs.Tickets.{AreDistinct}
 use Rattle.ftc_server.specs.Visited.{visited_by}
 use Rattle.ftc_server.specs.Waiting.{AreHadBefore, is_ahead, is_had_or_ahead, is_idle}
 use Rattle.ftc_server.specs.Work.{is_packet_of, next_log}
-use Rattle.ftc_server.proofs.Finding.{both, found_changed, found_without}
+use Rattle.ftc_server.proofs.Finding.{found_changed, found_without}
 use Rattle.ftc_server.proofs.Grown.{AreGrown, had_still}
 use Rattle.ftc_server.proofs.Lacking.{ahead_is_lacking}
 use Rattle.ftc_server.proofs.StillWatched.{isnt_it, which}
@@ -30,7 +30,7 @@ pub rest_next : (replicas : List (Option Held)) (waiting : Option ℕ) (count : 
 rest_next replicas waiting zero logs had = refl
 rest_next replicas waiting (suc n) [] had = refl
 rest_next replicas waiting (suc n) (log ∷ logs) had =
-    let parts = both (is_had replicas log) (has_first replicas n logs) had in
+    let parts = and_parts (is_had replicas log) (has_first replicas n logs) had in
     rest_next replicas waiting n logs parts.1
     ∙ ap (λ (b : Bool). cond b (next_log replicas waiting logs)
     (cond (is_packet_of waiting log) (next_log replicas waiting logs)
@@ -41,7 +41,7 @@ pub rest_all : {A : Type 0} (test : A → Bool) (count : ℕ) (items : List A) �
 rest_all test zero items all = refl
 rest_all test (suc n) [] all = refl
 rest_all test (suc n) (item ∷ items) all =
-    let parts = both (test item) (list_all test (take n items)) all in
+    let parts = and_parts (test item) (list_all test (take n items)) all in
     rest_all test n items parts.1 ∙ ap (λ (b : Bool). b && list_all test items) (sym parts.0)
 
 rest_any : {A : Type 0} (test : A → Bool) (count : ℕ) (items : List A) →
@@ -50,7 +50,7 @@ rest_any : {A : Type 0} (test : A → Bool) (count : ℕ) (items : List A) →
 rest_any test zero items none = refl
 rest_any test (suc n) [] none = refl
 rest_any test (suc n) (item ∷ items) none =
-    let parts = both (not (test item)) (list_all (λ i. not (test i)) (take n items)) none in
+    let parts = and_parts (not (test item)) (list_all (λ i. not (test i)) (take n items)) none in
     rest_any test n items parts.1 ∙ ap (λ (b : Bool). b || list_any test items) (sym (not-true (test item) parts.0))
 
 not_ahead : (replicas : List (Option Held)) (log : Logged) → is_had replicas log ≡ true →

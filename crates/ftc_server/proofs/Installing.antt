@@ -4,6 +4,7 @@ use Rattle.std.proofs.Common.{refl, sym, ap, subst, cond, arith}
 use Rattle.std.specs.Prelude.{slice_set, nat_lt, is_some, option_map}
 use Rattle.std.specs.List.{list_all}
 use Rattle.std.proofs.lemmas.Bool.Decides.{nat_tests}
+use Rattle.std.proofs.lemmas.Bool.{and_parts}
 use Rattle.ftc_message.specs.Logged.{Logged}
 use Rattle.ftc_replica.specs.Held.{Held, applied}
 use Rattle.ftc_ring.specs.Ring.{RingShape}
@@ -13,7 +14,7 @@ use Rattle.ftc_server.specs.Looks.{is_later_of}
 use Rattle.ftc_server.specs.Replicas.{replica_at, may_apply_to, with_applied, AreOfSame}
 use Rattle.ftc_server.specs.Standing.{is_later_member}
 use Rattle.ftc_server.specs.Steps.{with_installed, known_with, is_of_later, empty_held, empty_at}
-use Rattle.ftc_server.proofs.Finding.{both, and_both}
+use Rattle.ftc_server.proofs.Finding.{and_both}
 
 abbrev Replicas : Type 0
 Replicas = List (Option Held)
@@ -41,15 +42,15 @@ pub later_stays : (old new : Replicas) (news : List GroupReplica) → AreOfSame 
     → list_all (is_later_of new) news ≡ true
 later_stays old new [] same all = refl
 later_stays old new (first ∷ news) same all =
-    let parts = both (is_later_of old first) (list_all (is_later_of old) news) all in
+    let parts = and_parts (is_later_of old first) (list_all (is_later_of old) news) all in
     and_both (is_later_of new first) (list_all (is_later_of new) news) (same.each first.group ∙ parts.0)
     (later_stays old new news same parts.1)
 
 pub all_but_last : (test : GroupReplica → Bool) (news : List GroupReplica) (new : GroupReplica)
     → list_all test (news ++ new ∷ []) ≡ true → (list_all test news ≡ true) × (test new ≡ true)
-all_but_last test [] new all = (refl, (both (test new) true all).0)
+all_but_last test [] new all = (refl, (and_parts (test new) true all).0)
 all_but_last test (first ∷ news) new all =
-    let parts = both (test first) (list_all test (news ++ new ∷ [])) all in
+    let parts = and_parts (test first) (list_all test (news ++ new ∷ [])) all in
     let rest = all_but_last test news new parts.1 in
     (and_both (test first) (list_all test news) parts.0 rest.0, rest.1)
 
@@ -58,8 +59,8 @@ pub later_here : (server : Server) (ring : RingShape) (id : ℕ) (news : List Gr
     → list_all (is_of_later ring id) news ≡ true → list_all (is_later_of server.others.items) news ≡ true
 later_here server ring id [] rings ids all = refl
 later_here server ring id (new ∷ news) rings ids all =
-    let parts = both (is_of_later ring id new) (list_all (is_of_later ring id) news) all in
-    let halves = both (nat_lt new.group ring.servers) (is_later_member ring new.group id) parts.0 in
+    let parts = and_parts (is_of_later ring id new) (list_all (is_of_later ring id) news) all in
+    let halves = and_parts (nat_lt new.group ring.servers) (is_later_member ring new.group id) parts.0 in
     let below : nat_lt new.group ring.servers ≡ true = halves.0 in
     let here : new.group < ring.servers = grind (arith, nat_tests, below) in
     let within : new.group < server.ring.servers = subst (λ (r : RingShape). new.group < r.servers) (sym rings) here in

@@ -3,10 +3,11 @@ use Rattle.std.proofs.Common.{◌≡◌, ◌≤◌, ◌<◌, ◌+◌, ◌∙◌,
 use Rattle.std.proofs.Common.{Some, None, length, refl, sym, ap, cond, subst, arith}
 use Rattle.std.specs.Prelude.{◌==◌, find, is_some, nat_lt}
 use Rattle.std.specs.List.{list_all, list_any}
-use Rattle.std.proofs.lemmas.Bool.{le-leb, ltb-true, false≢true, false_from_ne_true, and_right}
+use Rattle.std.proofs.lemmas.Bool.{le-leb, ltb-true, false≢true, false_from_ne_true, and_right, and_parts}
 use Rattle.std.proofs.lemmas.Option.{same_Some}
 use Rattle.ftc_base.specs.Sets.{has}
 use Rattle.ftc_base.specs.declared.limits.TheConstants.{MOST_PARTITIONS}
+use Rattle.ftc_base.proofs.Bools.{not_both}
 use Rattle.ftc_message.specs.Logged.{Logged, logs_rise}
 use Rattle.ftc_message.specs.Ordered.{is_log_of}
 use Rattle.ftc_replica.specs.Held.{Held}
@@ -22,10 +23,10 @@ use Rattle.ftc_server.specs.Work.{is_packet_of, next_log, work_behind, has_work,
 use Rattle.ftc_server.specs.Waiting.{first_ahead, ahead_of, is_ahead, has_reached, is_unreached, is_wait_of, waits}
 use Rattle.ftc_server.specs.Waiting.{carries, is_named, is_had_or_waits, is_put_off, is_had_or_ahead, is_idle}
 use Rattle.ftc_server.proofs.Ahead.{first_passes}
-use Rattle.ftc_server.proofs.Finding.{both, and_both, test_of_found}
+use Rattle.ftc_server.proofs.Finding.{and_both, passes_found}
 use Rattle.ftc_server.proofs.Named.{of_whom, carried, marked}
 use Rattle.ftc_server.proofs.EachFound.{each_found, some_found, any_found}
-use Rattle.ftc_server.proofs.ListTests.{not_both, all_both}
+use Rattle.ftc_server.proofs.ListTests.{all_both}
 
 -- ---- a number that a had log, or one that may be applied, carries is reached
 
@@ -91,7 +92,7 @@ waiting_one : (test : Wait → Bool) (is : Wait → Bool) (items : List Wait) �
     list_any is items ≡ true → (wait : Wait) × (is wait ≡ true) × (test wait ≡ true)
 waiting_one test is [] all any = absurd cc
 waiting_one test is (wait ∷ items) all any =
-    let parts = both (test wait) (list_all test items) all in
+    let parts = and_parts (test wait) (list_all test items) all in
     elim (is wait) as (λ t. is wait ≡ t → t || list_any is items ≡ true →
     (w : Wait) × (is w ≡ true) × (test w ≡ true)) [
       | true ↦ λ it _. (wait, it, parts.0)
@@ -115,8 +116,8 @@ waits_for_more replicas items waiting packet held log there in_logs named unreac
     (is_wait_of packet log.origin log.group) waiting
     (all_both (is_named items) (is_unreached replicas) waiting named unreached) any in
     let wait = one.0 in
-    let facts = both (is_named items wait) (is_unreached replicas wait) one.2 in
-    let parts = both (nat_lt wait.partition MOST_PARTITIONS) (carries wait.partition wait.number
+    let facts = and_parts (is_named items wait) (is_unreached replicas wait) one.2 in
+    let parts = and_parts (nat_lt wait.partition MOST_PARTITIONS) (carries wait.partition wait.number
     (log_of wait.group wait.origin (found wait.packet items))) facts.0 in
     let its = carried wait.partition wait.number (log_of wait.group wait.origin (found wait.packet items)) parts.1 in
     let of = of_whom wait packet log.origin log.group one.1 in
@@ -155,7 +156,7 @@ none_next : (replicas : List (Option Held)) (waiting : Option ℕ) (logs : List 
     next_log replicas waiting logs ≡ None
 none_next replicas waiting [] all = refl
 none_next replicas waiting (log ∷ logs) all =
-    let parts = both (is_had replicas log || not (may_apply replicas log))
+    let parts = and_parts (is_had replicas log || not (may_apply replicas log))
     (list_all (λ (l : Logged). is_had replicas l || not (may_apply replicas l)) logs) all in
     elim (is_had replicas log) as (λ had. had || not (may_apply replicas log) ≡ true →
     cond had (next_log replicas waiting logs) (cond (is_packet_of waiting log) (next_log replicas waiting logs)
@@ -191,7 +192,8 @@ pub put_off_idles : (replicas : List (Option Held)) (items : List HeldMessage) (
 put_off_idles replicas items waiting packet held there origin_is rising named unreached off =
     let logs = held.message.logs in
     let its = held.message.origin in
-    let parts = both (list_any (waits waiting its) logs) (list_all (is_had_or_waits replicas waiting its) logs) off in
+    let parts = and_parts (list_any (waits waiting its) logs)
+    (list_all (is_had_or_waits replicas waiting its) logs) off in
     let there_so : found its items ≡ Some held = ap (λ (p : ℕ). found p items) origin_is ∙ there in
     let more : (log : Logged) → find (is_log_of log.origin log.group) logs ≡ Some log → waits waiting its log ≡ true →
     IsUnreachedIn replicas log = λ log in_logs any.
@@ -201,11 +203,11 @@ put_off_idles replicas items waiting packet held there origin_is rising named un
     (none_next replicas None logs
     (each_found (λ (log : Logged). is_had replicas log || not (may_apply replicas log)) logs rising
     (λ log in_logs. had_or_not (is_had replicas log) (waits waiting its log) (may_apply replicas log)
-    (test_of_found (is_had_or_waits replicas waiting its) (is_log_of log.origin log.group) logs log parts.1 in_logs)
+    (passes_found (is_had_or_waits replicas waiting its) (is_log_of log.origin log.group) logs log parts.1 in_logs)
     (λ any. isnt_allowed replicas log (more log in_logs any)))))
     (false_from_ne_true (is_ready replicas held) (λ ready'.
     false≢true (sym (isnt_had replicas some.0 (more some.0 some.1 some.2))
-    ∙ test_of_found (is_had replicas) (is_log_of some.0.origin some.0.group) logs some.0 ready' some.1)))
+    ∙ passes_found (is_had replicas) (is_log_of some.0.origin some.0.group) logs some.0 ready' some.1)))
 
 -- ---- a message that is idle is put off, where what is ahead is watched
 
@@ -222,7 +224,7 @@ pub idle_put_off : (replicas : List (Option Held)) (items : List HeldMessage) (w
 idle_put_off replicas items waiting packet held there origin_is rising watched idle =
     let logs = held.message.logs in
     let its = held.message.origin in
-    let parts = both (list_any (is_ahead replicas) logs) (list_all (is_had_or_ahead replicas) logs) idle in
+    let parts = and_parts (list_any (is_ahead replicas) logs) (list_all (is_had_or_ahead replicas) logs) idle in
     let waits_so : (log : Logged) → find (is_log_of log.origin log.group) logs ≡ Some log →
     is_ahead replicas log ≡ true → waits waiting its log ≡ true = λ log in_logs ahead.
     ap (λ (p : ℕ). list_any (is_wait_of p log.origin log.group) waiting) origin_is
@@ -233,7 +235,7 @@ idle_put_off replicas items waiting packet held there origin_is rising watched i
     (waits_so some.0 some.1 some.2))
     (each_found (is_had_or_waits replicas waiting its) logs rising (λ log in_logs.
     had_or_waiting (is_had replicas log) (is_ahead replicas log) (waits waiting its log)
-    (test_of_found (is_had_or_ahead replicas) (is_log_of log.origin log.group) logs log parts.1 in_logs)
+    (passes_found (is_had_or_ahead replicas) (is_log_of log.origin log.group) logs log parts.1 in_logs)
     (waits_so log in_logs)))
 
 -- a message that lacks nothing isn't idle
@@ -241,10 +243,10 @@ pub ready_not_idle : (replicas : List (Option Held)) (logs : List Logged) → li
     is_idle replicas logs ≡ true → ⊥
 ready_not_idle replicas [] all idle = absurd cc
 ready_not_idle replicas (log ∷ logs) all idle =
-    let had = both (is_had replicas log) (list_all (is_had replicas) logs) all in
-    let parts = both (is_ahead replicas log || list_any (is_ahead replicas) logs)
+    let had = and_parts (is_had replicas log) (list_all (is_had replicas) logs) all in
+    let parts = and_parts (is_ahead replicas log || list_any (is_ahead replicas) logs)
     (list_all (is_had_or_ahead replicas) (log ∷ logs)) idle in
-    let each = both (is_had_or_ahead replicas log) (list_all (is_had_or_ahead replicas) logs) parts.1 in
+    let each = and_parts (is_had_or_ahead replicas log) (list_all (is_had_or_ahead replicas) logs) parts.1 in
     elim (is_ahead replicas log) as (λ t. is_ahead replicas log ≡ t → t || list_any (is_ahead replicas) logs ≡ true
     → ⊥) [
       | true ↦ λ ahead _. false≢true (sym (ahead_is_lacking replicas log ahead) ∙ had.0)

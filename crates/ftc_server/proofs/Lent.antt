@@ -5,7 +5,7 @@ use Rattle.std.specs.Prelude.{◌==◌, nat_lt, IfSome, slice_index}
 use Rattle.std.specs.List.{AllByRecursion, Any, list_all, list_any}
 use Rattle.std.proofs.Math.Logic.{∥∥₁_elim}
 use Rattle.std.proofs.Math.Bool.{Bool-set}
-use Rattle.std.proofs.lemmas.Bool.{eqb-true, eq-eqb, or_left, or_right, not-true, and_right}
+use Rattle.std.proofs.lemmas.Bool.{eqb-true, eq-eqb, or_left, or_right, not-true, and_right, and_parts, lt-ltb}
 use Rattle.std.proofs.lemmas.Bool.Decides.{nat_tests}
 use Rattle.std.proofs.lemmas.List.Folds.{Any-from_list_any}
 use Rattle.std.proofs.lemmas.Option.{same_Some}
@@ -34,6 +34,7 @@ use Rattle.ftc_txn.specs.Touched.{is_touched}
 use Rattle.ftc_vector.specs.Vector.{number_at, mark_at}
 use Rattle.ftc_vector.proofs.Partitions.{get_or-by_partition}
 use Rattle.std.specs.Prelude.{MatchOption, option_map}
+use Rattle.std.proofs.lemmas.Bool.{ltb-true}
 use Rattle.ftc_packet.specs.declared.flow.Flow.{Flow}
 use Rattle.ftc_packet.specs.Flow.{IsFlow, flow_found, flow_in}
 use Rattle.ftc_packet.specs.Laws.{FlowsAreFound}
@@ -47,7 +48,7 @@ use Rattle.ftc_server.specs.Holding.{is_of, found}
 use Rattle.ftc_server.specs.Replicas.{may_rise}
 use Rattle.ftc_server.specs.Slots.{AreSlots, IsSlot, ask_of_held, is_open, is_without}
 use Rattle.ftc_message.specs.Added.{need_of_log}
-use Rattle.ftc_server.proofs.Finding.{both, and_both, test_of_found}
+use Rattle.ftc_server.proofs.Finding.{and_both, passes_found}
 use Rattle.ftc_server.proofs.Slotting.{asked_there, asked_of}
 
 -- ---- keys, as a test
@@ -63,7 +64,7 @@ bytes_same [] [] is = refl
 bytes_same [] (y ∷ ys) is = absurd cc
 bytes_same (x ∷ xs) [] is = absurd cc
 bytes_same (x ∷ xs) (y ∷ ys) is =
-    let parts = both (x == y) (same_bytes xs ys) is in
+    let parts = and_parts (x == y) (same_bytes xs ys) is in
     ap (λ (z : ℕ). z ∷ xs) (eqb-true x y parts.0) ∙ ap (λ (zs : List ℕ). y ∷ zs) (bytes_same xs ys parts.1)
 
 same_itself : (xs : List ℕ) → same_bytes xs xs ≡ true
@@ -100,12 +101,6 @@ turn_at asks (first ∷ earlier) later answer turn = turn_at (λ more. asks (fir
 
 key_of : (one other : List ℕ) (change : Bool) → Read one change ≡ Read other true → one ≡ other
 key_of one other change same = cc
-
-pub is_below : (a b : ℕ) → a < b → nat_lt a b ≡ true
-is_below a b less = grind (arith, nat_tests, less)
-
-below_is : (a b : ℕ) → nat_lt a b ≡ true → a < b
-below_is a b is = grind (arith, nat_tests, is)
 
 any_weaker : {A : Type 0} (P Q : A → Type 0) (xs : List A) → ((x : A) → P x → Q x) → Any P xs → Any Q xs
 any_weaker P Q xs each any = (any.0, any.1, any.2, any.3, each any.1 any.4)
@@ -166,7 +161,7 @@ pub each_of : {A : Type 0} (P : A → Type 0) (test : A → Bool) (xs : List A) 
     → list_all test xs ≡ true → AllByRecursion P xs
 each_of P test [] each all = tt
 each_of {A} P test (x ∷ xs) each all =
-    let parts = both (test x) (list_all test xs) all in
+    let parts = and_parts (test x) (list_all test xs) all in
     (each x parts.0, each_of P test xs each parts.1)
 
 pub its_writes : (rule : Rule) (head : HeadState) (items : List HeldMessage) (worker : ℕ) (running : Running)
@@ -177,12 +172,12 @@ pub its_writes : (rule : Rule) (head : HeadState) (items : List HeldMessage) (wo
 its_writes rule head items worker running end slots runs asked =
     let lent : are_lent head worker running.answers end.writes.items ≡ true =
     ∥∥₁_elim slots (Bool-set _ _) (λ s. writes_lent rule head items worker running end s runs asked) in
-    let parts = both (keys_rise None end.writes.items)
+    let parts = and_parts (keys_rise None end.writes.items)
     (list_all (is_lent head worker running.answers) end.writes.items) lent in
     let halves : (write : Write) → is_lent head worker running.answers write ≡ true
     → (list_any (is_key write.key) running.answers ≡ true)
     × (holds_exclusively head.locks worker (partition_of head.partitions write.key) ≡ true) =
-    λ write is. both (list_any (is_key write.key) running.answers)
+    λ write is. and_parts (list_any (is_key write.key) running.answers)
     (holds_exclusively head.locks worker (partition_of head.partitions write.key)) is in
     record {
       rising = parts.0;
@@ -207,7 +202,7 @@ reads_few rule head items worker running key change slots runs asked =
     let next : ComesNext (ask rule slot.packet) running.answers (Read key change) =
     subst (ComesNext (ask rule slot.packet) running.answers) ends
     (in_turn rule slot.packet running.answers slot.turn) in
-    is_below (length running.answers) MOST_READS next.0
+    lt-ltb (length running.answers) MOST_READS next.0
 
 pub few_answers : (rule : Rule) (head : HeadState) (items : List HeldMessage) (worker : ℕ) (running : Running)
     (key : List ℕ)
@@ -215,7 +210,7 @@ pub few_answers : (rule : Rule) (head : HeadState) (items : List HeldMessage) (w
     → ask_of_held rule running (found running.packet items) ≡ Some (Read key change)
     → length running.answers < MOST_READS
 few_answers rule head items worker running key change slots runs asked =
-    below_is (length running.answers) MOST_READS
+    ltb-true (length running.answers) MOST_READS
     (∥∥₁_elim slots (Bool-set _ _) (λ s. reads_few rule head items worker running key change s runs asked))
 
 -- ---- what the slot's message is
@@ -235,12 +230,13 @@ still_unvisited rule head items worker running held slots runs there =
 at_least : (test : ℕ → Bool) (xs : List ℕ) (place : ℕ) → list_all test xs ≡ true → test 0 ≡ true
     → test (slice_index xs place) ≡ true
 at_least test [] place all zeros = zeros
-at_least test (x ∷ xs) zero all zeros = (both (test x) (list_all test xs) all).0
-at_least test (x ∷ xs) (suc place) all zeros = at_least test xs place (both (test x) (list_all test xs) all).1 zeros
+at_least test (x ∷ xs) zero all zeros = (and_parts (test x) (list_all test xs) all).0
+at_least test (x ∷ xs) (suc place) all zeros =
+    at_least test xs place (and_parts (test x) (list_all test xs) all).1 zeros
 
 pub rises : (vector : List ℕ) (partition : ℕ) → may_rise vector ≡ true → number_at vector partition < 2 ^ 64 - 1
 rises vector partition may =
-    below_is (number_at vector partition) (2 ^ 64 - 1) (at_least (λ n. nat_lt n (2 ^ 64 - 1)) vector partition may refl)
+    ltb-true (number_at vector partition) (2 ^ 64 - 1) (at_least (λ n. nat_lt n (2 ^ 64 - 1)) vector partition may refl)
 
 carried_is : (touched : Bool) (number carried : ℕ) →
     ◌≡◌ {A = Option ℕ} (cond touched (Some number) None) (Some carried) → number ≡ carried
@@ -345,10 +341,10 @@ without_own : {server : Server} {worker : ℕ} {end : End} {held : HeldMessage} 
 without_own {server = server} {worker = worker} {held = held} is =
     let unvisited = still_unvisited server.rule server.head server.held.items worker is.running held server.slots
     is.runs.slot is.there in
-    both (list_all (λ (other : Logged). not (other.group == server.id)) held.message.logs)
+    and_parts (list_all (λ (other : Logged). not (other.group == server.id)) held.message.logs)
     (list_all (λ (other : Need). not (other.group == server.id)) held.message.needs)
     (open_is server.id held unvisited
-    (test_of_found (is_open server.id) (is_of is.running.packet) server.held.items held server.«open» is.there))
+    (passes_found (is_open server.id) (is_of is.running.packet) server.held.items held server.«open» is.there))
 
 pub log_is_new : {server : Server} {worker : ℕ} {end : End} {held : HeldMessage} {bytes : List ℕ}
     → IsEnding server worker end held bytes → (log : Option Logged)

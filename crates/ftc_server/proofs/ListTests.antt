@@ -2,18 +2,15 @@
 use Rattle.std.proofs.Common.{◌≡◌, ◌&&◌, ◌||◌, not, Bool, true, false, List, [], ◌∷◌, Some, None, refl, ap}
 use Rattle.std.proofs.Common.{cond}
 use Rattle.std.specs.List.{find, list_all, list_any}
-use Rattle.ftc_server.proofs.Finding.{both, and_both}
-
-pub not_both : (b : Bool) → not b ≡ true → b ≡ true → ⊥
-not_both true isnt is = absurd cc
-not_both false isnt is = absurd cc
+use Rattle.std.proofs.lemmas.Bool.{and_parts}
+use Rattle.ftc_server.proofs.Finding.{and_both}
 
 pub all_both : {A : Type 0} (first second : A → Bool) (items : List A) → list_all first items ≡ true →
     list_all second items ≡ true → list_all (λ item. first item && second item) items ≡ true
 all_both first second [] one two = refl
 all_both first second (item ∷ items) one two =
-    let a = both (first item) (list_all first items) one in
-    let b = both (second item) (list_all second items) two in
+    let a = and_parts (first item) (list_all first items) one in
+    let b = and_parts (second item) (list_all second items) two in
     and_both (first item && second item) (list_all (λ i. first i && second i) items)
     (and_both (first item) (second item) a.0 b.0) (all_both first second items a.1 b.1)
 
@@ -34,7 +31,7 @@ pub implies_all : {A : Type 0} (test other : A → Bool) (items : List A) → ((
     other item ≡ true) → list_all test items ≡ true → list_all other items ≡ true
 implies_all test other [] implies all = refl
 implies_all test other (item ∷ items) implies all =
-    let parts = both (test item) (list_all test items) all in
+    let parts = and_parts (test item) (list_all test items) all in
     and_both (other item) (list_all other items) (implies item parts.0) (implies_all test other items implies parts.1)
 
 -- where none is found, none passes

@@ -1,8 +1,9 @@
 -- The wait of a log, and the log of a wait.
 use Rattle.std.proofs.Common.{◌≡◌, ◌<◌, ◌∙◌, ◌&&◌, not, ℕ, true, List, Option, Some, None, refl, sym, ap, subst}
 use Rattle.std.specs.Prelude.{◌==◌, is_some}
-use Rattle.std.proofs.lemmas.Bool.{eqb-true, eq-eqb}
+use Rattle.std.proofs.lemmas.Bool.{eqb-true, eq-eqb, and_parts}
 use Rattle.ftc_base.specs.declared.limits.TheConstants.{MOST_PARTITIONS}
+use Rattle.ftc_base.proofs.Firsts.{test_of_found}
 use Rattle.ftc_message.specs.Logged.{Logged}
 use Rattle.ftc_message.specs.Ordered.{is_log_of}
 use Rattle.ftc_replica.specs.Held.{Held}
@@ -15,7 +16,7 @@ use Rattle.ftc_server.specs.Replicas.{replica_at}
 use Rattle.ftc_server.specs.Waiting.{ahead_of, is_ahead, wait_at, carried_at, wait_of, has_reached, is_unreached}
 use Rattle.ftc_server.specs.Waiting.{is_wait_of, is_number, carries}
 use Rattle.ftc_server.proofs.Ahead.{first_passes}
-use Rattle.ftc_server.proofs.Finding.{both, and_both, passes_found}
+use Rattle.ftc_server.proofs.Finding.{and_both}
 
 -- ---- of whom a wait is
 
@@ -35,8 +36,8 @@ pub record IsOf (wait : Wait) (packet origin group : ℕ) : Type 0 where
 pub of_whom : (wait : Wait) (packet origin group : ℕ) → is_wait_of packet origin group wait ≡ true →
     IsOf wait packet origin group
 of_whom wait packet origin group is =
-    let first = both (wait.packet == packet) (wait.origin == origin && wait.group == group) is in
-    let later = both (wait.origin == origin) (wait.group == group) first.1 in
+    let first = and_parts (wait.packet == packet) (wait.origin == origin && wait.group == group) is in
+    let later = and_parts (wait.origin == origin) (wait.group == group) first.1 in
     record {
       packet_is = eqb-true wait.packet packet first.0;
       origin_is = eqb-true wait.origin origin later.0;
@@ -68,8 +69,8 @@ pub log_of_whom : (group origin : ℕ) (held : Option HeldMessage) (log : Logged
     (log.origin ≡ origin) × (log.group ≡ group)
 log_of_whom group origin None log is = absurd cc
 log_of_whom group origin (Some held) log is =
-    let parts = both (log.origin == origin) (log.group == group)
-    (passes_found (is_log_of origin group) held.message.logs log is) in
+    let parts = and_parts (log.origin == origin) (log.group == group)
+    (test_of_found (is_log_of origin group) held.message.logs log is) in
     (eqb-true log.origin origin parts.0, eqb-true log.group group parts.1)
 
 -- ---- the wait of a log

@@ -2,7 +2,7 @@
 use Rattle.std.proofs.Common.{◌≡◌, ◌∙◌, not, length, ℕ, Bool, true, false, List, [], ◌∷◌, Option, Some, None, refl, sym}
 use Rattle.std.proofs.Common.{ap, cond, arith}
 use Rattle.std.specs.Prelude.{◌==◌, find}
-use Rattle.std.proofs.lemmas.Bool.{eq-eqb}
+use Rattle.std.proofs.lemmas.Bool.{eq-eqb, and_parts}
 use Rattle.std.proofs.lemmas.Bool.Decides.{nat_tests}
 use Rattle.ftc_message.specs.Logged.{Logged, log_follows, logs_rise}
 use Rattle.ftc_message.specs.Ordered.{is_log_of}
@@ -14,7 +14,7 @@ use Rattle.ftc_server.specs.Holding.{found}
 use Rattle.ftc_server.specs.Looks.{log_of, log_in, may_apply_in, may_apply_one}
 use Rattle.ftc_server.specs.Replicas.{replica_at, is_had, is_ready, may_apply, may_apply_to}
 use Rattle.ftc_server.specs.Work.{is_packet_of, is_waiting, next_log, work_behind, work_for}
-use Rattle.ftc_server.proofs.Finding.{both, and_both}
+use Rattle.ftc_server.proofs.Finding.{and_both}
 
 -- it is the first of its name, it stands behind what is before the list, and it may be applied
 pub record IsNext (replicas : List (Option Held)) (last : Option (ℕ × ℕ)) (logs : List Logged)
@@ -55,7 +55,7 @@ pub next_is : (replicas : List (Option Held)) (waiting : Option ℕ) (last : Opt
     → logs_rise last logs ≡ true → next_log replicas waiting logs ≡ Some log → IsNext replicas last logs log
 next_is replicas waiting last [] log rising next = absurd cc
 next_is replicas waiting last (first ∷ logs) log rising next =
-    let parts = both (log_follows last first.origin first.group)
+    let parts = and_parts (log_follows last first.origin first.group)
     (logs_rise (Some (first.origin, first.group)) logs) rising in
     let later : (w : Option ℕ) → next_log replicas w logs ≡ Some log → IsNext replicas last (first ∷ logs) log = λ w is.
     behind_first replicas last first logs log parts.0
@@ -118,6 +118,6 @@ work_allowed server origin group packet held there rising works =
     ap (log_of group packet) there
     ∙ ap (λ (g : ℕ). find (is_log_of packet g) held.message.logs) (sym applied.2)
     ∙ ap (λ (o : ℕ). find (is_log_of o log.group) held.message.logs) (sym applied.3) ∙ next.there in
-    let halves = both (not (length log.writes == 0))
+    let halves = and_parts (not (length log.writes == 0))
     (may_apply_to (replica_at server.others.items log.group) log) next.allowed in
     ap (may_apply_one server.others.items) named ∙ halves.1

@@ -2,7 +2,7 @@
 use Rattle.std.proofs.Common.{◌≡◌, ◌≢◌, ◌∙◌, ◌||◌, ◌⊎◌, inl, inr, ℕ, zero, suc, Bool, true, false, List, [], ◌∷◌, ◌++◌}
 use Rattle.std.proofs.Common.{Option, Some, None, refl, sym, ap, subst, ⊎_elim, length, ◌<◌, option_map}
 use Rattle.std.specs.Prelude.{slice_set, ◌==◌, is_some, filter}
-use Rattle.std.proofs.lemmas.Bool.{cases_Bool, cases_eq, eq-eqb, or_parts}
+use Rattle.std.proofs.lemmas.Bool.{cases_Bool, cases_eq, eq-eqb, or_parts, and_parts}
 use Rattle.std.specs.List.{list_any, list_all}
 use Rattle.std.proofs.Math.Logic.{∥∥₁_elim}
 use Rattle.std.proofs.lemmas.Option.{same_Some}
@@ -36,7 +36,7 @@ use Rattle.ftc_server.specs.Work.{is_waiting}
 use Rattle.ftc_server.specs.declared.server.Server.{Server}
 use Rattle.ftc_server.specs.Looks.{ask_in, ask_of_slot}
 use Rattle.ftc_server.proofs.Working.{is_waiting_so}
-use Rattle.ftc_server.proofs.Finding.{found_changed, found_kept, found_without, true_false, both}
+use Rattle.ftc_server.proofs.Finding.{found_changed, found_kept, found_without, true_false}
 use Rattle.ftc_server.specs.Slots.{IsSlot, AreSlots, ask_of_held, runs_packet, is_running, is_ready_one, slot_is_ready}
 use Rattle.ftc_server.specs.Slots.{slots_are_ready}
 
@@ -499,12 +499,12 @@ pub slot_ready : (replicas : List (Option Held)) (items : Items) (slots : List (
     → is_ready_one replicas (found running.packet items) ≡ true
 slot_ready replicas items [] worker running all runs = absurd cc
 slot_ready replicas items (slot ∷ slots) zero running all runs =
-    let first = (both (slot_is_ready replicas items slot) (list_all (slot_is_ready replicas items) slots) all).0 in
+    let first = (and_parts (slot_is_ready replicas items slot) (list_all (slot_is_ready replicas items) slots) all).0 in
     let same : slot ≡ Some running = runs in
     ap (slot_is_ready replicas items) (sym same) ∙ first
 slot_ready replicas items (slot ∷ slots) (suc worker) running all runs =
     slot_ready replicas items slots worker running
-    (both (slot_is_ready replicas items slot) (list_all (slot_is_ready replicas items) slots) all).1 runs
+    (and_parts (slot_is_ready replicas items slot) (list_all (slot_is_ready replicas items) slots) all).1 runs
 
 pub slots_dropped : (rule : Rule) (head : HeadState) (items : Items) (replicas : List (Option Held))
     → slots_are_ready replicas head items ≡ true → AreSlots rule head items

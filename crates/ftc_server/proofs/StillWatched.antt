@@ -3,9 +3,10 @@ use Rattle.std.proofs.Common.{◌≡◌, ◌≢◌, ◌≤◌, ◌∙◌, ◌++�
 use Rattle.std.proofs.Common.{Some, None, length, refl, sym, ap, cond, arith}
 use Rattle.std.specs.Prelude.{◌==◌, find, filter, is_some, nat_lt}
 use Rattle.std.specs.List.{list_all, list_any, flat_map}
-use Rattle.std.proofs.lemmas.Bool.{eqb-true, eq-eqb, lt-ltb, ltb-true, false≢true}
+use Rattle.std.proofs.lemmas.Bool.{eqb-true, eq-eqb, lt-ltb, ltb-true, false≢true, and_parts}
 use Rattle.std.proofs.lemmas.Option.{none-some, same_Some}
 use Rattle.ftc_base.specs.declared.limits.TheConstants.{MOST_PARTITIONS}
+use Rattle.ftc_base.proofs.Bools.{not_both}
 use Rattle.ftc_message.specs.Logged.{Logged, logs_rise}
 use Rattle.ftc_message.specs.Ordered.{is_log_of}
 use Rattle.ftc_replica.specs.Held.{Held}
@@ -16,13 +17,13 @@ use Rattle.ftc_server.specs.Replicas.{replica_at, is_had, is_ready}
 use Rattle.ftc_server.specs.Waiting.{is_ahead, wait_of, waits_of, one_or_none, is_unreached, is_wait_of, carries}
 use Rattle.ftc_server.specs.Waiting.{has_reached, is_named, is_idle, is_idle_one, is_put_off, AreWatched}
 use Rattle.ftc_server.proofs.EachFound.{each_found, one_of_each}
-use Rattle.ftc_server.proofs.Finding.{both, and_both, found_behind, found_without, test_of_found}
+use Rattle.ftc_server.proofs.Finding.{and_both, found_behind, found_without, passes_found}
 use Rattle.ftc_server.proofs.Lacking.{had_reached, idle_put_off}
 use Rattle.ftc_server.proofs.Named.{is_its_own, of_whom, carried, log_of_whom, IsWaitFor, wait_is, wait_there}
 use Rattle.ftc_server.proofs.Named.{is_number_so}
 use Rattle.ftc_server.proofs.Taken.{count_behind, all_more, any_before, any_behind}
 use Rattle.ftc_server.proofs.Watched.{put_off_still, origin_of_found}
-use Rattle.ftc_server.proofs.ListTests.{not_both, all_both, implies_all}
+use Rattle.ftc_server.proofs.ListTests.{all_both, implies_all}
 use Rattle.ftc_server.specs.Tickets.{AreDistinct}
 use Rattle.ftc_server.proofs.Keeping.{held_among}
 
@@ -32,7 +33,7 @@ pub flat_all : {A B : Type 0} (test : B → Bool) (f : A → List B) (items : Li
     list_all (λ item. list_all test (f item)) items ≡ true → list_all test (flat_map f items) ≡ true
 flat_all test f [] all = refl
 flat_all test f (item ∷ items) all =
-    let parts = both (list_all test (f item)) (list_all (λ i. list_all test (f i)) items) all in
+    let parts = and_parts (list_all test (f item)) (list_all (λ i. list_all test (f i)) items) all in
     all_more test (f item) (flat_map f items) parts.0 (flat_all test f items parts.1)
 
 pub flat_any : {A B : Type 0} (test : B → Bool) (f : A → List B) (is : A → Bool) (items : List A) (item : A) →
@@ -166,7 +167,7 @@ pub none_of_another : (packet other origin group : ℕ) (items : List Wait) → 
     length (filter (is_wait_of other origin group) items) ≡ 0
 none_of_another packet other origin group [] differs all = refl
 none_of_another packet other origin group (wait ∷ items) differs all =
-    let parts = both (wait.packet == packet) (list_all (λ (w : Wait). w.packet == packet) items) all in
+    let parts = and_parts (wait.packet == packet) (list_all (λ (w : Wait). w.packet == packet) items) all in
     elim (is_wait_of other origin group wait) as (λ t. is_wait_of other origin group wait ≡ t →
     length (cond t (wait ∷ filter (is_wait_of other origin group) items) (filter (is_wait_of other origin group) items))
     ≡ 0) [
@@ -183,7 +184,7 @@ unheld items packet waiting none named =
     implies_all (is_named items) (λ (wait : Wait). not (wait.packet == packet)) waiting (λ wait is.
     elim (wait.packet == packet) as (λ t. (wait.packet == packet) ≡ t → not t ≡ true) [
       | true ↦ λ same.
-          let parts = both (nat_lt wait.partition MOST_PARTITIONS)
+          let parts = and_parts (nat_lt wait.partition MOST_PARTITIONS)
           (carries wait.partition wait.number (log_of wait.group wait.origin (found wait.packet items))) is in
           let its = carried wait.partition wait.number (log_of wait.group wait.origin (found wait.packet items))
           parts.1 in
@@ -199,7 +200,7 @@ pub none_of_it : (packet origin group : ℕ) (items : List Wait) →
     length (filter (is_wait_of packet origin group) items) ≡ 0
 none_of_it packet origin group [] all = refl
 none_of_it packet origin group (wait ∷ items) all =
-    let parts = both (not (wait.packet == packet)) (list_all (λ (w : Wait). not (w.packet == packet)) items) all in
+    let parts = and_parts (not (wait.packet == packet)) (list_all (λ (w : Wait). not (w.packet == packet)) items) all in
     elim (is_wait_of packet origin group wait) as (λ t. is_wait_of packet origin group wait ≡ t →
     length (cond t (wait ∷ filter (is_wait_of packet origin group) items)
     (filter (is_wait_of packet origin group) items)) ≡ 0) [
@@ -263,7 +264,7 @@ which A items held other packet there before last =
 named_behind : (items : List HeldMessage) (held : HeldMessage) (wait : Wait) → is_named items wait ≡ true →
     is_named (items ++ held ∷ []) wait ≡ true
 named_behind items held wait named =
-    let parts = both (nat_lt wait.partition MOST_PARTITIONS)
+    let parts = and_parts (nat_lt wait.partition MOST_PARTITIONS)
     (carries wait.partition wait.number (log_of wait.group wait.origin (found wait.packet items))) named in
     and_both (nat_lt wait.partition MOST_PARTITIONS)
     (carries wait.partition wait.number (log_of wait.group wait.origin (found wait.packet (items ++ held ∷ []))))
@@ -357,11 +358,11 @@ settled_watched replicas items old new waiting origin rising stands looked = rec
       is_put_off replicas waiting held ≡ true) [
         | true ↦ λ before _. stands.rest packet held there before
         | false ↦ λ _ later.
-            let parts = both (packet == origin) (is_idle_one replicas (found origin items)) later in
+            let parts = and_parts (packet == origin) (is_idle_one replicas (found origin items)) later in
             let same : found origin items ≡ Some held =
             ap (λ (p : ℕ). found p items) (sym (eqb-true packet origin parts.0)) ∙ there in
             idle_put_off replicas items waiting packet held there (origin_of_found packet items held there)
-            (test_of_found are_rising (is_of packet) items held rising there)
+            (passes_found are_rising (is_of packet) items held rising there)
             (stands.watched packet) (idle_found replicas (found origin items) held same parts.1)
       ] refl was;
 }
@@ -397,9 +398,9 @@ nothing_waits : (replicas : List (Option Held)) (items : List HeldMessage) (wait
     list_all (λ (wait : Wait). not (wait.packet == origin)) waiting ≡ true
 nothing_waits replicas items [] origin held there ready named unreached = refl
 nothing_waits replicas items (wait ∷ waiting) origin held there ready named unreached =
-    let a = both (is_named items wait) (list_all (is_named items) waiting) named in
-    let b = both (is_unreached replicas wait) (list_all (is_unreached replicas) waiting) unreached in
-    let parts = both (nat_lt wait.partition MOST_PARTITIONS)
+    let a = and_parts (is_named items wait) (list_all (is_named items) waiting) named in
+    let b = and_parts (is_unreached replicas wait) (list_all (is_unreached replicas) waiting) unreached in
+    let parts = and_parts (nat_lt wait.partition MOST_PARTITIONS)
     (carries wait.partition wait.number (log_of wait.group wait.origin (found wait.packet items))) a.0 in
     let its = carried wait.partition wait.number (log_of wait.group wait.origin (found wait.packet items)) parts.1 in
     and_both (not (wait.packet == origin)) (list_all (λ (w : Wait). not (w.packet == origin)) waiting)
@@ -411,7 +412,7 @@ nothing_waits replicas items (wait ∷ waiting) origin held there ready named un
           ap (log_of wait.group wait.origin) (sym (ap (λ (p : ℕ). found p items) e ∙ there)) ∙ its.there in
           let whom = log_of_whom wait.group wait.origin (Some held) its.log in_it in
           let had : is_had replicas its.log ≡ true =
-          test_of_found (is_had replicas) (is_log_of wait.origin wait.group) held.message.logs its.log ready in_it in
+          passes_found (is_had replicas) (is_log_of wait.origin wait.group) held.message.logs its.log ready in_it in
           absurd (not_both _ b.0 (ap (λ (g : ℕ). is_reached_at replicas g wait) (sym whom.1)
           ∙ had_reached (replica_at replicas its.log.group) its.log wait.partition wait.number had
           (ltb-true wait.partition MOST_PARTITIONS parts.0) its.mark))
@@ -421,7 +422,7 @@ nothing_waits replicas items (wait ∷ waiting) origin held there ready named un
 named_without : (items : List HeldMessage) (origin : ℕ) (wait : Wait) →
     is_named items wait && not (wait.packet == origin) ≡ true → is_named (without origin items) wait ≡ true
 named_without items origin wait is =
-    let parts = both (is_named items wait) (not (wait.packet == origin)) is in
+    let parts = and_parts (is_named items wait) (not (wait.packet == origin)) is in
     ap (λ f. nat_lt wait.partition MOST_PARTITIONS
     && carries wait.partition wait.number (log_of wait.group wait.origin f))
     (found_without origin wait.packet items (λ same. not_both (wait.packet == origin) parts.1

@@ -6,8 +6,8 @@ use Rattle.std.specs.List.{list_all, list_any}
 use Rattle.std.proofs.lemmas.List.{length-append}
 use Rattle.std.proofs.lemmas.List.Elements.{filter-append}
 use Rattle.std.proofs.lemmas.List.Folds.{list_all-append, list_any-append}
-use Rattle.std.proofs.lemmas.Bool.{or_left, or_right}
-use Rattle.ftc_server.proofs.Finding.{both, and_both}
+use Rattle.std.proofs.lemmas.Bool.{or_left, or_right, and_parts}
+use Rattle.ftc_server.proofs.Finding.{and_both}
 
 -- the whole is what stands before the item, the item, and what stands after it
 pub record IsOut {A : Type 0} (whole rest : List A) (item : A) : Type 0 where
@@ -71,9 +71,9 @@ count_all whole rest item out =
 pub all_out : {A : Type 0} (test : A → Bool) (whole rest : List A) (item : A) → IsOut whole rest item →
     list_all test whole ≡ true → list_all test rest ≡ true
 all_out test whole rest item out all =
-    let parts = both (list_all test out.before) (list_all test (item ∷ out.after))
+    let parts = and_parts (list_all test out.before) (list_all test (item ∷ out.after))
     (sym (list_all-append test out.before (item ∷ out.after)) ∙ ap (list_all test) (sym out.whole_is) ∙ all) in
-    let later = both (test item) (list_all test out.after) parts.1 in
+    let later = and_parts (test item) (list_all test out.after) parts.1 in
     ap (list_all test) out.rest_is ∙ (list_all-append test out.before out.after
     ∙ and_both (list_all test out.before) (list_all test out.after) parts.0 later.1)
 

@@ -3,7 +3,7 @@ use Rattle.std.proofs.Common.{◌≡◌, ◌∙◌, ◌&&◌, ◌||◌, not, ℕ
 use Rattle.std.proofs.Common.{sym, ap, cond}
 use Rattle.std.specs.Prelude.{◌==◌, find, is_some, nat_lt}
 use Rattle.std.specs.List.{list_all, list_any}
-use Rattle.std.proofs.lemmas.Bool.{eqb-true, eq-eqb, false≢true, or_left}
+use Rattle.std.proofs.lemmas.Bool.{eqb-true, eq-eqb, false≢true, or_left, and_parts}
 use Rattle.std.proofs.lemmas.Option.{none-some, same_Some}
 use Rattle.ftc_base.specs.declared.limits.TheConstants.{MOST_PARTITIONS}
 use Rattle.ftc_message.specs.Logged.{Logged}
@@ -18,7 +18,7 @@ use Rattle.ftc_message.specs.Added.{logs_with}
 use Rattle.ftc_server.specs.Visited.{visited_by}
 use Rattle.ftc_server.specs.Waiting.{ahead_of, has_reached, is_unreached, waits, carries, is_named, is_had_or_waits}
 use Rattle.ftc_server.specs.Waiting.{is_put_off, AreWatched}
-use Rattle.ftc_server.proofs.Finding.{both, and_both, found_changed}
+use Rattle.ftc_server.proofs.Finding.{and_both, found_changed}
 use Rattle.ftc_server.proofs.Named.{log_of_whom}
 use Rattle.ftc_server.proofs.ListTests.{all_both, implies_all}
 
@@ -57,7 +57,7 @@ all_with : {A : Type 0} (is_before : A → A → Bool) (test : A → Bool) (item
     test item ≡ true → list_all test items ≡ true → list_all test (with_item is_before item items) ≡ true
 all_with is_before test item [] passes all = and_both (test item) true passes refl
 all_with is_before test item (other ∷ items) passes all =
-    let parts = both (test other) (list_all test items) all in
+    let parts = and_parts (test other) (list_all test items) all in
     elim (is_before other item) as (λ t.
     list_all test (cond t (other ∷ with_item is_before item items) (item ∷ other ∷ items)) ≡ true) [
       | true ↦ and_both (test other) (list_all test (with_item is_before item items)) parts.0
@@ -92,7 +92,7 @@ isnt_its replicas own origin group none there =
     elim (is_log_of origin group own) as (λ t. is_log_of origin group own ≡ t → t ≡ false) [
       | true ↦ λ is. absurd (false≢true (sym none
           ∙ (ap (λ (g : ℕ). is_some (replica_at replicas g))
-          (eqb-true own.group group (both (own.origin == origin) (own.group == group) is).1) ∙ there)))
+          (eqb-true own.group group (and_parts (own.origin == origin) (own.group == group) is).1) ∙ there)))
       | false ↦ λ _. refl
     ] refl
 
@@ -176,7 +176,7 @@ put_off_after : (replicas : List (Option Held)) (waiting : List Wait) (visited :
 put_off_after replicas waiting visited before after off =
     let packet = before.message.origin in
     let logs = before.message.logs in
-    let parts = both (list_any (waits waiting packet) logs)
+    let parts = and_parts (list_any (waits waiting packet) logs)
     (list_all (is_had_or_waits replicas waiting packet) logs) off in
     and_both (list_any (waits waiting packet) visited.logs)
     (list_all (is_had_or_waits replicas waiting packet) visited.logs)
@@ -195,8 +195,8 @@ visited_watched replicas items resting later waiting packet visited before stand
     record {
       named = implies_all (λ (wait : Wait). is_named items wait && is_unreached replicas wait) (is_named all) waiting
           (λ wait is.
-          let facts = both (is_named items wait) (is_unreached replicas wait) is in
-          let parts = both (nat_lt wait.partition MOST_PARTITIONS)
+          let facts = and_parts (is_named items wait) (is_unreached replicas wait) is in
+          let parts = and_parts (nat_lt wait.partition MOST_PARTITIONS)
           (carries wait.partition wait.number (log_of wait.group wait.origin (found wait.packet items))) facts.0 in
           and_both (nat_lt wait.partition MOST_PARTITIONS)
           (carries wait.partition wait.number (log_of wait.group wait.origin (found wait.packet all))) parts.0

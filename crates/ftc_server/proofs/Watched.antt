@@ -3,10 +3,11 @@ use Rattle.std.proofs.Common.{◌≡◌, ◌≢◌, ◌≤◌, ◌<◌, ◌+◌,
 use Rattle.std.proofs.Common.{Option, Some, None, length, refl, sym, ap, cond, subst, arith}
 use Rattle.std.specs.Prelude.{◌==◌, nat_lt, find, filter}
 use Rattle.std.specs.List.{list_all, list_any}
-use Rattle.std.proofs.lemmas.Bool.{eqb-true, eq-eqb, lt-ltb}
+use Rattle.std.proofs.lemmas.Bool.{eqb-true, eq-eqb, lt-ltb, and_parts}
 use Rattle.std.proofs.lemmas.Option.{same_Some, none-some}
 use Rattle.ftc_base.specs.declared.limits.TheConstants.{MOST_PARTITIONS}
-use Rattle.ftc_base.proofs.Firsts.{around_found, all_stay}
+use Rattle.ftc_base.proofs.Firsts.{around_found, all_stay, test_of_found}
+use Rattle.ftc_base.proofs.Bools.{not_both}
 use Rattle.ftc_message.specs.Logged.{Logged}
 use Rattle.ftc_replica.specs.Held.{Held}
 use Rattle.ftc_replica.specs.declared.waits.Wait.{Wait}
@@ -17,12 +18,12 @@ use Rattle.ftc_server.specs.Replicas.{replica_at, is_had}
 use Rattle.ftc_server.specs.Waiting.{has_reached, is_ahead, wait_of, wait_of_found, one_or_none, is_reached}
 use Rattle.ftc_server.specs.Waiting.{is_unreached, is_wait_of, waits, carries, is_named, is_had_or_waits, is_put_off}
 use Rattle.ftc_server.specs.Waiting.{AreWatched, StaysWhere}
-use Rattle.ftc_server.proofs.Finding.{both, and_both, passes_found}
+use Rattle.ftc_server.proofs.Finding.{and_both}
 use Rattle.ftc_server.proofs.Taken.{IsOut, one, one_of, count_behind, count_out, all_out, all_more, any_out}
 use Rattle.ftc_server.proofs.Taken.{any_before, any_behind, count_all}
 use Rattle.ftc_server.proofs.Named.{is_its_own, of_whom, is_number_so, carried, log_of_whom, IsWaitFor, wait_is}
 use Rattle.ftc_server.proofs.Named.{wait_there}
-use Rattle.ftc_server.proofs.ListTests.{not_both, implies_any, implies_all}
+use Rattle.ftc_server.proofs.ListTests.{implies_any, implies_all}
 
 -- the first that waits for a number is out
 pub first_out : (group partition number : ℕ) (whole : List Wait) (wait : Wait) →
@@ -52,7 +53,7 @@ pub put_off_still : (replicas : List (Option Held)) (old new : List Wait) (held 
 put_off_still replicas old new held implies is =
     let packet = held.message.origin in
     let logs = held.message.logs in
-    let parts = both (list_any (waits old packet) logs) (list_all (is_had_or_waits replicas old packet) logs) is in
+    let parts = and_parts (list_any (waits old packet) logs) (list_all (is_had_or_waits replicas old packet) logs) is in
     and_both (list_any (waits new packet) logs) (list_all (is_had_or_waits replicas new packet) logs)
     (implies_any (waits old packet) (waits new packet) logs implies parts.0)
     (implies_all (is_had_or_waits replicas old packet) (is_had_or_waits replicas new packet) logs
@@ -131,7 +132,7 @@ pub again : (replicas : List (Option Held)) (items : List HeldMessage) (wait : W
     IsAgain replicas items wait (one_or_none next)
 again replicas items wait named next is =
     let its = carried wait.partition wait.number (log_of wait.group wait.origin (found wait.packet items))
-    (both (nat_lt wait.partition MOST_PARTITIONS) (carries wait.partition wait.number
+    (and_parts (nat_lt wait.partition MOST_PARTITIONS) (carries wait.partition wait.number
     (log_of wait.group wait.origin (found wait.packet items))) named).1 in
     let is_now : next ≡ wait_of replicas wait.packet its.log =
     is ∙ ap (wait_of_found replicas wait.packet) its.there in
@@ -161,7 +162,7 @@ pub origin_of_found : (packet : ℕ) (items : List HeldMessage) (held : HeldMess
     held.message.origin ≡ packet
 origin_of_found packet items held there =
     eqb-true held.message.origin packet
-    (passes_found (λ (h : HeldMessage). h.message.origin == packet) items held there)
+    (test_of_found (λ (h : HeldMessage). h.message.origin == packet) items held there)
 
 pub woken : (replicas : List (Option Held)) (items : List HeldMessage) (resting later : List ℕ)
     (old rest new again : List Wait) (wait : Wait) → AreWatched replicas items resting old → IsOut old rest wait →
@@ -209,8 +210,8 @@ reached_by : (replicas : List (Option Held)) (group partition number : ℕ) (wai
     waits_for group partition number wait ≡ true →
     is_reached replicas wait ≡ has_reached (replica_at replicas group) partition number
 reached_by replicas group partition number wait is =
-    let first = both (wait.group == group) (wait.partition == partition && wait.number == number) is in
-    let later = both (wait.partition == partition) (wait.number == number) first.1 in
+    let first = and_parts (wait.group == group) (wait.partition == partition && wait.number == number) is in
+    let later = and_parts (wait.partition == partition) (wait.number == number) first.1 in
     ap (λ (g : ℕ). has_reached (replica_at replicas g) wait.partition wait.number) (eqb-true wait.group group first.0)
     ∙ (ap (λ (p : ℕ). has_reached (replica_at replicas group) p wait.number)
     (eqb-true wait.partition partition later.0)
@@ -221,7 +222,7 @@ none_waits : (replicas : List (Option Held)) (group partition number : ℕ) (aga
     length (filter (waits_for group partition number) again) ≡ 0
 none_waits replicas group partition number [] reached all = refl
 none_waits replicas group partition number (wait ∷ again) reached all =
-    let parts = both (is_unreached replicas wait) (list_all (is_unreached replicas) again) all in
+    let parts = and_parts (is_unreached replicas wait) (list_all (is_unreached replicas) again) all in
     elim (waits_for group partition number wait) as (λ t. waits_for group partition number wait ≡ t →
     length (cond t (wait ∷ filter (waits_for group partition number) again)
     (filter (waits_for group partition number) again)) ≡ 0) [
@@ -238,7 +239,7 @@ pub fewer_wait : (replicas : List (Option Held)) (group partition number : ℕ) 
 fewer_wait replicas group partition number old rest new again wait there out reached unreached is =
     let test = waits_for group partition number in
     let was = count_out test old rest wait out in
-    let it = one_of (test wait) (passes_found test old wait there) in
+    let it = one_of (test wait) (test_of_found test old wait there) in
     let count : length (filter test new) ≡ length (filter test rest) + length (filter test again) =
     ap (λ (items : List Wait). length (filter test items)) is ∙ count_behind test rest again in
     let none = none_waits replicas group partition number again reached unreached in

@@ -6,47 +6,23 @@ use Rattle.std.specs.List.{AllByRecursion}
 use Rattle.std.proofs.lemmas.Bool.{ne_eqb, cases_eq, true≢false}
 use Rattle.std.proofs.lemmas.Option.{none-some, same_Some}
 use Rattle.std.proofs.lemmas.List.{append_assoc}
+use Rattle.ftc_base.proofs.EachOf.{all-weaker, all-append, all-front, all-back, all_zip}
 use Rattle.ftc_serial.specs.Words.{EachLater, with_at}
+use Rattle.ftc_serial.proofs.AnyOf.{each_push}
 use Rattle.ftc_standing.specs.Arrivals.{kept_of, IsKeptAs, IsSooner, AreArrived}
 
 -- ---- lists
 
-pub all_front : {A : Type 0} (P : A → Type 0) (before after : List A) → AllByRecursion P (before ++ after) →
-    AllByRecursion P before
-all_front P [] after all = tt
-all_front P (x ∷ before) after all = (all.0, all_front P before after all.1)
-
-pub all_back : {A : Type 0} (P : A → Type 0) (before after : List A) → AllByRecursion P (before ++ after) →
-    AllByRecursion P after
-all_back P [] after all = all
-all_back P (x ∷ before) after all = all_back P before after all.1
-
-pub all_both : {A : Type 0} (P : A → Type 0) (before after : List A) → AllByRecursion P before →
-    AllByRecursion P after → AllByRecursion P (before ++ after)
-all_both P [] after first second = second
-all_both P (x ∷ before) after first second = (first.0, all_both P before after first.1 second)
-
-pub all_mapped : {A : Type 0} (P Q : A → Type 0) → ((x : A) → P x → Q x) → (xs : List A) → AllByRecursion P xs →
-    AllByRecursion Q xs
-all_mapped P Q f [] all = tt
-all_mapped P Q f (x ∷ xs) all = (f x all.0, all_mapped P Q f xs all.1)
-
 pub later_mapped : {A : Type 0} (R S : A → A → Type 0) → ((x y : A) → R x y → S x y) → (xs : List A) →
     EachLater R xs → EachLater S xs
 later_mapped R S f [] later = tt
-later_mapped R S f (x ∷ xs) later = (all_mapped (R x) (S x) (f x) xs later.0, later_mapped R S f xs later.1)
-
-pub all_mapped_of : {A : Type 0} (P Q R : A → Type 0) → ((x : A) → P x → Q x → R x) → (xs : List A) →
-    AllByRecursion P xs → AllByRecursion Q xs → AllByRecursion R xs
-all_mapped_of P Q R f [] first second = tt
-all_mapped_of P Q R f (x ∷ xs) first second =
-    (f x first.0 second.0, all_mapped_of P Q R f xs first.1 second.1)
+later_mapped R S f (x ∷ xs) later = (all-weaker (R x) (S x) (f x) xs later.0, later_mapped R S f xs later.1)
 
 pub later_mapped_of : {A : Type 0} (P : A → Type 0) (R S : A → A → Type 0) →
     ((x y : A) → P x → P y → R x y → S x y) → (xs : List A) → AllByRecursion P xs → EachLater R xs → EachLater S xs
 later_mapped_of P R S f [] all later = tt
 later_mapped_of P R S f (x ∷ xs) all later = (
-  all_mapped_of P (R x) (S x) (λ y of. f x y all.0 of) xs all.1 later.0,
+  all_zip P (R x) (S x) (λ y of. f x y all.0 of) xs all.1 later.0,
   later_mapped_of P R S f xs all.1 later.1,
 )
 
@@ -55,7 +31,7 @@ pub in_front : {A : Type 0} (R : A → A → Type 0) (before : List A) (x : A) (
     EachLater R (before ++ x ∷ after) → AllByRecursion (λ y. R y x) before
 in_front R [] x after later = tt
 in_front R (y ∷ before) x after later =
-    ((all_back (R y) before (x ∷ after) later.0).0, in_front R before x after later.1)
+    ((all-back (R y) before (x ∷ after) later.0).0, in_front R before x after later.1)
 
 pub behind : {A : Type 0} (R : A → A → Type 0) (before : List A) (x : A) (after : List A) →
     EachLater R (before ++ x ∷ after) → AllByRecursion (R x) after
@@ -66,25 +42,19 @@ pub later_without : {A : Type 0} (R : A → A → Type 0) (before : List A) (x :
     EachLater R (before ++ x ∷ after) → EachLater R (before ++ after)
 later_without R [] x after later = later.1
 later_without R (y ∷ before) x after later = (
-  all_both (R y) before after (all_front (R y) before (x ∷ after) later.0)
-      (all_back (R y) before (x ∷ after) later.0).1,
+  all-append (R y) before after (all-front (R y) before (x ∷ after) later.0)
+      (all-back (R y) before (x ∷ after) later.0).1,
   later_without R before x after later.1,
 )
-
-pub later_with : {A : Type 0} (R : A → A → Type 0) (before : List A) (x : A) → EachLater R before →
-    AllByRecursion (λ y. R y x) before → EachLater R (before ++ x ∷ [])
-later_with R [] x later all = (tt, tt)
-later_with R (y ∷ before) x later all =
-    (all_both (R y) before (x ∷ []) later.0 (all.0, tt), later_with R before x later.1 all.1)
 
 -- with another in the place of one, where the relation takes it for the same
 pub later_replaced : {A : Type 0} (R : A → A → Type 0) (before : List A) (x z : A) (after : List A) →
     ((y : A) → R y x → R y z) → ((y : A) → R x y → R z y) → EachLater R (before ++ x ∷ after) →
     EachLater R (before ++ z ∷ after)
-later_replaced R [] x z after front back later = (all_mapped (R x) (R z) back after later.0, later.1)
+later_replaced R [] x z after front back later = (all-weaker (R x) (R z) back after later.0, later.1)
 later_replaced R (y ∷ before) x z after front back later = (
-  all_both (R y) before (z ∷ after) (all_front (R y) before (x ∷ after) later.0)
-      (front y (all_back (R y) before (x ∷ after) later.0).0, (all_back (R y) before (x ∷ after) later.0).1),
+  all-append (R y) before (z ∷ after) (all-front (R y) before (x ∷ after) later.0)
+      (front y (all-back (R y) before (x ∷ after) later.0).0, (all-back (R y) before (x ∷ after) later.0).1),
   later_replaced R before x z after front back later.1,
 )
 
@@ -157,7 +127,7 @@ module _ {A : Type 0} (origin_of : A → ℕ) (origin : ℕ) where
         | false ↦ λ e. let rest = parted items item e in (x ∷ rest.0, rest.1, ap (λ list. x ∷ list) rest.2)
       ] is
 
-is_none : {A : Type 0} (o : Option A) → ((x : A) → o ≡ Some x → ⊥) → o ≡ None
+pub is_none : {A : Type 0} (o : Option A) → ((x : A) → o ≡ Some x → ⊥) → o ≡ None
 is_none None never = refl
 is_none (Some x) never = absurd (never x refl)
 
@@ -382,11 +352,11 @@ module _ {M A : Type 0} (since : M → ℕ) (origin_of : A → ℕ) (Stands : �
         | inl same ↦ here other same
         | inr differs ↦ same_as other differs
       ];
-      order = later_with New items item
+      order = each_push New items item
           (later_mapped_of IsThere Sooner New (λ x y x_there y_there sooner one second one_is second_is.
           sooner one second (sym (at_other x x_there) ∙ one_is) (sym (at_other y y_there) ∙ second_is))
           items (all_there items are) are.order)
-          (all_mapped IsThere (λ y. New y item) (λ y y_there one second one_is second_is.
+          (all-weaker IsThere (λ y. New y item) (λ y y_there one second one_is second_is.
           let old : since one < since message = newest (origin_of y) one (sym (at_other y y_there) ∙ one_is) in
           let new : message ≡ second = same_Some message second (sym at_origin ∙ (ap with_it (sym is) ∙ second_is)) in
           subst (λ m. since one < since m) new old)
@@ -561,7 +531,7 @@ module _ {M A : Type 0} (since : M → ℕ) (origin_of : A → ℕ) (Stands : �
             kept_of origin_of origin items ≡ k → IsKeptAs Stands origin o k →
             IsKeptAs Stands origin (without_it gone o) (kept_of origin_of origin (filter keeps items))
         each_left origin None is k found stands = subst (λ o. IsKeptAs Stands origin None o)
-            (sym (none_left_of origin items (all_mapped IsThere (λ x. origin_of x ≡ origin → keeps x ≡ false)
+            (sym (none_left_of origin items (all-weaker IsThere (λ x. origin_of x ≡ origin → keeps x ≡ false)
             (λ x x_there same. absurd (none-some x_there.0 (sym is ∙ (ap there (sym same) ∙ x_there.1))))
             items (all_there items are)))) tt
         each_left origin (Some m) is None found stands = absurd stands
@@ -569,7 +539,7 @@ module _ {M A : Type 0} (since : M → ℕ) (origin_of : A → ℕ) (Stands : �
             elim (gone m) as (λ b. gone m ≡ b →
             IsKeptAs Stands origin (if b then None else Some m) (kept_of origin_of origin (filter keeps items))) [
               | true ↦ λ e. subst (λ o. IsKeptAs Stands origin None o)
-                  (sym (none_left_of origin items (all_mapped IsThere (λ x. origin_of x ≡ origin → keeps x ≡ false)
+                  (sym (none_left_of origin items (all-weaker IsThere (λ x. origin_of x ≡ origin → keeps x ≡ false)
                   (λ x x_there same.
                   let same_message : m ≡ x_there.0 =
                   same_Some m x_there.0 (sym is ∙ (ap there (sym same) ∙ x_there.1)) in

@@ -21,6 +21,7 @@ use Rattle.ftc_protocol.specs.Front.{IsFront}
 use Rattle.ftc_protocol.specs.Known.{knows}
 use Rattle.ftc_protocol.specs.Legal.{IsLegal, is_sent}
 use Rattle.ftc_protocol.specs.Next.{next, fresh_message, taken_message, sent_message, is_away, logs_sent}
+use Rattle.ftc_protocol.proofs.Fronts.{none_front}
 use Rattle.ftc_ties.specs.Messages.{AreLogsOf, AreNeedsOf, onward}
 use Rattle.ftc_ties.specs.Servers.{AreCommits}
 use Rattle.ftc_standing.specs.Arrivals.{AreArrived}
@@ -31,16 +32,6 @@ use Rattle.ftc_standing.proofs.Lasting.{IsFirmState, sent_made, sent_stays, forw
 use Rattle.ftc_standing.proofs.Leaving.{logs_leaving, needs_leaving}
 use Rattle.ftc_standing.proofs.Movements.{comes, goes, remain, all_go}
 use Rattle.ftc_standing.proofs.SamePlaces.{comes_there, not_there, at_place, leaving_elsewhere, link_is}
-
--- nothing is a front
-pub no_front : (c : Setting) (s : ChainState) → IsFront c s no_visits
-no_front c s = record {
-  closed = λ group. record { before = λ packet other is. absurd (never is) };
-  there = λ group packet is. absurd (never is);
-}
-  where
-    never : {A : Type 0} → false ≡ true → A
-    never e = absurd (true≢false (sym e))
 
 module _ (c : Setting) (s : ChainState) (f : IsFirmState c s) (e : Event) (legal : IsLegal c s e) where
   -- what a server holds keeps standing, as long as it is there
@@ -91,7 +82,7 @@ module _ (c : Setting) (s : ChainState) (f : IsFirmState c s) (e : Event) (legal
           as_sent = sent_made c s f e legal p fresh (sent item) here origin_is packet_is
               (subst (AreLogsOf c s no_visits) (sym no_logs) (record { each = tt; names = λ group packet. refl }))
               (subst (AreNeedsOf c s p (λ group. false)) (sym no_needs) (record { each = tt; names = λ group. refl }))
-              size (no_front c s) no_commits;
+              size (none_front c s) no_commits;
         }) are
 
   -- ---- a message leaves a server: it is passed on, or lost

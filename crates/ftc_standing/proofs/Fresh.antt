@@ -10,19 +10,20 @@ use Rattle.ftc_txn.specs.Touched.{is_changed}
 use Rattle.ftc_vector.specs.Vector.{by_partition}
 use Rattle.ftc_vector.specs.Commits.{vector_of, all_merged, by_group}
 use Rattle.ftc_vector.proofs.Partitions.{by_partition-same}
+use Rattle.ftc_vector.proofs.GroupLists.{length-all_merged}
 use Rattle.ftc_protocol.specs.Setting.{Setting, servers}
 use Rattle.ftc_protocol.specs.Visits.{no_visits, union}
 use Rattle.ftc_protocol.specs.State.{ChainState}
 use Rattle.ftc_protocol.specs.Known.{knows}
 use Rattle.ftc_protocol.specs.Legal.{IsLegal}
 use Rattle.ftc_protocol.specs.Next.{next}
+use Rattle.ftc_protocol.proofs.Fronts.{none_front}
 use Rattle.ftc_ties.specs.Numbers.{count_of}
 use Rattle.ftc_ties.specs.Servers.{AreCommits, IsElsewhere, IsReplicaAt}
 use Rattle.ftc_ties.proofs.Informing.{commits_merged, commits_same}
 use Rattle.ftc_ties.proofs.Serving.{IsSteadyState}
 use Rattle.ftc_standing.specs.Stand.{AreReplicas, IsReplicaSlot, replica_of}
-use Rattle.ftc_standing.proofs.Events.{no_front}
-use Rattle.ftc_standing.proofs.Gaining.{few_servers, size_merged}
+use Rattle.ftc_standing.proofs.Gaining.{few_servers}
 use Rattle.ftc_standing.proofs.Lasting.{IsFirmState, replicas_stay}
 
 none_counted : (partitions : ℕ) (trace : List Entry) (group partition : ℕ) →
@@ -87,11 +88,11 @@ module _ (c : Setting) (s : ChainState) (f : IsFirmState c s) (e : Event) (legal
       commits_same c (next c s e) after (union (knows c (next c s e) server) no_visits) (knows c (next c s e) server)
       (all_merged known nothing_known) (λ group packet. or_no (knows c (next c s e) server group packet))
       (commits_merged c (next c s e) after (knows c (next c s e) server) no_visits known nothing_known
-      (after.tied.fronts.knows server) (no_front c (next c s e)) now.known (knows_nothing c (next c s e))) in
+      (after.tied.fronts.knows server) (none_front c (next c s e)) now.known (knows_nothing c (next c s e))) in
       replicas_alike c (next c s e) after server inside own others known (all_merged known nothing_known)
       (λ group below. told group (few_servers c s f.steady group below)
       ∙ sym (now.known group (few_servers c s f.steady group below)))
-      (size_merged known nothing_known) told now
+      (length-all_merged known nothing_known) told now
     where
       or_no : (b : Bool) → (b || false) ≡ b
       or_no true = refl

@@ -2,7 +2,7 @@
 use Rattle.std.proofs.Common.{◌≡◌, ◌≢◌, ◌<◌, ◌++◌, ◌∙◌, ℕ, Bool, true, false, not, List, [], ◌∷◌, length, Option, Some}
 use Rattle.std.proofs.Common.{None, slice_set, inl, inr, refl, sym, ap, subst, arith, if◌then◌else◌, get_or-set_same}
 use Rattle.std.proofs.Common.{get_or-set_other}
-use Rattle.std.proofs.lemmas.Bool.{cases_eq, cases_lt, true≢false}
+use Rattle.std.proofs.lemmas.Bool.{cases_eq, cases_lt, true≢false, false_from_ne_true}
 use Rattle.std.proofs.lemmas.List.{get_or_past, length-set}
 use Rattle.std.proofs.lemmas.List.FromFn.{length-map-range_with_len}
 use Rattle.std.proofs.lemmas.Option.{none-some}
@@ -16,7 +16,7 @@ use Rattle.ftc_ring.specs.Ring.{next_of}
 use Rattle.ftc_vector.specs.Vector.{merged, need_of}
 use Rattle.ftc_vector.specs.Commits.{vector_of, all_merged, group_raised, by_group}
 use Rattle.ftc_vector.proofs.Bounds.{above_first}
-use Rattle.ftc_vector.proofs.GroupLists.{vector_of-all_merged, vector_of-raised, vector_of-other}
+use Rattle.ftc_vector.proofs.GroupLists.{vector_of-all_merged, vector_of-raised, vector_of-other, length-all_merged}
 use Rattle.ftc_vector.proofs.Needs.{covered_above}
 use Rattle.ftc_vector.proofs.OrderTests.{covered}
 use Rattle.ftc_protocol.specs.Setting.{Setting, servers, is_member, is_tail}
@@ -35,11 +35,6 @@ use Rattle.ftc_ties.proofs.Replicating.{vector_same}
 use Rattle.ftc_ties.proofs.Serving.{IsSteadyState, take_prunes, apply_leaves, apply_at_tail, others_stay, steady_next}
 use Rattle.ftc_ties.proofs.Serving.{tail_knows}
 use Rattle.ftc_standing.specs.Stand.{IsReplicaSlot, AreReplicas, replica_of}
-
-pub size_merged : (one other : List (List ℕ)) → length (all_merged one other) ≡ MOST_SERVERS
-unfolding by_group
-size_merged one other = length-map-range_with_len
-    (λ group. merged (vector_of one group) (vector_of other group)) 0 MOST_SERVERS
 
 -- ---- kept logs may be dropped in two steps
 
@@ -64,10 +59,6 @@ missing_last vector log lacks (first ∷ logs) = elim (covers_log vector first) 
       | true ↦ missing_last vector log lacks logs
       | false ↦ ap (λ (rest : List Logged). first ∷ rest) (missing_last vector log lacks logs)
     ]
-
-is_false : (b : Bool) → (b ≡ true → ⊥) → b ≡ false
-is_false true never = absurd (never refl)
-is_false false never = refl
 
 -- a replica in a list of them that got another
 pub slots_set : (P : ℕ → Option Replicated →
@@ -147,7 +138,7 @@ module _ (c : Setting) (s : ChainState) (h : IsSteadyState c s) where
           (h.tied.order.inside receiver receiver_up) member own are.own;
       others = λ group below. slot_after known told are.known told_is group below (replica_of others group)
           (are.others group below);
-      size = size_merged known told;
+      size = length-all_merged known told;
       known = known_after known told are.known told_is;
     }
 
@@ -166,7 +157,7 @@ module _ (c : Setting) (s : ChainState) (h : IsSteadyState c s) where
 
     -- what the list lacks isn't known
     uncovered : covers_log (vector_of known group) log ≡ false
-    uncovered = is_false (covers_log (vector_of known group) log) (λ covers.
+    uncovered = false_from_ne_true (covers_log (vector_of known group) log) (λ covers.
         let told = (need_known c s h server group packet known are.known (few_servers group below)
         (need_of log.before log.changed)
         (record { log = log; log_of = log_of; group_is = group_is; origin_is = origin_is; marks_are = refl })).0

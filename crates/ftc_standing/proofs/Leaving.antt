@@ -1,7 +1,8 @@
 -- What is sent on of a message that leaves a server.
 use Rattle.std.proofs.Common.{◌≡◌, ◌==◌, ◌||◌, ◌&&◌, ◌∙◌, ℕ, Bool, true, false, not, List, [], ◌∷◌, refl, ap}
-use Rattle.std.proofs.Common.{if◌then◌else◌}
+use Rattle.std.proofs.Common.{if◌then◌else◌, sym}
 use Rattle.std.specs.List.{list_any}
+use Rattle.std.proofs.Math.Bool.{or_comm, or_assoc}
 use Rattle.ftc_message.specs.declared.need.Need.{Need}
 use Rattle.ftc_message.specs.Logged.{Logged}
 use Rattle.ftc_message.specs.Ordered.{with_item, with_items, is_earlier}
@@ -21,10 +22,6 @@ or_swap true true d = refl
 or_swap true false d = refl
 or_swap false b d = refl
 
-or_assoc_of : (a b d : Bool) → (a || (b || d)) ≡ ((a || b) || d)
-or_assoc_of true b d = refl
-or_assoc_of false b d = refl
-
 -- one is among the items where it was, and where it is the new one
 pub any_with_item : {A : Type 0} (test : A → Bool) (is_before : A → A → Bool) (item : A) (others : List A) →
     list_any test (with_item is_before item others) ≡ (test item || list_any test others)
@@ -43,13 +40,7 @@ any_with_items test is_before [] others = refl
 any_with_items test is_before (item ∷ items) others =
     any_with_item test is_before item (with_items is_before items others)
     ∙ (ap (λ x. test item || x) (any_with_items test is_before items others)
-    ∙ or_assoc_of (test item) (list_any test items) (list_any test others))
-
-or_comm_of : (a b : Bool) → (a || b) ≡ (b || a)
-or_comm_of true true = refl
-or_comm_of true false = refl
-or_comm_of false true = refl
-or_comm_of false false = refl
+    ∙ sym (or_assoc (test item) (list_any test items) (list_any test others)))
 
 module _ (c : Setting) (s : ChainState) where
   -- logs that are put in order among others
@@ -60,7 +51,7 @@ module _ (c : Setting) (s : ChainState) where
     each = all-with_items (IsLogIn c.partitions s.trace) is_earlier first second are.each also.each;
     names = λ group packet. any_with_items (λ (log : Logged). log.group == group
         && log.origin == packet) is_earlier first second
-        ∙ (or_comm_of (names_log first group packet) (names_log second group packet)
+        ∙ (or_comm (names_log first group packet) (names_log second group packet)
         ∙ (ap (λ x. x || names_log first group packet) (also.names group packet)
         ∙ ap (λ x. other group packet || x) (are.names group packet)));
   }

@@ -22,6 +22,7 @@ use Rattle.ftc_vector.proofs.GroupLists.{vector_of-raised, vector_of-other}
 use Rattle.ftc_vector.proofs.Needs.{covered_above}
 use Rattle.ftc_vector.proofs.OrderTests.{covered}
 use Rattle.ftc_vector.proofs.Partitions.{get_or-by_partition}
+use Rattle.ftc_replica.proofs.Left.{covers_above}
 use Rattle.ftc_protocol.specs.Setting.{Setting, servers, is_member, is_tail}
 use Rattle.ftc_protocol.specs.Visits.{Visits}
 use Rattle.ftc_protocol.proofs.RingDistances.{apart_cases, apart_after}
@@ -33,7 +34,7 @@ use Rattle.ftc_ties.specs.Numbers.{Packets, count_of, vector_in}
 use Rattle.ftc_ties.specs.Servers.{IsReplicaAt, AreCommits, is_shared}
 use Rattle.ftc_ties.proofs.Committing.{pull_leaves, pull_at_tail}
 use Rattle.ftc_ties.proofs.Counting.{count_mono}
-use Rattle.ftc_ties.proofs.Learning.{tail_grows}
+use Rattle.ftc_ties.proofs.Learning.{tail_grows, only_tail}
 use Rattle.ftc_ties.proofs.Replicating.{vector_same}
 use Rattle.ftc_ties.proofs.Serving.{IsSteadyState, others_stay, steady_next, tail_knows, known_had}
 use Rattle.ftc_standing.specs.Stand.{IsReplicaSlot, AreReplicas, ServerContents, IsServer, IsPulled, replica_kept}
@@ -67,12 +68,6 @@ missing_after less more up (log ∷ logs) = elim (covers_log more log) as (λ b.
       ]
     ] refl
 
-covers_up : (one other : List ℕ) → IsBelow one other → (log : Logged) → covers_log one log ≡ true →
-    covers_log other log ≡ true
-covers_up one other less log has = (covered other (need_of log.before log.changed)).1
-    (covered_above one other (need_of log.before log.changed) less
-    ((covered one (need_of log.before log.changed)).0 has))
-
 module _ (c : Setting) (s : ChainState) (h : IsSteadyState c s) where
   -- a set that another has has smaller numbers
   vector_below : (group : ℕ) (one other : Packets) → ((q : ℕ) → one q ≡ true → other q ≡ true) →
@@ -91,17 +86,6 @@ module _ (c : Setting) (s : ChainState) (h : IsSteadyState c s) where
 and_last : (a b : Bool) → b ≡ true → (a && not b) ≡ false
 and_last true b is = ap not is
 and_last false b is = refl
-
--- a server is the tail of one group
-only_tail_of : (c : Setting) (one other server : ℕ) → one < servers c → other < servers c → server < servers c →
-    is_tail c one server ≡ true → is_tail c other server ≡ true → one ≡ other
-only_tail_of c one other server one_in other_in server_in first second =
-    let n = servers c in
-    let a : apart n one server ≡ c.failures = eqb-true (apart n one server) c.failures first in
-    let b : apart n other server ≡ c.failures = eqb-true (apart n other server) c.failures second in
-    let one_is = apart_cases n one server one_in server_in in
-    let other_is = apart_cases n other server other_in server_in in
-    omega arith
 
 -- in a group that both ends share the sender has what the receiver has
 sender_has : (c : Setting) (s : ChainState) (h : IsSteadyState c s) (link : ℕ) (legal : IsLegal c s (Pull link))
@@ -166,7 +150,7 @@ module _ (c : Setting) (s : ChainState) (h : IsSteadyState c s) (link : ℕ) (le
 
     same_lacking : missing mine.vector (missing (vector_of from.known group) theirs.kept) ≡ lacking
     same_lacking = missing_twice (vector_of from.known group) mine.vector
-        (covers_up (vector_of from.known group) mine.vector theirs_below) theirs.kept
+        (covers_above (vector_of from.known group) mine.vector theirs_below) theirs.kept
 
     same_pruned : applied_all (missing mine.vector (missing (vector_of from.known group) theirs.kept))
         (pruned_by (vector_of contents.known group) mine)
@@ -184,7 +168,7 @@ module _ (c : Setting) (s : ChainState) (h : IsSteadyState c s) (link : ℕ) (le
         ∙ (missing_both (vector_of contents.known group) mine.kept lacking
         ∙ ap (λ rest. missing (vector_of contents.known group) mine.kept ++ rest)
         (missing_after (vector_of contents.known group) mine.vector
-        (covers_up (vector_of contents.known group) mine.vector mine_below) theirs.kept))
+        (covers_above (vector_of contents.known group) mine.vector mine_below) theirs.kept))
 
     pub pulled_at : is_tail c group receiver ≡ false →
         IsReplicaAt c (next c s pulling) receiver group (pruned_by (vector_of contents.known group) pulled)
@@ -241,7 +225,7 @@ module _ (c : Setting) (s : ChainState) (h : IsSteadyState c s) (link : ℕ) (le
           covers_log (vector_of raised group) log ≡ true
       raised_covers log has = subst (λ v. covers_log v log ≡ true)
           (sym (vector_of-raised contents.known group pulled.vector within))
-          (covers_up (vector_of contents.known group) (merged (vector_of contents.known group) pulled.vector)
+          (covers_above (vector_of contents.known group) (merged (vector_of contents.known group) pulled.vector)
           (above_first (vector_of contents.known group) pulled.vector) log has)
 
       own_vector : vector_of raised group ≡ pulled.vector
@@ -326,7 +310,7 @@ module _ (c : Setting) (s : ChainState) (h : IsSteadyState c s) (link : ℕ) (le
       where
         not_tail : (group : ℕ) → group < servers c → group ≢ tail → is_tail c group receiver ≡ false
         not_tail group inside differs = elim (cases_Bool (is_tail c group receiver)) [
-          | inl yes_it ↦ absurd (differs (only_tail_of c group tail receiver inside tail_inside
+          | inl yes_it ↦ absurd (differs (only_tail c group tail receiver inside tail_inside
               (h.tied.order.inside receiver legal.0.1) yes_it tail_is))
           | inr isnt ↦ isnt
         ]

@@ -17,7 +17,7 @@ use Rattle.ftc_vector.specs.Vector.{merged, need_of}
 use Rattle.ftc_vector.specs.Commits.{vector_of, all_merged, group_raised}
 use Rattle.ftc_vector.specs.Order.{IsBelow}
 use Rattle.ftc_vector.proofs.Bounds.{above_first, above_second}
-use Rattle.ftc_vector.proofs.GroupLists.{vector_of-all_merged, vector_of-raised, vector_of-other}
+use Rattle.ftc_vector.proofs.GroupLists.{vector_of-all_merged, vector_of-raised, vector_of-other, length-all_merged}
 use Rattle.ftc_vector.proofs.Needs.{covered_above}
 use Rattle.ftc_vector.proofs.OrderTests.{covered}
 use Rattle.ftc_protocol.specs.Setting.{Setting, servers, is_member, is_tail}
@@ -38,9 +38,9 @@ use Rattle.ftc_standing.specs.Stand.{IsReplicaSlot, AreReplicas, IsHeldAs, HeldI
 use Rattle.ftc_standing.specs.Stand.{AreForwarded, IsWithheldAs, ServerContents, IsServer, IsRevived, replica_kept}
 use Rattle.ftc_standing.specs.Stand.{got_by, replica_of, since_of, origin_of, time_of, packet_of}
 use Rattle.ftc_standing.specs.View.{is_held_by, where_it, held_at, withheld_at}
-use Rattle.ftc_standing.proofs.Arriving.{emptied}
-use Rattle.ftc_standing.proofs.Gaining.{few_servers, missing_twice, size_merged}
-use Rattle.ftc_standing.proofs.SamePlaces.{is_none, holder_is}
+use Rattle.ftc_standing.proofs.Arriving.{emptied, is_none}
+use Rattle.ftc_standing.proofs.Gaining.{few_servers, missing_twice}
+use Rattle.ftc_standing.proofs.SamePlaces.{holder_is}
 
 module _ (c : Setting) (s : ChainState) (h : IsSteadyState c s) (k : ℕ) (undone : List VisitName)
     (legal : IsLegal c s (Recover k undone)) where
@@ -166,7 +166,10 @@ module _ (c : Setting) (s : ChainState) (h : IsSteadyState c s) (k : ℕ) (undon
         ]
           where
             within : tail < length (all_merged first second)
-            within = let size = size_merged first second in let most = few_servers c s h tail tail_inside in omega arith
+            within =
+                let size = length-all_merged first second in
+                let most = few_servers c s h tail tail_inside in
+                omega arith
 
     -- the replica of a group that it gets from its source
     pub replica_got : (group : ℕ) → group < servers c → is_member c group k ≡ true → (replica : Replicated) →
@@ -191,7 +194,7 @@ module _ (c : Setting) (s : ChainState) (h : IsSteadyState c s) (k : ℕ) (undon
       own = own;
       others = others;
       size = length-set (all_merged first second) tail (merged (vector_of (all_merged first second) tail) tail_vector)
-          ∙ size_merged first second;
+          ∙ length-all_merged first second;
       known = told_is;
     }
 

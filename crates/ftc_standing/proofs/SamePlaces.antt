@@ -20,13 +20,9 @@ use Rattle.ftc_protocol.specs.Next.{drop_if, is_at, is_away, withheld_of, outcom
 use Rattle.ftc_ties.specs.Servers.{IsElsewhere}
 use Rattle.ftc_ties.proofs.Serving.{IsSteadyState}
 use Rattle.ftc_journal.specs.declared.event.VisitName.{VisitName}
-use Rattle.ftc_standing.proofs.Arriving.{without_it}
+use Rattle.ftc_standing.proofs.Arriving.{without_it, is_none}
 use Rattle.ftc_standing.specs.View.{is_held_by, is_queued_on, where_it, held_at, queued_on, withheld_at, forwarded_at}
 use Rattle.ftc_standing.specs.View.{IsBesideServer, IsBesideLink, IsAsBefore, IsLinkAsBefore}
-
-pub is_none : {A : Type 0} (o : Option A) → ((x : A) → o ≡ Some x → ⊥) → o ≡ None
-is_none None never = refl
-is_none (Some x) never = absurd (never x refl)
 
 -- of the messages at a place, where one is changed that isn't and wasn't there
 pub not_there : (test : Where → Bool) (message : ℕ → Option Message) (origin : ℕ) (o : Option Message) →

@@ -3,10 +3,13 @@ use Rattle.std.proofs.Common.{◌≡◌, ◌≢◌, ◌<◌, ◌==◌, ◌||◌,
 use Rattle.std.proofs.Common.{List, [], ◌∷◌, length, Option, Some, None, inl, inr, refl, sym, ap, subst, arith}
 use Rattle.std.proofs.Common.{if◌then◌else◌, eq-eqb, eqb-true, lt-ltb}
 use Rattle.std.specs.Option.{is_some}
-use Rattle.std.proofs.lemmas.Bool.{cases_eq, ne_eqb, true≢false, or_left}
+use Rattle.std.proofs.lemmas.Bool.{cases_eq, ne_eqb, true≢false, or_left, false_from_ne_true}
 use Rattle.std.proofs.lemmas.List.{length-set}
 use Rattle.std.proofs.lemmas.Option.{same_Some}
+use Rattle.std.proofs.Math.Bool.{or_comm, and-false}
 use Rattle.ftc_base.specs.declared.limits.TheConstants.{MOST_SERVERS}
+use Rattle.ftc_base.proofs.Numbers.{eqb-swap}
+use Rattle.ftc_base.proofs.Bools.{or_without}
 use Rattle.ftc_journal.specs.declared.event.Event.{Event}
 use Rattle.ftc_journal.specs.declared.event.Event.TheVariants.{Visit}
 use Rattle.ftc_message.specs.Logged.{Logged}
@@ -46,7 +49,7 @@ use Rattle.ftc_ties.proofs.Informing.{commits_stay, knows_stay}
 use Rattle.ftc_ties.proofs.Lasting.{commit_logs}
 use Rattle.ftc_ties.proofs.Learning.{visit_tells_none, tail_grows}
 use Rattle.ftc_ties.proofs.Replicating.{vector_same}
-use Rattle.ftc_ties.proofs.Serving.{IsSteadyState, others_stay, steady_next, tail_knows, or_none}
+use Rattle.ftc_ties.proofs.Serving.{IsSteadyState, others_stay, steady_next, tail_knows}
 use Rattle.ftc_message.specs.Added.{logs_with, needs_with, need_of_log}
 use Rattle.ftc_standing.specs.Stand.{IsReplicaSlot, AreReplicas, IsSentAs, replica_of}
 use Rattle.ftc_standing.proofs.Gaining.{missing_twice, missing_last, few_servers}
@@ -64,29 +67,9 @@ missing_both vector (log ∷ logs) others = elim (covers_log vector log) as (λ 
       | false ↦ ap (λ (rest : List Logged). log ∷ rest) (missing_both vector logs others)
     ]
 
-eqb_swap : (a b : ℕ) → (a == b) ≡ (b == a)
-eqb_swap a b = elim (cases_eq a b) [
-  | inl same ↦ eq-eqb a b same ∙ sym (eq-eqb b a (sym same))
-  | inr differs ↦ ne_eqb a b differs ∙ sym (ne_eqb b a (λ e. differs (sym e)))
-]
-
-and_no : (b : Bool) → (b && false) ≡ false
-and_no true = refl
-and_no false = refl
-
 and_yes : (a b : Bool) → b ≡ true → (a && b) ≡ a
 and_yes true b is = is
 and_yes false b is = refl
-
-or_comm_two : (a b : Bool) → (a || b) ≡ (b || a)
-or_comm_two true true = refl
-or_comm_two true false = refl
-or_comm_two false true = refl
-or_comm_two false false = refl
-
-is_false : (b : Bool) → (b ≡ true → ⊥) → b ≡ false
-is_false true never = absurd (never refl)
-is_false false never = refl
 
 module _ (c : Setting) (s : ChainState) (h : IsSteadyState c s) (k p w : ℕ) (legal : IsLegal c s (Visit k p w))
     (up : s.up k ≡ true) (member : is_member c k k ≡ true) (own : Replicated) (others : List (Option Replicated))
@@ -124,7 +107,7 @@ module _ (c : Setting) (s : ChainState) (h : IsSteadyState c s) (k p w : ℕ) (l
     where
       same : (g q : ℕ) → (next c s visiting).lists k g q ≡ s.lists k g q
       same g q = with_at_cases (λ (v : Visits). v g q ≡ s.lists k g q) s.lists k _ k
-          (λ _. or_none (s.lists k g q) (just k p (is_changing c.partitions outcome) g q)
+          (λ _. or_without (s.lists k g q) (just k p (is_changing c.partitions outcome) g q)
           (ap (λ (b : Bool). (g == k) && (q == p) && b) unchanging ∙ and_false ((g == k) && (q == p)))) (λ ne. refl)
         where
           and_false : (b : Bool) → (b && false) ≡ false
@@ -149,7 +132,7 @@ module _ (c : Setting) (s : ChainState) (h : IsSteadyState c s) (k p w : ℕ) (l
 
       -- the new visit isn't known to be at its tail
       uncovered : covers_log (vector_of known k) log ≡ false
-      uncovered = is_false (covers_log (vector_of known k) log) (λ covers.
+      uncovered = false_from_ne_true (covers_log (vector_of known k) log) (λ covers.
           let new = steady_next c s h visiting legal in
           let told = (need_known c (next c s visiting) new k k p known known_after (few_servers c s h k inside)
           (need_of log.before log.changed) (record {
@@ -162,7 +145,7 @@ module _ (c : Setting) (s : ChainState) (h : IsSteadyState c s) (k p w : ℕ) (l
           let knows_it : (s.known k k p || (is_tail c k k && (next c s visiting).lists k k p)) ≡ true =
           told.changing (inl (refl, refl, changes)) in
           let before : s.known k k p ≡ true =
-          sym (or_none (s.known k k p) (is_tail c k k && (next c s visiting).lists k k p)
+          sym (or_without (s.known k k p) (is_tail c k k && (next c s visiting).lists k k p)
           (ap (λ (b : Bool). b && (next c s visiting).lists k k p) isnt)) ∙ knows_it in
           let stood = (h.tied.fronts.known k).there k p before in
           new.tied.trace.0 (stands_map (λ o. is_changing c.partitions o ≡ true) (λ o. Unit {0})
@@ -280,15 +263,15 @@ module _ (c : Setting) (s : ChainState) (f : IsFirmState c s) (k p w : ℕ) (leg
         let own = logged one is in
         ap (λ x. x == group && one.origin == packet) own.1
         ∙ (ap (λ x. k == group && x == packet) own.2
-        ∙ (ap (λ x. x && p == packet) (eqb_swap k group) ∙ ap (λ x. group == k && x) (eqb_swap p packet)))
+        ∙ (ap (λ x. x && p == packet) (eqb-swap k group) ∙ ap (λ x. group == k && x) (eqb-swap p packet)))
 
     pub logs_visited : AreLogsOf c (next c s visiting_it) visited_one.logs (logs_with c.failures log before.logs)
     logs_visited = by_log log refl
       where
         untouched : (b : Bool) → b ≡ false → (group packet : ℕ) →
             message.logs group packet ≡ union message.logs (just k p b) group packet
-        untouched b is group packet = sym (or_none (message.logs group packet) (just k p b group packet)
-            (ap (λ x. (group == k) && (packet == p) && x) is ∙ and_no ((group == k) && (packet == p))))
+        untouched b is group packet = sym (or_without (message.logs group packet) (just k p b group packet)
+            (ap (λ x. (group == k) && (packet == p) && x) is ∙ and-false ((group == k) && (packet == p))))
 
         unchanged : (b : Bool) → b ≡ false →
             AreLogsOf c (next c s visiting_it) (union message.logs (just k p b)) before.logs
@@ -314,7 +297,8 @@ module _ (c : Setting) (s : ChainState) (f : IsFirmState c s) (k p w : ℕ) (leg
             (union message.logs (just k p (is_touching its_outcome && nat_lt 0 c.failures)))
             (if b then before.logs else with_item is_earlier one before.logs)) [
               | true ↦ λ none. unchanged (is_touching its_outcome && nat_lt 0 c.failures)
-                  (ap (λ x. is_touching its_outcome && x) (sent_off c.failures none) ∙ and_no (is_touching its_outcome))
+                  (ap (λ x. is_touching its_outcome && x) (sent_off c.failures none)
+                  ∙ and-false (is_touching its_outcome))
               | false ↦ λ some. record {
                 each = all-with_item (IsLogIn c.partitions (next c s visiting_it).trace) is_earlier one before.logs
                     (logged one is).0 logs_before.each;
@@ -323,7 +307,7 @@ module _ (c : Setting) (s : ChainState) (f : IsFirmState c s) (k p w : ℕ) (leg
                     && log.origin == packet) is_earlier one before.logs
                     ∙ (ap (λ x. x || names_log before.logs group packet) (is_own one is group packet)
                     ∙ (ap (λ x. ((group == k) && (packet == p)) || x) (logs_before.names group packet)
-                    ∙ (or_comm_two ((group == k) && (packet == p)) (message.logs group packet)
+                    ∙ (or_comm ((group == k) && (packet == p)) (message.logs group packet)
                     ∙ ap (λ x. message.logs group packet || x) (sym (and_yes ((group == k) && (packet == p))
                     (is_touching its_outcome && nat_lt 0 c.failures)
                     (ap (λ x. x && nat_lt 0 c.failures)
@@ -350,8 +334,8 @@ module _ (c : Setting) (s : ChainState) (f : IsFirmState c s) (k p w : ℕ) (leg
         by_log packet forwarded None is = record {
           each = (needs_before packet forwarded).each;
           names = λ group. (needs_before packet forwarded).names group
-              ∙ sym (or_none (message.needs group) ((group == k) && is_touching its_outcome)
-              (ap (λ x. (group == k) && x) (sym touched ∙ ap (λ o. is_some o) is) ∙ and_no (group == k)));
+              ∙ sym (or_without (message.needs group) ((group == k) && is_touching its_outcome)
+              (ap (λ x. (group == k) && x) (sym touched ∙ ap (λ o. is_some o) is) ∙ and-false (group == k)));
         }
         by_log packet forwarded (Some one) is =
             let own = logged one is in
@@ -371,9 +355,9 @@ module _ (c : Setting) (s : ChainState) (f : IsFirmState c s) (k p w : ℕ) (leg
                   (needs_before packet forwarded).each;
               names = λ group. any_with_item (λ (need : Need). need.group == group) is_lower (need_of_log one)
                   before.needs
-                  ∙ (ap (λ x. x || needs_of before.needs group) (ap (λ x. x == group) own.1 ∙ eqb_swap k group)
+                  ∙ (ap (λ x. x || needs_of before.needs group) (ap (λ x. x == group) own.1 ∙ eqb-swap k group)
                   ∙ (ap (λ x. (group == k) || x) ((needs_before packet forwarded).names group)
-                  ∙ (or_comm_two (group == k) (message.needs group)
+                  ∙ (or_comm (group == k) (message.needs group)
                   ∙ ap (λ x. message.needs group || x)
                   (sym (and_yes (group == k) (is_touching its_outcome) (sym touched ∙ ap (λ o. is_some o) is))))));
             }

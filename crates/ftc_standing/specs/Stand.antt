@@ -1,7 +1,7 @@
 -- For which state of the protocol servers and links stand: what messages, replicas, vectors and logs mean as sets of
 -- visits.
 use Rattle.std.specs.Prelude.{ℕ, ◌≡◌, ◌<◌, ◌+◌, ◌⊎◌, ◌==◌, Bool, true, false, List, [], length, Option, Some, None}
-use Rattle.std.specs.Prelude.{slice_index_or, nat_le, if◌then◌else◌}
+use Rattle.std.specs.Prelude.{slice_index_or, if◌then◌else◌}
 use Rattle.std.specs.FinMap.{empty}
 use Rattle.std.specs.Option.{is_some}
 use Rattle.ftc_base.specs.declared.limits.TheConstants.{MOST_SERVERS}
@@ -17,7 +17,8 @@ use Rattle.ftc_replica.specs.Kept.{missing}
 use Rattle.ftc_serial.specs.Take.{Outcome}
 use Rattle.ftc_vector.specs.Vector.{by_partition}
 use Rattle.ftc_vector.specs.Commits.{by_group, vector_of, all_merged, group_raised}
-use Rattle.ftc_ring.specs.Ring.{apart, next_of}
+use Rattle.ftc_ring.specs.Live.{is_from_before}
+use Rattle.ftc_ring.specs.Ring.{next_of}
 use Rattle.ftc_protocol.specs.Setting.{Setting, servers, is_member, is_tail}
 use Rattle.ftc_protocol.specs.Recovery.{previous_live, following_live}
 use Rattle.ftc_protocol.specs.State.{Held, Message, Withheld, ChainState}
@@ -208,8 +209,7 @@ pub record IsPulled (setting : Setting) (link : ℕ) (contents sender : ServerCo
 -- else that of the live server after it
 abbrev pub got_by : Setting → ChainState → ℕ → ServerContents → ServerContents → ℕ → Option Replicated
 got_by setting state server previous following group =
-    if nat_le (apart (servers setting) (previous_live setting state server) server)
-    (apart (servers setting) group server)
+    if is_from_before (servers setting) (previous_live setting state server) group server
     then replica_kept (previous_live setting state server) previous group
     else replica_kept (following_live setting state server) following group
 

@@ -74,7 +74,7 @@ nothing : {A : Type 0} (o : Option A) → is_some o ≡ false → o ≡ None
 nothing None is = refl
 nothing (Some x) is = cc
 
-same_key : (q k : List ℕ) → pointwise nat_eq q k ≡ true → q ≡ k
+pub same_key : (q k : List ℕ) → pointwise nat_eq q k ≡ true → q ≡ k
 same_key q k is = (slice_eq-Decides Decides-eqb q k (pointwise nat_eq q k) refl).0 is
 
 -- a key is looked up alike in pairs that were brought into another order

@@ -33,7 +33,7 @@ found pairs q = get-from_entries nat_list_cmp_total pairs q ∙ find_pair pairs 
 turned : (k q : List ℕ) → pointwise nat_eq k q ≡ eq_by_cmp (slice_cmp nat_cmp) q k
 turned k q = same_test k q ∙ (eq_by_cmp_equiv nat_list_cmp_total).symm k q
 
-same_content : (m n : Content) → ((q : List ℕ) → get m q ≡ get n q) → m ≡ n
+pub same_content : (m n : Content) → ((q : List ℕ) → get m q ≡ get n q) → m ≡ n
 same_content m n alike = same_map nat_list_cmp_total (slice_cmp-IsAntisymmetric nat_cmp-IsAntisymmetric) m n alike
 
 -- pairs that differ at one key stand for contents that differ there

@@ -181,7 +181,3 @@ module _ {T : Type 0} (face : T → Face) (one : Released) (old : List Face) whe
       let P : List Face → Type 0 = λ taps. AreToldInPart one old taps in
       subst P (sym (map-set face xs at y)) (up_to_refused one old (map face xs) at (face x) (face y)
       (face_below xs at below) (face_at xs at x is) same told)
-
-pub on_err : {A E : Type 0} (r : Result A E) (P : Type 0) → P → OnErr r P
-on_err (Ok x) P held = tt
-on_err (Err e) P held = held

@@ -9,7 +9,7 @@ use Rattle.ftc_base.specs.declared.limits.TheConstants.{MOST_PARTITIONS}
 use Rattle.ftc_vector.specs.Vector.{number_at, mark_at, raised, need_of}
 use Rattle.ftc_vector.specs.Order.{IsLogReady, IsCovered}
 use Rattle.ftc_vector.proofs.Partitions.{get_or-by_partition}
-use Rattle.ftc_vector.proofs.Needs.{applied_covered}
+use Rattle.ftc_vector.proofs.Needs.{applied_covered, carried_is}
 use Rattle.ftc_message.specs.Bounds.{MarksSome}
 use Rattle.ftc_message.specs.Logged.{Logged}
 use Rattle.ftc_txn.specs.Touched.{is_touched, vector_after, numbers_before}
@@ -20,11 +20,6 @@ mark_of : (partitions : ℕ) (answers : List Answer) (vector : List ℕ) (p : �
     → mark_at (numbers_before partitions answers vector) p
     ≡ (if is_touched partitions answers p then Some (number_at vector p) else None)
 mark_of partitions answers vector p within = get_or-by_partition _ p None within
-
-carried_is : (touched : Bool) (number carried : ℕ) → (if touched then Some number else None) ≡ Some carried
-    → number ≡ carried
-carried_is true number carried is = cc
-carried_is false number carried is = absurd cc
 
 module _ (group partitions : ℕ) (vector : List ℕ) (packet : ℕ) (answers : List Answer) (writes : List Write)
     (log : Logged)
@@ -51,7 +46,7 @@ module _ (group partitions : ℕ) (vector : List ℕ) (packet : ℕ) (answers : 
       applied_covered vector log.before log.changed log_ready in
       subst (λ (v : List ℕ). IsCovered v (need_of log.before log.changed)) (sym log_raises) covered
 
-first_touched : (partitions : ℕ) (answer : Answer) (answers : List Answer)
+pub first_touched : (partitions : ℕ) (answer : Answer) (answers : List Answer)
     → is_touched partitions (answer ∷ answers) (partition_of partitions answer.key) ≡ true
 unfolding is_touched
 first_touched partitions answer answers =

@@ -9,14 +9,10 @@ use Rattle.std.proofs.lemmas.List.{get_or_past}
 use Rattle.std.proofs.lemmas.List.Folds.{list_any_at}
 use Rattle.ftc_base.specs.declared.ask.Answer.{Answer}
 use Rattle.ftc_base.specs.Partition.{partition_of}
+use Rattle.ftc_base.proofs.EachOf.{all-weaker}
 use Rattle.ftc_locks.specs.Locks.{Locks, holds, age_of, HoldsNothing, SameHoldings}
 use Rattle.ftc_txn.specs.Slots.{Running, slot_at, wounded_by}
 use Rattle.ftc_txn.specs.Head.{HeadState, IsCurrent, IsRunning, IsHead, some_run}
-
-pub all_kept : {X : Type 0} (P Q : X → Type 0) → ((x : X) → P x → Q x) → (xs : List X) → AllByRecursion P xs →
-    AllByRecursion Q xs
-all_kept P Q keep [] all = tt
-all_kept P Q keep (x ∷ xs) all = (keep x all.0, all_kept P Q keep xs all.1)
 
 pub not_both : {A : Type 0} (b : Bool) → b ≡ false → b ≡ true → A
 not_both b isnt is = absurd (false≢true (sym isnt ∙ is))
@@ -107,7 +103,7 @@ running_kept old new worker running partitions same content last was = record {
   drawn = last;
   age = λ p is. same.age ∙ was.age p (sym (same.holdings p).held ∙ is);
   wounded = λ by is. nothing_kept old.locks new.locks worker same (was.wounded by is);
-  answers = λ is. all_kept (IsCurrent old worker) (IsCurrent new worker) (λ answer current. record {
+  answers = λ is. all-weaker (IsCurrent old worker) (IsCurrent new worker) (λ answer current. record {
     value = content answer current ∙ current.value;
     held = rw partitions ((same.holdings (partition_of old.partitions answer.key)).held ∙ current.held);
   }) running.answers (was.answers is);

@@ -20,8 +20,9 @@ use Rattle.ftc_txn.specs.declared.turn.Turn.TheVariants.{Wounded}
 use Rattle.ftc_txn.specs.Head.{HeadState, RunsUnwounded, RunsWounded, IsCurrent, IsRunning, IsHead, AreItsWrites}
 use Rattle.ftc_txn.specs.Head.{next_age}
 use Rattle.ftc_txn.specs.Steps.{begins, restarts, IsGranted, IsFreed, HasHeadRead, HasHeadQuit}
-use Rattle.ftc_base.proofs.EachOf.{all_push}
-use Rattle.ftc_txn.proofs.Kept.{all_kept, not_both, none_or_some, slot_within, some_run_at, slot_set, slot_other}
+use Rattle.ftc_base.proofs.EachOf.{all_push, all-weaker}
+use Rattle.ftc_store.proofs.Listing.{same_key}
+use Rattle.ftc_txn.proofs.Kept.{not_both, none_or_some, slot_within, some_run_at, slot_set, slot_other}
 use Rattle.ftc_txn.proofs.Kept.{same_holdings, Stays, WasWounded, keeps}
 
 pub some_of : {A : Type 0} (o : Option A) (x y : A) → o ≡ Some x → o ≡ Some y → x ≡ y
@@ -147,7 +148,7 @@ read_keeps old new worker running key change value valid runs read =
       age = λ _ _. read.locks.with_age;
       wounded = λ by is. absurd (none_or_some running.wounded by runs.unwounded is);
       answers = λ _. all_push (IsCurrent new worker) running.answers answer
-          (all_kept (IsCurrent old worker) (IsCurrent new worker) (λ a current. record {
+          (all-weaker (IsCurrent old worker) (IsCurrent new worker) (λ a current. record {
             value = rw content current.value;
             held = rw partitions (still_held old new worker running.age (partition_of old.partitions key) change
                 (partition_of old.partitions a.key) read.locks current.held);
@@ -158,9 +159,6 @@ read_keeps old new worker running key change value valid runs read =
     let age_is : running.age ≡ r.age =
     ap (λ (r : Running). r.age) (some_of (slot_at new.slots worker) (answered running answer) r read.answered is) in
     valid.ages worker other running another (λ e. differs (sym e)) runs.slot other_is (age_is ∙ same_age))
-
-same_key : (q k : List ℕ) → pointwise nat_eq q k ≡ true → q ≡ k
-same_key q k is = (slice_eq-Decides Decides-eqb q k (pointwise nat_eq q k) refl).0 is
 
 -- a write at one key changes nothing at another
 changed_other : (content : Content) (key : List ℕ) (value : Option (List ℕ)) (q : List ℕ) → q ≢ key →
@@ -185,7 +183,7 @@ keys_differ : (locks : Locks) (worker other partitions : ℕ) (writes : List Wri
     ≡ true) writes → holds locks other (partition_of partitions q) ≡ true →
     AllByRecursion (λ write. q ≢ write.key) writes
 keys_differ locks worker other partitions writes q valid differs exclusive held =
-    all_kept (λ write. holds_exclusively locks worker (partition_of partitions write.key)
+    all-weaker (λ write. holds_exclusively locks worker (partition_of partitions write.key)
     ≡ true) (λ write. q ≢ write.key) (λ write alone same.
     differs (valid.alone worker other (partition_of partitions write.key) alone
     (subst (λ (k : List ℕ). holds locks other (partition_of partitions k) ≡ true) same held))) writes exclusive
@@ -205,6 +203,6 @@ pub answers_current : (head : HeadState) (worker : ℕ) (running : Running) → 
     RunsUnwounded head worker running →
     AllByRecursion (λ answer. get head.content answer.key ≡ answer.value) running.answers
 answers_current head worker running valid runs =
-    all_kept (IsCurrent head worker) (λ answer. get head.content answer.key
+    all-weaker (IsCurrent head worker) (λ answer. get head.content answer.key
     ≡ answer.value) (λ answer current. current.value) running.answers
     ((valid.running worker running runs.slot).answers runs.unwounded)

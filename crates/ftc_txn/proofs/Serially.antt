@@ -57,7 +57,7 @@ set_visits old slots worker slot within is =
     (rw is (ap visit_of (slot_set old worker slot within)))
     (λ other differs. rw is (ap visit_of (slot_other old worker other slot differs)))
 
-slot_set_none : (slots : List (Option Running)) (worker : ℕ) → slot_at (slice_set slots worker None) worker ≡ None
+pub slot_set_none : (slots : List (Option Running)) (worker : ℕ) → slot_at (slice_set slots worker None) worker ≡ None
 slot_set_none slots worker =
     ⊎_elim (λ within. slot_set slots worker None within)
     (λ past. get_or_past (slice_set slots worker None) worker None (rw (length-set slots worker None) past))

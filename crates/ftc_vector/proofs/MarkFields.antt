@@ -14,15 +14,11 @@ use Rattle.ftc_base.specs.declared.limits.TheConstants.{MOST_PARTITIONS}
 use Rattle.ftc_vector.specs.Vector.{number_at, mark_at, AreMarks, IsEnd}
 use Rattle.ftc_vector.specs.Marked.{mark_in, marks_in, AreMarked, numbers_again, flags_again}
 use Rattle.ftc_vector.proofs.Partitions.{length-by_partition, get_or-by_partition, by_partition-from}
+use Rattle.ftc_vector.proofs.Needs.{carried_is}
 
 pub mark_there : (numbers : List ℕ) (marked : List Bool) (partition : ℕ) → partition < MOST_PARTITIONS
     → mark_at (marks_in numbers marked) partition ≡ mark_in numbers marked partition
 mark_there numbers marked partition within = get_or-by_partition (mark_in numbers marked) partition None within
-
-some_number : (is_marked : Bool) (number other : ℕ) → (if is_marked then Some number else None) ≡ Some other →
-    number ≡ other
-some_number true number other is = cc
-some_number false number other is = absurd cc
 
 pub marks_are : (numbers : List ℕ) (marked : List Bool) (end : ℕ) → AreMarked numbers marked end
     → AreMarks (marks_in numbers marked)
@@ -33,7 +29,7 @@ marks_are numbers marked end are = record {
         | inl within ↦ omega (
           arith,
           are.bounds p,
-          some_number (slice_index_or marked p false) (number_at numbers p) number
+          carried_is (slice_index_or marked p false) (number_at numbers p) number
               (sym (mark_there numbers marked p within) ∙ is),
         )
         | inr past ↦ let none : None ≡ Some number =

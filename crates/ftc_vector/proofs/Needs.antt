@@ -40,7 +40,7 @@ below_raised a changed = record {
 }
 
 -- the number that a mark taken from a vector carries is the vector's
-carried_is : (b : Bool) (n carried : ℕ) → (if b then Some n else None) ≡ Some carried → n ≡ carried
+pub carried_is : (b : Bool) (n carried : ℕ) → (if b then Some n else None) ≡ Some carried → n ≡ carried
 carried_is true n carried is = cc
 carried_is false n carried is = cc
 

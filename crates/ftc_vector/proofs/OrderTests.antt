@@ -11,7 +11,7 @@ use Rattle.ftc_vector.specs.Vector.{number_at, mark_at, need_at, need_of}
 use Rattle.ftc_vector.specs.Order.{IsLogReady, IsCovered, allows, is_log_ready, reaches, covers}
 use Rattle.ftc_vector.proofs.Needs.{mark_at-need_of}
 
-all_in : (p : ℕ → Bool) (from count : ℕ) → list_all p (range_with_len from count) ≡ true → (k : ℕ) → from ≤ k →
+pub all_in : (p : ℕ → Bool) (from count : ℕ) → list_all p (range_with_len from count) ≡ true → (k : ℕ) → from ≤ k →
     k < from + count → p k ≡ true
 all_in p from zero all k low high = absurd (omega arith)
 all_in p from (suc count) all k low high =
@@ -21,7 +21,7 @@ all_in p from (suc count) all k low high =
       | inr differs ↦ all_in p (from + 1) count parts.1 k (omega arith) (omega arith)
     ]
 
-all_of : (p : ℕ → Bool) (from count : ℕ) → ((k : ℕ) → from ≤ k → k < from + count → p k ≡ true) →
+pub all_of : (p : ℕ → Bool) (from count : ℕ) → ((k : ℕ) → from ≤ k → k < from + count → p k ≡ true) →
     list_all p (range_with_len from count) ≡ true
 all_of p from zero each = refl
 all_of p from (suc count) each =

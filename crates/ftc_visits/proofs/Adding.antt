@@ -5,11 +5,14 @@ use Rattle.std.specs.List.{AllByRecursion}
 use Rattle.std.specs.Prelude.{IfSome, IsNone, ◌↔◌}
 use Rattle.std.proofs.lemmas.Bool.{cond-true}
 use Rattle.std.proofs.lemmas.Nat.Bits.{bit_at-zero}
+use Rattle.std.proofs.lemmas.Option.{same_Some}
 use Rattle.ftc_base.specs.Sets.{has}
 use Rattle.ftc_base.specs.Partition.{partition_of}
 use Rattle.ftc_base.specs.declared.ask.Answer.{Answer}
 use Rattle.ftc_base.specs.declared.ask.Write.{Write}
 use Rattle.ftc_base.specs.declared.limits.TheConstants.{MOST_PARTITIONS}
+use Rattle.ftc_base.proofs.EachOf.{all-weaker}
+use Rattle.ftc_base.proofs.Members.{has-zero}
 use Rattle.ftc_message.specs.Logged.{Logged}
 use Rattle.ftc_serial.specs.Reads.{IsRead}
 use Rattle.ftc_serial.specs.Serial.{Entry}
@@ -18,20 +21,18 @@ use Rattle.ftc_txn.specs.Touched.{is_touched, is_changed, numbers_before, vector
 use Rattle.ftc_vector.specs.Vector.{number_at, mark_at, need_at, need_of}
 use Rattle.ftc_vector.proofs.Needs.{mark_at-need_of}
 use Rattle.ftc_vector.proofs.Partitions.{get_or-by_partition}
+use Rattle.ftc_txn.proofs.TouchedLists.{changed_none}
 use Rattle.ftc_ties.specs.Logs.{IsLogIn}
 use Rattle.ftc_visits.specs.declared.visit.MadeVisit.{MadeVisit}
 use Rattle.ftc_visits.specs.declared.visit.Mark.{Mark}
 use Rattle.ftc_visits.specs.Made.{name_of, mark_of, AreMarksOf, IsMadeBy, IsMadeIn}
-use Rattle.ftc_visits.proofs.Lists.{all_to, all_map, any_map, any_to, all_some}
+use Rattle.ftc_visits.proofs.Lists.{all_map, any_map, any_to, all_some}
 use Rattle.ftc_visits.proofs.Needs.{touched_each, touched_by, partition_within}
 
 needs_touched : (touched changed : Bool) (number needed : ℕ) →
     need_at (if touched then Some number else None) changed ≡ Some needed →
     (touched ≡ true) × ((if changed then number + 1 else number) ≡ needed)
-needs_touched true changed number needed is = (refl, some_same (if changed then number + 1 else number) needed is)
-  where
-    some_same : (one other : ℕ) → Some one ≡ Some other → one ≡ other
-    some_same one other same = cc
+needs_touched true changed number needed is = (refl, same_Some (if changed then number + 1 else number) needed is)
 needs_touched false changed number needed is = absurd cc
 
 module _ (partitions server packet : ℕ) (some : 0 < partitions) (few : partitions ≤ MOST_PARTITIONS)
@@ -72,7 +73,7 @@ module _ (partitions server packet : ℕ) (some : 0 < partitions) (few : partiti
     each = all_map (λ (mark : Mark). mark.partition < MOST_PARTITIONS
         × (mark_at (need_of log.before log.changed) mark.partition ≡ Some mark.number))
         (mark_of partitions after) answers
-        (all_to (λ (answer : Answer). is_touched partitions answers (partition_of partitions answer.key) ≡ true)
+        (all-weaker (λ (answer : Answer). is_touched partitions answers (partition_of partitions answer.key) ≡ true)
         (λ (answer : Answer). partition_of partitions answer.key < MOST_PARTITIONS
         × (mark_at (need_of log.before log.changed) (partition_of partitions answer.key)
         ≡ Some (number_at after (partition_of partitions answer.key))))
@@ -108,14 +109,6 @@ module _ (partitions server packet : ℕ) (some : 0 < partitions) (few : partiti
     needed = subst (AreMarksOf (need_of log.before log.changed)) (sym by.needed) are_marks;
   }
 
-has_none : (member : ℕ) → has 0 member ≡ false
-unfolding has
-has_none member = ap (λ bit. bit == 1) (bit_at-zero member)
-
-nothing_changed : (partitions partition : ℕ) → is_changed partitions [] partition ≡ false
-unfolding is_changed
-nothing_changed partitions partition = refl
-
 -- the log of a commit: what it logged, or, where it read nothing, one of nothing
 pub log_made : (server partitions : ℕ) (vector : List ℕ) (packet : ℕ) (answers : List Answer) (writes : List Write)
     (log : Option Logged) → IfSome log (IsLogOf server partitions vector packet answers writes) →
@@ -134,11 +127,11 @@ log_made server partitions vector packet answers writes None logged none reads =
     group = refl;
     origin = refl;
     before = refl;
-    changed = λ partition. has_none partition ∙ sym
+    changed = λ partition. has-zero partition ∙ sym
         (ap (λ (w : List Write). is_changed partitions w partition) (none_written writes
         (subst (λ (a : List Answer). AllByRecursion (λ (write : Write). IsRead a write.key) writes)
         (none.0 refl) reads))
-        ∙ nothing_changed partitions partition);
+        ∙ changed_none partitions partition);
     writes = refl;
   },
 )

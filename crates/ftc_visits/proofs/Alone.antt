@@ -5,7 +5,7 @@ use Rattle.std.proofs.Common.{ltb-true}
 use Rattle.std.specs.Prelude.{nat_le, nat_lt}
 use Rattle.std.specs.List.{list_all}
 use Rattle.std.proofs.lemmas.Bool.{true≢false, or_cases, or_left, or_right, and_parts, and_from, cases_lt, eqb-false}
-use Rattle.std.proofs.lemmas.Bool.{false_from_ne_true, not-true, not_from_false}
+use Rattle.std.proofs.lemmas.Bool.{false_from_ne_true, not-true, not_from_false, le-leb}
 use Rattle.ftc_base.specs.declared.limits.TheConstants.{MOST_PARTITIONS}
 use Rattle.ftc_message.specs.Logged.{Logged}
 use Rattle.ftc_replica.specs.Held.{Held as Replicated, pruned_by}
@@ -117,9 +117,6 @@ says_between n previous following server before after inside is =
     ] refl is.ahead
 
 -- ---- what a server has
-
-pub is_within : (a b : ℕ) → a ≤ b → nat_le a b ≡ true
-is_within a b below = le-leb a b below
 
 abbrev pub VectorsSay : Setting → ChainState → ℕ → Type 0
 VectorsSay setting state server = (log : Logged) (held : Replicated) → IsLogIn setting.partitions state.trace log →

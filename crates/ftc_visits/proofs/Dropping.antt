@@ -2,6 +2,7 @@
 use Rattle.std.proofs.Common.{◌≡◌, ℕ, not, List, Option, map, filter, sym, ap, subst, ◌∙◌}
 use Rattle.std.specs.List.{AllByRecursion}
 use Rattle.std.proofs.lemmas.Bool.{not-true}
+use Rattle.ftc_base.proofs.EachOf.{all_zip}
 use Rattle.ftc_journal.specs.declared.event.VisitName.{VisitName}
 use Rattle.ftc_serial.specs.Serial.{Entry}
 use Rattle.ftc_serial.specs.Trace.{names}
@@ -13,7 +14,7 @@ use Rattle.ftc_ties.specs.Servers.{IsNeedIn}
 use Rattle.ftc_visits.specs.declared.visit.MadeVisit.{MadeVisit}
 use Rattle.ftc_visits.specs.Made.{name_of, IsMadeIn}
 use Rattle.ftc_visits.specs.Undoing.{without}
-use Rattle.ftc_visits.proofs.Lists.{all_filter, all_zip, filter_map}
+use Rattle.ftc_visits.proofs.Lists.{all_filter, filter_map}
 use Rattle.ftc_visits.proofs.Trace.{made_stand, left_visits}
 use Rattle.ftc_visits.proofs.Passing.{without_filter}
 

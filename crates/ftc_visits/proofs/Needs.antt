@@ -10,6 +10,7 @@ use Rattle.ftc_base.specs.Sets.{has}
 use Rattle.ftc_base.specs.Partition.{partition_of}
 use Rattle.ftc_base.specs.declared.ask.Answer.{Answer}
 use Rattle.ftc_base.specs.declared.limits.TheConstants.{MOST_PARTITIONS}
+use Rattle.ftc_base.proofs.EachOf.{all-weaker, all_tests, tests_all}
 use Rattle.ftc_serial.specs.Words.{AnyOf}
 use Rattle.ftc_serial.specs.Take.{Outcome}
 use Rattle.ftc_serial.specs.Serial.{Entry}
@@ -27,7 +28,6 @@ use Rattle.ftc_visits.specs.declared.visit.MadeVisit.{MadeVisit}
 use Rattle.ftc_visits.specs.declared.visit.Mark.{Mark}
 use Rattle.ftc_visits.specs.Made.{AreMarksOf, IsMadeIn}
 use Rattle.ftc_visits.specs.Undoing.{is_reached}
-use Rattle.ftc_visits.proofs.Lists.{all_to, tests_all, all_tests}
 
 -- ---- which answers touch
 
@@ -41,7 +41,7 @@ touched_each partitions (answer ∷ answers) = (
   or_left (partition_of partitions answer.key == partition_of partitions answer.key)
       (is_touched partitions answers (partition_of partitions answer.key))
       (eq-eqb (partition_of partitions answer.key) (partition_of partitions answer.key) refl),
-  all_to (λ (other : Answer). is_touched partitions answers (partition_of partitions other.key) ≡ true)
+  all-weaker (λ (other : Answer). is_touched partitions answers (partition_of partitions other.key) ≡ true)
       (λ (other : Answer). is_touched partitions (answer ∷ answers) (partition_of partitions other.key) ≡ true)
       (λ other is. or_right (partition_of partitions other.key == partition_of partitions answer.key)
       (is_touched partitions answers (partition_of partitions other.key)) is)
@@ -66,7 +66,7 @@ partition_within partitions key some few = omega arith
 
 module _ (vector : List ℕ) (marks : List (Option ℕ)) (needed : List Mark) (are : AreMarksOf marks needed) where
   pub covered_reached : IsCovered vector marks → list_all (is_reached vector) needed ≡ true
-  covered_reached covered = all_tests (is_reached vector) needed (all_to
+  covered_reached covered = all_tests (is_reached vector) needed (all-weaker
       (λ (mark : Mark). mark.partition < MOST_PARTITIONS × (mark_at marks mark.partition ≡ Some mark.number))
       (λ (mark : Mark). is_reached vector mark ≡ true)
       (λ mark is. and_from (nat_lt mark.partition MOST_PARTITIONS)
@@ -83,7 +83,7 @@ module _ (vector : List ℕ) (marks : List (Option ℕ)) (needed : List Mark) (a
         (λ mark same low. subst (λ n. n ≤ number_at vector partition) same.1
         (subst (λ p. mark.number ≤ number_at vector p) same.0 low))
         (are.all partition least within is)
-        (all_to (λ (mark : Mark). is_reached vector mark ≡ true)
+        (all-weaker (λ (mark : Mark). is_reached vector mark ≡ true)
         (λ (mark : Mark). mark.number ≤ number_at vector mark.partition)
         (λ mark test. leb-true mark.number (number_at vector mark.partition)
         (and_parts (nat_lt mark.partition MOST_PARTITIONS)

@@ -13,13 +13,15 @@ use Rattle.std.proofs.lemmas.Option.{slice_get_within, get_or_from_slice_get}
 use Rattle.std.specs.List.{AllByRecursion}
 use Rattle.std.proofs.lemmas.Bool.{true≢false, or_cases, or_left, or_right, and_parts, false_from_ne_true, ne_eqb}
 use Rattle.std.proofs.lemmas.Bool.{eqb-false}
+use Rattle.std.specs.Cmp.{both_ways}
+use Rattle.ftc_base.proofs.EachOf.{all-weaker, all_zip}
 use Rattle.ftc_serial.specs.Words.{AnyOf, EachLater}
 use Rattle.ftc_serial.proofs.Functions.{any_of_all}
 use Rattle.ftc_journal.specs.declared.event.VisitName.{VisitName}
 use Rattle.ftc_visits.specs.declared.visit.MadeVisit.{MadeVisit}
 use Rattle.ftc_visits.specs.Made.{name_of}
 use Rattle.ftc_visits.specs.Undoing.{undone_from, is_of, is_first, without}
-use Rattle.ftc_visits.proofs.Lists.{same_tests, all_to, all_zip, any_to, all_filter, all_some}
+use Rattle.ftc_visits.proofs.Lists.{any_to, all_filter, all_some}
 
 -- of one packet the visits come in the order of their servers
 abbrev pub Rises : MadeVisit → MadeVisit → Type 0
@@ -114,11 +116,11 @@ module _ (is_alone : MadeVisit → Bool) (is_named : VisitName → Bool) where
       → undone_from is_alone packets rest ≡ filter is_named (map name_of rest)
   undone_rest [] front packets says means follows rises = refl
   undone_rest (visit ∷ rest) front packets says means follows rises =
-      let more = all_to (Means front (visit ∷ rest)) (Means (visit ∷ front) rest)
+      let more = all-weaker (Means front (visit ∷ rest)) (Means (visit ∷ front) rest)
       (moved front visit rest) rest means.1 in
       let behind = all_zip (Rises visit) (Follows front) (Follows (visit ∷ front))
       (λ x one others. (one, others)) rest rises.0 follows.1 in
-      let same = same_tests (is_named (name_of visit)) (packets visit.packet || is_alone visit)
+      let same = both_ways (is_named (name_of visit)) (packets visit.packet || is_alone visit)
       (named_test front packets says visit rest means.0 follows.0 rises.0)
       (test_named front packets says visit rest means.0 follows.0 rises.0) in
       elim (packets visit.packet || is_alone visit) as (λ b. (packets visit.packet || is_alone visit) ≡ b
@@ -140,10 +142,10 @@ module _ (is_alone : MadeVisit → Bool) (is_named : VisitName → Bool) where
       → undone_from is_alone (λ packet. false) visits ≡ filter is_named (map name_of visits)
   undone_filter visits means rises = undone_rest visits [] (λ packet. false)
       (λ packet. (λ is. absurd (true≢false (sym is)), λ none. absurd none))
-      (all_to (λ visit. (is_named (name_of visit) ≡ true) ↔ AnyOf (Undoes visit) visits) (Means [] visits)
+      (all-weaker (λ visit. (is_named (name_of visit) ≡ true) ↔ AnyOf (Undoes visit) visits) (Means [] visits)
       (λ visit is. (λ named. inr (is.0 named), λ some. elim some [ inl none ↦ absurd none | inr there ↦ is.1 there ]))
       visits means)
-      (all_to (λ visit. (is_named (name_of visit) ≡ true) ↔ AnyOf (Undoes visit) visits) (Follows [])
+      (all-weaker (λ visit. (is_named (name_of visit) ≡ true) ↔ AnyOf (Undoes visit) visits) (Follows [])
       (λ visit is. tt) visits means) rises
 
 -- ---- what is left

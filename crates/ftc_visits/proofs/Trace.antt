@@ -1,7 +1,8 @@
 -- The visits of a trace in the order in which they were made.
 use Rattle.std.proofs.Common.{◌≡◌, ℕ, ◌<◌, true, false, not, cond, List, [], ◌∷◌, ◌++◌, map, filter, inl, inr, refl}
-use Rattle.std.proofs.Common.{sym, ap, subst, ◌∙◌}
+use Rattle.std.proofs.Common.{sym, ap, subst, ◌∙◌, append-nil}
 use Rattle.std.specs.List.{AllByRecursion}
+use Rattle.ftc_base.proofs.EachOf.{all_push, all-weaker}
 use Rattle.ftc_serial.specs.Words.{AnyOf, EachLater}
 use Rattle.ftc_serial.specs.Serial.{Entry, Visited, Given}
 use Rattle.ftc_serial.specs.Removal.{left_of}
@@ -9,6 +10,7 @@ use Rattle.ftc_journal.specs.declared.event.Event.{Event}
 use Rattle.ftc_journal.specs.declared.event.Event.TheVariants.{Apply, Carry, Crash, Enter, Lose, Pass, Propagate, Pull}
 use Rattle.ftc_journal.specs.declared.event.Event.TheVariants.{Recover, Release, Take, Visit}
 use Rattle.ftc_journal.specs.declared.event.VisitName.{VisitName}
+use Rattle.ftc_serial.proofs.AnyOf.{any_front, any_last, any_unmap, each_push}
 use Rattle.ftc_protocol.specs.Setting.{Setting}
 use Rattle.ftc_protocol.specs.State.{ChainState}
 use Rattle.ftc_protocol.specs.Visits.{Visits}
@@ -19,7 +21,7 @@ use Rattle.ftc_protocol.proofs.EarlierVisits.{visited_earlier}
 use Rattle.ftc_protocol.proofs.Places.{IsSerial}
 use Rattle.ftc_visits.specs.declared.visit.MadeVisit.{MadeVisit}
 use Rattle.ftc_visits.specs.Made.{name_of, keeps_visits}
-use Rattle.ftc_visits.proofs.Lists.{all_end, all_to, all_unmap, any_end, any_front, any_unmap, filter_joined}
+use Rattle.ftc_visits.proofs.Lists.{all_unmap, filter_joined}
 use Rattle.ftc_visits.proofs.Passing.{Rises}
 
 abbrev pub IsNamed : ℕ → ℕ → VisitName → Type 0
@@ -32,7 +34,7 @@ named_in [] server packet there = absurd there
 named_in (Given p b ∷ older) server packet there =
     elim there [ inl here ↦ absurd here | inr below ↦ named_in older server packet below ]
 named_in (Visited k q o ∷ older) server packet there = elim there [
-  | inl here ↦ any_end (IsNamed server packet) (visits_in older) (record { server = k; packet = q }) (here.0, here.1)
+  | inl here ↦ any_last (IsNamed server packet) (visits_in older) (record { server = k; packet = q }) (here.0, here.1)
   | inr below ↦ any_front (IsNamed server packet) (visits_in older) (record { server = k; packet = q } ∷ [])
       (named_in older server packet below)
 ]
@@ -41,13 +43,13 @@ named_in (Visited k q o ∷ older) server packet there = elim there [
 stand_in : (trace : List Entry) →
     AllByRecursion (λ (name : VisitName). IsSomeVisit trace name.server name.packet) (visits_in trace)
 stand_in [] = tt
-stand_in (Given p b ∷ older) = all_to (λ (name : VisitName). IsSomeVisit older name.server name.packet)
+stand_in (Given p b ∷ older) = all-weaker (λ (name : VisitName). IsSomeVisit older name.server name.packet)
     (λ (name : VisitName). IsSomeVisit (Given p b ∷ older) name.server name.packet)
     (λ name there. inr there) (visits_in older) (stand_in older)
-stand_in (Visited k q o ∷ older) = all_end
+stand_in (Visited k q o ∷ older) = all_push
     (λ (name : VisitName). IsSomeVisit (Visited k q o ∷ older) name.server name.packet) (visits_in older)
     (record { server = k; packet = q })
-    (all_to (λ (name : VisitName). IsSomeVisit older name.server name.packet)
+    (all-weaker (λ (name : VisitName). IsSomeVisit older name.server name.packet)
     (λ (name : VisitName). IsSomeVisit (Visited k q o ∷ older) name.server name.packet)
     (λ name there. inr there) (visits_in older) (stand_in older))
     (inl (refl, refl, tt))
@@ -55,17 +57,12 @@ stand_in (Visited k q o ∷ older) = all_end
 abbrev NamesRise : VisitName → VisitName → Type 0
 NamesRise earlier later = earlier.packet ≡ later.packet → earlier.server < later.server
 
-each_end : {A : Type 0} (R : A → A → Type 0) (xs : List A) (y : A) → EachLater R xs → AllByRecursion (λ x. R x y) xs →
-    EachLater R (xs ++ y ∷ [])
-each_end R [] y each all = (tt, tt)
-each_end R (x ∷ xs) y each all = (all_end (R x) xs y each.0 all.0, each_end R xs y each.1 all.1)
-
 names_rise : (c : Setting) (trace : List Entry) → IsSerial c trace → EachLater NamesRise (visits_in trace)
 names_rise c [] is = tt
 names_rise c (Given p b ∷ older) is = names_rise c older is.1
-names_rise c (Visited k q o ∷ older) is = each_end NamesRise (visits_in older) (record { server = k; packet = q })
+names_rise c (Visited k q o ∷ older) is = each_push NamesRise (visits_in older) (record { server = k; packet = q })
     (names_rise c older is.1)
-    (all_to (λ (name : VisitName). IsSomeVisit older name.server name.packet)
+    (all-weaker (λ (name : VisitName). IsSomeVisit older name.server name.packet)
     (λ (name : VisitName). NamesRise name (record { server = k; packet = q }))
     (λ name there same. visited_earlier c older k q is.0.0 is.1 is.0.1 name.server
     (subst (λ p. IsSomeVisit older name.server p) same there)) (visits_in older) (stand_in older))
@@ -98,10 +95,6 @@ made_stand trace visits names = all_unmap
     (stand_in trace))
 
 -- the trace without some visits
-append_none : {A : Type 0} (xs : List A) → xs ++ [] ≡ xs
-append_none [] = refl
-append_none (x ∷ xs) = ap (λ l. x ∷ l) (append_none xs)
-
 pub left_visits : (gone : Visits) (trace : List Entry) →
     visits_in (left_of gone trace) ≡ filter (λ (name : VisitName). not (gone name.server name.packet))
     (visits_in trace)
@@ -112,7 +105,7 @@ left_visits gone (Visited k q o ∷ older) =
     ≡ filter (λ (name : VisitName). not (gone name.server name.packet)) (visits_in older) ++ cond (not b)
     (record { server = k; packet = q } ∷ []) []) [
       | true ↦ left_visits gone older ∙ sym
-          (append_none (filter (λ (name : VisitName). not (gone name.server name.packet)) (visits_in older)))
+          (append-nil (filter (λ (name : VisitName). not (gone name.server name.packet)) (visits_in older)))
       | false ↦ ap (λ (l : List VisitName). l ++ record { server = k; packet = q } ∷ []) (left_visits gone older)
     ]
     ∙ sym (filter_joined (λ (name : VisitName). not (gone name.server name.packet)) (visits_in older)

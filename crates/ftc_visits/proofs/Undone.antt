@@ -1,6 +1,7 @@
 -- The visits that are found are those that a recovery undoes.
 use Rattle.std.proofs.Common.{◌≡◌, ℕ, ◌<◌, ◌≤◌, ◌↔◌, Bool, true, false, List, filter, sym, ap, subst, ◌∙◌}
 use Rattle.ftc_base.specs.declared.limits.TheConstants.{MOST_PARTITIONS}
+use Rattle.ftc_base.proofs.EachOf.{all-weaker}
 use Rattle.ftc_journal.specs.declared.event.VisitName.{VisitName}
 use Rattle.ftc_ring.specs.Live.{IsBetween}
 use Rattle.ftc_serial.proofs.Functions.{any_of_all}
@@ -22,7 +23,7 @@ use Rattle.ftc_visits.specs.declared.visit.MadeVisit.{MadeVisit}
 use Rattle.ftc_visits.specs.Made.{name_of, IsMadeIn, AreMade}
 use Rattle.ftc_visits.specs.Undoing.{is_undone_alone, undone_from}
 use Rattle.ftc_visits.proofs.Alone.{VectorsSay, CoversSay, IsUndoneAlone, alone_says, says_alone}
-use Rattle.ftc_visits.proofs.Lists.{all_to, any_to}
+use Rattle.ftc_visits.proofs.Lists.{any_to}
 use Rattle.ftc_visits.proofs.Needs.{made_stands}
 use Rattle.ftc_visits.proofs.Trace.{made_rise, made_of}
 use Rattle.ftc_visits.proofs.Passing.{Undoes, undone_filter}
@@ -106,7 +107,7 @@ module _ (setting : Setting) (state : ChainState) (server : ℕ) (trace : IsTrac
     found_filter : undone_from alone (λ packet. false) visits ≡ filter is_named (visits_in state.trace)
     found_filter =
         undone_filter alone is_named visits
-        (all_to Made (λ visit. (is_named (name_of visit) ≡ true) ↔ AnyOf (Undoes alone is_named visit) visits)
+        (all-weaker Made (λ visit. (is_named (name_of visit) ≡ true) ↔ AnyOf (Undoes alone is_named visit) visits)
         (λ visit made. (named_some visit, some_named visit made)) visits are.each)
         (made_rise setting state.trace visits serial are.names)
         ∙ ap (filter is_named) are.names

@@ -4,12 +4,13 @@ use Rattle.std.proofs.Common.{ap, subst, arith, length-append}
 use Rattle.std.specs.Prelude.{◌&&◌, nat_le, nat_lt, codes}
 use Rattle.std.specs.Str.{bytes_eq}
 use Rattle.std.proofs.lemmas.Bool.Decides.{nat_tests}
+use Rattle.std.proofs.lemmas.Bool.{and_parts}
 use Rattle.ftc_base.specs.Reading.{◌>>=◌, ◌>>◌, unless}
 use Rattle.ftc_base.specs.Endpoint.{parts_of}
 use Rattle.ftc_base.specs.Sets.{has}
 use Rattle.ftc_base.specs.declared.limits.TheConstants.{MOST_SERVERS}
 use Rattle.ftc_base.proofs.Members.{has-zero}
-use Rattle.ftc_base.proofs.Separated as tests
+use Rattle.ftc_base.proofs.Results.{both_ok}
 use Rattle.ftc_ring.specs.Ring.{RingShape, IsRing}
 use Rattle.ftc_watch.specs.declared.limits.TheConstants.{MOST_BEATS}
 use Rattle.ftc_watch.specs.declared.tick.Tick.{Tick}
@@ -27,12 +28,6 @@ use Rattle.ftc_watch.proofs.Ticks.{ticks_push}
 passed : {F : Type 0} (b : Bool) (fault : F) (v : Unit {0}) → unless b fault ≡ Ok v → b ≡ true
 passed true fault v e = refl
 passed false fault v e = absurd cc
-
--- where two tests were passed, each was
-both : {A B F : Type 0} (first : Result A F) (next : A → Result B F) (b : B) → (first >>= next) ≡ Ok b
-    → (a : A) × (first ≡ Ok a) × (next a ≡ Ok b)
-both (Ok a) next b e = (a, refl, e)
-both (Err fault) next b e = absurd cc
 
 both_of : {A B F : Type 0} (first : Result A F) (next : Result B F) (b : B) → (first >> next) ≡ Ok b
     → (a : A) × (first ≡ Ok a) × (next ≡ Ok b)
@@ -55,7 +50,7 @@ tick_in_accepts servers packets last (at ∷ numbers) tick small e =
     let three = both_of below entered two.0 two.1 in
     let within : are_below servers numbers ≡ true = passed (are_below servers numbers) Range three.0 three.1 in
     let few : nat_le at packets ≡ true = passed (nat_le at packets) Past two.0 three.2 in
-    let rising = tests.both (nat_le last at) (rises_from 0 numbers)
+    let rising = and_parts (nat_le last at) (rises_from 0 numbers)
     (passed (nat_le last at && rises_from 0 numbers) Order one.0 two.2) in
     let same : told ≡ tick = cc one.2 in
     subst (IsTick servers packets last) same (record {
@@ -68,7 +63,7 @@ tick_of_accepts : (servers packets last : ℕ) (words : List (List ℕ)) (tick :
     → tick_of servers packets last words ≡ Ok tick → IsTick servers packets last tick
 tick_of_accepts servers packets last [] tick small e = absurd cc
 tick_of_accepts servers packets last (first ∷ words) tick small e =
-    let one = both (unless (bytes_eq first (codes "tick")) Word >> numbers_from [] words)
+    let one = both_ok (unless (bytes_eq first (codes "tick")) Word >> numbers_from [] words)
     (λ numbers. tick_in servers packets last numbers) tick e in
     tick_in_accepts servers packets last one.0 tick small one.2
 
@@ -76,7 +71,7 @@ line_accepts : (servers packets : ℕ) (ticks : List Tick) (line : List ℕ) (ne
     → AreTicks servers packets 0 ticks → with_line servers packets ticks line ≡ Ok next
     → AreTicks servers packets 0 next × (length next ≤ MOST_BEATS)
 line_accepts servers packets ticks line next small are e =
-    let one = both (room ticks >> tick_of servers packets (latest_of 0 ticks) (parts_of 32 line))
+    let one = both_ok (room ticks >> tick_of servers packets (latest_of 0 ticks) (parts_of 32 line))
     (λ tick. Ok (ticks ++ tick ∷ [])) next e in
     let two = both_of (room ticks) (tick_of servers packets (latest_of 0 ticks) (parts_of 32 line)) one.0 one.1 in
     let few : nat_lt (length ticks) MOST_BEATS ≡ true = passed (nat_lt (length ticks) MOST_BEATS) TooMany two.0 two.1 in
@@ -135,7 +130,7 @@ ticks_accepts ring packets text ticks shape e =
 pub text_accepts : (ring : RingShape) (packets : ℕ) (text : List ℕ) (beats : BeatsShape) → IsRing ring
     → beats_of ring packets text ≡ Ok beats → IsBeats beats × (beats.ring ≡ ring) × (beats.packets ≡ packets)
 text_accepts ring packets text beats shape e =
-    let one = both (ticks_of ring.servers packets text) (λ ticks. Ok
+    let one = both_ok (ticks_of ring.servers packets text) (λ ticks. Ok
     (record { ring = ring; packets = packets; ticks = ticks })) beats e in
     let told : BeatsShape = record { ring = ring; packets = packets; ticks = one.0 } in
     let same : told ≡ beats = cc one.2 in

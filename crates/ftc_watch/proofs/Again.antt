@@ -7,11 +7,10 @@ use Rattle.std.proofs.lemmas.Bool.Decides.{nat_tests}
 use Rattle.ftc_base.specs.Reading.{◌>>=◌, ◌>>◌, unless}
 use Rattle.ftc_base.specs.Endpoint.{parts_of}
 use Rattle.ftc_base.specs.Sets.{has}
-use Rattle.ftc_base.specs.declared.limits.TheConstants.{MOST_MEMBERS, MOST_SERVERS}
+use Rattle.ftc_base.specs.declared.limits.TheConstants.{MOST_MEMBERS, MOST_SERVERS, MOST_NUMBER}
 use Rattle.ftc_base.proofs.Members.{has-zero, same}
 use Rattle.ftc_base.proofs.Separated.{Without, written, parts_of-part, parts_of-join, without-join}
 use Rattle.ftc_base.proofs.Decimals.{number_of-decimal, without_decimal}
-use Rattle.ftc_script.specs.declared.limits.TheConstants.{MOST_NUMBER}
 use Rattle.ftc_watch.specs.declared.limits.TheConstants.{MOST_BEATS}
 use Rattle.ftc_watch.specs.declared.tick.Tick.{Tick}
 use Rattle.ftc_watch.specs.declared.fault.BeatsCause.{BeatsCause}
@@ -23,10 +22,7 @@ use Rattle.ftc_watch.specs.Grammar.{header, number_word, numbers_from, tick_in, 
 use Rattle.ftc_watch.specs.Grammar.{placed, ticks_from, ticks_in, ticks_of, beats_of}
 use Rattle.ftc_watch.proofs.Sets.{has-with_member}
 use Rattle.ftc_watch.proofs.Reading.{one_line, begun}
-
-either_way : {A : Type 0} (b : Bool) → (b ≡ true → A) → (b ≡ false → A) → A
-either_way true is other = is refl
-either_way false is other = other refl
+use Rattle.ftc_watch.proofs.TickLines.{either_way}
 
 -- the members of a set from one number on
 abbrev from_on : ℕ → ℕ → ℕ → List ℕ

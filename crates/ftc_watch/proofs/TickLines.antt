@@ -40,7 +40,7 @@ recover_down at w server e = rw e refl
 other_than : (live : ℕ → Bool) (server j : ℕ) → server + 1 ≤ j → with_at live server true j ≡ live j
 other_than live server j above = let other : (j == server) ≡ false = grind (arith, nat_tests) in rw other refl
 
-either_way : {A : Type 0} (b : Bool) → (b ≡ true → A) → (b ≡ false → A) → A
+pub either_way : {A : Type 0} (b : Bool) → (b ≡ true → A) → (b ≡ false → A) → A
 either_way true is other = is refl
 either_way false is other = other refl
 

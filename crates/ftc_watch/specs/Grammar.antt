@@ -5,7 +5,7 @@ use Rattle.ftc_base.specs.Reading.{◌>>=◌, ◌>>◌, unless}
 use Rattle.ftc_base.specs.Number.{number_of}
 use Rattle.ftc_base.specs.Endpoint.{parts_of}
 use Rattle.ftc_base.specs.declared.lexer.Lexical.{Lexical}
-use Rattle.ftc_script.specs.declared.limits.TheConstants.{MOST_NUMBER}
+use Rattle.ftc_base.specs.declared.limits.TheConstants.{MOST_NUMBER}
 use Rattle.ftc_ring.specs.Ring.{RingShape}
 use Rattle.ftc_watch.specs.declared.limits.TheConstants.{MOST_BEATS}
 use Rattle.ftc_watch.specs.declared.tick.Tick.{Tick}

@@ -5,7 +5,7 @@ ghost use Rattle.std.specs.List.{AllByRecursion};
 ghost use Rattle.ftc_base.specs.Sets.{has};
 ghost use Rattle.ftc_ring.specs.Ring.{RingShape, IsRing};
 ghost use Rattle.ftc_ring.specs.Live.{IsDown, IsAdmissible};
-ghost use Rattle.ftc_script.specs.declared.limits.TheConstants.{MOST_NUMBER};
+ghost use Rattle.ftc_base.specs.declared.limits.TheConstants.{MOST_NUMBER};
 ghost use Rattle.ftc_script.specs.declared.statement.Statement.TheVariants.{Crash, Recover};
 ghost use Rattle.ftc_script.specs.Steps.{with_at};
 ghost use Rattle.ftc_script.specs.Script.{ScriptShape, IsScript};

@@ -10,8 +10,8 @@ ghost use Rattle.ftc_watch.specs.Grammar.{header, number_word, numbers_from, tic
 use crate::fault::BeatsCause;
 use crate::members::{are_below, rises, set_of};
 use crate::tick::Tick;
+use ftc_base::limits::MOST_NUMBER;
 use ftc_base::{Items, PacketNo, Refuse, number, split_part};
-use ftc_script::limits::MOST_NUMBER;
 use std::alloc::Global;
 
 /// Whether a line is the header's.

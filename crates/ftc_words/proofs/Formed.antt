@@ -4,6 +4,7 @@ use Rattle.std.proofs.Common.{Some, None, codes, subst, if◌then◌else◌, len
 use Rattle.std.specs.Prelude.{option_and_then, nat_lt, ◌++◌, is_some}
 use Rattle.std.specs.Str.{bytes_eq}
 use Rattle.std.proofs.lemmas.Slice.Eq.{bytes_eq-Decides}
+use Rattle.ftc_base.proofs.Bools.{and_one}
 use Rattle.ftc_words.specs.Given.{Awaited, any, workers, schedule, server, file, Given, is_name, given_from, given_in}
 use Rattle.ftc_words.specs.Form.{has_form, is_formed, others_from, handed}
 use Rattle.ftc_words.specs.Command.{command_of}
@@ -48,10 +49,6 @@ Forms words = (awaited : Awaited) (worked scheduled : Option Text) (moved : Opti
 
 nothing : {A : Type 0} {a : A} → None ≡ Some a → ⊥
 nothing h = absurd (cc)
-
-left : (a b : Bool) → (a && b) ≡ true → a ≡ true
-left true b is = refl
-left false b is = cc
 
 ended : Forms []
 ended any worked scheduled moved plain sorted h = refl
@@ -99,7 +96,7 @@ plain_word word words more worked scheduled moved plain sorted one two three h =
         three,
         one,
         two,
-        left (is_name word) (nat_lt (length plain) 6) is,
+        and_one (is_name word) (nat_lt (length plain) 6) is,
       )
           (more any worked scheduled moved (plain ++ word ∷ []) sorted more_taken)
       | false ↦ λ _ none. absurd (nothing none)

@@ -4,6 +4,7 @@ use Rattle.std.proofs.Common.{if◌then◌else◌}
 use Rattle.std.specs.Prelude.{option_and_then, option_map}
 use Rattle.std.specs.List.{list_all}
 use Rattle.std.specs.Str.{bytes_eq}
+use Rattle.std.proofs.lemmas.Bool.{and_parts, and_from}
 use Rattle.ftc_words.specs.Given.{is_name}
 use Rattle.ftc_words.specs.Command.{Named, Mode, Command, run, check, Place, name, number, Read, with_name, with_number}
 use Rattle.ftc_words.specs.Command.{number_in, read_at, names_of, is_plain, Form, run_form, check_form, make_form}
@@ -13,14 +14,6 @@ use Rattle.ftc_words.specs.Command.{of_word}
 abbrev Names : List (List ℕ) → Type 0
 Names words = list_all is_name words ≡ true
 
-both : (a b : Bool) → (a && b) ≡ true → (a ≡ true) × (b ≡ true)
-both true b is = (refl, is)
-both false b is = cc
-
-together : (a b : Bool) → a ≡ true → b ≡ true → (a && b) ≡ true
-together true b is also = also
-together false b is also = cc
-
 -- the words at the places of names are names
 abbrev AreNamed : Option Read → Type 0
 AreNamed None = Unit {0}
@@ -29,7 +22,7 @@ AreNamed (Some read) = Names read.names
 with_one : (w : List ℕ) (read : Option Read) → is_name w ≡ true → AreNamed read
     → AreNamed (option_map (with_name w) read)
 with_one w None is are = tt
-with_one w (Some read) is are = together (is_name w) (list_all is_name read.names) is are
+with_one w (Some read) is are = and_from (is_name w) (list_all is_name read.names) is are
 
 with_value : (n : ℕ) (read : Option Read) → AreNamed read → AreNamed (option_map (with_number n) read)
 with_value n None are = tt
@@ -45,10 +38,11 @@ read_named [] [] are = refl
 read_named [] (w ∷ ws) are = tt
 read_named (p ∷ ps) [] are = tt
 read_named (name ∷ ps) (w ∷ ws) are =
-    let parts = both (is_name w) (list_all is_name ws) are in
+    let parts = and_parts (is_name w) (list_all is_name ws) are in
     with_one w (read_at ps ws) parts.0 (read_named ps ws parts.1)
 read_named (number least most ∷ ps) (w ∷ ws) are =
-    if_number (number_in least most w) (read_at ps ws) (read_named ps ws (both (is_name w) (list_all is_name ws) are).1)
+    if_number (number_in least most w) (read_at ps ws)
+    (read_named ps ws (and_parts (is_name w) (list_all is_name ws) are).1)
 
 -- a command is given the names that were read
 abbrev pub AreGiven : Option Command → Type 0

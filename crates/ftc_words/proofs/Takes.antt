@@ -10,6 +10,8 @@ use Rattle.clap.specs.Simple.{Shape, built}
 use Rattle.clap.specs.Takes.{built_takes, settle_passes, turn_passes, walk_passes}
 use Rattle.clap.specs.declared.builder.ArgAction.TheVariants.{Append}
 use Rattle.clap.proofs.OnLiterals.{clap_on_literals}
+use Rattle.std.proofs.lemmas.Bool.{not-true, and_from}
+use Rattle.ftc_base.proofs.Bools.{and_one, and_other}
 use Rattle.ftc_words.specs.Form.{has_form, is_formed}
 
 abbrev pub workers : Rule
@@ -61,22 +63,6 @@ settles rows None = refl
 settles rows (Some (of_workers, v)) = refl
 settles rows (Some (of_alone, v)) = refl
 settles rows (Some (of_names, v)) = refl
-
-not_true : (b : Bool) → not b ≡ true → b ≡ false
-not_true true is = cc
-not_true false is = refl
-
-left : (a b : Bool) → (a && b) ≡ true → a ≡ true
-left true b is = refl
-left false b is = cc
-
-right : (a b : Bool) → (a && b) ≡ true → b ≡ true
-right true b is = is
-right false b is = cc
-
-all_of : (a b : Bool) → a ≡ true → b ≡ true → (a && b) ≡ true
-all_of true b one other = other
-all_of false b one other = cc
 
 -- where a walk stands: behind a name or a value, or behind an option
 data State : Type 0 where
@@ -161,15 +147,15 @@ Good k words = (walk_passes top [] k words ≡ true) × Settled (fold (walked to
 step : (k next : Walk) (word : Text) (words : List Text) → Turns k word next → Good next words → Good k (word ∷ words)
 unfolding walk_passes
 step k next word words turns good = (
-  all_of _ _ turns.0 (subst (λ (w : Walk). walk_passes top [] w words ≡ true) (sym turns.1) good.0),
+  and_from _ _ turns.0 (subst (λ (w : Walk). walk_passes top [] w words ≡ true) (sym turns.1) good.0),
   subst (λ (w : Walk). Settled (fold (walked top.rules []) w words)) (sym turns.1) good.1,
 )
 
 pick : (x y l r n c d e : Bool) → (if x then not l && c else (if y then not r && d else n && e)) ≡ true
     → ((x ≡ true) × (c ≡ true)) ⊎ (((y ≡ true) × (d ≡ true)) ⊎ ((n ≡ true) × (e ≡ true)))
-pick true y l r n c d e is = inl (refl, right (not l) c is)
-pick false true l r n c d e is = inr (inl (refl, right (not r) d is))
-pick false false l r n c d e is = inr (inr (left n e is, right n e is))
+pick true y l r n c d e is = inl (refl, and_other (not l) c is)
+pick false true l r n c d e is = inr (inl (refl, and_other (not r) d is))
+pick false false l r n c d e is = inr (inr (and_one n e is, and_other n e is))
 
 goes : (words : List Text) (s : State) (workers-seen alone-seen : Bool) →
     is_formed (awaits s) workers-seen alone-seen words ≡ true → Good (walk_of s) words
@@ -179,10 +165,11 @@ goes [] (ready rows p false) w a is = (refl, (refl, settles rows p))
 goes [] (await rows o) w a is = cc
 goes ([] ∷ words) (await rows o) w a is = cc
 goes ((b ∷ bs) ∷ words) (await rows o) w a is =
-    let differs = not_true (b == 45) (left (not (b == 45)) (is_formed false w a words) is) in
+    let differs = not-true (b == 45) (and_one (not (b == 45)) (is_formed false w a words) is) in
     step (walk_of (await rows o)) (walk_of (ready rows (Some (chosen o, b ∷ bs)) false)) (b
     ∷ bs) words (value_turns rows o b bs differs)
-    (goes words (ready rows (Some (chosen o, b ∷ bs)) false) w a (right (not (b == 45)) (is_formed false w a words) is))
+    (goes words (ready rows (Some (chosen o, b ∷ bs)) false) w a
+    (and_other (not (b == 45)) (is_formed false w a words) is))
 goes ([] ∷ words) (ready rows p named) w a is = cc
 goes ((b ∷ bs) ∷ words) (ready rows p named) w a is =
     let now : List Row = settled_rows top.rules (pending_of p) rows in
@@ -197,7 +184,7 @@ goes ((b ∷ bs) ∷ words) (ready rows p named) w a is =
             subst (λ (word : Text). Good (at rows (pending_of p) (wait named)) (word ∷ words)) (sym same)
             (step (at rows (pending_of p) (wait named)) (walk_of (await now false)) (word_of false) words
             (option_turns rows p named false) (goes words (await now false) w true h.1))
-        | inr h ↦ let differs = not_true (b == 45) h.0 in
+        | inr h ↦ let differs = not-true (b == 45) h.0 in
             step (at rows (pending_of p) (wait named)) (walk_of (ready now (Some (of_names, b ∷ bs)) true)) (b
             ∷ bs) words (name_turns rows p named b bs differs)
             (goes words (ready now (Some (of_names, b ∷ bs)) true) w a h.1)

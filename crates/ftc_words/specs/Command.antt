@@ -4,7 +4,7 @@ use Rattle.std.specs.Prelude.{None, Ok, Err, codes, if◌then◌else◌, option_
 use Rattle.std.specs.List.{list_any}
 use Rattle.std.specs.Str.{bytes_eq}
 use Rattle.ftc_base.specs.Number.{number_of}
-use Rattle.ftc_base.specs.declared.limits.TheConstants.{MOST_RECORDS, MOST_SERVERS, MOST_THREADS}
+use Rattle.ftc_base.specs.declared.limits.TheConstants.{MOST_NUMBER, MOST_RECORDS, MOST_SERVERS, MOST_THREADS}
 use Rattle.ftc_words.specs.Given.{Given, given_in}
 use Rattle.ftc_words.specs.declared.limits.TheConstants.{MOST_MISSED}
 
@@ -142,7 +142,7 @@ check_form = record { word = codes "check"; places = six_names; has_options = fa
 abbrev pub make_form : Form
 make_form = record {
   word = codes "make";
-  places = number 1 MOST_RECORDS ∷ number 0 4294967295 ∷ name ∷ [];
+  places = number 1 MOST_RECORDS ∷ number 0 MOST_NUMBER ∷ name ∷ [];
   has_options = false;
   made = make_made;
 }
@@ -194,7 +194,7 @@ AreWorkers other = Unit {0}
 -- its numbers lie in their bounds
 abbrev pub IsWithin : Command → Type 0
 IsWithin (run names mode) = AreWorkers mode
-IsWithin (make packets seed capture) = (1 ≤ packets) × (packets ≤ MOST_RECORDS) × (seed ≤ 4294967295)
+IsWithin (make packets seed capture) = (1 ≤ packets) × (packets ≤ MOST_RECORDS) × (seed ≤ MOST_NUMBER)
 IsWithin (ports chain capture journal server) = server < MOST_SERVERS
 IsWithin (watch limit chain capture beats script) = (1 ≤ limit) × (limit ≤ MOST_MISSED)
 IsWithin other = Unit {0}

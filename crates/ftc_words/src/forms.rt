@@ -12,7 +12,7 @@ ghost use Rattle.ftc_words.specs.Command.{forms, spelled, six_of, files_of, name
 use crate::command::{Command, Mode, Move, Names};
 use crate::limits::MOST_MISSED;
 use crate::sorting::{Sorted, sort};
-use ftc_base::limits::{MOST_RECORDS, MOST_SERVERS, MOST_THREADS};
+use ftc_base::limits::{MOST_NUMBER, MOST_RECORDS, MOST_SERVERS, MOST_THREADS};
 use ftc_base::number;
 
 /// The number that the word spells, where it lies there.
@@ -185,7 +185,7 @@ fn make_of<'a>(words: &[&'a str]) -> Option<Command<'a>>
         return None;
     };
     let packets = number_in(*packets, 1, MOST_RECORDS as u32)?;
-    let seed = number_in(*seed, 0, u32::MAX)?;
+    let seed = number_in(*seed, 0, MOST_NUMBER)?;
     let capture = *capture;
     Some(Command::Make {
         packets,

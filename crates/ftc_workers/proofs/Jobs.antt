@@ -2,6 +2,7 @@
 use Rattle.std.proofs.Common.{◌≡◌, Bool, true, false, not, refl}
 use Rattle.std.proofs.Math.Logic.{∥∥₁_map, ∥∥₁_elim}
 use Rattle.std.specs.Coded.{Coded-set, coded_bool}
+use Rattle.std.proofs.lemmas.Bool.{not-true}
 use Rattle.ftc_journal.specs.declared.job.Job.{Job}
 use Rattle.ftc_journal.specs.declared.job.Job.TheVariants as job
 use Rattle.ftc_jobs.specs.All.{IsUntaken}
@@ -34,14 +35,10 @@ may_first run done free first = record {
   untaken = untaken_step run done free;
 }
 
-not_so : (b : Bool) → not b ≡ true → b ≡ false
-not_so true is = absurd cc
-not_so false is = refl
-
 -- a wanted job is nobody's
 untaken_wanted : (run : ChainRun) (visits : Bool) (done : Job) → is_sought visits (is_running_at run) done ≡ true →
     IsUntaken (is_running_at run) done
-untaken_wanted run true (job.Visit server packet) wanted = not_so (is_running_at run server packet) wanted
+untaken_wanted run true (job.Visit server packet) wanted = not-true (is_running_at run server packet) wanted
 untaken_wanted run false (job.Visit server packet) wanted = absurd cc
 untaken_wanted run visits (job.Enter packet) wanted = tt
 untaken_wanted run visits (job.Take link origin) wanted = tt
@@ -69,4 +66,4 @@ may_wanted run visits done is = record {
 -- what is wanted where visits aren't is no visit
 pub other_wanted : (run : ChainRun) (done : Job) →
     ∥ IsWanted false (is_running_at run) (setting_in run) (chain_state run) done ∥₁ → is_visit done ≡ false
-other_wanted run done is = not_so (is_visit done) (is_so run false done is)
+other_wanted run done is = not-true (is_visit done) (is_so run false done is)

@@ -18,6 +18,7 @@ use Rattle.ftc_chain.specs.Slots.{IsButHeads, CommitsAt, ReadsAt}
 use Rattle.ftc_txn.specs.Head.{HeadState}
 use Rattle.ftc_txn.specs.declared.answers.ReadAnswer.{ReadAnswer}
 use Rattle.ftc_txn.specs.declared.answers.ReadAnswer.TheVariants as read
+use Rattle.ftc_alone.proofs.IdleRuns.{same_but}
 use Rattle.ftc_workers.specs.Given.{given_of, HasGone, made_by}
 use Rattle.ftc_workers.specs.Visits.{visits, visits_of}
 use Rattle.ftc_workers.proofs.Counts.{visits_append, releases_count, step_counts}
@@ -43,11 +44,6 @@ heads_rest old new is =
 same_rest : (old new : ChainRun) → new ≡ old → IsRest old new
 same_rest old new same =
     same ∙ ap (λ (run : ChainRun). record old { journal = run.journal; heads = run.heads }) (sym same)
-
-same_but : (old new : ChainRun) → new ≡ old → IsButHeads old new
-same_but old new same =
-    same ∙ ap (λ (heads : List (Option HeadState)). record old { heads = heads })
-    (ap (λ (run : ChainRun). run.heads) (sym same))
 
 pub gone_but_heads : (old new : ChainRun) → IsButHeads old new → HasGone 0 old new
 gone_but_heads old new is =

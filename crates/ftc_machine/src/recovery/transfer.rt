@@ -8,7 +8,6 @@ ghost use Rattle.ftc_machine.specs.RecoveryEffect.{got_vector, tail_added, both_
 
 use crate::state::MachineState;
 use ftc_base::ServerId;
-use ftc_ring::apart;
 use ftc_vector::GroupVectors;
 
 impl MachineState {
@@ -26,8 +25,7 @@ impl MachineState {
         ensures same { result ≡ source_between self.now.ring.servers previous following group server }
         ensures within { result < self.now.ring.servers }
     {
-        let servers = self.ring.servers();
-        if apart(servers, previous, server) <= apart(servers, group, server) {
+        if self.ring.is_from_before(previous, group, server) {
             previous
         } else {
             following

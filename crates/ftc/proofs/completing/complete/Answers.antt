@@ -1,7 +1,8 @@
 use Rattle.std.proofs.Common.{◌++◌, List, map, length, drop, rules}
 use Rattle.ftc_base.specs.declared.released.Released.{Released}
+use Rattle.ftc_base.proofs.Results.{on_ok_map}
 use Rattle.ftc_stream.specs.Records.{writable, records}
-use Rattle.ftc.proofs.CompleteLemmas.{rest_is, completed, told_the_rest, told_anew, on_ok_more}
+use Rattle.ftc.proofs.CompleteLemmas.{rest_is, completed, told_the_rest, told_anew}
 use Rattle.ftc.proofs.completing.complete.Goals as goal
 
 pub returns-then-not-are_first-clause-told : goal.returns-then-not-are_first-clause-told
@@ -11,7 +12,7 @@ returns-then-not-are_first-clause-told g c =
       tap.vtable,
       tap.value,
     )).face tap.value) c.write_released.new.taps.list.items in
-    on_ok_more c.write_released.result _ _
+    on_ok_map c.write_released.result _ _
     (told_anew (writable c.args.capture.now c.args.put.now) c.args.released.now taps left) c.write_released.ensures.told
 
 pub returns-clause-written : goal.returns-clause-written

@@ -2,8 +2,9 @@ use Rattle.std.proofs.Common.{◌++◌, ◌∙◌, List, ℕ, refl, length, rule
 use Rattle.std.specs.List.{flat_map}
 use Rattle.std.proofs.lemmas.Option.{slice_get_read}
 use Rattle.std.proofs.lemmas.Result.{on_err_weaker}
+use Rattle.ftc_base.proofs.Results.{on_any_err}
 use Rattle.ftc_report.specs.Output.{released_record}
-use Rattle.ftc.proofs.OutLemmas.{may_hold, whole_is, has_front, next_is, on_err, absent_at_first}
+use Rattle.ftc.proofs.OutLemmas.{may_hold, whole_is, has_front, next_is, absent_at_first}
 use Rattle.ftc.proofs.output.append_records.Goals as goal
 
 pub returns-in_err-flush_long-clause-refused : goal.returns-in_err-flush_long-clause-refused
@@ -14,7 +15,7 @@ returns-in_err-flush_long-clause-refused g c = λ t held was.
     let front = held ++ c.args.first in
     let (before, is, sum) = sofar.written t held was in
     let whole = whole_is record_of items c.loop-packet.packet-index front before c.loop-packet.piece sum in
-    on_err c.from_residual.result _
+    on_any_err c.from_residual.result _
     (may_hold (g.D.Desk.file c.args.desk.now c.args.name.now) _ _ before c.loop-packet.piece
     (flat_map record_of (drop c.loop-packet.packet-index items)) (front ++ flat_map record_of items) is whole
     (c.in_err-flush_long.ensures.refused (sofar.tells t)))
@@ -28,7 +29,7 @@ returns-in_err-add_record-clause-refused g c = λ t held was.
     let (before, is, sum) = sofar.written t held was in
     let (after, now, same) = c.in_ok-flush_long.ensures.moved (sofar.tells t) before is in
     let whole = whole_is record_of items c.loop-packet.packet-index front after c.flush_long.new.piece (same ∙ sum) in
-    on_err c.from_residual-in_err-add_record.result _
+    on_any_err c.from_residual-in_err-add_record.result _
     (has_front (g.D.Desk.file c.args.desk.now c.args.name.now) _ after _ (front ++ flat_map record_of items) now whole)
 
 pub loop-packet-preserved : goal.loop-packet-preserved

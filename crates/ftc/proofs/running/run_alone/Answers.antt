@@ -1,14 +1,13 @@
 use Rattle.std.proofs.Common.{inl, inr, refl, map}
+use Rattle.ftc_base.proofs.Results.{on_any_err, on_err_map}
 use Rattle.ftc_serial.specs.Held.{serial_state}
 use Rattle.ftc_words.specs.Shown.{named_of}
 use Rattle.ftc.specs.Done.{IsDriven, AreToldAll}
-use Rattle.ftc.proofs.OutLemmas.{on_err}
-use Rattle.ftc.proofs.WriteLemmas.{on_err_more}
 use Rattle.ftc.proofs.RunLemmas.{on_ok_both, err_of, out_begun, has_written, has_begun}
 use Rattle.ftc.proofs.running.run_alone.Goals as goal
 
 pub returns-in_err-driven-clause-refused : goal.returns-in_err-driven-clause-refused
-returns-in_err-driven-clause-refused g c = λ t. on_err c.from_residual.result _ (inl (λ name. refl))
+returns-in_err-driven-clause-refused g c = λ t. on_any_err c.from_residual.result _ (inl (λ name. refl))
 
 pub returns-in_err-write_released-clause-failed : goal.returns-in_err-write_released-clause-failed
 returns-in_err-write_released-clause-failed g c = λ t failed.
@@ -33,7 +32,7 @@ returns-in_err-write_released-clause-refused g c = λ t.
       tap.vtable,
       tap.value,
     )).face tap.value) c.write_released.new.taps.list.items in
-    on_err c.from_residual-in_err-write_released.result _ (inr (
+    on_any_err c.from_residual-in_err-write_released.result _ (inr (
     out_begun (named_of c.args.names) c.requires.apart.written texts.spec texts.capture texts.script
     (IsDriven texts.spec texts.capture texts.script texts.schedule.items) driven.chain.journal
     (serial_state driven.serial)
@@ -89,7 +88,7 @@ returns-clause-refused g c = λ t.
       tap.vtable,
       tap.value,
     )).face tap.value) c.write_released.new.taps.list.items in
-    on_err_more c.write_texts.result _ _ (λ cut. inr (
+    on_err_map c.write_texts.result _ _ (λ cut. inr (
     has_begun (named_of c.args.names) c.requires.apart.written texts.spec texts.capture texts.script
     (IsDriven texts.spec texts.capture texts.script texts.schedule.items) driven.chain.journal
     (serial_state driven.serial)

@@ -1,16 +1,15 @@
 use Rattle.std.proofs.Common.{inl, inr, map, rules}
+use Rattle.ftc_base.proofs.Results.{on_any_err, on_err_map}
 use Rattle.ftc_outside.specs.Desk.{Files}
 use Rattle.ftc_stream.specs.Records.{records}
 use Rattle.ftc.specs.Done.{IsAny, AreToldAtLast}
-use Rattle.ftc.proofs.OutLemmas.{on_err}
-use Rattle.ftc.proofs.WriteLemmas.{on_err_more}
 use Rattle.ftc.proofs.RunLemmas.{on_ok_both, grown_file, not_absent, others_on, completed, elsewhere, has_written}
 use Rattle.ftc.proofs.RunLemmas.{has_begun}
 use Rattle.ftc.proofs.running.run_by_workers.Goals as goal
 
 pub returns-in_err-write_front-clause-refused : goal.returns-in_err-write_front-clause-refused
 returns-in_err-write_front-clause-refused g c = λ t.
-    on_err c.from_residual.result _ (inl (elsewhere c.args.names.out.now (g.D.Desk.file c.args.desk.now)
+    on_any_err c.from_residual.result _ (inl (elsewhere c.args.names.out.now (g.D.Desk.file c.args.desk.now)
     (g.D.Desk.file c.write_front.new.desk) (c.write_front.ensures.others t)))
 
 pub returns-in_err-worked-clause-refused : goal.returns-in_err-worked-clause-refused
@@ -20,7 +19,7 @@ returns-in_err-worked-clause-refused g c = λ t.
     let mid : Files = g.D.Desk.file c.write_front.new.desk in
     let new : Files = g.D.Desk.file c.work.new.desk in
     let first = c.write_front.ensures.served.tells_on t in
-    on_err c.from_residual-in_err-worked.result _
+    on_any_err c.from_residual-in_err-worked.result _
     (inl (elsewhere out old new
     (others_on out old mid new (c.write_front.ensures.others t) (c.work.ensures.others first))))
 
@@ -40,7 +39,7 @@ returns-in_err-complete-clause-refused g c = λ t.
     let new : Files = g.D.Desk.file c.complete.new.desk in
     let first = c.write_front.ensures.served.tells_on t in
     let second = c.work.ensures.served.tells_on first in
-    on_err c.from_residual-in_err-complete.result _
+    on_any_err c.from_residual-in_err-complete.result _
     (inl (elsewhere out old new (others_on out old mid new (others_on out old begun mid (c.write_front.ensures.others t)
     (c.work.ensures.others first)) (c.complete.ensures.others second))))
 
@@ -80,7 +79,7 @@ returns-clause-refused g c = λ t.
     let out = completed _ _ _ _ _ _ _ _ (c.in_ok-write_front.ensures.written t) (c.in_ok-worked.ensures.grown first)
     (c.in_ok-complete.ensures.written second) (c.write_front.ensures.others t) (c.work.ensures.others first)
     (c.complete.ensures.others second) in
-    on_err_more c.write_texts.result _ _ (λ cut. inr (
+    on_err_map c.write_texts.result _ _ (λ cut. inr (
     has_begun _ c.requires.apart.written _ _ _ IsAny _ _ c.in_ok-worked.ensures.finished tt _
     c.released-released.ensures left _ _ _ out.0 out.1 cut))
     (c.write_texts.ensures.refused (c.complete.ensures.served.tells_on second))

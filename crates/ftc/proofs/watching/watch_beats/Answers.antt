@@ -1,5 +1,5 @@
 use Rattle.std.proofs.Common.{◌≡◌, ◌≤◌, ap, Err, rules, arith, ℕ}
-use Rattle.ftc_script.specs.declared.limits.TheConstants.{MOST_NUMBER}
+use Rattle.ftc_base.specs.declared.limits.TheConstants.{MOST_NUMBER}
 use Rattle.ftc_watch.specs.Lines.{summary, summary_of}
 use Rattle.ftc.specs.Watching.{watched_by, watching, script_made}
 use Rattle.ftc.proofs.WatchLemmas.{watch_refused, watch_done, watch_cut, same_summary}

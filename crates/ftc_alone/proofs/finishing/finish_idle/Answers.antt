@@ -2,12 +2,13 @@ use Rattle.std.proofs.Common.{◌≡◌, ℕ, rules, refl, sym, subst}
 use Rattle.std.proofs.Math.Bridge.{le_prop}
 use Rattle.std.proofs.Math.Logic.{∥∥₁_map, ∥∥₁_map₂, ∥∥₁_elim, ∥∥₁_prop}
 use Rattle.ftc_base.specs.declared.limits.TheConstants.{FINISHING_SLOT}
+use Rattle.ftc_base.proofs.Results.{on_any_err}
 use Rattle.ftc_chain.specs.ChainRun.{ChainRun, setting_in}
 use Rattle.ftc_chain.specs.Course.{HasMade}
 use Rattle.ftc_alone.specs.Alone.{IsInFinish}
 use Rattle.ftc_alone.proofs.FinishSteps.{LeadsBack, given_made, given_on, given_heads, nearer, back_one, back_on}
 use Rattle.ftc_alone.proofs.FinishSteps.{in_finish, at_end}
-use Rattle.ftc_alone.proofs.Results.{on_any_err, same_run}
+use Rattle.ftc_alone.proofs.Results.{same_run}
 use Rattle.ftc_alone.proofs.finishing.finish_idle.Goals.{After-journal-in-Some}
 use Rattle.ftc_alone.proofs.finishing.finish_idle.Goals as goal
 

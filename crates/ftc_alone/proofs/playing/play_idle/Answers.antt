@@ -1,10 +1,10 @@
 use Rattle.std.proofs.Common.{◌≡◌, ◌++◌, ◌∷◌, [], ◌+◌, List, take, sym, subst}
 use Rattle.std.proofs.Math.Logic.{∥∥₁_map, ∥∥₁_map₂}
+use Rattle.ftc_base.proofs.Results.{on_any_err}
 use Rattle.ftc_journal.specs.declared.event.Event.{Event}
 use Rattle.ftc_chain.specs.ChainRun.{ChainRun}
 use Rattle.ftc_alone.specs.Alone.{HasPlayed, HasPlayedSome}
 use Rattle.ftc_alone.proofs.PlayedParts.{played_on, played_some, some_before, one_taken_more}
-use Rattle.ftc_alone.proofs.Results.{on_any_err}
 use Rattle.ftc_alone.proofs.playing.play_idle.Goals as goal
 
 pub returns-in_err-play_one-clause-err : goal.returns-in_err-play_one-clause-err

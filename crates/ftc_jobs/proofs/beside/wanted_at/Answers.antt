@@ -6,6 +6,7 @@ use Rattle.std.specs.VecDeque.Iter.{deque_iter_rest}
 use Rattle.std.proofs.lemmas.Iterator.Consumers.{YieldsList-from_deque, YieldsList-turn, YieldsList-end}
 use Rattle.std.proofs.lemmas.List.{length_push}
 use Rattle.std.proofs.lemmas.Option.{IfSome_then}
+use Rattle.ftc_base.proofs.EachOf.{all-append}
 use Rattle.ftc_protocol.specs.Setting.{Setting}
 use Rattle.ftc_protocol.specs.State.{ChainState}
 use Rattle.ftc_network.specs.Stand.{IsUp}
@@ -13,7 +14,6 @@ use Rattle.ftc_refinement.specs.Contents.{IsServerAt}
 use Rattle.ftc_refinement.proofs.Messages.{found_is}
 use Rattle.ftc_server.specs.declared.held.HeldMessage.{HeldMessage}
 use Rattle.ftc_server.specs.Holding.{found, is_of}
-use Rattle.ftc_standing.proofs.Arriving.{all_both}
 use Rattle.ftc_jobs.specs.All.{is_running_by}
 use Rattle.ftc_jobs.specs.Beside.{IsUnwanted}
 use Rattle.ftc_jobs.specs.Rest.{IsResting}
@@ -87,7 +87,7 @@ loop-held-preserved c setting state packets rest =
     subst (λ (next : ℕ). AllByRecursion Unwanted (take next items))
     (sym (length_push c.loop-held.yielded c.in-Some.held))
     (subst (AllByRecursion Unwanted) (sym (one_taken items place held hand.below hand.is))
-    (all_both Unwanted (take place items) (held ∷ []) (c.loop-held.invariant setting state packets rest) (
+    (all-append Unwanted (take place items) (held ∷ []) (c.loop-held.invariant setting state packets rest) (
       c.wanted_of-wanted.ensures.none (sym c.is_some.ensures ∙ c.if-is_some.false) setting state packets held rest
           up.at hand.there hand.rising,
       tt,

@@ -3,14 +3,8 @@ use Rattle.std.specs.Prelude.{◌==◌, is_some, not}
 use Rattle.std.specs.List.{list_any}
 use Rattle.ftc_server.specs.Slots.{runs_packet}
 use Rattle.ftc_txn.specs.Slots.{Running, slot_at}
+use Rattle.ftc_network.proofs.IdleSlots.{none_any}
 use Rattle.ftc_jobs.proofs.tests.begin.Goals as goal
-
-none_any : (test : Option Running → Bool) → test None ≡ false → (slots : List (Option Running)) →
-    ((worker : ℕ) → slot_at slots worker ≡ None) → list_any test slots ≡ false
-none_any test none [] idle = refl
-none_any test none (slot ∷ slots) idle =
-    ap (λ (b : Bool). b || list_any test slots) (ap test (idle 0) ∙ none)
-    ∙ none_any test none slots (λ worker. idle (suc worker))
 
 pub begin-requires-clause-age : goal.begin-requires-clause-age
 begin-requires-clause-age c =

@@ -1,6 +1,7 @@
 use Rattle.std.proofs.Common.{◌≡◌, ◌∙◌, ◌++◌, [], ◌∷◌, ℕ, Option, Some, refl, sym, ap, subst, map}
 use Rattle.std.proofs.Math.Logic.{∥∥₁_elim, ∥∥₁_prop, ∥∥₁_map₂}
 use Rattle.std.proofs.lemmas.Result.{IfOk-weaker}
+use Rattle.std.proofs.lemmas.Option.{same_Some}
 use Rattle.ftc_journal.specs.declared.event.Event.TheVariants as event
 use Rattle.ftc_protocol.specs.Legal.{IsLegal}
 use Rattle.ftc_protocol.specs.Next.{next}
@@ -15,9 +16,6 @@ use Rattle.ftc_network.specs.Stand.{IsSlot, IsUp}
 use Rattle.ftc_network.proofs.CommittedSlots.{may_rise_at, undone_still, where_undone}
 use Rattle.ftc_network.proofs.RunSlots.{emptied_runs}
 use Rattle.ftc_network.proofs.committing.commit_at.Goals as goal
-
-some_same : {A : Type 0} (one other : A) → Some one ≡ Some other → one ≡ other
-some_same one other same = cc
 
 pub commit_there-requires : goal.commit_there-requires
 commit_there-requires c =
@@ -55,7 +53,7 @@ returns-in-Some-clause-follows c =
     let up : IsUp setting state server old = subst (IsSlot setting state server) c.in-Some.is is in
     let runs_there : slot_at old.head.slots worker ≡ Some running =
     subst (λ (o : Option Server). runs_in (head_of o) worker ≡ Some running) c.in-Some.is runs in
-    let this : done.running ≡ running = some_same done.running running (sym done.runs.slot ∙ runs_there) in
+    let this : done.running ≡ running = same_Some done.running running (sym done.runs.slot ∙ runs_there) in
     let rest = done.visited.rest in
     let number : new.id ≡ server = ap (λ (s : ServerState). s.id) rest ∙ up.at.number_is in
     let parts : new.partitions ≡ setting.partitions =

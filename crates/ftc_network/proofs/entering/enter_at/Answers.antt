@@ -1,4 +1,5 @@
 use Rattle.std.proofs.Common.{◌∙◌, List, ℕ, false, Some, refl, ap, subst}
+use Rattle.ftc_base.proofs.Results.{on_any_err}
 use Rattle.ftc_journal.specs.declared.event.Event.TheVariants as event
 use Rattle.ftc_message.specs.declared.message.Message.{Message as SentMessage}
 use Rattle.ftc_protocol.specs.Next.{next}
@@ -9,7 +10,6 @@ use Rattle.ftc_standing.specs.Stand.{IsBegun}
 use Rattle.ftc_network.specs.Stand.{IsSlot, IsUp}
 use Rattle.ftc_network.proofs.Allowed.{at_up}
 use Rattle.ftc_network.proofs.ReadySlots.{same_runs, roomed_still}
-use Rattle.ftc_network.proofs.Results.{as_err}
 use Rattle.ftc_network.proofs.entering.enter_at.Goals as goal
 
 pub hold-requires-clause-new : goal.hold-requires-clause-new
@@ -54,6 +54,6 @@ pub returns-in_err-hold-in-Some-clause-err : goal.returns-in_err-hold-in-Some-cl
 returns-in_err-hold-in-Some-clause-err c =
     let old = c.in-Some.server in
     let new = c.hold.new.server in
-    as_err c.from_residual-in_err-hold-in-Some.result _ (roomed_still c.args.slot.now old new c.in-Some.is
+    on_any_err c.from_residual-in_err-hold-in-Some.result _ (roomed_still c.args.slot.now old new c.in-Some.is
     c.in_err-hold-in-Some.ensures.err
     (λ setting state number at fields. c.what_stays.ensures.roomed setting state number old new at fields) 0)

@@ -4,6 +4,7 @@ use Rattle.std.proofs.lemmas.List.{length-append}
 use Rattle.std.proofs.Math.Bool.{Bool-set}
 use Rattle.std.proofs.Math.Logic.{∥∥₁_elim}
 use Rattle.std.specs.Prelude.{is_some}
+use Rattle.ftc_base.proofs.Results.{on_any_err}
 use Rattle.ftc_protocol.specs.Next.{next}
 use Rattle.ftc_edge.specs.declared.buffer.Withheld.{Withheld}
 use Rattle.ftc_server.specs.declared.held.HeldMessage.{HeldMessage}
@@ -19,7 +20,7 @@ use Rattle.ftc_network.specs.Stand.{IsSlot, IsUp}
 use Rattle.ftc_network.specs.Sending.{HasFrameIfRoom}
 use Rattle.ftc_network.proofs.ReadySlots.{same_runs, buffered_still}
 use Rattle.ftc_network.proofs.MessageForms.{has_frame, work_is_send}
-use Rattle.ftc_network.proofs.Results.{as_err, each_some}
+use Rattle.ftc_network.proofs.Results.{each_some}
 use Rattle.ftc_network.proofs.SentAlong.{either_way, up_after, is_sent_where, after_sending}
 use Rattle.ftc_network.proofs.Heads.{same_head}
 use Rattle.ftc_network.proofs.leaving.leave_at.Goals as goal
@@ -109,7 +110,7 @@ returns-in-None-clause-ok c setting state same run legal link is =
     absurd cc
 
 pub returns-in_err-send_on-in-Some-clause-slot : goal.returns-in_err-send_on-in-Some-clause-slot
-returns-in_err-send_on-in-Some-clause-slot c = as_err c.from_residual-in_err-send_on-in-Some.result _
+returns-in_err-send_on-in-Some-clause-slot c = on_any_err c.from_residual-in_err-send_on-in-Some.result _
     (buffered_still c.args.slot.now c.in-Some.live c.outgoing.new.self c.in-Some.is c.in_ok-message-in-Some.ensures.same
     (λ setting state number at room. c.what_stays.ensures.buffered setting state number c.in-Some.live
     c.outgoing.new.self at room))
@@ -126,7 +127,7 @@ returns-in_err-send_on-in-Some-clause-heads c =
     (ap (λ (s : ServerState). s.head) c.in_ok-message-in-Some.ensures.same.rest)
 
 pub returns-in_err-message-in-Some-clause-slot : goal.returns-in_err-message-in-Some-clause-slot
-returns-in_err-message-in-Some-clause-slot c = as_err c.from_residual.result _
+returns-in_err-message-in-Some-clause-slot c = on_any_err c.from_residual.result _
     (buffered_still c.args.slot.now c.in-Some.live c.outgoing.new.self c.in-Some.is
     c.in_err-message-in-Some.ensures.same
     (λ setting state number at room. c.what_stays.ensures.buffered setting state number c.in-Some.live

@@ -3,6 +3,7 @@ use Rattle.ftc_base.specs.declared.limits.TheConstants.{MOST_SLOTS}
 use Rattle.std.proofs.Math.Bool.{Bool-set}
 use Rattle.std.proofs.Math.Logic.{∥∥₁_elim, ∥∥₁_map₂}
 use Rattle.ftc_base.specs.declared.ask.Answer.{Answer}
+use Rattle.ftc_base.proofs.Results.{on_any_err}
 use Rattle.ftc_journal.specs.declared.event.Event.{Event}
 use Rattle.ftc_journal.specs.declared.event.Event.TheVariants as event
 use Rattle.ftc_protocol.specs.Legal.{IsLegal}
@@ -18,7 +19,6 @@ use Rattle.ftc_network.specs.Parts.{buffer_of}
 use Rattle.ftc_network.specs.Stand.{IsSlot, IsUp}
 use Rattle.ftc_network.proofs.Allowed.{at_up}
 use Rattle.ftc_network.proofs.ReadySlots.{idle_ready}
-use Rattle.ftc_network.proofs.Results.{as_err}
 use Rattle.ftc_network.proofs.Untold.{is_below}
 use Rattle.ftc_network.proofs.VisitWork.{is_visit, visit_if, visit_is}
 use Rattle.ftc_network.proofs.making.visit_at.Goals as goal
@@ -108,7 +108,7 @@ returns-clause-buffer c =
     c.in_ok-answers-in-Some.ensures.ok.withheld ∙ (c.quit_all.ensures.withheld ∙ ap buffer_of (sym c.in-Some.is))
 
 pub returns-in_err-answers-in-Some-clause-err : goal.returns-in_err-answers-in-Some-clause-err
-returns-in_err-answers-in-Some-clause-err c = as_err c.from_residual.result _ (λ setting state is.
+returns-in_err-answers-in-Some-clause-err c = on_any_err c.from_residual.result _ (λ setting state is.
     let up : IsUp setting state c.args.server c.in-Some.live =
     subst (IsSlot setting state c.args.server) c.in-Some.is is in
     record {

@@ -2,6 +2,7 @@ use Rattle.std.proofs.Common.{◌≡◌, ◌∙◌, ◌+◌, ◌==◌, ◌∷◌
 use Rattle.std.proofs.Common.{subst}
 use Rattle.std.proofs.Math.Bool.{Bool-set}
 use Rattle.std.proofs.Math.Logic.{∥∥₁_elim}
+use Rattle.ftc_base.proofs.Results.{on_any_err}
 use Rattle.ftc_journal.specs.declared.event.Event.TheVariants as event
 use Rattle.ftc_link.specs.Queue.{Queue}
 use Rattle.ftc_link.specs.Taking.{TakesOldest, TakesIfAny}
@@ -24,7 +25,6 @@ use Rattle.ftc_network.specs.Parts.{buffer_of}
 use Rattle.ftc_network.specs.Stand.{IsSlot, IsUp}
 use Rattle.ftc_network.proofs.ReadySlots.{same_runs, roomed_still}
 use Rattle.ftc_network.proofs.Heads.{same_head}
-use Rattle.ftc_network.proofs.Results.{as_err}
 use Rattle.ftc_network.proofs.taking.take_at.Goals as goal
 
 -- what is allowed of a link and its receiver, where it is a test on what is taken and the receiver with room for it
@@ -47,13 +47,13 @@ taken_up link origin by_ring queue after slot server roomed message test value s
 
 pub returns-in_err-make_room-in-Some-clause-slot : goal.returns-in_err-make_room-in-Some-clause-slot
 returns-in_err-make_room-in-Some-clause-slot c =
-    as_err c.from_residual.result _ (roomed_still c.args.slot.now c.in-Some.server c.make_room.new.self c.in-Some.is
+    on_any_err c.from_residual.result _ (roomed_still c.args.slot.now c.in-Some.server c.make_room.new.self c.in-Some.is
     c.make_room.ensures.same (λ setting state number at fields.
     c.what_stays.ensures.roomed setting state number c.in-Some.server c.make_room.new.self at fields))
 
 pub returns-in_err-message-in-Some-clause-slot : goal.returns-in_err-message-in-Some-clause-slot
 returns-in_err-message-in-Some-clause-slot c =
-    as_err c.from_residual-in_err-message-in-Some.result _ (roomed_still c.args.slot.now c.in-Some.server
+    on_any_err c.from_residual-in_err-message-in-Some.result _ (roomed_still c.args.slot.now c.in-Some.server
     c.make_room.new.self c.in-Some.is c.make_room.ensures.same (λ setting state number at fields.
     c.what_stays.ensures.roomed setting state number c.in-Some.server c.make_room.new.self at fields))
 

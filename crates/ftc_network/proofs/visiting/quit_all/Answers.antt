@@ -4,6 +4,7 @@ use Rattle.std.proofs.lemmas.Grind.{common_steps}
 use Rattle.ftc_base.specs.declared.limits.TheConstants.{MOST_SLOTS}
 use Rattle.ftc_server.specs.State.{ServerState}
 use Rattle.ftc_txn.specs.Slots.{Running, slot_at}
+use Rattle.ftc_standing.proofs.Arriving.{is_none}
 use Rattle.ftc_network.proofs.visiting.quit_all.Goals as goal
 
 pub loop-number-preserved : goal.loop-number-preserved
@@ -30,16 +31,12 @@ loop-number-preserved c =
       c.quit_one.ensures.vector ∙ is.5,
     )
 
-none_of : (slot : Option Running) → ((running : Running) → slot ≡ Some running → ⊥) → slot ≡ None
-none_of None never = refl
-none_of (Some running) never = absurd (never running refl)
-
 pub returns-clause-idle : goal.returns-clause-idle
 returns-clause-idle c worker =
     let is = c.loop-number.invariant in
     let now = c.loop-number.server in
     elim (cases_lt worker MOST_SLOTS) [
       | inl within ↦ is.2 worker (omega (arith, within))
-      | inr past ↦ none_of (slot_at now.head.slots worker) (λ running runs.
+      | inr past ↦ is_none (slot_at now.head.slots worker) (λ running runs.
           let within = is.3 worker running runs in absurd (omega (arith, within, past)))
     ]

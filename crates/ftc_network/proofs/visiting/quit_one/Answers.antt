@@ -2,7 +2,8 @@ use Rattle.std.proofs.Common.{◌∙◌, List, Option, None, ap}
 use Rattle.ftc_server.specs.State.{ServerState}
 use Rattle.ftc_txn.specs.Head.{HeadState}
 use Rattle.ftc_txn.specs.Slots.{Running, slot_at}
-use Rattle.ftc_network.proofs.IdleSlots.{set_idle, set_other}
+use Rattle.ftc_txn.proofs.Serially.{slot_set_none}
+use Rattle.ftc_network.proofs.IdleSlots.{set_other}
 use Rattle.ftc_network.proofs.visiting.quit_one.Goals as goal
 
 pub returns-then-is_some-clause-stands : goal.returns-then-is_some-clause-stands
@@ -15,7 +16,7 @@ returns-then-is_some-clause-withheld c = ap (λ (s : ServerState). s.buffer.item
 pub returns-then-is_some-clause-gone : goal.returns-then-is_some-clause-gone
 returns-then-is_some-clause-gone c =
     ap (λ (s : List (Option Running)). slot_at s c.args.worker) c.quit.ensures.head.slots
-    ∙ set_idle c.args.server.now.head.slots c.args.worker
+    ∙ slot_set_none c.args.server.now.head.slots c.args.worker
 
 pub returns-then-is_some-clause-others : goal.returns-then-is_some-clause-others
 returns-then-is_some-clause-others c other differs =

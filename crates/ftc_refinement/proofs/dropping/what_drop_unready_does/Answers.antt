@@ -1,6 +1,8 @@
 use Rattle.std.proofs.Common.{◌≡◌, ◌∙◌, ℕ, true, Some, sym, subst}
 use Rattle.std.specs.Prelude.{◌↔◌}
 use Rattle.std.specs.List.{filter}
+use Rattle.std.specs.Cmp.{both_ways}
+use Rattle.ftc_base.proofs.EachOf.{all-weaker}
 use Rattle.ftc_journal.specs.declared.event.Event.TheVariants as event
 use Rattle.ftc_protocol.specs.State.{ChainState}
 use Rattle.ftc_protocol.specs.Next.{next}
@@ -10,9 +12,8 @@ use Rattle.ftc_protocol.specs.Visits.{Visits, In}
 use Rattle.ftc_server.specs.declared.held.HeldMessage.{HeldMessage}
 use Rattle.ftc_server.specs.Holding.{found}
 use Rattle.ftc_server.specs.Replicas.{is_ready}
-use Rattle.ftc_standing.proofs.Arriving.{all_mapped}
 use Rattle.ftc_refinement.specs.Contents.{item_of_held, items_of, contents_of}
-use Rattle.ftc_refinement.proofs.DroppedMessages.{each_found, same_test, stays, stays_as, stay_alike, drops}
+use Rattle.ftc_refinement.proofs.DroppedMessages.{each_found, stays, stays_as, stay_alike, drops}
 use Rattle.ftc_refinement.proofs.Works.{held_in}
 use Rattle.ftc_refinement.proofs.dropping.what_drop_unready_does.Goals as goal
 
@@ -30,11 +31,11 @@ returns c setting state server undone old new run legal other is done =
     old run
     is in_state.there in_state.stands.place there in
     let each = tests (state.lists behind) message.logs in
-    same_test (is_ready old.others.items held)
+    both_ways (is_ready old.others.items held)
     (has_each setting.partitions state.trace (state.lists behind) message.logs)
     (λ had. each.1 (ready.0 had)) (λ all. ready.1 (each.0 all))
     ∙ sym (stays_as setting state behind message (item_of_held held) in_state.there) in
-    let alike = all_mapped (λ (held : HeldMessage). found held.message.origin old.held.items ≡ Some held)
+    let alike = all-weaker (λ (held : HeldMessage). found held.message.origin old.held.items ≡ Some held)
     (λ (held : HeldMessage). is_ready old.others.items held ≡ stays setting state behind (item_of_held held)) one
     old.held.items (each_found setting state behind old.held.items is.stands.held) in
     drops setting state (next setting state (event.Recover server undone)) behind old new

@@ -6,6 +6,7 @@ use Rattle.ftc_protocol.specs.State.{Where}
 use Rattle.ftc_protocol.specs.Orderly.{aim}
 use Rattle.ftc_protocol.specs.Next.{next}
 use Rattle.ftc_ring.specs.Ring.{RingShape}
+use Rattle.ftc_txn.proofs.KeptByCalls.{some_of}
 use Rattle.ftc_ties.specs.Messages.{onward}
 use Rattle.ftc_server.specs.declared.held.HeldMessage.{HeldMessage}
 use Rattle.ftc_server.specs.Holding.{found}
@@ -13,7 +14,7 @@ use Rattle.ftc_server.specs.Standing.{going_on}
 use Rattle.ftc_server.specs.State.{ServerState}
 use Rattle.ftc_refinement.specs.Contents.{items_of, item_of_held, contents_of}
 use Rattle.ftc_refinement.proofs.MessageCalls.{leaves, same_replicas}
-use Rattle.ftc_refinement.proofs.Messages.{found_as, one_found, among, items_among, items_apart}
+use Rattle.ftc_refinement.proofs.Messages.{found_as, among, items_among, items_apart}
 use Rattle.ftc_refinement.proofs.Ring.{goes_on, groups_exist}
 use Rattle.ftc_refinement.proofs.leaving.what_carry_does.Goals as goal
 
@@ -35,7 +36,7 @@ returns c setting state origin old new run legal is done =
     let going = goes_on c.ends.ensures setting 0 logs run.right.ring inside
     (groups_exist setting state message.logs logs there_as.stands.as_sent.logs
     (λ group packet rides. (order.rides origin group packet message there rides).0)) in
-    let carried = one_found (found origin old.held.items) done.carried held done.there there_as.there in
+    let carried = some_of (found origin old.held.items) done.carried held done.there there_as.there in
     leaves setting state (next setting state (event.Carry origin)) 0 old new
     (items_of split.before ++ items_of split.after) old.buffer.items
     (with_items is_earlier (onward setting 0 logs) old.forwarder) is same holds

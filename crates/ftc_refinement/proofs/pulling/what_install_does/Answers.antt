@@ -1,6 +1,7 @@
 use Rattle.std.proofs.Common.{◌≡◌, ◌∙◌, ◌<◌, ℕ, true, false, Option, Some, None, length, refl, sym, ap, subst}
 use Rattle.std.specs.List.{find}
 use Rattle.std.proofs.lemmas.Bool.{eqb-true}
+use Rattle.ftc_base.proofs.EachOf.{all-weaker}
 use Rattle.ftc_journal.specs.declared.event.Event.TheVariants as event
 use Rattle.ftc_replica.specs.Held.{Held}
 use Rattle.ftc_ring.specs.Ring.{next_of, RingShape}
@@ -15,7 +16,6 @@ use Rattle.ftc_server.specs.Standing.{group_ending_at}
 use Rattle.ftc_server.specs.State.{ServerState}
 use Rattle.ftc_server.specs.Steps.{with_installed, known_with}
 use Rattle.ftc_standing.specs.Stand.{replica_kept}
-use Rattle.ftc_standing.proofs.Arriving.{all_mapped}
 use Rattle.ftc_refinement.specs.Contents.{items_of, contents_of}
 use Rattle.ftc_refinement.specs.Pulled.{IsPulledOf, pulled, is_of_group}
 use Rattle.ftc_refinement.proofs.Fields.{same_contents, same_own, stands_with}
@@ -33,7 +33,7 @@ returns c setting state link tail old new sender news run legal inside tail_is s
     let up = order.inside receiver legal.0.1 in
     let long = ap (λ (r : RingShape). r.servers) is.ring in
     let size = old.each_group ∙ long in
-    let within = all_mapped (IsPulledOf setting link old sender) (λ (n : GroupReplica). n.group < length others)
+    let within = all-weaker (IsPulledOf setting link old sender) (λ (n : GroupReplica). n.group < length others)
     (λ n its. subst (λ m. n.group < m) (sym size) its.inside) news are.each in
     let at = λ (group : ℕ). installed_at news others group within in
     let its = λ (group : ℕ) (one : GroupReplica) (found : find (is_of_group group) news ≡ Some one).

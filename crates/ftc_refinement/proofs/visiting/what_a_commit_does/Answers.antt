@@ -4,6 +4,7 @@ use Rattle.std.proofs.Math.Logic.{∥∥₁_map}
 use Rattle.std.specs.List.{AllByRecursion}
 use Rattle.std.specs.Option.{is_some, option_map}
 use Rattle.std.specs.Prelude.{IfSome}
+use Rattle.std.proofs.lemmas.Option.{same_Some}
 use Rattle.ftc_base.specs.declared.ask.Ask.TheVariants.{Finish}
 use Rattle.ftc_base.specs.declared.ask.Write.{Write}
 use Rattle.ftc_journal.specs.declared.event.Event.TheVariants as event
@@ -22,6 +23,7 @@ use Rattle.ftc_ring.specs.Ring.{RingShape}
 use Rattle.ftc_replica.specs.Held.{Held as Replicated}
 use Rattle.ftc_txn.specs.Logs.{IsLogOf}
 use Rattle.ftc_vector.proofs.Partitions.{length-by_partition}
+use Rattle.ftc_txn.proofs.KeptByCalls.{some_of}
 use Rattle.ftc_ties.specs.Numbers.{count_of}
 use Rattle.ftc_ties.specs.Replica.{committed}
 use Rattle.ftc_server.specs.declared.held.HeldMessage.{HeldMessage}
@@ -32,15 +34,12 @@ use Rattle.ftc_server.specs.Standing.{with_own}
 use Rattle.ftc_server.specs.Visited.{visit_of, visited_by}
 use Rattle.ftc_standing.specs.Stand.{IsVisited, item_of}
 use Rattle.ftc_refinement.specs.Contents.{items_of, item_of_held, contents_of, IsServerAt}
-use Rattle.ftc_refinement.proofs.Messages.{found_as, one_found, among, items_among}
+use Rattle.ftc_refinement.proofs.Messages.{found_as, among, items_among}
 use Rattle.ftc_refinement.proofs.VisitCalls.{outcome_of, visits_message, changes_nothing, changes_some, touches_some}
 use Rattle.ftc_refinement.proofs.VisitCalls.{logs_what_touches, commits, committed_beside, head_stays, known_stays}
 use Rattle.ftc_refinement.proofs.VisitCalls.{head_commits, known_with}
 use Rattle.ftc_refinement.proofs.Ring.{knows_own}
 use Rattle.ftc_refinement.proofs.visiting.what_a_commit_does.Goals as goal
-
-some_same : {A : Type 0} (one other : A) → Some one ≡ Some other → one ≡ other
-some_same one other same = cc
 
 pub returns : goal.returns
 returns c setting state server worker running end old new run legal is runs asked done =
@@ -57,16 +56,16 @@ returns c setting state server worker running end old new run legal is runs aske
     let inside = order.inside server up in
     let slot = slots.each worker running runs.slot in
     let at = found packet old.held.items in
-    let slot_bytes = some_same slot.packet done.packet (sym slot.with_packet
+    let slot_bytes = same_Some slot.packet done.packet (sym slot.with_packet
     ∙ (ap (λ (h : HeldMessage). h.message.packet)
-    (one_found at slot.held done.before slot.there done.there) ∙ done.with_packet)) in
+    (some_of at slot.held done.before slot.there done.there) ∙ done.with_packet)) in
     let turn = subst (λ (bytes : List ℕ). InTurn old.rule bytes running.answers) slot_bytes slot.turn in
-    let ask_is = some_same (ask old.rule done.packet running.answers) (Finish end)
+    let ask_is = same_Some (ask old.rule done.packet running.answers) (Finish end)
     (sym (ap (ask_of_slot old) runs.slot ∙ (ap (ask_of_held old.rule running) done.there
     ∙ ap (option_map (λ bytes. ask old.rule bytes running.answers)) done.with_packet)) ∙ asked) in
     let bytes_are = ap message_bytes there ∙ ap bytes_in (sym there_as.stands.as_sent.packet
     ∙ (ap (λ (h : HeldMessage). h.message.packet)
-    (one_found at there_as.held done.before there_as.there done.there) ∙ done.with_packet)) in
+    (some_of at there_as.held done.before there_as.there done.there) ∙ done.with_packet)) in
     let content = content_of state.trace (state.lists server server) server in
     let made = outcome_of running end done.packet in
     let outcome = outcome_at setting state server packet in

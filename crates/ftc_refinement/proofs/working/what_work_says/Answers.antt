@@ -6,11 +6,13 @@ use Rattle.ftc_server.specs.declared.work.Work.TheVariants.{Visit, Send, Carry}
 use Rattle.ftc_server.specs.Holding.{found}
 use Rattle.ftc_server.specs.Work.{is_waiting, next_log, work_for_found}
 use Rattle.ftc_server.proofs.Working.{held_with, last_of, visits, waits}
-use Rattle.ftc_refinement.proofs.Messages.{both, found_as}
+use Rattle.ftc_refinement.proofs.LegalLogs.{taker, changing_if}
+use Rattle.ftc_refinement.proofs.Messages.{found_as}
 use Rattle.ftc_refinement.proofs.Works.{last_comes, last_by, is_to_send, is_to_carry, is_done, done_is, held_in}
 use Rattle.ftc_refinement.proofs.Works.{same_flags, next_applied}
-use Rattle.std.proofs.lemmas.Bool.{eqb-true}
+use Rattle.std.proofs.lemmas.Bool.{eqb-true, and_parts}
 use Rattle.ftc_base.specs.declared.ask.Write.{Write}
+use Rattle.ftc_base.proofs.EachOf.{all_zip}
 use Rattle.ftc_journal.specs.declared.event.Event.TheVariants as event
 use Rattle.ftc_message.specs.Logged.{Logged}
 use Rattle.ftc_replica.specs.Held.{Held as Replicated, pruned_by}
@@ -27,11 +29,9 @@ use Rattle.ftc_ties.specs.Messages.{names_log}
 use Rattle.ftc_server.specs.Replicas.{may_apply_to, replica_at}
 use Rattle.ftc_server.proofs.NextLog.{next_is}
 use Rattle.ftc_standing.specs.Stand.{IsReplicaSlot}
-use Rattle.ftc_standing.proofs.Arriving.{all_mapped_of}
 use Rattle.ftc_refinement.proofs.NextWork.{all_next, lower_had, IsLowerHad, found_with}
 use Rattle.ftc_refinement.proofs.Readiness.{replica_for, rides_below, rides_stands, had_alike}
 use Rattle.ftc_refinement.proofs.Ring.{each_named}
-use Rattle.ftc_refinement.proofs.VisitCalls.{changes_some}
 use Rattle.ftc_refinement.proofs.working.what_work_says.Goals as goal
 
 pub returns-clause-visit : goal.returns-clause-visit
@@ -113,17 +113,6 @@ returns-clause-carry c setting state origin old run is works =
     let carries = is_to_carry (is_waiting with.held) with.held.by_ring last.1 in
     (in_state.message, in_state.there, with.held.visited, place ∙ ap (λ b. Held 0 with.held.visited b) carries, ready)
 
--- the replica to which a log may be applied
-taker : (o : Option Replicated) (log : Logged) → may_apply_to o log ≡ true →
-    (held : Replicated) × (o ≡ Some held) × (is_log_ready held.vector log.before log.changed ≡ true)
-taker None log is = absurd cc
-taker (Some held) log is = (held, refl, is)
-
-changing_if : (partitions : ℕ) (outcome : Outcome) (writes : List Write) → outcome.writes ≡ writes →
-    not (length writes == 0) ≡ true → is_changing partitions outcome ≡ true
-changing_if partitions outcome [] same some = absurd cc
-changing_if partitions outcome (write ∷ writes) same some = changes_some partitions outcome write writes same
-
 pub returns-clause-apply : goal.returns-clause-apply
 returns-clause-apply c setting state server origin group packet held old run is at rising works =
     let others = old.others.items in
@@ -140,7 +129,8 @@ returns-clause-apply c setting state server origin group packet held old run is 
     (each_named logs) next.1 in
     let rides : In message.logs log.group log.origin = sym (are.names log.group log.origin) ∙ named in
     let tests = next_is others None None logs log rising next.1 in
-    let halves = both (not (length log.writes == 0)) (may_apply_to (replica_at others log.group) log) tests.allowed in
+    let halves = and_parts (not (length log.writes == 0)) (may_apply_to (replica_at others log.group) log)
+    tests.allowed in
     let takes = taker (replica_at others log.group) log halves.1 in
     let slot = subst (IsReplicaSlot setting state server old.known log.group) takes.1
     (is.stands.replicas.others log.group
@@ -157,14 +147,14 @@ returns-clause-apply c setting state server origin group packet held old run is 
     ((c.order_tests.ensures.ready takes.0.vector log.before log.changed).0 takes.2) in
     let say = λ (l : Logged) (h : Replicated) (of_l : IsLogIn setting.partitions state.trace l).
     c.what_vectors_say.ensures.had setting state server l h run of_l in
-    let known = all_mapped_of (IsLogIn setting.partitions state.trace) (IsLowerHad others log)
+    let known = all_zip (IsLogIn setting.partitions state.trace) (IsLowerHad others log)
     (λ (l : Logged). IsLogIn setting.partitions state.trace l × IsLowerHad others log l)
     (λ l of_l lower. (of_l, lower)) logs are.each (lower_had others None None logs log rising next.1) in
     let lower = λ (smaller : ℕ) (less : smaller < log.group) (carried : In message.logs smaller log.origin).
     let one = found_with (λ (l : Logged). IsLogIn setting.partitions state.trace l × IsLowerHad others log l)
     (λ (l : Logged). l.group == smaller && l.origin == log.origin) logs known
     (are.names smaller log.origin ∙ carried) in
-    let names = both (one.0.group == smaller) (one.0.origin == log.origin) one.1 in
+    let names = and_parts (one.0.group == smaller) (one.0.origin == log.origin) one.1 in
     let group_is = eqb-true one.0.group smaller names.0 in
     let origin_is = eqb-true one.0.origin log.origin names.1 in
     let its : In message.logs one.0.group one.0.origin =

@@ -6,7 +6,7 @@ use Rattle.ftc_replica.specs.Waiting.{waits_for, without_first}
 use Rattle.ftc_server.specs.declared.held.HeldMessage.{HeldMessage}
 use Rattle.ftc_server.specs.Holding.{found, log_of}
 use Rattle.ftc_server.specs.Waiting.{AreWatched, is_named, wait_of_found, one_or_none}
-use Rattle.ftc_server.proofs.Finding.{test_of_found}
+use Rattle.ftc_server.proofs.Finding.{passes_found}
 use Rattle.ftc_server.proofs.Taken.{IsOut}
 use Rattle.ftc_server.proofs.Watched.{again, first_out, none_out, woken, stays_where, fewer_wait, wait_out_room, after}
 use Rattle.ftc_server.proofs.Watched.{IsAgain}
@@ -58,7 +58,7 @@ module _ (c : After-watch_again) where
 
   waits_again : IsAgain c.args.replicas.now c.args.held.now.items c.in-Some.wait (one_or_none next)
   waits_again = again c.args.replicas.now c.args.held.now.items c.in-Some.wait
-      (test_of_found (is_named c.args.held.now.items) (waits_for c.args.group c.args.partition c.args.number)
+      (passes_found (is_named c.args.held.now.items) (waits_for c.args.group c.args.partition c.args.number)
       c.args.waits.now.items c.in-Some.wait c.requires.watched.named there) next refl
 
   waits_now : c.watch_again.new.waits.items

@@ -2,7 +2,7 @@ use Rattle.std.proofs.Common.{◌≡◌, ◌≢◌, ◌∙◌, ◌+◌, ◌&&◌
 use Rattle.std.proofs.Common.{subst, take, arith}
 use Rattle.std.specs.Prelude.{◌==◌}
 use Rattle.std.specs.List.{list_all}
-use Rattle.std.proofs.lemmas.Bool.{eqb-true, eq-eqb}
+use Rattle.std.proofs.lemmas.Bool.{eqb-true, eq-eqb, ne_eqb}
 use Rattle.ftc_server.specs.declared.held.HeldMessage.{HeldMessage}
 use Rattle.ftc_server.specs.Holding.{found, rests, origins_of}
 use Rattle.ftc_server.specs.Waiting.{is_settled, is_idle, is_idle_one}
@@ -21,12 +21,6 @@ looked_at : (old same idle roused new : Bool) → new ≡ roused || (same && idl
 looked_at old same true roused new is was equal = or_true (not new)
 looked_at true same false roused new is was equal = let e : new ≡ false = cc in ap (λ (b : Bool). not b || false) e
 looked_at false same false roused new is was equal = let e : new ≡ false = cc in ap (λ (b : Bool). not b || false) e
-
-not_equal : (a b : ℕ) → a ≢ b → (a == b) ≡ false
-not_equal a b differs = elim (a == b) as (λ t. (a == b) ≡ t → t ≡ false) [
-  | true ↦ λ is. absurd (differs (eqb-true a b is))
-  | false ↦ λ _. refl
-] refl
 
 pub loop-place-preserved : goal.loop-place-preserved
 loop-place-preserved c =
@@ -50,7 +44,7 @@ loop-place-preserved c =
     λ other differs. untouched (rests other old) (other == origin)
     (is_idle_one replicas (found origin c.rouse.new.self.items)) (rests other c.rouse.new.self.resting)
     (rests other new) (c.settle.ensures.resting other) (c.rouse.ensures.resting other)
-    (not_equal other origin differs) in
+    (ne_eqb other origin differs) in
     let settled : is_settled replicas new held ≡ true =
     ap (λ (b : Bool). not (rests origin new) || b) (sym idle)
     ∙ looked_at (rests origin old) (origin == origin) (is_idle_one replicas (found origin c.rouse.new.self.items))

@@ -1,13 +1,13 @@
 use Rattle.std.proofs.Common.{rules}
+use Rattle.ftc_base.proofs.Results.{on_any_err}
 use Rattle.ftc_stream.specs.Records.{is_writable}
-use Rattle.ftc_stream.proofs.Telling.{on_err}
 use Rattle.ftc_stream.specs.LeavingLaws.{left_none}
 use Rattle.ftc_stream.proofs.Leaving.{left_same, left_by_item}
 use Rattle.ftc_stream.proofs.flow.put_next.Goals as goal
 
 pub returns-in_err-put-clause-told_in_part : goal.returns-in_err-put-clause-told_in_part
 returns-in_err-put-clause-told_in_part g c =
-    on_err c.from_residual.result _ (c.args.item, _, left_none _, c.in_err-put.ensures.told_in_part)
+    on_any_err c.from_residual.result _ (c.args.item, _, left_none _, c.in_err-put.ensures.told_in_part)
 
 pub returns-in_err-put-clause-untold : goal.returns-in_err-put-clause-untold
 returns-in_err-put-clause-untold g c = λ failed. left_same _ _ (search rules)

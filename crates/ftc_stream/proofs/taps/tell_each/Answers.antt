@@ -1,11 +1,12 @@
 use Rattle.std.proofs.Common.{rules, ◌<◌, ◌∙◌, sym, length}
-use Rattle.ftc_stream.proofs.Telling.{one_stays, one_leaves, one_refuses, on_err}
+use Rattle.ftc_base.proofs.Results.{on_any_err}
+use Rattle.ftc_stream.proofs.Telling.{one_stays, one_leaves, one_refuses}
 use Rattle.ftc_stream.proofs.taps.tell_each.Goals as goal
 
 pub returns-in_err-see_one-clause-part : goal.returns-in_err-see_one-clause-part
 returns-in_err-see_one-clause-part g c =
     let below : c.loop-place.place < length c.loop-place.taps.items = search rules in
-    on_err c.from_residual.result _
+    on_any_err c.from_residual.result _
     (one_refuses (λ tap. (goal.Tap-dyn g (tap.vtable, tap.value)).face tap.value)
     (record { packet = c.args.number; bytes = c.args.bytes.now }) _
     c.loop-place.taps.items c.loop-place.place c.index_mut.result.now c.see_one.new.tap below

@@ -3,8 +3,10 @@ use Rattle.std.proofs.Math.Logic.{∥∥₁_map}
 use Rattle.std.specs.List.{AllByRecursion}
 use Rattle.std.specs.Option.{option_map}
 use Rattle.std.specs.Prelude.{IfSome}
+use Rattle.std.proofs.lemmas.Option.{same_Some}
 use Rattle.ftc_base.specs.declared.ask.Ask.TheVariants.{Finish}
 use Rattle.ftc_base.specs.declared.ask.Write.{Write}
+use Rattle.ftc_base.proofs.EachOf.{all_push}
 use Rattle.ftc_journal.specs.declared.event.Event.TheVariants as event
 use Rattle.ftc_journal.specs.declared.event.VisitName.{VisitName}
 use Rattle.ftc_mbox.specs.Ask.{ask}
@@ -21,20 +23,18 @@ use Rattle.ftc_txn.specs.Logs.{IsLogOf}
 use Rattle.ftc_txn.specs.Touched.{vector_after}
 use Rattle.ftc_vector.specs.Commits.{vector_of}
 use Rattle.ftc_replica.specs.Held.{pruned_by}
+use Rattle.ftc_txn.proofs.KeptByCalls.{some_of}
 use Rattle.ftc_server.specs.declared.held.HeldMessage.{HeldMessage}
 use Rattle.ftc_server.specs.Looks.{ask_of_slot, replica_or_own}
 use Rattle.ftc_server.specs.Slots.{ask_of_held, AreSlots}
 use Rattle.ftc_server.specs.Holding.{found}
-use Rattle.ftc_refinement.proofs.Messages.{found_as, one_found}
+use Rattle.ftc_refinement.proofs.Messages.{found_as}
 use Rattle.ftc_refinement.proofs.VisitCalls.{outcome_of}
 use Rattle.ftc_visits.specs.Made.{name_of, IsMadeIn}
 use Rattle.ftc_visits.proofs.Adding.{made_with, log_made, named}
 use Rattle.ftc_visits.proofs.Dropping.{all_last}
-use Rattle.ftc_visits.proofs.Lists.{all_end, map_end}
+use Rattle.ftc_visits.proofs.Lists.{map_end}
 use Rattle.ftc_visits.proofs.laws.a_made_visit_is_added.Goals as goal
-
-some_same : {A : Type 0} (one other : A) → Some one ≡ Some other → one ≡ other
-some_same one other same = cc
 
 pub returns : goal.returns
 returns c setting state server worker running end old new visits made run legal is runs asked done by are =
@@ -50,15 +50,15 @@ returns c setting state server worker running end old new visits made run legal 
     (order.awake packet message there) in
     let slot = slots.each worker running runs.slot in
     let at = found packet old.held.items in
-    let slot_bytes = some_same slot.packet done.packet (sym slot.with_packet
-    ∙ (ap (λ (h : HeldMessage). h.message.packet) (one_found at slot.held done.before slot.there done.there)
+    let slot_bytes = same_Some slot.packet done.packet (sym slot.with_packet
+    ∙ (ap (λ (h : HeldMessage). h.message.packet) (some_of at slot.held done.before slot.there done.there)
     ∙ done.with_packet)) in
     let turn = subst (λ (bytes : List ℕ). InTurn old.rule bytes running.answers) slot_bytes slot.turn in
-    let ask_is = some_same (ask old.rule done.packet running.answers) (Finish end)
+    let ask_is = same_Some (ask old.rule done.packet running.answers) (Finish end)
     (sym (ap (ask_of_slot old) runs.slot ∙ (ap (ask_of_held old.rule running) done.there
     ∙ ap (option_map (λ bytes. ask old.rule bytes running.answers)) done.with_packet)) ∙ asked) in
     let bytes_are = ap message_bytes there ∙ ap bytes_in (sym there_as.stands.as_sent.packet
-    ∙ (ap (λ (h : HeldMessage). h.message.packet) (one_found at there_as.held done.before there_as.there done.there)
+    ∙ (ap (λ (h : HeldMessage). h.message.packet) (some_of at there_as.held done.before there_as.there done.there)
     ∙ done.with_packet)) in
     let content = content_of state.trace (state.lists server server) server in
     let outcome = outcome_at setting state server packet in
@@ -88,7 +88,7 @@ returns c setting state server worker running end old new visits made run legal 
           ∙ (ap (λ (list : List VisitName). list ++ name_of made ∷ []) are.names
           ∙ ap (λ (last : VisitName). visits_in state.trace ++ last ∷ [])
           (named setting.partitions server packet running.answers new.head.vector made by));
-      each = all_end (IsMadeIn setting.partitions after.trace) visits made
+      each = all_push (IsMadeIn setting.partitions after.trace) visits made
           (all_last setting.partitions state.trace after.trace
           (λ group p marks. c.logs_last.ensures.need setting state
           (event.Visit server packet worker) group p marks run legal)

@@ -1,7 +1,8 @@
 use Rattle.std.proofs.Common.{ℕ, ap, arith}
 use Rattle.ftc_base.specs.declared.limits.TheConstants.{MOST_SERVERS}
+use Rattle.ftc_base.proofs.Members.{no_member}
 use Rattle.ftc_watch.specs.Members.{with_members}
-use Rattle.ftc_watch.proofs.Sets.{no_member, one_member, below_next, set_next}
+use Rattle.ftc_watch.proofs.Sets.{one_member, below_next, set_next}
 use Rattle.ftc_watch.proofs.members.set_of.Goals as goal
 
 pub loop-number-init : goal.loop-number-init

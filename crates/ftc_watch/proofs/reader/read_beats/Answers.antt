@@ -1,7 +1,7 @@
 use Rattle.std.proofs.Common.{◌≡◌, true, length, rules, arith}
 use Rattle.std.proofs.lemmas.Grind.{common_steps}
 use Rattle.std.specs.Str.{bytes_eq}
-use Rattle.ftc_base.proofs.FirstParts.{empty}
+use Rattle.std.proofs.lemmas.List.{nil_from_length}
 use Rattle.ftc_watch.specs.Grammar.{header}
 use Rattle.ftc_watch.proofs.Acceptance.{ticks_accepts}
 use Rattle.ftc_watch.proofs.Reading.{begins, goes_on, refused, ended_well}
@@ -35,6 +35,6 @@ pub new-requires : goal.new-requires
 new-requires c =
     let size : length c.loop-line.rest.now ≡ 0 = grind (arith, common_steps) in
     let told = ended_well c.servers-servers.result c.args.packets c.loop-line.ticks c.loop-line.rest.now _
-    (empty c.loop-line.rest.now size) c.loop-line.invariant.told in
+    (nil_from_length c.loop-line.rest.now size) c.loop-line.invariant.told in
     ticks_accepts c.args.ring.now c.args.packets c.args.text.now c.loop-line.ticks c.servers-servers.ensures.bounds
     (rw (← c.servers-servers.ensures.same) told)

@@ -2,6 +2,7 @@ use Rattle.std.proofs.Common.{◌≡◌, ◌≢◌, ◌≤◌, ◌∙◌, ℕ, r
 use Rattle.std.proofs.Math.Logic.{∥∥₁_map, ∥∥₁_map₂}
 use Rattle.ftc_journal.specs.declared.job.Job.TheVariants.{Visit}
 use Rattle.ftc_server.specs.declared.answers.CommitAnswer.TheVariants.{Done}
+use Rattle.ftc_server.proofs.WouldLog.{where_ok}
 use Rattle.ftc_network.specs.declared.network.Network.{Network}
 use Rattle.ftc_network.specs.Parts.{server_in}
 use Rattle.ftc_network.specs.Slots.{SlotEndsVisit}
@@ -9,7 +10,7 @@ use Rattle.ftc_chain.specs.ChainRun.{ChainRun}
 use Rattle.ftc_chain.specs.Course.{IsCourseResting, HasMade}
 use Rattle.ftc_chain.specs.Doing.{setting_by}
 use Rattle.ftc_chain.specs.Slots.{HasCommittedAt}
-use Rattle.ftc_chain.proofs.Commits.{at_rest_there, undone_rests, once_ended, undone, where_ok, visit_made, done_at}
+use Rattle.ftc_chain.proofs.Commits.{at_rest_there, undone_rests, once_ended, undone, visit_made, done_at}
 use Rattle.ftc_chain.proofs.HeadsKept.{once_kept, same_no_more}
 use Rattle.ftc_chain.proofs.Made.{run_of}
 use Rattle.ftc_chain.proofs.Releases.{when_ok}

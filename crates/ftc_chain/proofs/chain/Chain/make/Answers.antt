@@ -1,6 +1,7 @@
 use Rattle.std.proofs.Common.{◌∙◌, refl, sym, ap, subst}
 use Rattle.std.proofs.Math.Logic.{∥∥₁_map}
 use Rattle.ftc_base.specs.declared.limits.TheConstants.{FINISHING_SLOT}
+use Rattle.ftc_base.proofs.Results.{on_any_err}
 use Rattle.ftc_network.specs.declared.network.Network.{Network}
 use Rattle.ftc_network.specs.Slots.{head_at}
 use Rattle.ftc_chain.specs.declared.course.Course.{Course}
@@ -10,7 +11,6 @@ use Rattle.ftc_chain.proofs.AtRest.{may_do}
 use Rattle.ftc_chain.proofs.HeadsKept.{once_as, once_kept, once_after, same_no_more}
 use Rattle.ftc_chain.proofs.HeadsSeen.{heads_after, as_it_was}
 use Rattle.ftc_chain.proofs.Made.{before, run_of, stepped, roomed_rests}
-use Rattle.ftc_chain.proofs.Permitted.{on_any_err}
 use Rattle.ftc_chain.proofs.chain.Chain.make.Goals.{After-release_due}
 use Rattle.ftc_chain.proofs.chain.Chain.make.Goals as goal
 

@@ -12,7 +12,8 @@ returns-in-Some c =
     let k = c.args.self.now in
     let name = c.args.name.now in
     let last : c.unwrap-last.result ≡ k.ring.servers - 1 = search rules in
-    c.has_known.ensures ∙ ap (λ server. is_had_by c.in-Some.footprint.now (vector_of (known_at k server) name.server)) last
+    c.has_known.ensures
+    ∙ ap (λ server. is_had_by c.in-Some.footprint.now (vector_of (known_at k server) name.server)) last
     ∙ named_some (footprints_in k.visits.items) (known_last k) name c.in-Some.footprint.now
     (vector_of (known_last k) name.server)
     (ap (option_map (λ f. f.now)) (sym c.in-Some.is) ∙ c.footprint.ensures) refl

@@ -1,11 +1,11 @@
 use Rattle.std.proofs.Common.{◌≡◌, ◌∙◌, ◌↔◌, true, false, length, sym, ap, subst}
 use Rattle.std.proofs.lemmas.Bool.{true≢false}
+use Rattle.std.proofs.lemmas.Result.{IfOk-weaker}
 use Rattle.ftc_protocol.specs.Legal.{is_release}
 use Rattle.ftc_protocol.specs.Recovery.{undone_visits}
 use Rattle.ftc_machine.specs.DueTests.{is_any_due}
 use Rattle.ftc_machine.specs.Legality.{may_happen}
 use Rattle.ftc_machine.proofs.LegalityMeaning.{not_due, not_allowed, allowed, listed}
-use Rattle.ftc_machine.proofs.Results.{if_ok_map}
 use Rattle.ftc_machine.proofs.state.MachineState.is_legal.Goals as goal
 use Rattle.ftc_machine.proofs.state.MachineState.is_legal.Goals.{After-may_happen}
 use Rattle.ftc_machine.proofs.state.MachineState.is_legal.Goals.{else-not-is_release-via-then-not-is_release+else-is_some_due}
@@ -41,7 +41,7 @@ returns-then-not-may_happen-clause-legal c setting state stands given =
 pub returns-in-Recover-clause-legal : goal.returns-in-Recover-clause-legal
 returns-in-Recover-clause-legal c =
     let tested = (goal.at.returns-in-Recover-clause-legal c).After-may_happen in
-    if_ok_map c.are_undone.result _ _
+    IfOk-weaker c.are_undone.result _ _
     (λ same right setting state stands given.
     listed setting state c.args.self.now stands c.args.script.now (length c.args.packets.now) given c.args.event.now
     c.in-Recover.server c.in-Recover.undone same c.in-Recover.is (none_due tested)

@@ -1,8 +1,8 @@
 use Rattle.std.proofs.Common.{◌∙◌, List, ap}
+use Rattle.ftc_base.proofs.Results.{on_ok_map, on_err_map}
 use Rattle.ftc_journal.specs.declared.event.VisitName.{VisitName}
 use Rattle.ftc_serial.specs.Trace.{names}
 use Rattle.ftc_machine.proofs.VisitOutcomes.{outcome_is, logs_are}
-use Rattle.ftc_machine.proofs.Results.{on_ok_map, on_err_map}
 use Rattle.ftc_machine.proofs.state.MachineState.visit.Goals as goal
 
 pub returns-clause-ok : goal.returns-clause-ok

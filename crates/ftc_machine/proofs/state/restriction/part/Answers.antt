@@ -3,7 +3,7 @@ use Rattle.ftc_base.specs.Sets.{has}
 use Rattle.ftc_vector.specs.Vector.{by_partition, merged}
 use Rattle.ftc_vector.specs.Commits.{vector_of}
 use Rattle.ftc_vector.proofs.GroupLists.{by_group-from}
-use Rattle.ftc_machine.proofs.GroupVectors.{length-by_group, vector_of-by_group}
+use Rattle.ftc_vector.proofs.Held.{length-by_group, vector_of-by_group}
 use Rattle.ftc_machine.proofs.state.restriction.part.Goals as goal
 
 pub loop-number-init : goal.loop-number-init

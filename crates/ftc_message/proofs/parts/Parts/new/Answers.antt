@@ -1,5 +1,5 @@
-use Rattle.ftc_message.proofs.Members.{empty}
+use Rattle.ftc_base.proofs.Members.{no_member}
 use Rattle.ftc_message.proofs.parts.Parts.new.Goals as goal
 
 pub returns : goal.returns
-returns c = λ i. record { before = c.new.ensures i; changed = empty c.new-2.result c.new-2.ensures i }
+returns c = λ i. record { before = c.new.ensures i; changed = no_member c.new-2.result c.new-2.ensures i }

@@ -1,7 +1,7 @@
 use Rattle.std.proofs.Common.{◌+◌, ℕ, refl, ap}
+use Rattle.ftc_base.proofs.Results.{on_any_err}
 use Rattle.ftc_journal.specs.declared.event.Event.{Event}
 use Rattle.ftc_journal.specs.declared.event.Event.TheVariants as event
-use Rattle.ftc_network.proofs.Results.{as_err}
 use Rattle.ftc_network.proofs.SlotThere.{is_first, stands_there, allowed_there, still_there, withheld_there}
 use Rattle.ftc_network.proofs.SlotThere.{heads_there, follows_there}
 use Rattle.ftc_network.proofs.network.Network.enter.Goals as goal
@@ -29,7 +29,7 @@ returns-clause-ok c setting state bytes run legal is =
 pub returns-in_err-enter_at-clause-err : goal.returns-in_err-enter_at-clause-err
 returns-in_err-enter_at-clause-err c =
     let at = is_first c.args.self.now c.servers.ensures.bounds.some c.index_mut.ensures.value in
-    as_err c.from_residual.result _ (still_there at c.enter_at.new.slot c.in_err-enter_at.ensures.err)
+    on_any_err c.from_residual.result _ (still_there at c.enter_at.new.slot c.in_err-enter_at.ensures.err)
 
 pub returns-clause-withheld : goal.returns-clause-withheld
 returns-clause-withheld c =

@@ -1,5 +1,6 @@
 use Rattle.std.proofs.Common.{◌≡◌, ◌∙◌, Option, refl, sym, ap, subst}
 use Rattle.std.proofs.Math.Logic.{∥∥₁_elim}
+use Rattle.ftc_base.proofs.Results.{on_any_err}
 use Rattle.ftc_journal.specs.declared.event.Event.{Event}
 use Rattle.ftc_journal.specs.declared.event.Event.TheVariants as event
 use Rattle.ftc_protocol.specs.Next.{next}
@@ -16,7 +17,6 @@ use Rattle.ftc_network.proofs.Allowed.{below_servers}
 use Rattle.ftc_network.proofs.Changed.{server_set}
 use Rattle.ftc_network.proofs.PullWanted.{between_prop, later_prop, trace_few, may_pull, later_so, pull_follows}
 use Rattle.ftc_network.proofs.PulledServer.{another, gap_is}
-use Rattle.ftc_network.proofs.Results.{as_err}
 use Rattle.ftc_network.proofs.SlotThere.{is_at, stands_there, still_there, heads_there, same_counts}
 use Rattle.ftc_network.proofs.network.Network.pull.Goals as goal
 
@@ -65,7 +65,7 @@ install_at-requires c =
 pub returns-in_err-install_at-clause-err : goal.returns-in_err-install_at-clause-err
 returns-in_err-install_at-clause-err c =
     let pulled = is_at c.args.self.now c.next-receiver.ensures.within c.place_of-3.ensures c.index_mut.ensures.value in
-    as_err c.from_residual-in_err-install_at.result _
+    on_any_err c.from_residual-in_err-install_at.result _
     (still_there pulled c.install_at.new.slot (c.in_err-install_at.ensures.err c.next-receiver.result))
 
 pub returns-clause-ok : goal.returns-clause-ok

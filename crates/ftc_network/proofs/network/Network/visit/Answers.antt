@@ -1,5 +1,6 @@
 use Rattle.std.proofs.Common.{◌≡◌, ◌∙◌, ◌++◌, [], ◌∷◌, List, Option, slice_set, refl, sym, ap, subst}
 use Rattle.std.proofs.Math.Logic.{∥∥₁_map}
+use Rattle.ftc_base.proofs.Results.{on_any_err}
 use Rattle.ftc_journal.specs.declared.event.Event.{Event}
 use Rattle.ftc_journal.specs.declared.event.Event.TheVariants as event
 use Rattle.ftc_protocol.specs.Next.{next}
@@ -10,7 +11,6 @@ use Rattle.ftc_network.specs.Parts.{parts_of}
 use Rattle.ftc_network.specs.Slots.{head_of, runs_in, IsIdleHead}
 use Rattle.ftc_network.proofs.Allowed.{visits_inside}
 use Rattle.ftc_network.proofs.Heads.{idle_runs}
-use Rattle.ftc_network.proofs.Results.{as_err}
 use Rattle.ftc_network.proofs.SlotThere.{is_within, is_at, stands_there, is_there, others_there, still_there}
 use Rattle.ftc_network.proofs.SlotThere.{allowed_there, same_counts, with_visits, follows_there}
 use Rattle.ftc_network.proofs.network.Network.visit.Goals as goal
@@ -30,7 +30,7 @@ returns-in_err-visit-clause-err c =
     let old = c.args.self.now in
     let at = is_at old (visits_inside c.where_events_are.ensures.visit c.requires) c.place_of.ensures
     c.index_mut.ensures.value in
-    as_err c.from_residual-in_err-visit.result _ (λ setting state is.
+    on_any_err c.from_residual-in_err-visit.result _ (λ setting state is.
     with_visits (record (parts_of old) { servers = slice_set old.servers.items c.place_of.result c.visit_at.new.slot })
     c.reserve.ensures.items (still_there at c.visit_at.new.slot c.in_err-visit.ensures.err setting state is))
 

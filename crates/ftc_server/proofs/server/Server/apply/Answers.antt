@@ -1,7 +1,8 @@
 use Rattle.std.proofs.Common.{◌≡◌, ◌∙◌, ◌&&◌, ◌||◌, ℕ, List, Option, Some, true, refl, ap, sym, subst}
 use Rattle.std.specs.Prelude.{◌==◌, find}
 use Rattle.std.specs.List.{list_all}
-use Rattle.std.proofs.lemmas.Bool.{eqb-true}
+use Rattle.std.proofs.lemmas.Bool.{eqb-true, and_parts}
+use Rattle.ftc_base.proofs.Firsts.{test_of_found}
 use Rattle.ftc_replica.specs.Held.{Held}
 use Rattle.ftc_message.specs.Logged.{Logged}
 use Rattle.ftc_message.specs.Ordered.{is_log_of}
@@ -14,7 +15,6 @@ use Rattle.ftc_server.specs.Standing.{with_replica}
 use Rattle.ftc_server.specs.Slots.{AreSlots, is_open}
 use Rattle.ftc_server.specs.Waiting.{AreHadBefore, AreWatched, is_due, is_unreached, is_idle_one}
 use Rattle.ftc_server.proofs.StillWatched.{settled_watched}
-use Rattle.ftc_server.proofs.Finding.{both, passes_found}
 use Rattle.ftc_server.proofs.Grown.{applied_grown, applied_due, watched_grown}
 use Rattle.ftc_server.proofs.Installing.{applied_at, ready_replica}
 use Rattle.ftc_server.proofs.HadBefore.{had_grown, had_same}
@@ -24,18 +24,20 @@ pub apply-requires-clause-rise : goal.apply-requires-clause-rise
 apply-requires-clause-rise c =
     let server = c.args.self.now in
     let log = c.in-Some-find.log.now in
-    let is = passes_found (is_log_of c.args.packet c.args.group) c.in-Some.held.now.message.logs log
+    let is = test_of_found (is_log_of c.args.packet c.args.group) c.in-Some.held.now.message.logs log
     (sym c.in-Some-find.ensures) in
-    let same = eqb-true log.group c.args.group (both (log.origin == c.args.packet) (log.group == c.args.group) is).1 in
+    let same = eqb-true log.group c.args.group
+    (and_parts (log.origin == c.args.packet) (log.group == c.args.group) is).1 in
     ap (λ (group : ℕ). may_rise_in (replica_at server.others.items group)) same ∙ c.requires.rise
 
 pub returns-clause-ok : goal.returns-clause-ok
 returns-clause-ok c =
     let server = c.args.self.now in
     let log = c.in-Some-find.log.now in
-    let is = passes_found (is_log_of c.args.packet c.args.group) c.in-Some.held.now.message.logs log
+    let is = test_of_found (is_log_of c.args.packet c.args.group) c.in-Some.held.now.message.logs log
     (sym c.in-Some-find.ensures) in
-    let same = eqb-true log.group c.args.group (both (log.origin == c.args.packet) (log.group == c.args.group) is).1 in
+    let same = eqb-true log.group c.args.group
+    (and_parts (log.origin == c.args.packet) (log.group == c.args.group) is).1 in
     let named : log_in server c.args.origin c.args.group c.args.packet ≡ Some log =
     sym (ap (log_of c.args.group c.args.packet) c.in-Some.ensures) ∙ sym c.in-Some-find.ensures in
     let ready : may_apply_to (replica_at server.others.items log.group) log ≡ true =
@@ -66,8 +68,8 @@ of_group : (server : Server) (origin group packet : ℕ) (held : HeldMessage) (l
     Some held ≡ found origin server.held.items → Some log ≡ find (is_log_of packet group) held.message.logs →
     may_apply_in server origin group packet ≡ true → OfGroup server group log
 of_group server origin group packet held log there in_logs ready =
-    let is = passes_found (is_log_of packet group) held.message.logs log (sym in_logs) in
-    let same = eqb-true log.group group (both (log.origin == packet) (log.group == group) is).1 in
+    let is = test_of_found (is_log_of packet group) held.message.logs log (sym in_logs) in
+    let same = eqb-true log.group group (and_parts (log.origin == packet) (log.group == group) is).1 in
     let named : log_in server origin group packet ≡ Some log = sym (ap (log_of group packet) there) ∙ sym in_logs in
     let replica = ready_replica (replica_at server.others.items log.group) log
     (sym (ap (may_apply_one server.others.items) named) ∙ ready) in

@@ -1,8 +1,8 @@
 use Rattle.std.proofs.Common.{rules, arith, ◌≡◌, ◌++◌, ◌∷◌, [], List, length, drop, ap, refl}
 use Rattle.std.proofs.lemmas.Grind.{common_steps}
 use Rattle.ftc_base.specs.declared.released.Released.{Released}
+use Rattle.ftc_base.proofs.Results.{on_any_err}
 use Rattle.ftc_stream.specs.Records.{writable}
-use Rattle.ftc_stream.proofs.Telling.{on_err}
 use Rattle.ftc_stream.specs.LeavingLaws.{left_start, left_more}
 use Rattle.ftc_stream.specs.GrowingLaws.{grown_start, grown_more, added_none, since_more, added_more, others_on}
 use Rattle.ftc_stream.proofs.Leaving.{left_then_none, left_then_part}
@@ -29,7 +29,7 @@ loop-self-init g c =
 
 pub returns-in_err-put_next-clause-part : goal.returns-in_err-put_next-clause-part
 returns-in_err-put_next-clause-part g c = λ t.
-    on_err c.from_residual.result _
+    on_any_err c.from_residual.result _
     (grown_then_part c.args.out.now c.args.capture.now _ _ (g.D.Desk.file c.args.desk.now)
     (g.D.Desk.file c.loop-self.desk) (g.D.Desk.file c.put_next.new.desk)
     (ap (λ list. drop (length c.args.self.now.items) list.items) c.in_err-put_next.ensures.unchanged)
@@ -37,7 +37,7 @@ returns-in_err-put_next-clause-part g c = λ t.
 
 pub returns-in_err-put_next-clause-told_in_part : goal.returns-in_err-put_next-clause-told_in_part
 returns-in_err-put_next-clause-told_in_part g c =
-    on_err c.from_residual.result _
+    on_any_err c.from_residual.result _
     (left_then_part _ _ _ _ _ (ap (λ list. writable c.args.capture.now
     (drop (length c.args.self.now.items) list.items)) c.in_err-put_next.ensures.unchanged)
     c.loop-self.invariant.told c.in_err-put_next.ensures.told_in_part)

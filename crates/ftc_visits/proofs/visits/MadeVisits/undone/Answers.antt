@@ -1,12 +1,12 @@
 use Rattle.std.proofs.Common.{◌<◌, ◌∙◌, List, refl, ap, arith, false}
 use Rattle.std.proofs.lemmas.Result.{IfOk-weaker}
+use Rattle.std.proofs.lemmas.Bool.{le-leb}
 use Rattle.ftc_journal.specs.declared.event.VisitName.{VisitName}
 use Rattle.ftc_protocol.proofs.Places.{serial_by}
 use Rattle.ftc_protocol.specs.Recovery.{previous_live, following_live, undone_visits}
 use Rattle.ftc_protocol.specs.Setting.{servers, shape}
 use Rattle.ftc_refinement.proofs.LiveNeighbours.{before_is, after_is}
 use Rattle.ftc_visits.specs.Undoing.{is_undone_alone, undone_from}
-use Rattle.ftc_visits.proofs.Alone.{is_within}
 use Rattle.ftc_visits.proofs.Undone.{found_is}
 use Rattle.ftc_visits.proofs.visits.MadeVisits.undone.Goals as goal
 
@@ -34,7 +34,7 @@ returns c = IfOk-weaker c.undone_between.result _ _
     (λ log held log_of at. c.what_vectors_say.ensures.had setting state
     (following_live setting state server) log held run log_of at)
     c.order_tests.ensures.covers previous.within following.within
-    (λ group below between. is_within _ _ (c.recoveries.ensures.after_is_member ring state.up server
+    (λ group below between. le-leb _ _ (c.recoveries.ensures.after_is_member ring state.up server
     (previous_live setting state server) (following_live setting state server) group down.0 down.1 previous following
     order.admissible below between))
     visits are

@@ -1,8 +1,9 @@
 use Rattle.std.proofs.Common.{map, sym, ap, subst, ◌∙◌, arith}
 use Rattle.std.specs.List.{AllByRecursion}
+use Rattle.ftc_base.proofs.EachOf.{all_push}
 use Rattle.ftc_machine.specs.declared.state.footprint.Touched.{Touched}
 use Rattle.ftc_machine.specs.FootprintMaking.{IsTouched}
-use Rattle.ftc_machine.proofs.MadeFootprints.{all_push, partitions_more}
+use Rattle.ftc_machine.proofs.MadeFootprints.{partitions_more}
 use Rattle.ftc_machine.proofs.state.footprint.Footprint.of.Goals as goal
 
 pub loop-answer-preserved : goal.loop-answer-preserved
