@@ -1,20 +1,19 @@
-//! Calls on a chain as a list, and what came of them. So a test is a table, and its proof carries no chain along from
-//! call to call.
+//! Calls on a chain as a table, each beside what has to come of it. So a test is data, and its proof carries no chain
+//! along from call to call.
 
 use crate::tests::doing::{
     begin, commit, foreign_plan, frame, lines, lists, look, plan_for_c, plan_of, quit, read, reads,
     step, take_seen, told, visit,
 };
 use crate::tests::given::{Frame, Parts, Wrong};
-use ftc_base::{
-    Bytes, Items, Key, NoMemory, PacketNo, Refuse, ServerId, ServerSet, Value, WorkerId,
-};
+use ftc_base::{Bytes, Key, NoMemory, PacketNo, Refuse, ServerId, Value, WorkerId};
 use ftc_chain::Chain;
 use ftc_journal::Job;
 use ftc_mbox::{ChainSpec, Plan};
 use ftc_message::{Message, Seen};
 use ftc_server::{CommitAnswer, ReadAnswer};
 use std::alloc::Global;
+use std::process::Abort;
 
 /// A plan by which a slot commits.
 #[derive(Clone, Copy, Debug)]
@@ -27,43 +26,49 @@ pub enum By {
     OtherPacket,
 }
 
-/// A call on a chain.
+/// A call on a chain. Servers, slots and packets are told by their numbers.
 #[derive(Clone, Copy, Debug)]
 pub enum Call {
-    /// The step of a job other than a visit.
-    Step(Job),
-    /// A whole visit in a slot.
-    Visit(WorkerId, ServerId, PacketNo),
-    /// A slot begins a visit.
-    Begin(WorkerId, ServerId, PacketNo),
+    /// Steps of jobs, with the numbers of their lines in a journal.
+    Enter(u32),
+    Pass(u8, u32),
+    Take(u8, u32),
+    Apply(u8, u32, u8, u32),
+    Carry(u32),
+    Crash(u8),
+    Recover(u8),
+    /// A slot makes the whole visit at a server of a packet.
+    Visit(u8, u8, u32),
+    /// A slot begins the visit at a server of a packet.
+    Begin(u8, u8, u32),
     /// What a slot runs reads the key of that packet.
-    Read(WorkerId, Frame),
+    Read(u8, Frame),
     /// A slot commits.
-    Commit(WorkerId, By),
+    Commit(u8, By),
     /// A slot gives up what it runs.
-    Quit(WorkerId),
+    Quit(u8),
     /// The count of a slot's reads is asked for.
-    Reads(WorkerId),
+    Reads(u8),
     /// The packet that a slot runs is looked at.
-    Look(WorkerId),
+    Look(u8),
     /// The oldest message of a link is read from its frame, and taken as it was seen.
-    TakeSeen(ServerId, PacketNo),
-    /// Whether a visit is among the jobs that no slot runs.
-    IsListed(ServerId, PacketNo),
-    /// Whether a slot runs a visit.
-    IsRunning(ServerId, PacketNo),
-    /// Whether a job is legal.
-    IsLegal(Job),
+    TakeSeen(u8, u32),
+    /// Whether the visit at a server of a packet is among the jobs that no slot runs.
+    IsListed(u8, u32),
+    /// Whether a slot runs that visit.
+    IsRunning(u8, u32),
+    /// Whether that visit is legal.
+    IsLegal(u8, u32),
     /// The first job.
     Next,
     /// Whether an age is left at a server.
-    AgesLeft(ServerId),
+    AgesLeft(u8),
     /// The oldest released packet is taken out.
     Drain,
     /// The oldest frame of a link is read.
-    See(ServerId),
+    See(u8),
     /// The key of that packet is looked up in what a server's store has of a group.
-    LookUp(ServerId, ServerId, Frame),
+    LookUp(u8, u8, Frame),
 }
 
 /// What came of a call.
@@ -74,10 +79,10 @@ pub enum Came {
     Age(Option<u64>),
     /// The last byte of what a read found, which is the count.
     Count(Option<u8>),
-    /// An older slot is in the way of a read.
-    Blocked(WorkerId),
-    /// An older slot took a partition before a read or a commit.
-    Wounded(WorkerId),
+    /// An older slot, of that number, is in the way of a read.
+    Blocked(u8),
+    /// An older slot, of that number, took a partition before a read or a commit.
+    Wounded(u8),
     /// The slot runs nothing.
     Idle,
     /// The rule doesn't ask for the key.
@@ -91,15 +96,20 @@ pub enum Came {
     Reads(Option<usize>),
     /// A packet by its bytes, where there is one.
     Packet(Option<Frame>),
-    Next(Option<Job>),
-    /// A message by the packet in it, the groups of its logs, and how many needs it has.
+    /// The first job is the visit at a server of a packet, another one, or none.
+    NextVisit(u8, u32),
+    NextOther,
+    NextNone,
+    /// A message by the packet in it, the group of its one log, if it has one alone, and how many needs it has.
     Message {
         packet: Option<Frame>,
-        groups: ServerSet,
+        group: Option<u8>,
         needs: usize,
     },
-    /// There is no such key, plan, frame or store.
+    /// There is no such server, slot, key, plan, frame or store.
     Nothing,
+    /// The call was refused for want of memory, and yet an event was told.
+    ToldBefore,
 }
 
 /// Reads the oldest frame of a link, and takes its message as it was seen. False where there is none.
@@ -148,7 +158,7 @@ fn frame_with(key: &Key) -> Option<Frame> {
 fn came_of_commit(answer: &CommitAnswer) -> Came {
     match *answer {
         CommitAnswer::Done => Came::Done,
-        CommitAnswer::Wounded { by } => Came::Wounded(by),
+        CommitAnswer::Wounded { by } => Came::Wounded(by.number()),
         CommitAnswer::Idle => Came::Idle,
         CommitAnswer::Unfinished { key } => Came::Unfinished(frame_with(&key)),
         CommitAnswer::NoMemory => Came::NoMemory,
@@ -178,8 +188,8 @@ fn count_of(value: &Option<Value>) -> Option<u8> {
 fn came_of(answer: &ReadAnswer) -> Came {
     match *answer {
         ReadAnswer::Value(value) => Came::Count(count_of(&value)),
-        ReadAnswer::Blocked { holder } => Came::Blocked(holder),
-        ReadAnswer::Wounded { by } => Came::Wounded(by),
+        ReadAnswer::Blocked { holder } => Came::Blocked(holder.number()),
+        ReadAnswer::Wounded { by } => Came::Wounded(by.number()),
         ReadAnswer::Idle => Came::Idle,
         ReadAnswer::NotAsked => Came::NotAsked,
     }
@@ -209,13 +219,12 @@ fn drain(chain: &mut Chain<'_>) -> Came {
     }
 }
 
-/// The groups of the logs of a message.
-fn groups_of(message: &Message) -> ServerSet {
-    let mut groups = ServerSet::new();
-    for log in message.logs.as_slice() {
-        groups = groups.with(log.group().number());
+/// The group of the one log of a message. None where it has none, or several.
+fn group_of(message: &Message) -> Option<u8> {
+    match message.logs.as_slice() {
+        [log] => Some(log.group().number()),
+        _ => None,
     }
-    groups
 }
 
 /// What a message has.
@@ -226,7 +235,7 @@ fn came_of_message(message: &Message) -> Came {
     };
     Came::Message {
         packet,
-        groups: groups_of(message),
+        group: group_of(message),
         needs: message.needs.len(),
     }
 }
@@ -243,45 +252,156 @@ fn see(alloc: Global, chain: &Chain<'_>, link: ServerId) -> Result<Came, NoMemor
     }
 }
 
-/// Looks a key up in what a server has of a group.
-fn look_up(chain: &Chain<'_>, server: ServerId, group: ServerId, key: Option<Key>) -> Came {
-    match (chain.store_of(server, group), key) {
+/// Looks the key of a packet up in what a server has of a group.
+fn look_up(chain: &Chain<'_>, server: ServerId, group: u8, of: Frame) -> Came {
+    let Some(group) = ServerId::new(group) else {
+        return Came::Nothing;
+    };
+    match (chain.store_of(server, group), of.key()) {
         (Some(store), Some(key)) => Came::Count(count_of(&store.get(&key))),
         _ => Came::Nothing,
     }
 }
 
-/// Makes a call that changes nothing.
-fn ask(alloc: Global, chain: &Chain<'_>, call: &Call) -> Result<Came, NoMemory> {
+/// What a job is.
+fn came_of_job(job: &Job) -> Came {
+    match *job {
+        Job::Visit { server, packet } => Came::NextVisit(server.number(), packet),
+        _ => Came::NextOther,
+    }
+}
+
+/// The first job.
+fn next(chain: &Chain<'_>) -> Came {
+    match chain.next() {
+        Some(job) => came_of_job(&job),
+        None => Came::NextNone,
+    }
+}
+
+/// The job whose step a call is.
+fn job_of(call: &Call) -> Option<Job> {
+    Some(match *call {
+        Call::Enter(packet) => Job::Enter { packet },
+        Call::Pass(server, origin) => Job::Pass {
+            server: ServerId::new(server)?,
+            origin,
+        },
+        Call::Take(link, origin) => Job::Take {
+            link: ServerId::new(link)?,
+            origin,
+        },
+        Call::Apply(server, origin, group, packet) => Job::Apply {
+            server: ServerId::new(server)?,
+            origin,
+            group: ServerId::new(group)?,
+            packet,
+        },
+        Call::Carry(origin) => Job::Carry { origin },
+        Call::Crash(server) => Job::Crash {
+            server: ServerId::new(server)?,
+        },
+        Call::Recover(server) => Job::Recover {
+            server: ServerId::new(server)?,
+        },
+        _ => return None,
+    })
+}
+
+/// The slot that a call names.
+fn slot_of(call: &Call) -> Option<WorkerId> {
     match *call {
-        Call::See(link) => see(alloc, chain, link),
-        Call::LookUp(server, group, of) => Ok(look_up(chain, server, group, of.key())),
-        Call::Reads(worker) => Ok(Came::Reads(reads(chain, worker))),
-        Call::Look(worker) => Ok(frame_of(&look(chain, worker)?)),
-        Call::IsListed(server, packet) => Ok(Came::Is(lists(chain, server, packet)?)),
-        Call::IsRunning(server, packet) => Ok(Came::Is(chain.is_running(server, packet))),
-        Call::IsLegal(job) => Ok(Came::Is(chain.legal(&job))),
-        Call::Next => Ok(Came::Next(chain.next())),
-        Call::AgesLeft(server) => Ok(Came::Is(chain.ages_left(server))),
+        Call::Visit(slot, _, _) | Call::Begin(slot, _, _) => WorkerId::new(slot),
+        Call::Read(slot, _) | Call::Commit(slot, _) => WorkerId::new(slot),
+        Call::Quit(slot) | Call::Reads(slot) | Call::Look(slot) => WorkerId::new(slot),
+        _ => None,
+    }
+}
+
+/// The server that a call names, or the link behind it.
+fn server_of(call: &Call) -> Option<ServerId> {
+    match *call {
+        Call::Visit(_, server, _) | Call::Begin(_, server, _) => ServerId::new(server),
+        Call::TakeSeen(server, _) | Call::LookUp(server, _, _) => ServerId::new(server),
+        Call::IsListed(server, _) | Call::IsRunning(server, _) => ServerId::new(server),
+        Call::IsLegal(server, _) => ServerId::new(server),
+        Call::AgesLeft(server) | Call::See(server) => ServerId::new(server),
+        _ => None,
+    }
+}
+
+/// Makes or begins a visit.
+fn make_visit(
+    chain: &mut Chain<'_>,
+    slot: WorkerId,
+    server: ServerId,
+    call: &Call,
+) -> Result<Came, NoMemory> {
+    match *call {
+        Call::Visit(_, _, packet) => Ok(Came::Is(visit(chain, slot, server, packet)?)),
+        Call::Begin(_, _, packet) => Ok(Came::Age(begin(chain, slot, server, packet)?)),
         _ => Ok(Came::Nothing),
+    }
+}
+
+/// Makes a call about what a slot runs.
+fn make_in_slot(
+    alloc: Global,
+    chain: &mut Chain<'_>,
+    slot: WorkerId,
+    call: &Call,
+) -> Result<Came, NoMemory> {
+    match *call {
+        Call::Read(_, of) => Ok(read_at(chain, slot, of.key())),
+        Call::Commit(_, by) => commit_by(alloc, chain, slot, by),
+        Call::Quit(_) => {
+            quit(chain, slot);
+            Ok(Came::Is(true))
+        }
+        Call::Reads(_) => Ok(Came::Reads(reads(chain, slot))),
+        Call::Look(_) => Ok(frame_of(&look(chain, slot)?)),
+        _ => Ok(Came::Nothing),
+    }
+}
+
+/// Makes a call about a server or the link behind it.
+fn make_at_server(
+    alloc: Global,
+    chain: &mut Chain<'_>,
+    server: ServerId,
+    call: &Call,
+) -> Result<Came, NoMemory> {
+    match *call {
+        Call::TakeSeen(_, origin) => Ok(Came::Is(see_and_take(alloc, chain, server, origin)?)),
+        Call::IsListed(_, packet) => Ok(Came::Is(lists(chain, server, packet)?)),
+        Call::IsRunning(_, packet) => Ok(Came::Is(chain.is_running(server, packet))),
+        Call::IsLegal(_, packet) => Ok(Came::Is(chain.legal(&Job::Visit { server, packet }))),
+        Call::AgesLeft(_) => Ok(Came::Is(chain.ages_left(server))),
+        Call::See(_) => see(alloc, chain, server),
+        Call::LookUp(_, group, of) => Ok(look_up(chain, server, group, of)),
+        _ => Ok(Came::Nothing),
+    }
+}
+
+/// Makes a call about the whole chain.
+fn make_beside(chain: &mut Chain<'_>, call: &Call) -> Came {
+    match *call {
+        Call::Next => next(chain),
+        Call::Drain => drain(chain),
+        _ => Came::Nothing,
     }
 }
 
 /// Makes a call, where what it requires is so.
 fn make(alloc: Global, chain: &mut Chain<'_>, call: &Call) -> Result<Came, NoMemory> {
-    match *call {
-        Call::Step(job) => Ok(Came::Is(step(chain, &job)?)),
-        Call::Visit(worker, server, packet) => Ok(Came::Is(visit(chain, worker, server, packet)?)),
-        Call::Begin(worker, server, packet) => Ok(Came::Age(begin(chain, worker, server, packet)?)),
-        Call::Read(worker, of) => Ok(read_at(chain, worker, of.key())),
-        Call::Commit(worker, by) => commit_by(alloc, chain, worker, by),
-        Call::Quit(worker) => {
-            quit(chain, worker);
-            Ok(Came::Is(true))
-        }
-        Call::TakeSeen(link, origin) => Ok(Came::Is(see_and_take(alloc, chain, link, origin)?)),
-        Call::Drain => Ok(drain(chain)),
-        _ => ask(alloc, chain, call),
+    if let Some(job) = job_of(call) {
+        return Ok(Came::Is(step(chain, &job)?));
+    }
+    match (slot_of(call), server_of(call)) {
+        (Some(slot), Some(server)) => make_visit(chain, slot, server, call),
+        (Some(slot), None) => make_in_slot(alloc, chain, slot, call),
+        (None, Some(server)) => make_at_server(alloc, chain, server, call),
+        (None, None) => Ok(make_beside(chain, call)),
     }
 }
 
@@ -294,51 +414,65 @@ fn is_refused(came: &Result<Came, NoMemory>) -> bool {
     }
 }
 
-/// Makes a call, once more where memory is refused. None where the refused call told an event.
-fn make_again(alloc: Global, chain: &mut Chain<'_>, call: &Call) -> Result<Option<Came>, NoMemory> {
+/// Makes a call, once more where memory is refused.
+fn make_again(alloc: Global, chain: &mut Chain<'_>, call: &Call) -> Result<Came, NoMemory> {
     let before = told(chain);
     let first = make(alloc, chain, call);
     if !is_refused(&first) {
-        return Ok(Some(first?));
+        return first;
     }
     if told(chain) != before {
-        return Ok(None);
+        return Ok(Came::ToldBefore);
     }
-    Ok(Some(make(alloc, chain, call)?))
+    make(alloc, chain, call)
 }
 
-/// What came of calls, and the events then, behind their first line.
+/// Makes calls one after another, up to the first of which something else comes. The answer is its place with what
+/// came, and None where each came as it has to.
+fn first_other(
+    alloc: Global,
+    chain: &mut Chain<'_>,
+    table: &[(Call, Came)],
+) -> Result<Option<(usize, Came)>, NoMemory> {
+    let mut place = 0usize;
+    for (call, wanted) in table {
+        let came = make_again(alloc, chain, call)?;
+        if came != *wanted {
+            return Ok(Some((place, came)));
+        }
+        place = place.saturating_add(1);
+    }
+    Ok(None)
+}
+
+/// What came of a table of calls.
 #[derive(Drop)]
 pub struct Ran {
-    pub came: Items<Came>,
+    /// The first call of which something else came, by its place, with what came.
+    pub other: Option<(usize, Came)>,
+    /// The events then, behind their first line.
     pub lines: Bytes,
 }
 
-/// Makes calls one after another.
-fn make_all(alloc: Global, chain: &mut Chain<'_>, calls: &[Call]) -> Result<Items<Came>, NoMemory> {
-    let mut came = Items::new(alloc);
-    for call in calls {
-        match make_again(alloc, chain, call)? {
-            Some(one) => came.push(one)?,
-            None => return Ok(came),
-        }
-    }
-    Ok(came)
-}
-
-/// Makes calls one after another, on a chain of these middleboxes, packets and script before its first event.
+/// Makes the calls of a table on a chain of these middleboxes, packets and script before its first event.
 pub fn call_each(
     alloc: Global,
     spec: ChainSpec,
     frames: &[Frame],
     script: &[u8],
-    calls: &[Call],
+    table: &[(Call, Came)],
 ) -> Result<Ran, Refuse<Wrong>> {
     let parts = Parts::new(alloc, spec, frames, script)?;
     let mut chain = parts.chain(alloc)?;
-    let came = make_all(alloc, &mut chain, calls)?;
+    let other = first_other(alloc, &mut chain, table)?;
     Ok(Ran {
-        came,
+        other,
         lines: lines(alloc, &chain)?,
     })
+}
+
+/// Compares what came of a table of calls, and the events.
+pub fn assert_ran(rt: &impl Abort, ran: &Ran, lines: &[u8]) {
+    assert_eq!(rt; ran.other, None);
+    assert_eq!(rt; ran.lines.as_slice(), lines);
 }

@@ -3,7 +3,7 @@
 ghost use Rattle.std.specs.Prelude.{◌≡◌, length, IfOk};
 
 use ftc_base::limits::MOST_RECORDS;
-use ftc_base::{Bytes, Items, Key, NoMemory, Refuse, ServerId, WorkerId};
+use ftc_base::{Bytes, Items, Key, NoMemory, Refuse};
 use ftc_chain::Chain;
 use ftc_firewall::FirewallRule;
 use ftc_mbox::{ChainSpec, Rule};
@@ -12,7 +12,6 @@ use ftc_protocol::ring_of;
 use ftc_ring::Ring;
 use ftc_script::{Script, accepted, read_script};
 use std::alloc::Global;
-use std::process::Abort;
 
 const A: [u8; 42] = [
     2, 0, 0, 0, 0, 1, 2, 0, 0, 0, 0, 2, 8, 0, 0x45, 0, 0, 28, 0, 1, 0, 0, 64, 17, 0x46, 0x91, 10,
@@ -161,14 +160,4 @@ impl Parts {
     pub fn chain(&self, alloc: Global) -> Result<Chain<'_>, NoMemory> {
         Chain::new(alloc, &self.spec, &self.packets, &self.script)
     }
-}
-
-/// The slot of that number.
-pub fn slot(rt: &impl Abort, number: u8) -> WorkerId {
-    WorkerId::new(number).expect(rt, "a slot is below 64")
-}
-
-/// The server of that number.
-pub fn server(rt: &impl Abort, number: u8) -> ServerId {
-    ServerId::new(number).expect(rt, "a server is below 16")
 }

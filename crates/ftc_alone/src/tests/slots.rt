@@ -1,436 +1,243 @@
 //! What the slots of a chain do, call by call.
 
-use crate::tests::calls::{By, Call, Came, Ran, call_each};
-use crate::tests::given::{Frame, one_monitor, server, slot, two_monitors, two_passes};
-use ftc_journal::Job;
-use std::process::Abort;
+use crate::tests::calls::{By, Call, Came, assert_ran, call_each};
+use crate::tests::given::{Frame, one_monitor, two_monitors, two_passes};
 use std::test::Fail;
 
-/// Compares what came of each call, and the events.
-fn assert_ran(rt: &impl Abort, ran: &Ran, came: &[Came], lines: &[u8]) {
-    assert_eq!(rt; ran.came.as_slice(), came);
-    assert_eq!(rt; ran.lines.as_slice(), lines);
-}
+const IDLE: [(Call, Came); 7] = [
+    (Call::Reads(0), Came::Reads(None)),
+    (Call::Look(63), Came::Packet(None)),
+    (Call::AgesLeft(0), Came::Is(true)),
+    // Server 3 isn't one of the chain: it can't run out of ages.
+    (Call::AgesLeft(3), Came::Is(true)),
+    (Call::IsRunning(0, 0), Came::Is(false)),
+    (Call::IsRunning(3, 0), Came::Is(false)),
+    (Call::Commit(0, By::Pass), Came::Idle),
+];
 
 #[test]
 fn at_first_slots_are_idle(rt: HostRuntime) -> Result<(), Fail> {
-    let (first, here) = (slot(&rt, 0), server(&rt, 0));
-    let calls = [
-        Call::Reads(first),
-        Call::Look(slot(&rt, 63)),
-        Call::AgesLeft(here),
-        // Server 3 isn't one of the chain: it can't run out of ages.
-        Call::AgesLeft(server(&rt, 3)),
-        Call::IsRunning(here, 0),
-        Call::IsRunning(server(&rt, 3), 0),
-        Call::Commit(first, By::Pass),
-    ];
-    let came = [
-        Came::Reads(None),
-        Came::Packet(None),
-        Came::Is(true),
-        Came::Is(true),
-        Came::Is(false),
-        Came::Is(false),
-        Came::Idle,
-    ];
-    let ran = call_each(
-        rt.alloc(),
-        one_monitor(rt.alloc())?,
-        &[Frame::A],
-        b"",
-        &calls,
-    )?;
-    assert_ran(&rt, &ran, &came, b"");
+    let alloc = rt.alloc();
+    let ran = call_each(alloc, one_monitor(alloc)?, &[Frame::A], b"", &IDLE)?;
+    assert_ran(&rt, &ran, b"");
     Ok(())
 }
+
+const READING: [(Call, Came); 8] = [
+    (Call::Enter(0), Came::Is(true)),
+    (Call::Begin(1, 0, 0), Came::Age(Some(0))),
+    (Call::Look(1), Came::Packet(Some(Frame::A))),
+    (Call::Read(1, Frame::C), Came::NotAsked),
+    (Call::Read(1, Frame::A), Came::Count(None)),
+    (Call::Reads(1), Came::Reads(Some(1))),
+    // The rule has what it needs.
+    (Call::Read(1, Frame::A), Came::NotAsked),
+    (Call::Read(2, Frame::A), Came::Idle),
+];
 
 #[test]
 fn a_slot_reads_what_the_rule_asks_for(rt: HostRuntime) -> Result<(), Fail> {
-    let (worker, here) = (slot(&rt, 1), server(&rt, 0));
-    let calls = [
-        Call::Step(Job::Enter { packet: 0 }),
-        Call::Begin(worker, here, 0),
-        Call::Look(worker),
-        Call::Read(worker, Frame::C),
-        Call::Read(worker, Frame::A),
-        Call::Reads(worker),
-        // The rule has what it needs.
-        Call::Read(worker, Frame::A),
-        Call::Read(slot(&rt, 2), Frame::A),
-    ];
-    let came = [
-        Came::Is(true),
-        Came::Age(Some(0)),
-        Came::Packet(Some(Frame::A)),
-        Came::NotAsked,
-        Came::Count(None),
-        Came::Reads(Some(1)),
-        Came::NotAsked,
-        Came::Idle,
-    ];
-    let ran = call_each(
-        rt.alloc(),
-        one_monitor(rt.alloc())?,
-        &[Frame::A],
-        b"",
-        &calls,
-    )?;
-    assert_ran(&rt, &ran, &came, b"enter 0\n");
+    let alloc = rt.alloc();
+    let ran = call_each(alloc, one_monitor(alloc)?, &[Frame::A], b"", &READING)?;
+    assert_ran(&rt, &ran, b"enter 0\n");
     Ok(())
 }
+
+const COMMITTING: [(Call, Came); 11] = [
+    (Call::Enter(0), Came::Is(true)),
+    (Call::Begin(5, 0, 0), Came::Age(Some(0))),
+    // Before its read the rule asks for one.
+    (Call::Commit(5, By::Pass), Came::Unfinished(Some(Frame::A))),
+    (Call::Read(5, Frame::A), Came::Count(None)),
+    (Call::Commit(5, By::Own), Came::Done),
+    // What was done isn't done again.
+    (Call::Reads(5), Came::Reads(None)),
+    (Call::Commit(5, By::Pass), Came::Idle),
+    (Call::Pass(0, 0), Came::Is(true)),
+    (Call::Next, Came::NextNone),
+    (Call::Drain, Came::Packet(Some(Frame::A))),
+    (Call::Drain, Came::Packet(None)),
+];
 
 #[test]
 fn a_commit_makes_the_visit_in_its_slot(rt: HostRuntime) -> Result<(), Fail> {
-    let (worker, here) = (slot(&rt, 5), server(&rt, 0));
-    let pass = Job::Pass {
-        server: here,
-        origin: 0,
-    };
-    let calls = [
-        Call::Step(Job::Enter { packet: 0 }),
-        Call::Begin(worker, here, 0),
-        // Before its read the rule asks for one.
-        Call::Commit(worker, By::Pass),
-        Call::Read(worker, Frame::A),
-        Call::Commit(worker, By::Own),
-        // What was done isn't done again.
-        Call::Reads(worker),
-        Call::Commit(worker, By::Pass),
-        Call::Step(pass),
-        Call::Next,
-        Call::Drain,
-        Call::Drain,
-    ];
-    let came = [
-        Came::Is(true),
-        Came::Age(Some(0)),
-        Came::Unfinished(Some(Frame::A)),
-        Came::Count(None),
-        Came::Done,
-        Came::Reads(None),
-        Came::Idle,
-        Came::Is(true),
-        Came::Next(None),
-        Came::Packet(Some(Frame::A)),
-        Came::Packet(None),
-    ];
-    let ran = call_each(
-        rt.alloc(),
-        one_monitor(rt.alloc())?,
-        &[Frame::A],
-        b"",
-        &calls,
-    )?;
-    assert_ran(
-        &rt,
-        &ran,
-        &came,
-        b"enter 0\nvisit 0 0 5\npass 0 0\nrelease 0\n",
-    );
+    let alloc = rt.alloc();
+    let ran = call_each(alloc, one_monitor(alloc)?, &[Frame::A], b"", &COMMITTING)?;
+    assert_ran(&rt, &ran, b"enter 0\nvisit 0 0 5\npass 0 0\nrelease 0\n");
     Ok(())
 }
+
+/// Slot 1 is older than slot 2.
+const BLOCKING: [(Call, Came); 9] = [
+    (Call::Enter(0), Came::Is(true)),
+    (Call::Enter(1), Came::Is(true)),
+    (Call::Begin(1, 0, 0), Came::Age(Some(0))),
+    (Call::Begin(2, 0, 1), Came::Age(Some(1))),
+    (Call::Read(1, Frame::A), Came::Count(None)),
+    (Call::Read(2, Frame::A), Came::Blocked(1)),
+    (Call::Commit(1, By::Own), Came::Done),
+    (Call::Read(2, Frame::A), Came::Count(Some(1))),
+    (Call::Commit(2, By::Own), Came::Done),
+];
 
 #[test]
 fn the_younger_slot_is_blocked(rt: HostRuntime) -> Result<(), Fail> {
-    let (older, younger, here) = (slot(&rt, 1), slot(&rt, 2), server(&rt, 0));
-    let calls = [
-        Call::Step(Job::Enter { packet: 0 }),
-        Call::Step(Job::Enter { packet: 1 }),
-        Call::Begin(older, here, 0),
-        Call::Begin(younger, here, 1),
-        Call::Read(older, Frame::A),
-        Call::Read(younger, Frame::A),
-        Call::Commit(older, By::Own),
-        Call::Read(younger, Frame::A),
-        Call::Commit(younger, By::Own),
-    ];
-    let came = [
-        Came::Is(true),
-        Came::Is(true),
-        Came::Age(Some(0)),
-        Came::Age(Some(1)),
-        Came::Count(None),
-        Came::Blocked(older),
-        Came::Done,
-        Came::Count(Some(1)),
-        Came::Done,
-    ];
+    let alloc = rt.alloc();
     let frames = [Frame::A, Frame::A];
-    let ran = call_each(rt.alloc(), one_monitor(rt.alloc())?, &frames, b"", &calls)?;
-    assert_ran(
-        &rt,
-        &ran,
-        &came,
-        b"enter 0\nenter 1\nvisit 0 0 1\nvisit 0 1 2\n",
-    );
+    let ran = call_each(alloc, one_monitor(alloc)?, &frames, b"", &BLOCKING)?;
+    assert_ran(&rt, &ran, b"enter 0\nenter 1\nvisit 0 0 1\nvisit 0 1 2\n");
     Ok(())
 }
+
+/// Slot 1 is older than slot 2.
+const WOUNDING: [(Call, Came); 12] = [
+    (Call::Enter(0), Came::Is(true)),
+    (Call::Enter(1), Came::Is(true)),
+    (Call::Begin(1, 0, 0), Came::Age(Some(0))),
+    (Call::Begin(2, 0, 1), Came::Age(Some(1))),
+    (Call::Read(2, Frame::A), Came::Count(None)),
+    (Call::Read(1, Frame::A), Came::Count(None)),
+    (Call::Commit(2, By::Own), Came::Wounded(1)),
+    // It runs its visit anew, and reads once more.
+    (Call::Reads(2), Came::Reads(Some(0))),
+    (Call::Read(2, Frame::A), Came::Blocked(1)),
+    (Call::Commit(1, By::Own), Came::Done),
+    (Call::Read(2, Frame::A), Came::Count(Some(1))),
+    // A plan of another rule isn't that of the visit, so the rule is asked.
+    (Call::Commit(2, By::Pass), Came::Done),
+];
 
 #[test]
 fn the_older_slot_wounds_the_younger(rt: HostRuntime) -> Result<(), Fail> {
-    let (older, younger, here) = (slot(&rt, 1), slot(&rt, 2), server(&rt, 0));
-    let calls = [
-        Call::Step(Job::Enter { packet: 0 }),
-        Call::Step(Job::Enter { packet: 1 }),
-        Call::Begin(older, here, 0),
-        Call::Begin(younger, here, 1),
-        Call::Read(younger, Frame::A),
-        Call::Read(older, Frame::A),
-        Call::Commit(younger, By::Own),
-        // It runs its visit anew, and reads once more.
-        Call::Reads(younger),
-        Call::Read(younger, Frame::A),
-        Call::Commit(older, By::Own),
-        Call::Read(younger, Frame::A),
-        // A plan of another rule isn't that of the visit, so the rule is asked.
-        Call::Commit(younger, By::Pass),
-    ];
-    let came = [
-        Came::Is(true),
-        Came::Is(true),
-        Came::Age(Some(0)),
-        Came::Age(Some(1)),
-        Came::Count(None),
-        Came::Count(None),
-        Came::Wounded(older),
-        Came::Reads(Some(0)),
-        Came::Blocked(older),
-        Came::Done,
-        Came::Count(Some(1)),
-        Came::Done,
-    ];
+    let alloc = rt.alloc();
     let frames = [Frame::A, Frame::A];
-    let ran = call_each(rt.alloc(), one_monitor(rt.alloc())?, &frames, b"", &calls)?;
-    assert_ran(
-        &rt,
-        &ran,
-        &came,
-        b"enter 0\nenter 1\nvisit 0 0 1\nvisit 0 1 2\n",
-    );
+    let ran = call_each(alloc, one_monitor(alloc)?, &frames, b"", &WOUNDING)?;
+    assert_ran(&rt, &ran, b"enter 0\nenter 1\nvisit 0 0 1\nvisit 0 1 2\n");
     Ok(())
 }
+
+const PLANNED_FOR_ANOTHER: [(Call, Came); 11] = [
+    (Call::Enter(0), Came::Is(true)),
+    (Call::Enter(1), Came::Is(true)),
+    (Call::Enter(2), Came::Is(true)),
+    (Call::Begin(5, 0, 0), Came::Age(Some(0))),
+    (Call::Read(5, Frame::A), Came::Count(None)),
+    (Call::Commit(5, By::OtherPacket), Came::Done),
+    // The other packet's key wasn't counted, but the packet's own.
+    (Call::Begin(5, 0, 1), Came::Age(Some(0))),
+    (Call::Read(5, Frame::C), Came::Count(None)),
+    (Call::Quit(5), Came::Is(true)),
+    (Call::Begin(5, 0, 2), Came::Age(Some(0))),
+    (Call::Read(5, Frame::A), Came::Count(Some(1))),
+];
 
 #[test]
 fn a_plan_of_another_packet_does_not_count(rt: HostRuntime) -> Result<(), Fail> {
-    let (worker, here) = (slot(&rt, 5), server(&rt, 0));
-    let calls = [
-        Call::Step(Job::Enter { packet: 0 }),
-        Call::Step(Job::Enter { packet: 1 }),
-        Call::Step(Job::Enter { packet: 2 }),
-        Call::Begin(worker, here, 0),
-        Call::Read(worker, Frame::A),
-        Call::Commit(worker, By::OtherPacket),
-        // The other packet's key wasn't counted, but the packet's own.
-        Call::Begin(worker, here, 1),
-        Call::Read(worker, Frame::C),
-        Call::Quit(worker),
-        Call::Begin(worker, here, 2),
-        Call::Read(worker, Frame::A),
-    ];
-    let came = [
-        Came::Is(true),
-        Came::Is(true),
-        Came::Is(true),
-        Came::Age(Some(0)),
-        Came::Count(None),
-        Came::Done,
-        Came::Age(Some(0)),
-        Came::Count(None),
-        Came::Is(true),
-        Came::Age(Some(0)),
-        Came::Count(Some(1)),
-    ];
+    let alloc = rt.alloc();
     let frames = [Frame::A, Frame::C, Frame::A];
-    let ran = call_each(rt.alloc(), one_monitor(rt.alloc())?, &frames, b"", &calls)?;
-    assert_ran(
-        &rt,
-        &ran,
-        &came,
-        b"enter 0\nenter 1\nenter 2\nvisit 0 0 5\n",
-    );
+    let ran = call_each(
+        alloc,
+        one_monitor(alloc)?,
+        &frames,
+        b"",
+        &PLANNED_FOR_ANOTHER,
+    )?;
+    assert_ran(&rt, &ran, b"enter 0\nenter 1\nenter 2\nvisit 0 0 5\n");
     Ok(())
 }
+
+const STOPPED: [(Call, Came); 12] = [
+    (Call::Enter(0), Came::Is(true)),
+    (Call::Begin(1, 0, 0), Came::Age(Some(0))),
+    (Call::IsRunning(0, 0), Came::Is(true)),
+    (Call::Crash(0), Came::Is(true)),
+    (Call::IsRunning(0, 0), Came::Is(false)),
+    (Call::Reads(1), Came::Reads(None)),
+    (Call::Look(1), Came::Packet(None)),
+    (Call::AgesLeft(0), Came::Is(true)),
+    (Call::Commit(1, By::Pass), Came::Idle),
+    (Call::Recover(0), Came::Is(true)),
+    (Call::Reads(1), Came::Reads(None)),
+    (Call::Commit(1, By::Pass), Came::Idle),
+];
 
 #[test]
 fn a_slot_is_idle_once_its_server_stopped(rt: HostRuntime) -> Result<(), Fail> {
-    let (worker, here) = (slot(&rt, 1), server(&rt, 0));
-    let calls = [
-        Call::Step(Job::Enter { packet: 0 }),
-        Call::Begin(worker, here, 0),
-        Call::IsRunning(here, 0),
-        Call::Step(Job::Crash { server: here }),
-        Call::IsRunning(here, 0),
-        Call::Reads(worker),
-        Call::Look(worker),
-        Call::AgesLeft(here),
-        Call::Commit(worker, By::Pass),
-        Call::Step(Job::Recover { server: here }),
-        Call::Reads(worker),
-        Call::Commit(worker, By::Pass),
-    ];
-    let came = [
-        Came::Is(true),
-        Came::Age(Some(0)),
-        Came::Is(true),
-        Came::Is(true),
-        Came::Is(false),
-        Came::Reads(None),
-        Came::Packet(None),
-        Came::Is(true),
-        Came::Idle,
-        Came::Is(true),
-        Came::Reads(None),
-        Came::Idle,
-    ];
+    let alloc = rt.alloc();
     let script = b"at 1 crash 0\nat 1 recover 0\n";
-    let ran = call_each(
-        rt.alloc(),
-        two_monitors(rt.alloc())?,
-        &[Frame::A],
-        script,
-        &calls,
-    )?;
-    assert_ran(&rt, &ran, &came, b"enter 0\ncrash 0\nrecover 0\n");
+    let ran = call_each(alloc, two_monitors(alloc)?, &[Frame::A], script, &STOPPED)?;
+    assert_ran(&rt, &ran, b"enter 0\ncrash 0\nrecover 0\n");
     Ok(())
 }
+
+const LISTED: [(Call, Came); 12] = [
+    (Call::Enter(0), Came::Is(true)),
+    (Call::IsListed(0, 0), Came::Is(true)),
+    (Call::Begin(1, 0, 0), Came::Age(Some(0))),
+    (Call::IsListed(0, 0), Came::Is(false)),
+    // It is legal all the same, and the first of all jobs.
+    (Call::IsLegal(0, 0), Came::Is(true)),
+    (Call::Next, Came::NextVisit(0, 0)),
+    // No other slot begins it.
+    (Call::Begin(2, 0, 0), Came::Age(None)),
+    (Call::Quit(2), Came::Is(true)),
+    (Call::IsListed(0, 0), Came::Is(false)),
+    (Call::Quit(1), Came::Is(true)),
+    (Call::IsListed(0, 0), Came::Is(true)),
+    (Call::Begin(2, 0, 0), Came::Age(Some(0))),
+];
 
 #[test]
 fn a_visit_that_runs_is_not_listed(rt: HostRuntime) -> Result<(), Fail> {
-    let (worker, other, here) = (slot(&rt, 1), slot(&rt, 2), server(&rt, 0));
-    let job = Job::Visit {
-        server: here,
-        packet: 0,
-    };
-    let calls = [
-        Call::Step(Job::Enter { packet: 0 }),
-        Call::IsListed(here, 0),
-        Call::Begin(worker, here, 0),
-        Call::IsListed(here, 0),
-        // It is legal all the same, and the first of all jobs.
-        Call::IsLegal(job),
-        Call::Next,
-        // No other slot begins it.
-        Call::Begin(other, here, 0),
-        Call::Quit(other),
-        Call::IsListed(here, 0),
-        Call::Quit(worker),
-        Call::IsListed(here, 0),
-        Call::Begin(other, here, 0),
-    ];
-    let came = [
-        Came::Is(true),
-        Came::Is(true),
-        Came::Age(Some(0)),
-        Came::Is(false),
-        Came::Is(true),
-        Came::Next(Some(job)),
-        Came::Age(None),
-        Came::Is(true),
-        Came::Is(false),
-        Came::Is(true),
-        Came::Is(true),
-        Came::Age(Some(0)),
-    ];
-    let ran = call_each(
-        rt.alloc(),
-        one_monitor(rt.alloc())?,
-        &[Frame::A],
-        b"",
-        &calls,
-    )?;
-    assert_ran(&rt, &ran, &came, b"enter 0\n");
+    let alloc = rt.alloc();
+    let ran = call_each(alloc, one_monitor(alloc)?, &[Frame::A], b"", &LISTED)?;
+    assert_ran(&rt, &ran, b"enter 0\n");
     Ok(())
 }
+
+const WHOLE: [(Call, Came); 15] = [
+    (Call::Enter(0), Came::Is(true)),
+    (Call::Visit(63, 0, 0), Came::Is(true)),
+    (Call::Pass(0, 0), Came::Is(true)),
+    (Call::TakeSeen(0, 0), Came::Is(true)),
+    (Call::Apply(1, 0, 0, 0), Came::Is(true)),
+    (Call::Enter(1), Came::Is(true)),
+    (Call::Begin(1, 0, 1), Came::Age(Some(0))),
+    (Call::Begin(3, 1, 0), Came::Age(Some(0))),
+    // A step lets all slots run on.
+    (Call::Enter(2), Came::Is(true)),
+    (Call::Begin(2, 0, 2), Came::Age(Some(1))),
+    (Call::Reads(1), Came::Reads(Some(0))),
+    (Call::Visit(5, 0, 2), Came::Is(true)),
+    (Call::Reads(1), Came::Reads(None)),
+    (Call::Reads(2), Came::Reads(None)),
+    (Call::Reads(3), Came::Reads(Some(0))),
+];
 
 #[test]
 fn a_whole_visit_gives_up_what_its_server_runs(rt: HostRuntime) -> Result<(), Fail> {
-    let (first, second) = (server(&rt, 0), server(&rt, 1));
-    let calls = [
-        Call::Step(Job::Enter { packet: 0 }),
-        Call::Visit(slot(&rt, 63), first, 0),
-        Call::Step(Job::Pass {
-            server: first,
-            origin: 0,
-        }),
-        Call::TakeSeen(first, 0),
-        Call::Step(Job::Apply {
-            server: second,
-            origin: 0,
-            group: first,
-            packet: 0,
-        }),
-        Call::Step(Job::Enter { packet: 1 }),
-        Call::Begin(slot(&rt, 1), first, 1),
-        Call::Begin(slot(&rt, 3), second, 0),
-        // A step lets all slots run on.
-        Call::Step(Job::Enter { packet: 2 }),
-        Call::Begin(slot(&rt, 2), first, 2),
-        Call::Reads(slot(&rt, 1)),
-        Call::Visit(slot(&rt, 5), first, 2),
-        Call::Reads(slot(&rt, 1)),
-        Call::Reads(slot(&rt, 2)),
-        Call::Reads(slot(&rt, 3)),
-    ];
-    let came = [
-        Came::Is(true),
-        Came::Is(true),
-        Came::Is(true),
-        Came::Is(true),
-        Came::Is(true),
-        Came::Is(true),
-        Came::Age(Some(0)),
-        Came::Age(Some(0)),
-        Came::Is(true),
-        Came::Age(Some(1)),
-        Came::Reads(Some(0)),
-        Came::Is(true),
-        Came::Reads(None),
-        Came::Reads(None),
-        Came::Reads(Some(0)),
-    ];
+    let alloc = rt.alloc();
     let frames = [Frame::A, Frame::A, Frame::C];
-    let ran = call_each(rt.alloc(), two_monitors(rt.alloc())?, &frames, b"", &calls)?;
+    let ran = call_each(alloc, two_monitors(alloc)?, &frames, b"", &WHOLE)?;
     let lines =
         b"enter 0\nvisit 0 0 63\npass 0 0\ntake 0 0\napply 1 0 0 0\nenter 1\nenter 2\nvisit 0 2 5\n";
-    assert_ran(&rt, &ran, &came, lines);
+    assert_ran(&rt, &ran, lines);
     Ok(())
 }
 
+const SEEN: [(Call, Came); 6] = [
+    (Call::TakeSeen(0, 0), Came::Is(false)),
+    (Call::Enter(0), Came::Is(true)),
+    (Call::Visit(0, 0, 0), Came::Is(true)),
+    (Call::Pass(0, 0), Came::Is(true)),
+    (Call::TakeSeen(0, 0), Came::Is(true)),
+    (Call::TakeSeen(0, 0), Came::Is(false)),
+];
+
 #[test]
 fn a_message_is_taken_as_it_was_seen(rt: HostRuntime) -> Result<(), Fail> {
-    let first = server(&rt, 0);
-    let calls = [
-        Call::TakeSeen(first, 0),
-        Call::Step(Job::Enter { packet: 0 }),
-        Call::Visit(slot(&rt, 0), first, 0),
-        Call::Step(Job::Pass {
-            server: first,
-            origin: 0,
-        }),
-        Call::TakeSeen(first, 0),
-        Call::TakeSeen(first, 0),
-    ];
-    let came = [
-        Came::Is(false),
-        Came::Is(true),
-        Came::Is(true),
-        Came::Is(true),
-        Came::Is(true),
-        Came::Is(false),
-    ];
-    let ran = call_each(
-        rt.alloc(),
-        two_passes(rt.alloc())?,
-        &[Frame::A],
-        b"",
-        &calls,
-    )?;
-    assert_ran(
-        &rt,
-        &ran,
-        &came,
-        b"enter 0\nvisit 0 0 0\npass 0 0\ntake 0 0\n",
-    );
+    let alloc = rt.alloc();
+    let ran = call_each(alloc, two_passes(alloc)?, &[Frame::A], b"", &SEEN)?;
+    assert_ran(&rt, &ran, b"enter 0\nvisit 0 0 0\npass 0 0\ntake 0 0\n");
     Ok(())
 }
